@@ -14,7 +14,7 @@ import sys
 ROOT = os.path.join(os.path.dirname(os.path.abspath(__file__)), "..", "..")
 PAGE = os.path.join(ROOT, "docs", "MAP.md")
 BEGIN, END = "<!-- layers: tests/pages/layers.py -->\n", "<!-- end of layers -->\n"
-DEFINITIONS = ["job_meaning", "task_turns", "run_course", "run_crew"]
+DEFINITIONS = ["job_meaning", "turn_semantics", "interleavings", "run_refinement"]
 
 
 def libraries_of(text):

@@ -1,5 +1,5 @@
 ghost use Rattle.std.specs.Prelude.{◌≡◌, ◌<◌, ◌≤◌, length, IfOk, IfErr, OnOk};
-ghost use Rattle.job_meaning.specs.declared.limits.TheConstants.{MOST_INPUT};
+ghost use Rattle.job_meaning.specs.declared.limits.TheConstants.{MAX_INPUT};
 ghost use Rattle.nursery_app.specs.Verdict.{CountsFailure};
 ghost use Rattle.chart_app.specs.Charts.{IsJobVerdict, IsVerdict, IsSent, IsChartFault};
 
@@ -21,7 +21,7 @@ use story_app::told_until;
 /// status are those of `serve` of `nursery_app`.
 ///
 /// The number of workers, the picker and the gate change no byte. The caller must ensure that the input has at most 16,777,216
-/// bytes (`MOST_INPUT`).
+/// bytes (`MAX_INPUT`).
 ///
 /// Returns a `ServeFault` if the writer failed, which then took the first of these bytes, or if memory was refused. All bytes are
 /// built before the first is sent, so after `NoMemory` nothing was sent.
@@ -36,7 +36,7 @@ pub fn chart<R: Threads + Sync, P: Pick, G: Gate + Sync, W: Out>(
     gate: &G,
     out: &mut W,
 ) -> Result<Verdict, ServeFault>
-    requires input { length input.now ≤ MOST_INPUT }
+    requires input { length input.now ≤ MAX_INPUT }
     requires countable { W.failed out.old < 18446744073709551615 }
 
     // The bytes written are the chart of the meaning, or the refusal that the meaning names.
@@ -64,7 +64,7 @@ fn answer<R: Threads + Sync, P: Pick, G: Gate + Sync>(
     picker: &mut P,
     gate: &G,
 ) -> Result<(Verdict, Vec<u8>), AllocError>
-    requires { length input.now ≤ MOST_INPUT }
+    requires { length input.now ≤ MAX_INPUT }
     ensures { IfOk result (λ r. IsVerdict form job_text.now input.now settings.limit r.0 r.1.items) }
 {
     match read_job(alloc, job_text) {
@@ -87,7 +87,7 @@ fn job_chart<R: Threads + Sync, P: Pick, G: Gate + Sync>(
     picker: &mut P,
     gate: &G,
 ) -> Result<(Verdict, Vec<u8>), AllocError>
-    requires { length input.now ≤ MOST_INPUT }
+    requires { length input.now ≤ MAX_INPUT }
     ensures { IfOk result (λ r. IsJobVerdict form job.now input.now settings.limit r.0 r.1.items) }
 {
     let meaning = meaning_of(rt, alloc, job, input, settings, picker, gate)?;

@@ -1,5 +1,5 @@
 ghost use Rattle.std.specs.Prelude.{◌≡◌, ◌≤◌, length, IfOk};
-ghost use Rattle.job_meaning.specs.declared.limits.TheConstants.{MOST_INPUT};
+ghost use Rattle.job_meaning.specs.declared.limits.TheConstants.{MAX_INPUT};
 ghost use Rattle.job_meaning.specs.Meaning.{meaning_table};
 ghost use Rattle.job_runner.specs.Runs.{rows_of};
 ghost use Rattle.job_story.specs.Froms.{table_in};
@@ -35,7 +35,7 @@ pub(crate) fn meaning_of<R: Threads + Sync, P: Pick, G: Gate + Sync>(
     picker: &mut P,
     gate: &G,
 ) -> Result<Meaning, AllocError>
-    requires { length input.now ≤ MOST_INPUT }
+    requires { length input.now ≤ MAX_INPUT }
     ensures verdict { IfOk result (λ meaning. IsVerdictOn job.now input.now settings.limit meaning.verdict) }
     ensures until { IfOk result (λ meaning. meaning.until ≡ until_by meaning.verdict settings.limit) }
     ensures table { IfOk result (λ meaning. table_in meaning.table ≡ meaning_table job.now input.now) }

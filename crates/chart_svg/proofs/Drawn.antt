@@ -12,7 +12,7 @@ use Rattle.chart_columns.specs.Columns.{Column, columns_of}
 use Rattle.chart_text.specs.Text.{longest_name, columns_for}
 use Rattle.svg_text.specs.Content.{Content, nothing, text, element, written, start_tag, end_tag}
 use Rattle.svg_text.specs.declared.names.Tag.TheVariants as tags
-use Rattle.chart_svg.specs.declared.layout.TheConstants.{ROW, MOST_ROWS}
+use Rattle.chart_svg.specs.declared.layout.TheConstants.{ROW, MAX_ROWS}
 use Rattle.chart_svg.specs.Sheets.{Sheet}
 use Rattle.chart_svg.specs.Rows.{rows}
 use Rattle.chart_svg.specs.Arrows.{arrows}
@@ -32,14 +32,14 @@ notes_drawn result until bottom shown all n old a b new first second third =
 
 -- the content of the document: its head, the lines, the rows that are shown with their arrows, and the notes
 pub inside_drawn : {T E : Type 0} (result : Result T E) (sheet : Sheet) (until : Tick) (all : ℕ) (bars shown : List Bar) (old a b c new : List ℕ) →
-    shown ≡ take MOST_ROWS bars →
+    shown ≡ take MAX_ROWS bars →
     ((rest : Content) → a ++ written rest ≡ old ++ written (element tags.Title [] (text (title_bytes bars) nothing) (style (definitions rest)))) →
     ((rest : Content) → b ++ written rest ≡ a ++ written (tick_lines sheet (bottom_of bars) sheet.columns rest)) →
     ((rest : Content) → c ++ written rest ≡ b ++ written (rows sheet 0 shown (arrows sheet shown 0 shown rest))) →
     OnOk result (new ≡ c ++ written (notes until (bottom_of bars) (length sheet.columns) all (length bars))) →
     OnOk result (new ≡ old ++ written (inside_of sheet until all bars))
 inside_drawn result sheet until all bars shown old a b c new same first second third fourth =
-    let cut = take MOST_ROWS bars in
+    let cut = take MAX_ROWS bars in
     let last = notes until (bottom_of bars) (length sheet.columns) all (length bars) in
     let drawn = rows sheet 0 cut (arrows sheet cut 0 cut last) in
     on_ok_weaker result

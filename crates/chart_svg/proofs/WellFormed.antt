@@ -16,7 +16,7 @@ use Rattle.svg_text.specs.declared.names.Tag.TheVariants as tags
 use Rattle.chart_svg.specs.Sheets.{Sheet}
 use Rattle.chart_svg.specs.Rows.{cancelled_part, mark, marks, row, rows}
 use Rattle.chart_svg.specs.Arrows.{Source, source_of, arrow_from, arrow_by, arrow_at, arrows}
-use Rattle.chart_svg.specs.declared.layout.TheConstants.{ROW, MOST_ROWS}
+use Rattle.chart_svg.specs.declared.layout.TheConstants.{ROW, MAX_ROWS}
 use Rattle.chart_svg.specs.Drawing.{tick_lines, note, limit_note, columns_note, rows_note, notes, bottom_of, svg_attributes, inside_of, document, width_of, height_of}
 
 -- ---- rows
@@ -109,7 +109,7 @@ notes_well until bottom shown all n =
 
 inside_well : (sheet : Sheet) (until : Tick) (all : ℕ) (bars : List Bar) → is_well_formed (inside_of sheet until all bars) ≡ true
 inside_well sheet until all bars =
-    let shown = take MOST_ROWS bars in
+    let shown = take MAX_ROWS bars in
     let last = notes until (bottom_of bars) (length sheet.columns) all (length bars) in
     tick_lines_well sheet (bottom_of bars) sheet.columns (rows sheet 0 shown (arrows sheet shown 0 shown last))
     ∙ rows_well sheet 0 shown (arrows sheet shown 0 shown last)

@@ -13,7 +13,7 @@ use Rattle.svg_text.specs.declared.names.Attr.TheVariants as attrs
 use Rattle.chart_svg.specs.Sheets.{Sheet, x_at, y_of}
 use Rattle.chart_svg.specs.Rows.{words, rows}
 use Rattle.chart_svg.specs.Arrows.{segment, arrows}
-use Rattle.chart_svg.specs.declared.layout.TheConstants.{LEFT, TOP, ROW, LETTER, MOST_ROWS, MOST_SHOWN}
+use Rattle.chart_svg.specs.declared.layout.TheConstants.{LEFT, TOP, ROW, LETTER, MAX_ROWS, MAX_SHOWN}
 use Rattle.chart_svg.specs.declared.style.TheConstants.{STYLE}
 
 -- ---- the style sheet and the definitions
@@ -94,7 +94,7 @@ columns_note shown all = if shown == all then [] else left_out shown all
 
 -- the note that says how many rows are not shown, if there are any
 abbrev pub rows_note : ℕ → List ℕ
-rows_note n = if nat_le n MOST_ROWS then [] else decimal (n - MOST_ROWS) ++ codes " rows are left out"
+rows_note n = if nat_le n MAX_ROWS then [] else decimal (n - MAX_ROWS) ++ codes " rows are left out"
 
 abbrev pub notes : Tick → ℕ → ℕ → ℕ → ℕ → Content
 notes until bottom shown all n =
@@ -109,10 +109,10 @@ title_bytes (b ∷ bs) = name_of b
 
 -- the place where the rows end, from the top
 abbrev pub bottom_of : List Bar → ℕ
-bottom_of bars = y_of (length (take MOST_ROWS bars))
+bottom_of bars = y_of (length (take MAX_ROWS bars))
 
 abbrev pub width_of : Sheet → List Bar → ℕ
-width_of sheet bars = x_at sheet (last_tick sheet.columns) + LETTER * (min MOST_SHOWN (longest_outcome bars) + 4)
+width_of sheet bars = x_at sheet (last_tick sheet.columns) + LETTER * (min MAX_SHOWN (longest_outcome bars) + 4)
 
 abbrev pub height_of : List Bar → ℕ
 height_of bars = bottom_of bars + ROW * 4
@@ -128,7 +128,7 @@ svg_attributes width height =
 -- the content of the document, where `all` is the number of all columns
 abbrev pub inside_of : Sheet → Tick → ℕ → List Bar → Content
 inside_of sheet until all bars =
-    let shown = take MOST_ROWS bars in
+    let shown = take MAX_ROWS bars in
     element tags.Title [] (text (title_bytes bars) nothing)
     (style
     (definitions

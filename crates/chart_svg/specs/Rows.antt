@@ -13,7 +13,7 @@ use Rattle.svg_text.specs.Content.{Content, nothing, text, element, Attribute, a
 use Rattle.svg_text.specs.declared.names.Tag.TheVariants as tags
 use Rattle.svg_text.specs.declared.names.Attr.TheVariants as attrs
 use Rattle.chart_svg.specs.Sheets.{Sheet, x_at, x_of, y_of, middle_of, told}
-use Rattle.chart_svg.specs.declared.layout.TheConstants.{LEFT, LETTER, MOST_TOLD}
+use Rattle.chart_svg.specs.declared.layout.TheConstants.{LEFT, LETTER, MAX_TOLD}
 
 -- ---- words for the style sheet
 
@@ -74,12 +74,12 @@ told_of bar = told_by bar.first.what bar
 
 -- that there are more events than the title shows, if there are
 abbrev pub more_told : ℕ → List ℕ
-more_told n = if nat_le n MOST_TOLD then [] else codes "and " ++ decimal (n - MOST_TOLD) ++ codes " more events\n"
+more_told n = if nat_le n MAX_TOLD then [] else codes "and " ++ decimal (n - MAX_TOLD) ++ codes " more events\n"
 
 abbrev pub bar_title : Sheet → Bar → Content
 bar_title sheet bar =
     element tags.Title []
-    (text (kept_text sheet.table sheet.events (take MOST_TOLD (told_of bar)) ++ more_told (length (told_of bar))) nothing) nothing
+    (text (kept_text sheet.table sheet.events (take MAX_TOLD (told_of bar)) ++ more_told (length (told_of bar))) nothing) nothing
 
 -- ---- parts of a row
 

@@ -6,7 +6,7 @@ use Rattle.job_story.specs.Sentences.{kept_text}
 use Rattle.chart_columns.specs.Columns.{Column, column_at, gap_to}
 use Rattle.svg_text.specs.Content.{Content, nothing, text, element}
 use Rattle.svg_text.specs.declared.names.Tag.TheVariants as tags
-use Rattle.chart_svg.specs.declared.layout.TheConstants.{LEFT, TOP, ROW, LETTER, PLACE, FARTHEST, MOST_NAME, MOST_ROWS}
+use Rattle.chart_svg.specs.declared.layout.TheConstants.{LEFT, TOP, ROW, LETTER, PLACE, FARTHEST, MAX_NAME, MAX_ROWS}
 
 -- What all parts of a drawing depend on: the length of the longest name of a row, the columns, the ticks from which scopes and
 -- nurseries are cancelled, and the events in order.
@@ -23,7 +23,7 @@ place (c ∷ cs) t = if nat_le t c.tick then 0 else min FARTHEST (gap_to c cs + 
 
 -- the place of a column, from the left
 abbrev pub x_at : Sheet → ℕ → ℕ
-x_at sheet t = LEFT + LETTER * (min MOST_NAME sheet.names + 2) + PLACE * place sheet.columns t
+x_at sheet t = LEFT + LETTER * (min MAX_NAME sheet.names + 2) + PLACE * place sheet.columns t
 
 -- the place where something at a tick is shown, from the left
 abbrev pub x_of : Sheet → ℕ → ℕ
@@ -31,7 +31,7 @@ x_of sheet t = x_at sheet (column_at sheet.columns t)
 
 -- the place of a row, from the top, which is not lower than the end of the last row that is shown
 abbrev pub y_of : ℕ → ℕ
-y_of i = TOP + ROW * min MOST_ROWS i
+y_of i = TOP + ROW * min MAX_ROWS i
 
 -- the middle of a row
 abbrev pub middle_of : ℕ → ℕ

@@ -12,9 +12,9 @@ ghost use Rattle.chart_bars.specs.Held.{bar_of, event_seen};
 ghost use Rattle.svg_text.specs.Content.{written};
 ghost use Rattle.chart_svg.specs.Rows.{exc_word, end_word, class_by, class_of, size_of, told_of, more_told, bar_title};
 ghost use Rattle.chart_svg.specs.Held.{sheet_held, size_held};
-ghost use Rattle.chart_svg.specs.declared.layout.TheConstants.{MOST_TOLD};
+ghost use Rattle.chart_svg.specs.declared.layout.TheConstants.{MAX_TOLD};
 
-use crate::layout::MOST_TOLD;
+use crate::layout::MAX_TOLD;
 use crate::shapes::Size;
 use crate::sheet::Sheet;
 use chart_bars::Bar;
@@ -128,7 +128,7 @@ fn told_text(
     events: &[&Event],
 ) -> Result<Vec<u8>, AllocError>
     ensures { IfOk result (λ told. told.items ≡ kept_text (froms_in sheet.now.known.now) (events_in sheet.now.known.now)
-        (take MOST_TOLD (map seen events.now)) ++ more_told (length (map seen events.now))) }
+        (take MAX_TOLD (map seen events.now)) ++ more_told (length (map seen events.now))) }
 {
     let mut told = kept_text(alloc, first_of(events), sheet.known)?;
     push_more(&mut told, events.len())?;
@@ -137,9 +137,9 @@ fn told_text(
 
 // Returns the first of these events, as many as a title shows.
 fn first_of<'s, 'e>(events: &'s [&'e Event]) -> &'s [&'e Event]
-    ensures { map seen result.now ≡ take MOST_TOLD (map seen events.now) }
+    ensures { map seen result.now ≡ take MAX_TOLD (map seen events.now) }
 {
-    let (first, _) = events.split_at(MOST_TOLD.min(events.len()));
+    let (first, _) = events.split_at(MAX_TOLD.min(events.len()));
     first
 }
 
@@ -162,10 +162,10 @@ fn told_of<'e>(alloc: Global, bar: &Bar<'_, 'e>) -> Result<Vec<&'e Event>, Alloc
 fn push_more(out: &mut Vec<u8>, count: usize) -> Result<(), AllocError>
     ensures { OnOk result (out.new.items ≡ out.old.items ++ more_told count) }
 {
-    if count <= MOST_TOLD {
+    if count <= MAX_TOLD {
         return Ok(());
     }
-    push_left(out, (count - MOST_TOLD) as u64)
+    push_left(out, (count - MAX_TOLD) as u64)
 }
 
 // Appends how many more events there are.

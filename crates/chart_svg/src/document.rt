@@ -11,11 +11,11 @@ ghost use Rattle.chart_svg.specs.Drawing.{title_bytes, style, definitions, tick_
 ghost use Rattle.chart_svg.specs.Rows.{rows};
 ghost use Rattle.chart_svg.specs.Arrows.{arrows};
 ghost use Rattle.chart_svg.specs.Held.{sheet_held};
-ghost use Rattle.chart_svg.specs.declared.layout.TheConstants.{MOST_ROWS};
+ghost use Rattle.chart_svg.specs.declared.layout.TheConstants.{MAX_ROWS};
 
 use crate::arrows::push_arrows;
 use crate::definitions::{push_definitions, push_style};
-use crate::layout::{LETTER, MOST_ROWS, MOST_SHOWN, ROW};
+use crate::layout::{LETTER, MAX_ROWS, MAX_SHOWN, ROW};
 use crate::notes::{Missing, push_notes};
 use crate::rows::push_rows;
 use crate::sheet::{Sheet, y_of};
@@ -206,7 +206,7 @@ fn width_of(
 ) -> Result<u64, AllocError>
     ensures { IfOk result (λ width. width ≡ width_of (sheet_held sheet.now) (map bar_of bars.now)) }
 {
-    let outcomes = longest_outcome(alloc, bars)?.min(MOST_SHOWN) as u64;
+    let outcomes = longest_outcome(alloc, bars)?.min(MAX_SHOWN) as u64;
     Ok(sheet.x_at(last_tick(sheet.columns)) + LETTER * (outcomes + 4))
 }
 
@@ -227,8 +227,8 @@ fn bottom_of(bars: &[Bar<'_, '_>]) -> u64
 
 // Returns the bars that are shown.
 fn shown_of<'b, 'i, 'e>(bars: &'b [Bar<'i, 'e>]) -> &'b [Bar<'i, 'e>]
-    ensures { map bar_of result.now ≡ take MOST_ROWS (map bar_of bars.now) }
+    ensures { map bar_of result.now ≡ take MAX_ROWS (map bar_of bars.now) }
 {
-    let (shown, _) = bars.split_at(MOST_ROWS.min(bars.len()));
+    let (shown, _) = bars.split_at(MAX_ROWS.min(bars.len()));
     shown
 }

@@ -17,13 +17,13 @@ pub const PLACE: u64 = 14;
 pub const FARTHEST: u64 = 1_000_000;
 
 /// The maximum room for the name of a row, in letters.
-pub const MOST_NAME: usize = 120;
+pub const MAX_NAME: usize = 120;
 
 /// The maximum room for an outcome, in letters.
-pub const MOST_SHOWN: usize = 80;
+pub const MAX_SHOWN: usize = 80;
 
 /// The maximum number of events that the title of a task's bar shows.
-pub const MOST_TOLD: usize = 100;
+pub const MAX_TOLD: usize = 100;
 
 /// The maximum number of rows that are shown.
-pub const MOST_ROWS: usize = 2_000;
+pub const MAX_ROWS: usize = 2_000;

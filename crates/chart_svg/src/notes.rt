@@ -3,7 +3,7 @@ ghost use Rattle.svg_text.specs.Content.{Content, nothing, written};
 ghost use Rattle.chart_svg.specs.Drawing.{note, limit_note, columns_note, rows_note, notes};
 ghost use Rattle.chart_svg.specs.declared.layout.TheConstants.{ROW};
 
-use crate::layout::{LEFT, MOST_ROWS, ROW};
+use crate::layout::{LEFT, MAX_ROWS, ROW};
 use crate::shapes::push_words;
 use chart_text::push_left_out;
 use std::alloc::{AllocError, Global};
@@ -120,10 +120,10 @@ fn columns_note(alloc: Global, shown: usize, all: usize) -> Result<Vec<u8>, Allo
 fn rows_note(alloc: Global, rows: usize) -> Result<Vec<u8>, AllocError>
     ensures { IfOk result (λ text. text.items ≡ rows_note rows) }
 {
-    if rows <= MOST_ROWS {
+    if rows <= MAX_ROWS {
         return Ok(Vec::new(alloc));
     }
-    rows_left_out(alloc, (rows - MOST_ROWS) as u64)
+    rows_left_out(alloc, (rows - MAX_ROWS) as u64)
 }
 
 // Returns the note that this many rows are not shown.

@@ -6,7 +6,7 @@ ghost use Rattle.svg_text.specs.Content.{written};
 ghost use Rattle.chart_svg.specs.Sheets.{place, x_at, x_of, y_of, middle_of, told};
 ghost use Rattle.chart_svg.specs.Held.{sheet_held};
 
-use crate::layout::{FARTHEST, LEFT, LETTER, MOST_NAME, MOST_ROWS, PLACE, ROW, TOP};
+use crate::layout::{FARTHEST, LEFT, LETTER, MAX_NAME, MAX_ROWS, PLACE, ROW, TOP};
 use chart_columns::{Column, column_at, column_by, gap_to};
 use job_story::Event;
 use std::alloc::{AllocError, Global};
@@ -28,7 +28,7 @@ impl<'s, 'k, 'e> Sheet<'s, 'k, 'e> {
         ensures value { result ≡ x_at (sheet_held self.now) tick }
         ensures bound { result ≤ 100000000 }
     {
-        let names = self.names.min(MOST_NAME) as u64;
+        let names = self.names.min(MAX_NAME) as u64;
         LEFT + LETTER * (names + 2) + PLACE * place(self.columns, tick)
     }
 
@@ -67,7 +67,7 @@ pub(crate) fn y_of(row: usize) -> u64
     ensures value { result ≡ y_of row }
     ensures bound { result ≤ 48044 }
 {
-    TOP + ROW * (row.min(MOST_ROWS) as u64)
+    TOP + ROW * (row.min(MAX_ROWS) as u64)
 }
 
 // Returns the middle of a row, in pixels from the top.

@@ -9,7 +9,7 @@ use Rattle.chart_bars.specs.Bars.{Bar}
 use Rattle.chart_bars.specs.Ticks.{all_ticks}
 use Rattle.chart_columns.specs.Columns.{Column, columns_of, shown, gap_to}
 use Rattle.chart_text.specs.Marks.{row_of, cells}
-use Rattle.chart_text.specs.declared.widths.TheConstants.{MOST_OUTCOME}
+use Rattle.chart_text.specs.declared.widths.TheConstants.{MAX_OUTCOME}
 
 -- ---- the text before and after the marks of a row
 
@@ -50,9 +50,9 @@ abbrev pub longest_outcome : List Bar → ℕ
 longest_outcome [] = 0
 longest_outcome (b ∷ bs) = max (length (outcome_of b)) (longest_outcome bs)
 
--- the room that is left for the columns beside names of this length; a long outcome is cut, and takes no more than `MOST_OUTCOME`
+-- the room that is left for the columns beside names of this length; a long outcome is cut, and takes no more than `MAX_OUTCOME`
 abbrev pub room_for : ℕ → ℕ → List Bar → ℕ
-room_for width names bars = width - (names + 2) - (min MOST_OUTCOME (longest_outcome bars) + 1)
+room_for width names bars = width - (names + 2) - (min MAX_OUTCOME (longest_outcome bars) + 1)
 
 -- a line with its newline, cut where it is longer than a width, which is at least 2
 abbrev pub cut : ℕ → List ℕ → List ℕ

@@ -9,7 +9,7 @@ use chart_columns::{Column, shown};
 use std::alloc::{AllocError, Global};
 
 /// The maximum room that is kept for outcomes, in bytes. A longer outcome is cut if it does not fit.
-pub const MOST_OUTCOME: usize = 24;
+pub const MAX_OUTCOME: usize = 24;
 
 /// Returns the columns for which there is room in a width, in bytes, beside the names and outcomes of these bars. A long outcome
 /// is cut before a column is dropped for it. Returns `AllocError` if memory is refused.
@@ -22,7 +22,7 @@ pub fn columns_for(
     ensures { IfOk result (λ columns. map column_of columns.items ≡ columns_for width (map column_of all.now) (map bar_of bars.now)) }
 {
     let names = longest_name(alloc, bars)?;
-    let outcomes = longest_outcome(alloc, bars)?.min(MOST_OUTCOME);
+    let outcomes = longest_outcome(alloc, bars)?.min(MAX_OUTCOME);
     let room = width
         .saturating_sub(names)
         .saturating_sub(2)

@@ -1,5 +1,5 @@
 pub mod Outcomes
 pub mod Summaries
-pub mod Fated
+pub mod JobOutcomed
 pub mod Lexed
 pub mod Tabled

@@ -11,7 +11,7 @@ use Rattle.job_runner.specs.Runs.{root_end}
 use Rattle.job_story.specs.Held.{event_of}
 use Rattle.job_story.specs.Tell.{story_by}
 use Rattle.job_story.specs.Events.{events_of}
-use Rattle.fault_text.specs.Fates.{cancelled_in}
+use Rattle.fault_text.specs.JobOutcomes.{cancelled_in}
 use Rattle.fault_app.specs.declared.summary.Summary.{Summary}
 use Rattle.fault_app.specs.Held.{IsSummary, root_ending}
 

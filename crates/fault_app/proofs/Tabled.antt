@@ -6,7 +6,7 @@ use Rattle.job_grammar.specs.Refusals.{Spells, HasTokens}
 use Rattle.job_edits.specs.declared.fault.Variant.{Variant}
 use Rattle.job_edits.specs.declared.plan.Plan.{Plan}
 use Rattle.job_edits.specs.Faults.{variants_in, plan_of}
-use Rattle.fault_text.specs.Fates as told
+use Rattle.fault_text.specs.JobOutcomes as told
 use Rattle.fault_text.specs.Table as told_lines
 use Rattle.fault_text.specs.Table.{table_text, denied_text}
 use Rattle.fault_text.specs.Views.{line_held}
@@ -14,14 +14,14 @@ use Rattle.fault_text.specs.declared.deny.Deny.{Deny}
 use Rattle.fault_text.specs.declared.line.Line.{Line}
 use Rattle.slot_work.specs.Answers.{AreAnswers}
 use Rattle.slot_work.proofs.Answered.{seen_as}
-use Rattle.fault_app.specs.Fates.{IsLine}
+use Rattle.fault_app.specs.JobOutcomes.{IsLine}
 use Rattle.fault_app.specs.Verdicts.{AreFaultLines, IsTable}
 
 -- given the limit of the settings, the tokens of the text, and the variants, as they were passed on
 pub are_lines : (text input : List ℕ) (limit l : ℕ) (name : List ℕ) (job : Tree) (tokens ts us : List Token) (variants vs : List Variant)
-    (plan : Plan) (first : told.Fate) (lines : List Line) →
+    (plan : Plan) (first : told.JobOutcome) (lines : List Line) →
     HasTokens text tokens None → l ≡ limit → ts ≡ tokens → variants ≡ variants_in ts → us ≡ tokens → plan ≡ plan_of name us →
-    first ≡ told.fate_of l None job input → vs ≡ variants →
+    first ≡ told.job_outcome_of l None job input → vs ≡ variants →
     AreAnswers (λ (v : Variant) (k : Line). IsLine text input l plan v (line_held k)) vs lines →
     AreFaultLines text input limit name job first (map line_held lines)
 are_lines text input limit l name job tokens ts us variants vs plan first lines has at t v u p f w are =
@@ -37,11 +37,11 @@ are_lines text input limit l name job tokens ts us variants vs plan first lines 
       lines_are =
           subst (λ (xs : List Variant). AreAnswers (IsLine text input limit (plan_of name tokens)) xs held) (w ∙ v ∙ ap variants_in t)
           limited;
-      first_is = f ∙ ap (λ (n : ℕ). told.fate_of n None job input) at;
+      first_is = f ∙ ap (λ (n : ℕ). told.job_outcome_of n None job input) at;
     }
 
 -- given the limit of the settings and the lines, as they were passed on
-pub is_table : (text input : List ℕ) (limit l : ℕ) (name : List ℕ) (deny : Deny) (bytes denied : List ℕ) (job : Tree) (first : told.Fate)
+pub is_table : (text input : List ℕ) (limit l : ℕ) (name : List ℕ) (deny : Deny) (bytes denied : List ℕ) (job : Tree) (first : told.JobOutcome)
     (lines ks ms : List Line) →
     Spells text job → AreFaultLines text input limit name job first (map line_held lines) → l ≡ limit → ks ≡ lines →
     bytes ≡ table_text l first (map line_held ks) → ms ≡ lines → denied ≡ denied_text l deny first (map line_held ms) →

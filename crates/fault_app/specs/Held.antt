@@ -5,11 +5,11 @@ use Rattle.exc_groups.specs.Held.{exc_of}
 use Rattle.job_tree.specs.Tree.{Tree}
 use Rattle.job_meaning.specs.Meaning.{meaning, meaning_end}
 use Rattle.job_meaning.specs.Shown.{Ending, well, Row, meaning_rows}
-use Rattle.job_meaning.specs.declared.limits.TheConstants.{MOST_INPUT}
+use Rattle.job_meaning.specs.declared.limits.TheConstants.{MAX_INPUT}
 use Rattle.job_story.specs.Held.{event_of}
-use Rattle.fault_text.specs.Fates.{cancelled_in, walked}
+use Rattle.fault_text.specs.JobOutcomes.{cancelled_in, walked}
 use Rattle.fault_text.specs.Views.{line_held}
-use Rattle.fault_app.specs.Fates.{IsLine}
+use Rattle.fault_app.specs.JobOutcomes.{IsLine}
 use Rattle.fault_text.specs.declared.line.Line.{Line}
 use Rattle.job_edits.specs.declared.fault.Variant.{Variant}
 use Rattle.fault_app.specs.declared.summary.Summary.{Summary}
@@ -29,7 +29,7 @@ root_ending (r ∷ rs) = r.ending
 
 -- the input is not longer than the maximum
 abbrev pub HasRoom : Author → Type 0
-HasRoom author = length author.input.now ≤ MOST_INPUT
+HasRoom author = length author.input.now ≤ MAX_INPUT
 
 -- a line is that of a fault of a step of the original text
 abbrev pub IsLineOf : Author → Variant → Line → Type 0

@@ -1,4 +1,4 @@
-pub mod Fates
+pub mod JobOutcomes
 pub mod Verdicts
 pub mod Statuses
 pub mod Held

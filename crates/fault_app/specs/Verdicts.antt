@@ -8,28 +8,28 @@ use Rattle.nursery_app.specs.Verdict.{refusal_line}
 use Rattle.nursery_app.specs.declared.verdict.ServeFault.{ServeFault}
 use Rattle.nursery_app.specs.declared.verdict.ServeFault.TheVariants.{Send, NoMemory}
 use Rattle.job_edits.specs.Faults.{variants_in, plan_of}
-use Rattle.fault_text.specs.Fates.{Fate, fate_of}
+use Rattle.fault_text.specs.JobOutcomes.{JobOutcome, job_outcome_of}
 use Rattle.fault_text.specs.Table.{Line, table_text, denied_text}
 use Rattle.fault_text.specs.declared.deny.Deny.{Deny}
 use Rattle.slot_work.specs.Answers.{AreAnswers}
-use Rattle.fault_app.specs.Fates.{IsLine}
+use Rattle.fault_app.specs.JobOutcomes.{IsLine}
 use Rattle.fault_app.specs.declared.verdict.FaultsVerdict.{FaultsVerdict}
 use Rattle.fault_app.specs.declared.verdict.FaultsVerdict.TheVariants.{Told, JobRefused}
 
 -- The outcome of a job without a fault, and, in the order of places, with each fault of each waiting step of its text, each
 -- kind once.
-pub record AreFaultLines (text input : List ℕ) (limit : ℕ) (name : List ℕ) (job : Tree) (first : Fate) (lines : List Line) : Type 0 where
+pub record AreFaultLines (text input : List ℕ) (limit : ℕ) (name : List ℕ) (job : Tree) (first : JobOutcome) (lines : List Line) : Type 0 where
   pub tokens : List Token
   pub tokens_are : HasTokens text tokens None
   pub lines_are : AreAnswers (IsLine text input limit (plan_of name tokens)) (variants_in tokens) lines
-  pub first_is : first ≡ fate_of limit None job input
+  pub first_is : first ≡ job_outcome_of limit None job input
 
 -- These bytes are the table of the job that the text spells, without a fault and with each fault in one line; and these lines
 -- of it are denied.
 pub record IsTable (text input : List ℕ) (limit : ℕ) (name : List ℕ) (deny : Deny) (bytes denied : List ℕ) : Type 0 where
   pub job : Tree
   pub spells : Spells text job
-  pub first : Fate
+  pub first : JobOutcome
   pub lines : List Line
   pub lines_are : AreFaultLines text input limit name job first lines
   pub table : bytes ≡ table_text limit first lines

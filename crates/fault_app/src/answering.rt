@@ -1,5 +1,5 @@
 ghost use Rattle.std.specs.Prelude.{◌≡◌, ◌<◌, ◌≤◌, drop, length, IfOk, IfErr, OnOk, None};
-ghost use Rattle.job_meaning.specs.declared.limits.TheConstants.{MOST_INPUT};
+ghost use Rattle.job_meaning.specs.declared.limits.TheConstants.{MAX_INPUT};
 ghost use Rattle.job_grammar.specs.Refusals.{Spells, HasTokens};
 ghost use Rattle.nursery_app.specs.Verdict.{CountsFailure};
 ghost use Rattle.fault_app.specs.Verdicts.{IsVerdict, IsTable, IsSent, IsFaultsFault};
@@ -35,7 +35,7 @@ pub fn faults<R: Threads + Sync, G: Gate + Sync, W: Out>(
     gate: &G,
     out: &mut W,
 ) -> Result<FaultsVerdict, ServeFault>
-    requires input { length input.now ≤ MOST_INPUT }
+    requires input { length input.now ≤ MAX_INPUT }
     requires countable { W.failed out.old < 18446744073709551615 }
 
     // The bytes written are the table of all faults, or the refusal of the text.
@@ -62,7 +62,7 @@ fn answer<R: Threads + Sync, G: Gate + Sync>(
     deny: Deny,
     gate: &G,
 ) -> Result<(FaultsVerdict, Vec<u8>), AllocError>
-    requires { length input.now ≤ MOST_INPUT }
+    requires { length input.now ≤ MAX_INPUT }
     ensures { IfOk result (λ r. IsVerdict job_text.now input.now settings.limit name deny r.0 r.1.items) }
 {
     match read_job(alloc, job_text) {
@@ -88,7 +88,7 @@ fn table_and_denied<R: Threads + Sync, G: Gate + Sync>(
     deny: Deny,
     gate: &G,
 ) -> Result<(Vec<u8>, Vec<u8>), AllocError>
-    requires input { length input.now ≤ MOST_INPUT }
+    requires input { length input.now ≤ MAX_INPUT }
     requires spells { Spells job_text.now job.now }
     ensures { IfOk result (λ r. IsTable job_text.now input.now settings.limit name deny r.1.items r.0.items) }
 {

@@ -7,7 +7,7 @@
 #![tactic(auto)]
 
 mod answering;
-mod fate;
+mod job_outcome;
 mod lines;
 mod outcome;
 mod summary;
@@ -15,8 +15,8 @@ mod told;
 mod verdict;
 
 pub use answering::{faults, tokens_of};
-pub use fate::{fate_of_job, fate_of_text};
 pub use fault_text::Deny;
+pub use job_outcome::{job_outcome_of_text, outcome_of_job};
 pub use summary::{Summary, summary_of};
 pub use told::{FaultLines, fault_lines};
 pub use verdict::FaultsVerdict;

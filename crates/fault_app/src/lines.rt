@@ -1,13 +1,13 @@
 ghost use Rattle.std.specs.Prelude.{◌≡◌, ◌≤◌, ◌∷◌, [], length, IfOk};
-ghost use Rattle.job_meaning.specs.declared.limits.TheConstants.{MOST_INPUT};
+ghost use Rattle.job_meaning.specs.declared.limits.TheConstants.{MAX_INPUT};
 ghost use Rattle.job_edits.specs.Changes.{changed};
 ghost use Rattle.job_edits.specs.Faults.{changes_of, probe_of, raised_by};
-ghost use Rattle.fault_text.specs.Views.{fate_held};
-ghost use Rattle.fault_app.specs.Fates.{IsFate, IsReached};
+ghost use Rattle.fault_text.specs.Views.{job_outcome_held};
+ghost use Rattle.fault_app.specs.JobOutcomes.{IsJobOutcome, IsReached};
 ghost use Rattle.fault_app.specs.Held.{IsLineOf};
 
-use crate::fate::{fate_of_text, reaches_in_text};
-use fault_text::{Fate, Line};
+use crate::job_outcome::{job_outcome_of_text, reaches_in_text};
+use fault_text::{JobOutcome, Line};
 use job_edits::{Plan, Variant, Waiting, changed_text};
 use job_grammar::Name;
 use nursery_app::{column_of, line_of};
@@ -73,20 +73,20 @@ fn raised_with(plan: &Plan, variant: &Variant) -> Option<Name>
 }
 
 // Returns the outcome of the job with a fault, which raises an exception with this name or none.
-fn fate_with<R: Threads + Sync>(
+fn job_outcome_with<R: Threads + Sync>(
     rt: &R,
     alloc: Global,
     author: &Author<'_>,
     variant: &Variant,
     raised: Option<Name>,
-) -> Result<Fate, AllocError>
-    requires { length author.now.input.now ≤ MOST_INPUT }
-    ensures { IfOk result (λ fate. IsFate (changed author.now.text.now (changes_of author.now.plan variant.now)) author.now.input.now
-        author.now.limit raised (fate_held fate)) }
+) -> Result<JobOutcome, AllocError>
+    requires { length author.now.input.now ≤ MAX_INPUT }
+    ensures { IfOk result (λ job_outcome. IsJobOutcome (changed author.now.text.now (changes_of author.now.plan variant.now)) author.now.input.now
+        author.now.limit raised (job_outcome_held job_outcome)) }
 {
     let changes = author.plan.changes(alloc, twin(variant))?;
     let faulty = changed_text(alloc, author.text, changes.as_slice())?;
-    fate_of_text(
+    job_outcome_of_text(
         rt,
         alloc,
         faulty.as_slice(),
@@ -103,7 +103,7 @@ fn reached_with<R: Threads + Sync>(
     author: &Author<'_>,
     variant: &Variant,
 ) -> Result<bool, AllocError>
-    requires { length author.now.input.now ≤ MOST_INPUT }
+    requires { length author.now.input.now ≤ MAX_INPUT }
     ensures { IfOk result (IsReached (changed author.now.text.now (probe_of author.now.plan variant.now ∷ [])) author.now.input.now
         author.now.limit author.now.plan.reached) }
 {
@@ -125,12 +125,12 @@ fn line_with<R: Threads + Sync>(
     author: &Author<'_>,
     variant: &Variant,
 ) -> Result<Line, AllocError>
-    requires { length author.now.input.now ≤ MOST_INPUT }
+    requires { length author.now.input.now ≤ MAX_INPUT }
     ensures { IfOk result (IsLineOf author.now variant.now) }
 {
     let from = variant.step.from;
     let raised = raised_with(&author.plan, variant);
-    let fate = fate_with(rt, alloc, author, variant, raised)?;
+    let job_outcome = job_outcome_with(rt, alloc, author, variant, raised)?;
     let reached = reached_with(rt, alloc, author, variant)?;
     let line = line_of(author.text, from);
     let column = column_of(author.text, from);
@@ -138,7 +138,7 @@ fn line_with<R: Threads + Sync>(
         line,
         column,
         variant: twin(variant),
-        fate,
+        job_outcome,
         reached,
     })
 }

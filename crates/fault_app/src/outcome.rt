@@ -3,12 +3,12 @@ ghost use Rattle.std.specs.Option.{option_map};
 ghost use Rattle.exc_groups.specs.Exceptions as tree;
 ghost use Rattle.exc_groups.specs.Held.{exc_of};
 ghost use Rattle.job_meaning.specs.Shown.{ending_of};
-ghost use Rattle.task_roster.specs.Records.{ending_in, row_in};
-ghost use Rattle.fault_text.specs.Fates.{cancelled_if, cancelled_in};
+ghost use Rattle.task_table.specs.Records.{ending_in, row_in};
+ghost use Rattle.fault_text.specs.JobOutcomes.{cancelled_if, cancelled_in};
 
 use exc_groups::{Exc, Label};
 use std::alloc::{AllocError, Global};
-use task_roster::{Outcome, Record};
+use task_table::{Outcome, Record};
 
 // Returns the exception that a task ended with, given its outcome.
 #[tactic(auto, using(crate::proofs::Outcomes::none_of, crate::proofs::Outcomes::cancelled_of, crate::proofs::Outcomes::raised_of))]

@@ -4,7 +4,7 @@ ghost use Rattle.exc_groups.specs.Exceptions as tree;
 ghost use Rattle.exc_groups.specs.Held.{exc_of};
 ghost use Rattle.job_meaning.specs.Shown.{ending_of};
 ghost use Rattle.job_runner.specs.Runs.{rows_of};
-ghost use Rattle.job_meaning.specs.declared.limits.TheConstants.{MOST_INPUT};
+ghost use Rattle.job_meaning.specs.declared.limits.TheConstants.{MAX_INPUT};
 ghost use Rattle.fault_app.specs.Held.{IsSummary, root_ending};
 
 use crate::outcome::{cancelled_tasks, exc_in};
@@ -39,7 +39,7 @@ pub fn summary_of<R: Threads + Sync>(
     job: &Job,
     input: &[u8],
 ) -> Result<Summary, AllocError>
-    requires { length input.now ≤ MOST_INPUT }
+    requires { length input.now ≤ MAX_INPUT }
     ensures { IfOk result (IsSummary job.now input.now) }
 {
     law_froms_of_meaning();

@@ -1,13 +1,13 @@
 ghost use Rattle.std.specs.Prelude.{◌≤◌, length, IfOk, map};
-ghost use Rattle.job_meaning.specs.declared.limits.TheConstants.{MOST_INPUT};
+ghost use Rattle.job_meaning.specs.declared.limits.TheConstants.{MAX_INPUT};
 ghost use Rattle.job_grammar.specs.Refusals.{Spells};
-ghost use Rattle.fault_text.specs.Views.{fate_held, line_held};
+ghost use Rattle.fault_text.specs.Views.{job_outcome_held, line_held};
 ghost use Rattle.fault_app.specs.Verdicts.{AreFaultLines};
 
 use crate::answering::tokens_of;
-use crate::fate::fate_of_job;
+use crate::job_outcome::outcome_of_job;
 use crate::lines::Author;
-use fault_text::{Fate, Line};
+use fault_text::{JobOutcome, Line};
 use job_edits::{Plan, variants};
 use job_grammar::{Job, Name};
 use job_runner::Settings;
@@ -20,7 +20,7 @@ use std::thread::Threads;
 #[derive(Drop)]
 pub struct FaultLines {
     /// The outcome of the job without a fault.
-    pub first: Fate,
+    pub first: JobOutcome,
     /// The outcome of the job with each fault, in the order of the places of the steps.
     pub lines: Vec<Line>,
 }
@@ -42,9 +42,9 @@ pub fn fault_lines<R: Threads + Sync, G: Gate + Sync>(
     name: Name,
     gate: &G,
 ) -> Result<FaultLines, AllocError>
-    requires input { length input.now ≤ MOST_INPUT }
+    requires input { length input.now ≤ MAX_INPUT }
     requires spells { Spells job_text.now job.now }
-    ensures { IfOk result (λ told. AreFaultLines job_text.now input.now settings.limit name job.now (fate_held told.first)
+    ensures { IfOk result (λ told. AreFaultLines job_text.now input.now settings.limit name job.now (job_outcome_held told.first)
         (map line_held told.lines.items)) }
 {
     let tokens = tokens_of(alloc, job_text, job)?;
@@ -55,7 +55,7 @@ pub fn fault_lines<R: Threads + Sync, G: Gate + Sync>(
         limit: settings.limit(),
         plan: Plan::of(alloc, name, tokens.as_slice())?,
     };
-    let first = fate_of_job(rt, alloc, job, input, author.limit, None)?;
+    let first = outcome_of_job(rt, alloc, job, input, author.limit, None)?;
     let workers = settings.workers();
     let lines = answers_for(rt, alloc, &author, variants.as_slice(), workers, gate)?;
     Ok(FaultLines { first, lines })

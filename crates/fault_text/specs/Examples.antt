@@ -6,7 +6,7 @@ use Rattle.job_edits.specs.declared.fault.Fault.{Fault}
 use Rattle.job_edits.specs.declared.fault.Fault.TheVariants.{Fails, FailsLate, Hangs, Cancelled, Misses}
 use Rattle.job_edits.specs.declared.waiting.Wait.{Wait}
 use Rattle.job_edits.specs.declared.waiting.Wait.TheVariants.{Sleep, Checkpoint, Forever, Pace, Need}
-use Rattle.fault_text.specs.Fates.{Fate, refused, stuck, ended}
+use Rattle.fault_text.specs.JobOutcomes.{JobOutcome, refused, stuck, ended}
 use Rattle.fault_text.specs.Table.{Line, table_text, denied_text}
 
 abbrev pub task : List ℕ → Label
@@ -14,13 +14,13 @@ task name = record { name = name; indices = [] }
 
 -- the outcome of a job with a fault of a step, given the line and column of the step, and whether the fault is
 -- reached
-abbrev pub told : ℕ → ℕ → Wait → Fault → Bool → Fate → Line
-told line column wait fault reached fate =
+abbrev pub told : ℕ → ℕ → Wait → Fault → Bool → JobOutcome → Line
+told line column wait fault reached job_outcome =
     record {
       line = line;
       column = column;
       variant = record { step = record { from = 0; to = 0; wait = wait }; fault = fault };
-      fate = fate;
+      job_outcome = job_outcome;
       reached = reached;
     }
 
@@ -41,7 +41,7 @@ cleanup_lines =
     ∷ told 21 11 (Sleep 3) Cancelled true (ended 8 None (task (codes "journal") ∷ task (codes "cache") ∷ []) (task (codes "cache") ∷ []) false)
     ∷ []
 
-abbrev pub cleanup_first : Fate
+abbrev pub cleanup_first : JobOutcome
 cleanup_first = ended 8 None (task (codes "journal") ∷ task (codes "cache") ∷ []) (task (codes "cache") ∷ []) false
 
 pub cleanup_is_told :
@@ -72,7 +72,7 @@ other_lines =
     ∷ told 100 2 (Need (codes "k b") (codes "Gone")) (Misses (codes "X")) false (stuck (task (codes "a") ∷ task (codes "b") ∷ task (codes "c") ∷ []))
     ∷ []
 
-abbrev pub other_first : Fate
+abbrev pub other_first : JobOutcome
 other_first = ended 3 (Some cancelled) [] [] false
 
 pub other_is_told :

@@ -1,4 +1,4 @@
-pub mod Fates
+pub mod JobOutcomes
 pub mod Table
 pub mod Views
 pub mod Examples

@@ -6,14 +6,14 @@ use Rattle.job_edits.specs.declared.fault.Variant.{Variant}
 use Rattle.job_edits.specs.Waiting.{wait_text}
 use Rattle.fault_text.specs.declared.columns.Widths.{Widths}
 use Rattle.fault_text.specs.declared.deny.Deny.{Deny}
-use Rattle.fault_text.specs.Fates.{Fate, fate_text, is_stuck, has_cut, has_lost, is_refused}
+use Rattle.fault_text.specs.JobOutcomes.{JobOutcome, job_outcome_text, is_stuck, has_cut, has_lost, is_refused}
 
 -- the outcome of a variant of a job text, whether its fault was reached, and the line and column of its step
 pub record Line : Type 0 where
   pub line : ℕ
   pub column : ℕ
   pub variant : Variant
-  pub fate : Fate
+  pub job_outcome : JobOutcome
   pub reached : Bool
 
 -- ---- columns
@@ -56,14 +56,14 @@ widths_of ls = record { place = widest place_text 0 ls; step = widest step_text 
 
 -- The job without a fault. Its outcome is in the same column as the others; the columns for a step and its place
 -- are blank.
-abbrev pub first_text : ℕ → Widths → Fate → List ℕ
-first_text limit w fate =
-    spaces w.place ++ spaces w.step ++ codes "    " ++ left_text w.fault (codes "as it is") ++ codes "  " ++ fate_text limit true fate ++ codes "\n"
+abbrev pub first_text : ℕ → Widths → JobOutcome → List ℕ
+first_text limit w job_outcome =
+    spaces w.place ++ spaces w.step ++ codes "    " ++ left_text w.fault (codes "as it is") ++ codes "  " ++ job_outcome_text limit true job_outcome ++ codes "\n"
 
 abbrev pub line_text : ℕ → Widths → Line → List ℕ
 line_text limit w l =
     right_text w.place (place_text l) ++ codes "  " ++ left_text w.step (step_text l) ++ codes "  " ++ left_text w.fault (kind_text l)
-    ++ codes "  " ++ fate_text limit l.reached l.fate ++ codes "\n"
+    ++ codes "  " ++ job_outcome_text limit l.reached l.job_outcome ++ codes "\n"
 
 abbrev pub lines_text : ℕ → Widths → List Line → List ℕ
 lines_text limit w [] = []
@@ -84,35 +84,35 @@ refused_text (suc n) = codes ", " ++ decimal (suc n) ++ codes " refused"
 
 -- a fault is not reached if its text is read and its step is not reached
 abbrev pub is_unreached : Line → Bool
-is_unreached l = not l.reached && not (is_refused l.fate)
+is_unreached l = not l.reached && not (is_refused l.job_outcome)
 
 abbrev pub counts_text : List Line → List ℕ
 counts_text ls =
-    faults_text (length ls) ++ decimal (count (λ l. is_stuck l.fate) ls) ++ codes " stuck, "
-    ++ decimal (count (λ l. has_cut l.fate) ls) ++ codes " cut a cleanup, "
-    ++ decimal (count (λ l. has_lost l.fate) ls) ++ codes " lost, "
+    faults_text (length ls) ++ decimal (count (λ l. is_stuck l.job_outcome) ls) ++ codes " stuck, "
+    ++ decimal (count (λ l. has_cut l.job_outcome) ls) ++ codes " cut a cleanup, "
+    ++ decimal (count (λ l. has_lost l.job_outcome) ls) ++ codes " lost, "
     ++ decimal (count is_unreached ls) ++ codes " not reached"
-    ++ refused_text (count (λ l. is_refused l.fate) ls) ++ codes "\n"
+    ++ refused_text (count (λ l. is_refused l.job_outcome) ls) ++ codes "\n"
 
 -- the text of all lines
-abbrev pub table_text : ℕ → Fate → List Line → List ℕ
+abbrev pub table_text : ℕ → JobOutcome → List Line → List ℕ
 table_text limit first ls =
     let w = widths_of ls in first_text limit w first ++ lines_text limit w ls ++ counts_text ls
 
 -- ---- what is denied
 
 -- this outcome of a job is denied
-abbrev pub denies : Deny → Fate → Bool
-denies d fate = (d.stuck && is_stuck fate) || ((d.cut && has_cut fate) || (d.lost && has_lost fate))
+abbrev pub denies : Deny → JobOutcome → Bool
+denies d job_outcome = (d.stuck && is_stuck job_outcome) || ((d.cut && has_cut job_outcome) || (d.lost && has_lost job_outcome))
 
-abbrev pub first_denied : ℕ → Deny → Widths → Fate → List ℕ
-first_denied limit d w fate = if denies d fate then first_text limit w fate else []
+abbrev pub first_denied : ℕ → Deny → Widths → JobOutcome → List ℕ
+first_denied limit d w job_outcome = if denies d job_outcome then first_text limit w job_outcome else []
 
 abbrev pub denied_lines : ℕ → Deny → Widths → List Line → List ℕ
 denied_lines limit d w [] = []
-denied_lines limit d w (l ∷ ls) = (if denies d l.fate then line_text limit w l else []) ++ denied_lines limit d w ls
+denied_lines limit d w (l ∷ ls) = (if denies d l.job_outcome then line_text limit w l else []) ++ denied_lines limit d w ls
 
 -- the lines that are denied, as they are in the table
-abbrev pub denied_text : ℕ → Deny → Fate → List Line → List ℕ
+abbrev pub denied_text : ℕ → Deny → JobOutcome → List Line → List ℕ
 denied_text limit d first ls =
     let w = widths_of ls in first_denied limit d w first ++ denied_lines limit d w ls

@@ -1,5 +1,5 @@
 ghost use Rattle.std.specs.Prelude.{◌≡◌, ◌++◌, OnOk, decimal, map};
-ghost use Rattle.fault_text.specs.Fates.{is_stuck, has_cut, has_lost, is_refused};
+ghost use Rattle.fault_text.specs.JobOutcomes.{is_stuck, has_cut, has_lost, is_refused};
 ghost use Rattle.fault_text.specs.Table.{count, is_unreached, faults_text, refused_text, counts_text};
 ghost use Rattle.fault_text.specs.Views.{line_held};
 
@@ -22,23 +22,32 @@ pub(crate) fn push_counts(out: &mut Vec<u8>, lines: &[Line]) -> Result<(), Alloc
 
 // Returns how many jobs do not end by the limit.
 fn stuck_in(lines: &[Line]) -> usize
-    ensures { result ≡ count (λ l. is_stuck l.fate) (map line_held lines.now) }
+    ensures { result ≡ count (λ l. is_stuck l.job_outcome) (map line_held lines.now) }
 {
-    lines.iter().filter(|line| line.fate.is_stuck()).count()
+    lines
+        .iter()
+        .filter(|line| line.job_outcome.is_stuck())
+        .count()
 }
 
 // Returns how many jobs cut a cleanup.
 fn cut_in(lines: &[Line]) -> usize
-    ensures { result ≡ count (λ l. has_cut l.fate) (map line_held lines.now) }
+    ensures { result ≡ count (λ l. has_cut l.job_outcome) (map line_held lines.now) }
 {
-    lines.iter().filter(|line| line.fate.has_cut()).count()
+    lines
+        .iter()
+        .filter(|line| line.job_outcome.has_cut())
+        .count()
 }
 
 // Returns how many jobs lose the exception of the fault.
 fn lost_in(lines: &[Line]) -> usize
-    ensures { result ≡ count (λ l. has_lost l.fate) (map line_held lines.now) }
+    ensures { result ≡ count (λ l. has_lost l.job_outcome) (map line_held lines.now) }
 {
-    lines.iter().filter(|line| line.fate.has_lost()).count()
+    lines
+        .iter()
+        .filter(|line| line.job_outcome.has_lost())
+        .count()
 }
 
 // Returns how many faults are not reached.
@@ -50,9 +59,12 @@ fn unreached_in(lines: &[Line]) -> usize
 
 // Returns how many texts are refused.
 fn refused_in(lines: &[Line]) -> usize
-    ensures { result ≡ count (λ l. is_refused l.fate) (map line_held lines.now) }
+    ensures { result ≡ count (λ l. is_refused l.job_outcome) (map line_held lines.now) }
 {
-    lines.iter().filter(|line| line.fate.is_refused()).count()
+    lines
+        .iter()
+        .filter(|line| line.job_outcome.is_refused())
+        .count()
 }
 
 /// Appends a number and what it counts. The only error is that memory was refused.

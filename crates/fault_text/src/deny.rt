@@ -1,8 +1,8 @@
 ghost use Rattle.std.specs.Prelude.{◌≡◌};
 ghost use Rattle.fault_text.specs.Table.{denies};
-ghost use Rattle.fault_text.specs.Views.{fate_held};
+ghost use Rattle.fault_text.specs.Views.{job_outcome_held};
 
-use crate::fate::Fate;
+use crate::job_outcome::JobOutcome;
 
 /// The outcomes that a job should not have, whatever its fault.
 #[derive(Clone, Copy, Debug, PartialEq, Eq)]
@@ -17,11 +17,11 @@ pub struct Deny {
 
 impl Deny {
     /// Returns whether a job should not have this outcome.
-    pub fn denies(self, fate: &Fate) -> bool
-        ensures { result ≡ denies self (fate_held fate.now) }
+    pub fn denies(self, job_outcome: &JobOutcome) -> bool
+        ensures { result ≡ denies self (job_outcome_held job_outcome.now) }
     {
-        (self.stuck && fate.is_stuck())
-            || (self.cut && fate.has_cut())
-            || (self.lost && fate.has_lost())
+        (self.stuck && job_outcome.is_stuck())
+            || (self.cut && job_outcome.has_cut())
+            || (self.lost && job_outcome.has_lost())
     }
 }

@@ -8,7 +8,7 @@
 mod columns;
 mod counts;
 mod deny;
-mod fate;
+mod job_outcome;
 mod line;
 mod lines;
 mod notes;
@@ -16,7 +16,7 @@ mod pieces;
 
 pub use counts::{push_count, push_refused};
 pub use deny::Deny;
-pub use fate::Fate;
+pub use job_outcome::JobOutcome;
 pub use line::Line;
 pub use lines::{denied, table};
 pub use notes::push_names_note;

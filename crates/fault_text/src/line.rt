@@ -2,7 +2,7 @@ ghost use Rattle.std.specs.Prelude.{◌≡◌};
 ghost use Rattle.fault_text.specs.Table.{is_unreached};
 ghost use Rattle.fault_text.specs.Views.{line_held};
 
-use crate::fate::Fate;
+use crate::job_outcome::JobOutcome;
 use job_edits::Variant;
 
 /// The outcome of a job with a fault at one of its steps.
@@ -15,7 +15,7 @@ pub struct Line {
     /// The step and the fault.
     pub variant: Variant,
     /// The outcome of the job.
-    pub fate: Fate,
+    pub job_outcome: JobOutcome,
     /// Whether the fault is reached by the limit: the step begins by then or, for a fault that fails late, ends by
     /// then.
     pub reached: bool,
@@ -26,6 +26,6 @@ impl Line {
     pub fn is_unreached(&self) -> bool
         ensures { result ≡ is_unreached (line_held self.now) }
     {
-        !self.reached && !self.fate.is_refused()
+        !self.reached && !self.job_outcome.is_refused()
     }
 }

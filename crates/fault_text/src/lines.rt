@@ -1,20 +1,25 @@
 ghost use Rattle.std.specs.Prelude.{◌≡◌, ◌++◌, IfOk, OnOk, map};
 ghost use Rattle.fault_text.specs.Table.{first_text, line_text, lines_text, table_text, denied_text};
-ghost use Rattle.fault_text.specs.Views.{fate_held, line_held};
+ghost use Rattle.fault_text.specs.Views.{job_outcome_held, line_held};
 
 use crate::columns::{Widths, fault_name, place_of, step_of, widths_of};
 use crate::counts::push_counts;
 use crate::deny::Deny;
-use crate::fate::Fate;
+use crate::job_outcome::JobOutcome;
 use crate::line::Line;
-use crate::notes::push_fate;
+use crate::notes::push_job_outcome;
 use crate::pieces::{push_left, push_right, push_spaces};
 use std::alloc::{AllocError, Global};
 
 /// Returns the text of the table: the outcome of the job without a fault (`first`), the outcome with each fault, and how many
 /// faults there are of each kind. `limit` is the last tick at which the job may end. The only error is that memory was refused.
-pub fn table(alloc: Global, limit: u64, first: &Fate, lines: &[Line]) -> Result<Vec<u8>, AllocError>
-    ensures { IfOk result (λ text. text.items ≡ table_text limit (fate_held first.now) (map line_held lines.now)) }
+pub fn table(
+    alloc: Global,
+    limit: u64,
+    first: &JobOutcome,
+    lines: &[Line],
+) -> Result<Vec<u8>, AllocError>
+    ensures { IfOk result (λ text. text.items ≡ table_text limit (job_outcome_held first.now) (map line_held lines.now)) }
 {
     let widths = widths_of(alloc, lines)?;
     let mut out = Vec::new(alloc);
@@ -29,11 +34,11 @@ pub fn table(alloc: Global, limit: u64, first: &Fate, lines: &[Line]) -> Result<
 pub fn denied(
     alloc: Global,
     limit: u64,
-    first: &Fate,
+    first: &JobOutcome,
     lines: &[Line],
     deny: Deny,
 ) -> Result<Vec<u8>, AllocError>
-    ensures { IfOk result (λ text. text.items ≡ denied_text limit deny (fate_held first.now) (map line_held lines.now)) }
+    ensures { IfOk result (λ text. text.items ≡ denied_text limit deny (job_outcome_held first.now) (map line_held lines.now)) }
 {
     let widths = widths_of(alloc, lines)?;
     let mut out = Vec::new(alloc);
@@ -41,7 +46,7 @@ pub fn denied(
         push_first(&mut out, limit, widths, first)?;
     }
     'lines: for line in lines {
-        if deny.denies(&line.fate) {
+        if deny.denies(&line.job_outcome) {
             push_line(alloc, &mut out, limit, widths, line)?;
         }
     }
@@ -49,15 +54,20 @@ pub fn denied(
 }
 
 // Appends the outcome of the job without a fault.
-fn push_first(out: &mut Vec<u8>, limit: u64, widths: Widths, fate: &Fate) -> Result<(), AllocError>
-    ensures { OnOk result (out.new.items ≡ out.old.items ++ first_text limit widths (fate_held fate.now)) }
+fn push_first(
+    out: &mut Vec<u8>,
+    limit: u64,
+    widths: Widths,
+    job_outcome: &JobOutcome,
+) -> Result<(), AllocError>
+    ensures { OnOk result (out.new.items ≡ out.old.items ++ first_text limit widths (job_outcome_held job_outcome.now)) }
 {
     push_spaces(out, widths.place)?;
     push_spaces(out, widths.step)?;
     out.extend_from_slice(b"    ")?;
     push_left(out, widths.fault, b"as it is")?;
     out.extend_from_slice(b"  ")?;
-    push_fate(out, limit, true, fate)?;
+    push_job_outcome(out, limit, true, job_outcome)?;
     out.extend_from_slice(b"\n")
 }
 
@@ -93,6 +103,6 @@ fn push_line(
     out.extend_from_slice(b"  ")?;
     push_left(out, widths.fault, fault_name(line.variant.fault))?;
     out.extend_from_slice(b"  ")?;
-    push_fate(out, limit, line.reached, &line.fate)?;
+    push_job_outcome(out, limit, line.reached, &line.job_outcome)?;
     out.extend_from_slice(b"\n")
 }

@@ -2,32 +2,32 @@ ghost use Rattle.std.specs.Prelude.{◌≡◌, ◌++◌, Some, OnOk, codes, deci
 ghost use Rattle.std.specs.Option.{option_map};
 ghost use Rattle.exc_groups.specs.Held.{exc_of};
 ghost use Rattle.job_story.specs.Sentences.{end_text};
-ghost use Rattle.fault_text.specs.Fates.{more_names, names_text, names_note, reached_note, lost_note, fate_text};
-ghost use Rattle.fault_text.specs.Views.{fate_held};
+ghost use Rattle.fault_text.specs.JobOutcomes.{more_names, names_text, names_note, reached_note, lost_note, job_outcome_text};
+ghost use Rattle.fault_text.specs.Views.{job_outcome_held};
 
-use crate::fate::Fate;
+use crate::job_outcome::JobOutcome;
 use exc_groups::{Exc, Label};
 use std::alloc::AllocError;
 use story_text::{push_exc, push_label, push_number};
 
 // Appends the outcome of a job up to the limit, and notes. `reached` says whether the fault was reached.
-pub(crate) fn push_fate(
+pub(crate) fn push_job_outcome(
     out: &mut Vec<u8>,
     limit: u64,
     reached: bool,
-    fate: &Fate,
+    job_outcome: &JobOutcome,
 ) -> Result<(), AllocError>
-    ensures { OnOk result (out.new.items ≡ out.old.items ++ fate_text limit reached (fate_held fate.now)) }
+    ensures { OnOk result (out.new.items ≡ out.old.items ++ job_outcome_text limit reached (job_outcome_held job_outcome.now)) }
 {
-    match fate {
-        Fate::Refused => out.extend_from_slice(b"refused"),
-        Fate::Stuck { sleeping } => {
+    match job_outcome {
+        JobOutcome::Refused => out.extend_from_slice(b"refused"),
+        JobOutcome::Stuck { sleeping } => {
             out.extend_from_slice(b"stuck at ")?;
             push_number(out, limit)?;
             push_reached(out, reached)?;
             push_names_note(out, b"sleeping forever: ", sleeping.as_slice())
         }
-        Fate::Ended {
+        JobOutcome::Ended {
             end,
             exc,
             cancelled,

@@ -1,5 +1,5 @@
 ghost use Rattle.std.specs.Prelude.{◌≤◌, length};
-ghost use Rattle.job_meaning.specs.declared.limits.TheConstants.{MOST_INPUT};
+ghost use Rattle.job_meaning.specs.declared.limits.TheConstants.{MAX_INPUT};
 
 use crate::kept::{Unread, name_beside, read_kept, shown_line};
 use crate::stop::TestStop;
@@ -17,7 +17,7 @@ pub(crate) fn test_expectations<R: Files + Print + Eprint + Threads + Sync + All
     feed: &Feed<'_>,
     tally: &mut Tally,
 ) -> Result<bool, TestStop>
-    requires { length feed.now.input.now ≤ MOST_INPUT }
+    requires { length feed.now.input.now ≤ MAX_INPUT }
 {
     let name = name_beside(rt.alloc(), feed.stem, "expect")?;
     let bytes = match read_kept(rt, name.as_str()) {
@@ -75,7 +75,7 @@ fn unmet_lines<R: Threads + Sync + AllocGlobal>(
     told: &Told,
     expectations: &[u8],
 ) -> Result<String, TestStop>
-    requires { length feed.now.input.now ≤ MOST_INPUT }
+    requires { length feed.now.input.now ≤ MAX_INPUT }
 {
     let mut lines = String::new(rt.alloc());
     'lines: for (i, line) in expectations.split(|b| *b == b'\n').enumerate() {
@@ -94,7 +94,7 @@ fn push_unmet<R: Threads + Sync + AllocGlobal>(
     number: usize,
     line: &[u8],
 ) -> Result<(), TestStop>
-    requires { length feed.now.input.now ≤ MOST_INPUT }
+    requires { length feed.now.input.now ≤ MAX_INPUT }
 {
     let alloc = rt.alloc();
     let said = shown_line(alloc, line)?;

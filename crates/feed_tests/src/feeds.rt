@@ -4,7 +4,7 @@ use std::rt::Files;
 use std::{fs, io};
 
 /// The maximum number of folders that are searched.
-const MOST_FOLDERS: usize = 100_000;
+const MAX_FOLDERS: usize = 100_000;
 
 /// The feeds of a path of the command line.
 #[derive(Drop)]
@@ -49,7 +49,7 @@ fn search_folder<R: Files + AllocGlobal + Clone + Drop>(
     let alloc = rt.alloc();
     let mut folders = Vec::new(alloc);
     push(&mut folders, String::from_str(alloc, folder)?)?;
-    'folders: for _turn in 0..MOST_FOLDERS {
+    'folders: for _turn in 0..MAX_FOLDERS {
         let Some(next) = folders.pop() else {
             break;
         };

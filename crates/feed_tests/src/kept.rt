@@ -6,7 +6,7 @@ use std::io::ErrorKind;
 use std::rt::Files;
 
 /// The maximum number of bytes of a feed, and of a file that is kept beside one.
-const MOST_KEPT: usize = 268_435_456;
+const MAX_KEPT: usize = 268_435_456;
 
 /// Why a file was not read.
 #[derive(Drop)]
@@ -33,7 +33,7 @@ pub(crate) fn read_kept<R: Files + AllocGlobal>(rt: &R, name: &str) -> Result<Ve
         Err(error) if error.kind() == ErrorKind::NotFound => return Err(Unread::Missing),
         Err(error) => return Err(Unread::Fault(reason_line(alloc, name, error.kind()))),
     };
-    match read_whole(alloc, &mut file, MOST_KEPT) {
+    match read_whole(alloc, &mut file, MAX_KEPT) {
         Ok(bytes) => Ok(bytes),
         Err(ReadFault::Device) => Err(Unread::Fault(read_reason(rt, name))),
         Err(ReadFault::TooLong) => Err(Unread::Fault(too_long(alloc, name)?)),
@@ -43,7 +43,7 @@ pub(crate) fn read_kept<R: Files + AllocGlobal>(rt: &R, name: &str) -> Result<Ve
 
 // The line for a file with too many bytes.
 fn too_long(alloc: Global, name: &str) -> Result<String, AllocError> {
-    format!(in alloc; "{name}: more than {MOST_KEPT} bytes\n")
+    format!(in alloc; "{name}: more than {MAX_KEPT} bytes\n")
 }
 
 /// Returns the name of the file with this extension beside a feed, given the feed's name without its own
@@ -60,7 +60,7 @@ pub(crate) fn name_beside(
 /// printable ASCII.
 pub(crate) fn shown_line(alloc: Global, line: &[u8]) -> Result<String, AllocError> {
     let mut shown = String::new(alloc);
-    let (front, rest) = line.split_at(line.len().min(MOST_SHOWN));
+    let (front, rest) = line.split_at(line.len().min(MAX_SHOWN));
     'bytes: for byte in front {
         shown.push(shown_byte(*byte))?;
     }
@@ -71,7 +71,7 @@ pub(crate) fn shown_line(alloc: Global, line: &[u8]) -> Result<String, AllocErro
 }
 
 /// The maximum number of bytes of a line that are shown.
-const MOST_SHOWN: usize = 200;
+const MAX_SHOWN: usize = 200;
 
 fn shown_byte(byte: u8) -> char {
     match byte {

@@ -1,5 +1,5 @@
 ghost use Rattle.std.specs.Prelude.{◌≤◌, length};
-ghost use Rattle.job_meaning.specs.declared.limits.TheConstants.{MOST_INPUT};
+ghost use Rattle.job_meaning.specs.declared.limits.TheConstants.{MAX_INPUT};
 
 use crate::expecting::test_expectations;
 use crate::feeds::find_feeds;
@@ -8,7 +8,7 @@ use crate::stop::TestStop;
 use crate::tally::Tally;
 use expect_text::{Difference, first_difference};
 use job_files::{ReplaceFault, reason_line, replace};
-use nursery_app::{MOST_INPUT, Settings, WriteOut, send, split_feed};
+use nursery_app::{MAX_INPUT, Settings, WriteOut, send, split_feed};
 use std::alloc::{AllocError, Global};
 use std::io::{self, ErrorKind};
 use std::rt::Files;
@@ -118,7 +118,7 @@ fn test_feed<R: Files + Print + Eprint + Threads + Sync + AllocGlobal>(
         }
     };
     let (text, input) = split_feed(bytes.as_slice());
-    if input.len() > MOST_INPUT {
+    if input.len() > MAX_INPUT {
         let line = format!(in rt.alloc(); "{name}: its input is too long\n")?;
         complain(rt, tally, line.as_str());
         return Ok(());
@@ -140,7 +140,7 @@ fn test_parts<R: Files + Print + Eprint + Threads + Sync + AllocGlobal>(
     feed: &Feed<'_>,
     tally: &mut Tally,
 ) -> Result<(), TestStop>
-    requires { length feed.now.input.now ≤ MOST_INPUT }
+    requires { length feed.now.input.now ≤ MAX_INPUT }
 {
     let mut tested = false;
     'outputs: for kind in Output::all() {
@@ -181,7 +181,7 @@ fn test_output<R: Files + Print + Eprint + Threads + Sync + AllocGlobal>(
     kind: Output,
     tally: &mut Tally,
 ) -> Result<bool, TestStop>
-    requires { length feed.now.input.now ≤ MOST_INPUT }
+    requires { length feed.now.input.now ≤ MAX_INPUT }
 {
     let name = name_beside(rt.alloc(), feed.stem, kind.extension())?;
     let kept = match read_kept(rt, name.as_str()) {

@@ -8,10 +8,10 @@ use Rattle.std.specs.Str.{bytes_eq}
 use Rattle.job_tree.specs.declared.format.Format.{Format}
 use Rattle.job_tree.specs.declared.format.Format.TheVariants.{One, Two}
 use Rattle.job_tree.specs.Tree.{Tree}
-use Rattle.job_tree.specs.Modest.{most_steps}
+use Rattle.job_tree.specs.InRange.{most_steps}
 use Rattle.job_tokens.specs.declared.token.Token.{Token}
 use Rattle.job_tokens.specs.Shapes.{shapes_of}
-use Rattle.job_tokens.proofs.Course.{Lexes-unique}
+use Rattle.job_tokens.proofs.GrammarCheck.{Lexes-unique}
 use Rattle.job_tree.specs.Names.{size_of}
 use Rattle.job_syntax.specs.declared.role.Role.{Role}
 use Rattle.job_syntax.specs.Pieces.{shapes_in, job_pieces}

@@ -4,9 +4,9 @@ use Rattle.job_tree.specs.declared.format.Format.{Format}
 use Rattle.job_tree.specs.Tree.{Tree}
 use Rattle.job_tree.specs.Names.{GivesNamesOnce, size_of}
 use Rattle.job_tree.specs.Starting.{StartsInNurseries}
-use Rattle.job_tree.specs.Modest.{IsModest, most_steps}
+use Rattle.job_tree.specs.InRange.{IsInRange, most_steps}
 use Rattle.job_syntax.specs.Ranges.{number_fault}
-use Rattle.job_syntax.proofs.Modest.{modest_numbers}
+use Rattle.job_syntax.proofs.InRange.{in_range_numbers}
 use Rattle.job_syntax.proofs.Starting.{starts_in}
 use Rattle.job_checks.specs.Given.{twice_in}
 use Rattle.job_checks.proofs.Distinct_names.{names_once}
@@ -24,9 +24,9 @@ pub starts_in_nurseries : (text : List ℕ) (job : Tree) → Spells text job →
 starts_in_nurseries text job (ts, is_of, none) = starts_in job.format false job.steps is_of.1.0
 
 -- its numbers are in their ranges, and it has no more steps than its format allows
-pub is_modest : (text : List ℕ) (job : Tree) → Spells text job → IsModest job
-is_modest text job (ts, is_of, none) = record {
-  numbers = modest_numbers job ts is_of.1.0 is_of.1.1 (none_of (number_fault job.format None ts)
+pub numbers_in_range : (text : List ℕ) (job : Tree) → Spells text job → IsInRange job
+numbers_in_range text job (ts, is_of, none) = record {
+  numbers = in_range_numbers job ts is_of.1.0 is_of.1.1 (none_of (number_fault job.format None ts)
       (λ at e. none kind.Number at (ts, is_of.0, ap (λ (format : Format). number_fault format None ts) (sym is_of.2) ∙ e)));
   size = small_enough (most_steps job.format) (size_of job.steps) (λ lt. none kind.TooLarge 0 (ts, job, is_of, lt, refl));
 }

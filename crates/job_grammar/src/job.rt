@@ -1,6 +1,6 @@
 ghost use Rattle.std.specs.Prelude.{◌≡◌};
 ghost use Rattle.job_tree.specs.Blocks.{steps_of};
-ghost use Rattle.job_tree.specs.Modest.{IsModest, number_of};
+ghost use Rattle.job_tree.specs.InRange.{IsInRange, number_of};
 ghost use Rattle.job_tree.specs.Names.{size_of};
 ghost use Rattle.job_grammar.specs.Jobs.{IsReadable};
 ghost use Rattle.job_tree.specs.declared.format.Format.TheVariants.{Two};
@@ -71,7 +71,7 @@ impl Job {
     /// and its canonical text spells it.
     pub fn steps(&self) -> &[Step]
         ensures steps { steps_of result.now ≡ self.now.steps }
-        ensures modest { IsModest self.now }
+        ensures in_range { IsInRange self.now }
         ensures spelled { IsReadable self.now }
     {
         self.steps.as_slice()

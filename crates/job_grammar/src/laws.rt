@@ -2,7 +2,7 @@ ghost use Rattle.std.specs.Prelude.{◌≡◌, ◌≤◌, ℕ, List, length};
 ghost use Rattle.job_tree.specs.Tree.{Tree};
 ghost use Rattle.job_tree.specs.Names.{GivesNamesOnce};
 ghost use Rattle.job_tree.specs.Starting.{StartsInNurseries};
-ghost use Rattle.job_tree.specs.Modest.{IsModest};
+ghost use Rattle.job_tree.specs.InRange.{IsInRange};
 ghost use Rattle.job_grammar.specs.Refusals.{Spells};
 ghost use Rattle.job_grammar.specs.Canon.{canon};
 
@@ -24,5 +24,5 @@ pub fn canonical_text_spells()
 pub fn spelled_jobs_are_sound()
     ensures names { (text : List ℕ) (job : Tree) → Spells text job → GivesNamesOnce job }
     ensures starts { (text : List ℕ) (job : Tree) → Spells text job → StartsInNurseries job }
-    ensures modest { (text : List ℕ) (job : Tree) → Spells text job → IsModest job }
+    ensures in_range { (text : List ℕ) (job : Tree) → Spells text job → IsInRange job }
 {}

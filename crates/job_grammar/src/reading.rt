@@ -7,13 +7,13 @@ ghost use Rattle.job_grammar.specs.Refusals.{first_line, format_of, IsHeadless, 
 use crate::draft::Draft;
 use crate::fault::{JobFault, JobKind, refuse_at};
 use crate::job::Job;
-use job_syntax::{Course, Role, depth_fault, follow, number_fault};
+use job_syntax::{GrammarCheck, Role, check_grammar, depth_fault, number_fault};
 use job_tokens::{Lexed, Token, lex};
 use job_tree::Format;
 use std::alloc::Global;
 
 /// The maximum number of bytes of a job text.
-pub const MOST_BYTES: usize = 65_536;
+pub const MAX_BYTES: usize = 65_536;
 
 /// The number of bytes of the first line of a job text, with its newline.
 pub const FIRST_LINE_LENGTH: usize = 11;
@@ -66,9 +66,9 @@ fn check_bytes(text: &[u8]) -> Result<(Format, &[u8]), JobFault>
     ensures ok { IfOk result (λ found. (found.0 ≡ format_of text.now) × (found.1.now ≡ drop 11 text.now) × Passes text.now 3) }
     ensures err { IfErr result (IsFair text.now) }
 {
-    if text.len() > MOST_BYTES {
+    if text.len() > MAX_BYTES {
         return Err(JobFault {
-            at: MOST_BYTES,
+            at: MAX_BYTES,
             kind: JobKind::TooLong,
         });
     }
@@ -157,7 +157,7 @@ fn roles_of(
     ensures ok { IfOk result (λ roles. IsReadTo 6 text.now tokens.now × IsOfSomeJob (format_of text.now) tokens.now roles.items) }
     ensures err { IfErr result (IsFair text.now) }
 {
-    let Course { fault, roles } = follow(alloc, format, tokens, text.len())?;
+    let GrammarCheck { fault, roles } = check_grammar(alloc, format, tokens, text.len())?;
     refuse_at(fault, JobKind::Syntax)?;
     Ok(roles)
 }

@@ -6,7 +6,7 @@ use Rattle.std.proofs.lemmas.Bool.{cases_lt}
 use Rattle.job_tree.specs.declared.format.Format.{Format}
 use Rattle.job_tree.specs.declared.format.Format.TheVariants.{One, Two}
 use Rattle.job_tree.specs.Tree.{Tree}
-use Rattle.job_tree.specs.Modest.{most_steps}
+use Rattle.job_tree.specs.InRange.{most_steps}
 use Rattle.job_tokens.specs.declared.token.Shape.{Shape}
 use Rattle.job_tokens.specs.declared.token.Shape.TheVariants as shape
 use Rattle.job_tokens.specs.declared.token.Token.{Token}
@@ -22,7 +22,7 @@ use Rattle.job_syntax.specs.Ranges.{number_fault, is_in_range, keyword_in}
 use Rattle.job_syntax.specs.Depth.{depth_fault}
 use Rattle.job_syntax.proofs.Places.{fault_at-text}
 use Rattle.job_syntax.proofs.Names.{text_of_job}
-use Rattle.job_syntax.proofs.Modest.{numbers_by_shapes}
+use Rattle.job_syntax.proofs.InRange.{numbers_by_shapes}
 use Rattle.job_syntax.proofs.Deep.{depth_by_shapes}
 use Rattle.job_checks.specs.Given.{twice_in}
 use Rattle.job_checks.specs.Cancels.{cancels_of}

@@ -11,7 +11,7 @@ use Rattle.job_tokens.specs.declared.token.Shape.{Shape}
 use Rattle.job_tokens.specs.declared.token.Shape.TheVariants as shape
 use Rattle.job_tokens.specs.declared.token.Token.{Token}
 use Rattle.job_tokens.specs.Shapes.{shapes_of}
-use Rattle.job_tree.specs.declared.limits.TheConstants.{GREATEST_NUMBER}
+use Rattle.job_tree.specs.declared.limits.TheConstants.{MAX_NUMBER}
 use Rattle.job_tokens.specs.Canon.{mark_byte, token, is_wordlike}
 use Rattle.job_tokens.proofs.Round_bytes.{and_parts, either_way}
 use Rattle.job_tokens.proofs.Round_words.{word_again, token_unless_word, token_unless_number}
@@ -97,7 +97,7 @@ number_begins b rest is =
     ap (λ (x : Bool). cond x (word_at (b ∷ rest)) (token_unless_word b rest)) (not_letter b is)
     ∙ cond-true (is_digit b) (number_at (b ∷ rest)) (token_unless_number b rest) is
 
-number_again : (n : ℕ) (rest : List ℕ) → n ≤ GREATEST_NUMBER → prefix_len is_word_byte rest ≡ 0 →
+number_again : (n : ℕ) (rest : List ℕ) → n ≤ MAX_NUMBER → prefix_len is_word_byte rest ≡ 0 →
     token_at (decimal n ++ rest) ≡ Some (shape.Number (Some n), rest)
 number_again n rest le stops =
     let are = digits_of_number n (omega arith) in

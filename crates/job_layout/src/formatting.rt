@@ -7,7 +7,7 @@ ghost use Rattle.job_layout.specs.Faults.{IsFormatted, IsFairFault, IsTextFault}
 use crate::blocks::tokens_of;
 use crate::fault::FormatFault;
 use crate::spaced::{SpacedToken, push_tokens};
-use job_grammar::{Format, Job, MOST_BYTES, first_line, read_job};
+use job_grammar::{Format, Job, MAX_BYTES, first_line, read_job};
 use std::alloc::{AllocError, Global};
 
 /// Formats a job text: returns the formatted text of the job that the text spells, as `format_job` does.
@@ -34,7 +34,7 @@ pub fn format_job(alloc: Global, job: &Job) -> Result<Vec<u8>, FormatFault>
 {
     let tokens = tokens_of(alloc, job)?;
     let text = text_of(alloc, format_of(job), tokens.as_slice())?;
-    if text.len() > MOST_BYTES {
+    if text.len() > MAX_BYTES {
         return Err(FormatFault::TooLong(text.len()));
     }
     Ok(text)

@@ -5,7 +5,7 @@ use Rattle.std.proofs.lemmas.List.{length-take}
 use Rattle.std.proofs.Math.Nat.{mul-le-mul_right}
 use Rattle.std.specs.Prelude.{slice_range}
 use Rattle.job_tree.specs.Tree.{Step, sleep, checkpoint, forever, pace, find, head, longest, need, raise, cancel, scope, nursery, start, repeat, attempt, Steps, stop, step, Handled, unhandled, except, Cleaned, uncleaned, finally}
-use Rattle.job_tree.specs.Modest.{AreModest, IsModest, IsModestStep, IsModestHandler, IsModestCleanup, most_steps}
+use Rattle.job_tree.specs.InRange.{AreInRange, IsInRange, IsInRangeStep, IsInRangeHandler, IsInRangeCleanup, most_steps}
 use Rattle.job_tree.specs.declared.format.Format.{Format}
 use Rattle.job_tree.specs.declared.format.Format.TheVariants.{One, Two}
 use Rattle.job_tree.specs.Names.{size_of, size_in, handled_size, cleaned_size}
@@ -174,7 +174,7 @@ mutual
   unfolding walk
 
   -- every walk ends by its start and as many times `forever` as it has step instances
-  pub ends_by : (m : Mode) (b : Steps) (here : Here) (st : Stack) (t : ℕ) → AreModest b → length here.input ≤ 16777216 →
+  pub ends_by : (m : Mode) (b : Steps) (here : Here) (st : Stack) (t : ℕ) → AreInRange b → length here.input ≤ 16777216 →
       EndsBy (t + size_of b * 1099511627776) (walk m b here st t)
   ends_by m stop here st t h small = by_done _ t (omega arith)
   ends_by m (step s ss) here st t h small =
@@ -182,13 +182,13 @@ mutual
       (λ (u : ℕ) (le : u ≤ t + size_in s * 1099511627776). later (u + size_of ss * 1099511627776) _ _ (omega arith)
       (ends_by m ss here st u h.1 small))
 
-  pub ends_step : (m : Mode) (s : Step) (here : Here) (st : Stack) (t : ℕ) → IsModestStep s → length here.input ≤ 16777216 →
+  pub ends_step : (m : Mode) (s : Step) (here : Here) (st : Stack) (t : ℕ) → IsInRangeStep s → length here.input ≤ 16777216 →
       EndsBy (t + size_in s * 1099511627776) (walk_step m s here st t)
   ends_step m (sleep n) here st t h small = by_sleeping _ st _ t (omega arith)
   ends_step m checkpoint here st t h small = by_sleeping _ st _ t (omega arith)
   ends_step m forever here st t h small = by_sleeping _ st _ t (omega arith)
   ends_step m (pace k) here st t h small =
-      let modest : k ≤ 1000000 = h.1 in
+      let in_range : k ≤ 1000000 = h.1 in
       by_sleeping _ st _ t (omega (arith, count_le here.input here.part, paced_le (count_in here.input here.part) k))
   ends_step m (find text) here st t h small = by_showing _ _ t (omega arith)
   ends_step m (head n) here st t h small = by_showing _ _ t (omega arith)
@@ -219,14 +219,14 @@ mutual
       (ends_cleanup m cleanup here st _ (t + size_of body * 1099511627776 + handled_size handler * 1099511627776) h.2 small
       (ends_handler m handler here st _ (t + size_of body * 1099511627776) h.1 small (ends_by m body here st t h.0 small)))
 
-  pub ends_handler : (m : Mode) (x : Handled) (here : Here) (st : Stack) (r : Result) (b : ℕ) → IsModestHandler x →
+  pub ends_handler : (m : Mode) (x : Handled) (here : Here) (st : Stack) (r : Result) (b : ℕ) → IsInRangeHandler x →
       length here.input ≤ 16777216 → EndsBy b r → EndsBy (b + handled_size x * 1099511627776) (walk_handler m x here st r)
   ends_handler m unhandled here st r b h small e = later b _ r (omega arith) e
   ends_handler m (except name body) here st r b h small e =
       by_handled b _ _ r _ (omega arith) e (λ (u : ℕ) (le : u ≤ b). later (u + size_of body * 1099511627776) _ _ (omega arith)
       (ends_by m body here st u h small))
 
-  pub ends_cleanup : (m : Mode) (x : Cleaned) (here : Here) (st : Stack) (r : Result) (b : ℕ) → IsModestCleanup x →
+  pub ends_cleanup : (m : Mode) (x : Cleaned) (here : Here) (st : Stack) (r : Result) (b : ℕ) → IsInRangeCleanup x →
       length here.input ≤ 16777216 → EndsBy b r → EndsBy (b + cleaned_size x * 1099511627776) (walk_cleanup m x here st r)
   ends_cleanup m uncleaned here st r b h small e = later b _ r (omega arith) e
   ends_cleanup m (finally body) here st r b h small e =
@@ -236,11 +236,11 @@ mutual
 -- so a job ends by the last tick
 pub ends_by_the_last_tick : EndsByTheLastTick
 unfolding meaning
-ends_by_the_last_tick job input modest small =
+ends_by_the_last_tick job input in_range small =
     let ends : EndsBy (0 + size_of job.steps * 1099511627776) (root_walk two_walks job input) =
-    ends_by two_walks job.steps (root_here job input) [] 0 modest.numbers small in
+    ends_by two_walks job.steps (root_here job input) [] 0 in_range.numbers small in
     let end : (root_walk two_walks job input).end ≤ 0 + size_of job.steps * 1099511627776 = ends.end in
-    let size : size_of job.steps ≤ 1000000 = at_most job.format modest.size in
+    let size : size_of job.steps ≤ 1000000 = at_most job.format in_range.size in
     omega (arith, end, size)
   where
     at_most : (format : Format) → size_of job.steps ≤ most_steps format → size_of job.steps ≤ 1000000

@@ -10,7 +10,7 @@ use Rattle.cancel_scopes.specs.Sight.{Level}
 use Rattle.job_meaning.proofs.Clips.{followed_nil}
 use Rattle.job_meaning.specs.Log.{Log, nil, entry, sign, entered, task, followed_by, Member, Result, Table}
 use Rattle.job_meaning.specs.Walk.{in_pass, passes, Stack, Mode, by_table, Here, walk, walk_step, walk_handler, walk_cleanup, done_at, joined, and_then, then_if, block, due, within, Kind, signed, gathered, child, handled, handled_exc, handled_if, cleaned, with_outcome, handler_exc, outcome_after, sign_if, a_scope, a_nursery, label_here, label_over, each, here_in}
-use Rattle.job_meaning.specs.Rest.{Event, noted, signs, enters, starts, fill, numbered, starts_over, Telling, told_members, Frame, steps_left, in_scope, in_nursery, in_repeat, in_try, in_handler, in_cleanup, inside, block_left, with_children, waited, finish, rest_comes_to, rest_at_start}
+use Rattle.job_meaning.specs.Rest.{Event, noted, signs, enters, starts, fill, numbered, starts_over, ChildOutcomes, told_members, Frame, steps_left, in_scope, in_nursery, in_repeat, in_try, in_handler, in_cleanup, inside, block_left, with_children, waited, finish, rest_comes_to, rest_at_start}
 
 -- three logs one after another are the same, whichever two are joined first
 pub followed_assoc : (a b c : Log) → followed_by (followed_by a b) c ≡ followed_by a (followed_by b c)
@@ -72,7 +72,7 @@ after_cleanup a m uncleaned here st r = refl
 after_cleanup a m (finally body) here st r = after_cleaned a r (λ u. walk m body here st u)
 
 -- no frame reads what was made before it
-pub finish_after : (fs : List Frame) (a : Log) (m : Mode) (told : Telling) (here : Here) (st : Stack) (r : Result) →
+pub finish_after : (fs : List Frame) (a : Log) (m : Mode) (told : ChildOutcomes) (here : Here) (st : Stack) (r : Result) →
     finish m told fs here st (after a r) ≡ after a (finish m told fs here st r)
 unfolding finish gathered
 finish_after [] a m told here st r = after_signed a st r
@@ -106,32 +106,32 @@ finish_after (in_handler rest cleanup ∷ fs) a m told here st r =
 finish_after (in_cleanup outcome ∷ fs) a m told here st r = finish_after fs a m told here st _
 
 -- the result of a task that was just started is that of its block
-pub finish_begin : (m : Mode) (told : Telling) (b : Steps) (here : Here) (st : Stack) (t : ℕ) →
+pub finish_begin : (m : Mode) (told : ChildOutcomes) (b : Steps) (here : Here) (st : Stack) (t : ℕ) →
     rest_comes_to m told (rest_at_start b) here st t ≡ signed st (walk m b here st t)
 unfolding finish and_then
 finish_begin m told b here st t = refl
 
 -- a block with no step left
-pub finish_stop : (fs : List Frame) (m : Mode) (told : Telling) (here : Here) (st : Stack) (t : ℕ) →
+pub finish_stop : (fs : List Frame) (m : Mode) (told : ChildOutcomes) (here : Here) (st : Stack) (t : ℕ) →
     finish m told (steps_left stop ∷ fs) here st (done_at t) ≡ finish m told fs here st (done_at t)
 unfolding finish and_then walk
 finish_stop fs m told here st t = refl
 
 -- a step that opens no frame
-pub finish_step : (fs : List Frame) (m : Mode) (told : Telling) (s : Step) (ss : Steps) (here : Here) (st : Stack) (t : ℕ) →
+pub finish_step : (fs : List Frame) (m : Mode) (told : ChildOutcomes) (s : Step) (ss : Steps) (here : Here) (st : Stack) (t : ℕ) →
     finish m told (steps_left (step s ss) ∷ fs) here st (done_at t)
     ≡ finish m told (steps_left ss ∷ fs) here st (walk_step m s (inside fs here) st t)
 unfolding finish and_then walk
 finish_step fs m told s ss here st t = refl
 
 -- steps after an exception are not begun
-pub finish_raised : (fs : List Frame) (m : Mode) (told : Telling) (ss : Steps) (here : Here) (st : Stack) (r : Result) (e : Exc) →
+pub finish_raised : (fs : List Frame) (m : Mode) (told : ChildOutcomes) (ss : Steps) (here : Here) (st : Stack) (r : Result) (e : Exc) →
     finish m told (steps_left ss ∷ fs) here st (record r { exc = Some e }) ≡ finish m told fs here st (record r { exc = Some e })
 unfolding finish and_then
 finish_raised fs m told ss here st r e = refl
 
 -- a scope is entered
-pub finish_scope : (fs : List Frame) (table : Table) (told : Telling) (name : List ℕ) (d : Deadline) (shield fail : Bool) (body ss : Steps)
+pub finish_scope : (fs : List Frame) (table : Table) (told : ChildOutcomes) (name : List ℕ) (d : Deadline) (shield fail : Bool) (body ss : Steps)
     (here : Here) (st : Stack) (t : ℕ) →
     finish (by_table table) told (steps_left (step (scope name d shield fail body) ss) ∷ fs) here st (done_at t)
     ≡ after (entered (label_here name (inside fs here)) t (due d t) nil)
@@ -144,7 +144,7 @@ finish_scope fs table told name d shield fail body ss here st t =
     (within (label_here name (inside fs here)) shield (table (label_here name (inside fs here))) st) (done_at t)
 
 -- a nursery is entered
-pub finish_nursery : (fs : List Frame) (table : Table) (told : Telling) (name : List ℕ) (d : Deadline) (shield : Bool) (body ss : Steps)
+pub finish_nursery : (fs : List Frame) (table : Table) (told : ChildOutcomes) (name : List ℕ) (d : Deadline) (shield : Bool) (body ss : Steps)
     (here : Here) (st : Stack) (t : ℕ) →
     finish (by_table table) told (steps_left (step (nursery name d shield body) ss) ∷ fs) here st (done_at t)
     ≡ after (entered (label_here name (inside fs here)) t (due d t) nil)
@@ -157,7 +157,7 @@ finish_nursery fs table told name d shield body ss here st t =
     (within (label_here name (inside fs here)) shield (table (label_here name (inside fs here))) st) (done_at t)
 
 -- a `try` is entered
-pub finish_try : (fs : List Frame) (m : Mode) (told : Telling) (body : Steps) (handler : Handled) (cleanup : Cleaned) (ss : Steps)
+pub finish_try : (fs : List Frame) (m : Mode) (told : ChildOutcomes) (body : Steps) (handler : Handled) (cleanup : Cleaned) (ss : Steps)
     (here : Here) (st : Stack) (t : ℕ) →
     finish m told (steps_left (step (attempt body handler cleanup) ss) ∷ fs) here st (done_at t)
     ≡ finish m told (steps_left body ∷ in_try handler cleanup ∷ steps_left ss ∷ fs) here st (done_at t)
@@ -165,7 +165,7 @@ unfolding finish and_then walk
 finish_try fs m told body handler cleanup ss here st t = refl
 
 -- a handler is entered where the exception has such leaves
-pub finish_handler : (fs : List Frame) (m : Mode) (told : Telling) (name : List ℕ) (body : Steps) (cleanup : Cleaned) (here : Here)
+pub finish_handler : (fs : List Frame) (m : Mode) (told : ChildOutcomes) (name : List ℕ) (body : Steps) (cleanup : Cleaned) (here : Here)
     (st : Stack) (r : Result) (e x : Exc) → keep (named name) e ≡ Some x →
     finish m told (in_try (except name body) cleanup ∷ fs) here st (record r { exc = Some e })
     ≡ finish m told (steps_left body ∷ in_handler (drop (named name) e) cleanup ∷ fs) here st (record r { exc = None })
@@ -175,7 +175,7 @@ finish_handler fs m told name body cleanup here st r e x k =
     (handled_if o (drop (named name) e) (record r { exc = Some e }) (λ u. walk m body (inside fs here) st u)))) k
 
 -- and where it has none, or there is no exception, it is passed by
-pub finish_unhandled : (fs : List Frame) (m : Mode) (told : Telling) (name : List ℕ) (body : Steps) (cleanup : Cleaned) (here : Here)
+pub finish_unhandled : (fs : List Frame) (m : Mode) (told : ChildOutcomes) (name : List ℕ) (body : Steps) (cleanup : Cleaned) (here : Here)
     (st : Stack) (r : Result) (e : Exc) → keep (named name) e ≡ None →
     finish m told (in_try (except name body) cleanup ∷ fs) here st (record r { exc = Some e })
     ≡ finish m told (in_try unhandled cleanup ∷ fs) here st (record r { exc = Some e })
@@ -185,7 +185,7 @@ finish_unhandled fs m told name body cleanup here st r e k =
     (handled_if o (drop (named name) e) (record r { exc = Some e }) (λ u. walk m body (inside fs here) st u)))) k
 
 -- where the body of a `try` raised nothing, its handler is passed by
-pub finish_no_handler : (fs : List Frame) (m : Mode) (told : Telling) (handler : Handled) (cleanup : Cleaned) (here : Here) (st : Stack)
+pub finish_no_handler : (fs : List Frame) (m : Mode) (told : ChildOutcomes) (handler : Handled) (cleanup : Cleaned) (here : Here) (st : Stack)
     (r : Result) →
     finish m told (in_try handler cleanup ∷ fs) here st (record r { exc = None })
     ≡ finish m told (in_try unhandled cleanup ∷ fs) here st (record r { exc = None })
@@ -194,41 +194,41 @@ finish_no_handler fs m told unhandled cleanup here st r = refl
 finish_no_handler fs m told (except name body) cleanup here st r = refl
 
 -- a `repeat` without a pass
-pub finish_no_pass : (fs : List Frame) (m : Mode) (told : Telling) (body ss : Steps) (here : Here) (st : Stack) (t : ℕ) →
+pub finish_no_pass : (fs : List Frame) (m : Mode) (told : ChildOutcomes) (body ss : Steps) (here : Here) (st : Stack) (t : ℕ) →
     finish m told (steps_left (step (repeat zero body) ss) ∷ fs) here st (done_at t) ≡ finish m told (steps_left ss ∷ fs) here st
     (done_at t)
 unfolding finish and_then walk
 finish_no_pass fs m told body ss here st t = refl
 
 -- the first pass of a `repeat` is entered
-pub finish_first_pass : (fs : List Frame) (m : Mode) (told : Telling) (k : ℕ) (body ss : Steps) (here : Here) (st : Stack) (t : ℕ) →
+pub finish_first_pass : (fs : List Frame) (m : Mode) (told : ChildOutcomes) (k : ℕ) (body ss : Steps) (here : Here) (st : Stack) (t : ℕ) →
     finish m told (steps_left (step (repeat (suc k) body) ss) ∷ fs) here st (done_at t)
     ≡ finish m told (steps_left body ∷ in_repeat 0 k body ∷ steps_left ss ∷ fs) here st (done_at t)
 unfolding finish and_then walk
 finish_first_pass fs m told k body ss here st t = refl
 
 -- a pass has ended, and the next one is entered
-pub finish_next_pass : (fs : List Frame) (m : Mode) (told : Telling) (pass k : ℕ) (body : Steps) (here : Here) (st : Stack) (t : ℕ) →
+pub finish_next_pass : (fs : List Frame) (m : Mode) (told : ChildOutcomes) (pass k : ℕ) (body : Steps) (here : Here) (st : Stack) (t : ℕ) →
     finish m told (in_repeat pass (suc k) body ∷ fs) here st (done_at t)
     ≡ finish m told (steps_left body ∷ in_repeat (suc pass) k body ∷ fs) here st (done_at t)
 unfolding finish and_then
 finish_next_pass fs m told pass k body here st t = refl
 
 -- the last pass has ended
-pub finish_last_pass : (fs : List Frame) (m : Mode) (told : Telling) (pass : ℕ) (body : Steps) (here : Here) (st : Stack) (t : ℕ) →
+pub finish_last_pass : (fs : List Frame) (m : Mode) (told : ChildOutcomes) (pass : ℕ) (body : Steps) (here : Here) (st : Stack) (t : ℕ) →
     finish m told (in_repeat pass zero body ∷ fs) here st (done_at t) ≡ finish m told fs here st (done_at t)
 unfolding finish and_then
 finish_last_pass fs m told pass body here st t = refl
 
 -- no pass follows an exception
-pub finish_raised_pass : (fs : List Frame) (m : Mode) (told : Telling) (pass left : ℕ) (body : Steps) (here : Here) (st : Stack)
+pub finish_raised_pass : (fs : List Frame) (m : Mode) (told : ChildOutcomes) (pass left : ℕ) (body : Steps) (here : Here) (st : Stack)
     (r : Result) (e : Exc) →
     finish m told (in_repeat pass left body ∷ fs) here st (record r { exc = Some e }) ≡ finish m told fs here st (record r { exc = Some e })
 unfolding finish and_then
 finish_raised_pass fs m told pass left body here st r e = refl
 
 -- a handler has ended: the rest of the split goes with what it raised
-pub finish_handled : (fs : List Frame) (m : Mode) (told : Telling) (rest : Option Exc) (cleanup : Cleaned) (here : Here) (st : Stack)
+pub finish_handled : (fs : List Frame) (m : Mode) (told : ChildOutcomes) (rest : Option Exc) (cleanup : Cleaned) (here : Here) (st : Stack)
     (r : Result) →
     finish m told (in_handler rest cleanup ∷ fs) here st r ≡ finish m told (in_try unhandled cleanup ∷ fs) here st
     (with_outcome (handler_exc r.exc rest) r)
@@ -236,33 +236,33 @@ unfolding finish walk
 finish_handled fs m told rest cleanup here st r = refl
 
 -- with no cleanup to come a `try` is left
-pub finish_uncleaned : (fs : List Frame) (m : Mode) (told : Telling) (here : Here) (st : Stack) (r : Result) →
+pub finish_uncleaned : (fs : List Frame) (m : Mode) (told : ChildOutcomes) (here : Here) (st : Stack) (r : Result) →
     finish m told (in_try unhandled uncleaned ∷ fs) here st r ≡ finish m told fs here st r
 unfolding finish walk
 finish_uncleaned fs m told here st r = refl
 
 -- a cleanup is entered, with the outcome so far
-pub finish_cleanup : (fs : List Frame) (m : Mode) (told : Telling) (body : Steps) (here : Here) (st : Stack) (r : Result) →
+pub finish_cleanup : (fs : List Frame) (m : Mode) (told : ChildOutcomes) (body : Steps) (here : Here) (st : Stack) (r : Result) →
     finish m told (in_try unhandled (finally body) ∷ fs) here st r
     ≡ finish m told (steps_left body ∷ in_cleanup r.exc ∷ fs) here st (record r { exc = None })
 unfolding finish and_then walk cleaned
 finish_cleanup fs m told body here st r = refl
 
 -- a cleanup has ended
-pub finish_cleaned : (fs : List Frame) (m : Mode) (told : Telling) (outcome : Option Exc) (here : Here) (st : Stack) (r : Result) →
+pub finish_cleaned : (fs : List Frame) (m : Mode) (told : ChildOutcomes) (outcome : Option Exc) (here : Here) (st : Stack) (r : Result) →
     finish m told (in_cleanup outcome ∷ fs) here st r ≡ finish m told fs here st (with_outcome (outcome_after outcome r.exc) r)
 unfolding finish
 finish_cleaned fs m told outcome here st r = refl
 
 -- a scope is left
-pub finish_leave : (fs : List Frame) (m : Mode) (told : Telling) (fail : Bool) (here : Here) (l : Level Label) (outer : Stack)
+pub finish_leave : (fs : List Frame) (m : Mode) (told : ChildOutcomes) (fail : Bool) (here : Here) (l : Level Label) (outer : Stack)
     (r : Result) →
     finish m told (in_scope fail ∷ fs) here (l ∷ outer) r ≡ finish m told fs here outer (block_left (a_scope fail) l outer r)
 unfolding finish
 finish_leave fs m told fail here l outer r = refl
 
 -- the body of a nursery has ended, and the wait begins: with the sign of a body that failed before it
-pub finish_wait : (fs : List Frame) (m : Mode) (told : Telling) (children : List ℕ) (here : Here) (l : Level Label) (outer : Stack) (t : ℕ)
+pub finish_wait : (fs : List Frame) (m : Mode) (told : ChildOutcomes) (children : List ℕ) (here : Here) (l : Level Label) (outer : Stack) (t : ℕ)
     (e : Option Exc) →
     finish m told (in_nursery children ∷ fs) here (l ∷ outer) (record { end = t; exc = e; members = []; log = nil })
     ≡ after (sign_if e (Some l.label) t) (finish m told fs here outer (waited (told_members told children) t e l outer))
@@ -278,12 +278,12 @@ finish_wait fs m told children here l outer t e =
     (gathered l.label (record { end = t; exc = e; members = told_members told children; log = nil })))
     ∙ finish_after fs (sign_if e (Some l.label) t) m told here outer (waited (told_members told children) t e l outer)))
 
-told_append : (told : Telling) (is js : List ℕ) → told_members told (is ++ js) ≡ told_members told is ++ told_members told js
+told_append : (told : ChildOutcomes) (is js : List ℕ) → told_members told (is ++ js) ≡ told_members told is ++ told_members told js
 told_append told [] js = refl
 told_append told (i ∷ is) js = ap (λ (ms : List Member). record { end = (told i).end; exc = (told i).exc } ∷ ms) (told_append told is js)
 
 -- children of a nursery count by number as they did by their results
-pub finish_children : (fs : List Frame) (m : Mode) (told : Telling) (children more : List ℕ) (here : Here) (l : Level Label) (outer : Stack)
+pub finish_children : (fs : List Frame) (m : Mode) (told : ChildOutcomes) (children more : List ℕ) (here : Here) (l : Level Label) (outer : Stack)
     (r : Result) →
     finish m told (in_nursery (children ++ more) ∷ fs) here (l ∷ outer) r
     ≡ finish m told (in_nursery children ∷ fs) here (l ∷ outer) (record r { members = told_members told more ++ r.members })
@@ -301,11 +301,11 @@ finish_children fs m told children more here l outer r =
     ∙ append_assoc (told_members told children) (told_members told more) r.members)
 
 -- the result of starting children: the starter continues in the same tick
-abbrev pub just_started : Telling → List ℕ → Log → ℕ → Result
+abbrev pub just_started : ChildOutcomes → List ℕ → Log → ℕ → Result
 just_started told more a t = record { end = t; exc = None; members = told_members told more; log = a }
 
 -- after children were started, the body's steps continue with these among the nursery's, after the log so far
-pub finish_started : (fs : List Frame) (m : Mode) (told : Telling) (ss : Steps) (children more : List ℕ) (here : Here) (l : Level Label)
+pub finish_started : (fs : List Frame) (m : Mode) (told : ChildOutcomes) (ss : Steps) (children more : List ℕ) (here : Here) (l : Level Label)
     (outer : Stack) (t : ℕ) (a : Log) →
     finish m told (steps_left ss ∷ in_nursery children ∷ fs) here (l ∷ outer) (just_started told more a t)
     ≡ after a (finish m told (steps_left ss ∷ in_nursery (children ++ more) ∷ fs) here (l ∷ outer) (done_at t))
@@ -315,7 +315,7 @@ finish_started fs m told ss children more here l outer t a =
     ∙ finish_after (in_nursery (children ++ more) ∷ fs) a m told here (l ∷ outer) (walk m ss (inside fs here) (l ∷ outer) t)
 
 -- a child is started
-pub finish_start : (fs : List Frame) (m : Mode) (told : Telling) (i : ℕ) (name : List ℕ) (body ss : Steps) (children : List ℕ) (here : Here)
+pub finish_start : (fs : List Frame) (m : Mode) (told : ChildOutcomes) (i : ℕ) (name : List ℕ) (body ss : Steps) (children : List ℕ) (here : Here)
     (l : Level Label) (outer : Stack) (t : ℕ) →
     told i ≡ signed (l ∷ outer) (walk m body (here_in (label_here name (inside fs here)) here.part here) (l ∷ outer) t) →
     finish m told (steps_left (step (start name None body) ss) ∷ in_nursery children ∷ fs) here (l ∷ outer) (done_at t)
@@ -329,7 +329,7 @@ finish_start fs m told i name body ss children here l outer t e =
     ∙ finish_started fs m told ss children (i ∷ []) here l outer t (fill told (starts i (label_here name (inside fs here)) t ∷ [])))
 
 -- what was made, and more
-pub fill_append : (told : Telling) (es others : List Event) → fill told (es ++ others) ≡ followed_by (fill told es) (fill told others)
+pub fill_append : (told : ChildOutcomes) (es others : List Event) → fill told (es ++ others) ≡ followed_by (fill told es) (fill told others)
 fill_append told [] others = refl
 fill_append told (noted t e ∷ es) others = ap (λ (x : Log). entry t e x) (fill_append told es others)
 fill_append told (signs l t ∷ es) others = ap (λ (x : Log). sign l t x) (fill_append told es others)
@@ -338,7 +338,7 @@ fill_append told (starts i l t ∷ es) others =
     ap (λ (x : Log). task l t (told i).end (told i).exc (told i).log x) (fill_append told es others)
 
 -- the children of a `start .. over`, by their numbers
-each_started : (told : Telling) (name : List ℕ) (here : Here) (t first k : ℕ) (go : ℕ → Result) →
+each_started : (told : ChildOutcomes) (name : List ℕ) (here : Here) (t first k : ℕ) (go : ℕ → Result) →
     ((i : ℕ) → i < k → told (first + i) ≡ go i) →
     each k (λ i. child (label_over name here i) t (go i)) t ≡ just_started told (numbered first k)
     (fill told (starts_over name here t first k)) t
@@ -360,7 +360,7 @@ each_started told name here t first (suc k) go h =
     both e f = cc
 
 -- the children of a `start .. over` are started
-pub finish_start_over : (fs : List Frame) (m : Mode) (told : Telling) (first k : ℕ) (name : List ℕ) (body ss : Steps) (children : List ℕ)
+pub finish_start_over : (fs : List Frame) (m : Mode) (told : ChildOutcomes) (first k : ℕ) (name : List ℕ) (body ss : Steps) (children : List ℕ)
     (here : Here) (l : Level Label) (outer : Stack) (t : ℕ) →
     ((i : ℕ) → i < k → told (first + i) ≡ signed (l ∷ outer) (walk m body
     (here_in (label_over name (inside fs here) i) (cut_of here.input here.part k i) here) (l ∷ outer) t)) →

@@ -4,7 +4,7 @@ use Rattle.exc_groups.specs.Exceptions.{Label, Exc}
 use Rattle.cancel_scopes.specs.Sight.{Level, catches}
 use Rattle.job_meaning.specs.Log.{entry, nil, Member, Result}
 use Rattle.job_meaning.specs.Walk.{Stack, Mode, Here, walk, in_pass, Kind, a_scope, a_nursery, left_as, left_with, latest, gathered, signed, with_outcome, handler_exc, outcome_after}
-use Rattle.job_meaning.specs.Rest.{Telling, told_members, Frame, steps_left, in_scope, in_nursery, in_repeat, in_try, in_handler, in_cleanup, inside, block_left, with_children, waited, finish}
+use Rattle.job_meaning.specs.Rest.{ChildOutcomes, told_members, Frame, steps_left, in_scope, in_nursery, in_repeat, in_try, in_handler, in_cleanup, inside, block_left, with_children, waited, finish}
 use Rattle.job_meaning.proofs.Late.{Late, late, late_and_then, late_passes, late_handler, late_cleanup, late_signed, late_gathered, timed_followed}
 
 -- a block that is left ends with what was in it
@@ -20,7 +20,7 @@ late_with_outcome : (t : ℕ) (o : Option Exc) (r : Result) → Late t r → Lat
 late_with_outcome t o r h = record { ends = h.ends; timed = h.timed }
 
 -- what a task results in is as late as its result so far
-pub late_finish : (fs : List Frame) (t : ℕ) (m : Mode) (told : Telling) (here : Here) (st : Stack) (r : Result) → Late t r →
+pub late_finish : (fs : List Frame) (t : ℕ) (m : Mode) (told : ChildOutcomes) (here : Here) (st : Stack) (r : Result) → Late t r →
     Late t (finish m told fs here st r)
 unfolding finish gathered
 late_finish [] t m told here st r h = late_signed t st r h

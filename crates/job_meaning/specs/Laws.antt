@@ -3,7 +3,7 @@ use Rattle.std.specs.Prelude.{◌≡◌, ℕ, ◌≤◌, Bool, false, IsTrue, Op
 use Rattle.job_tree.specs.declared.format.Format.TheVariants.{Two}
 use Rattle.job_tree.specs.Tree.{Steps, Tree}
 use Rattle.job_tree.specs.Names.{GivesNamesOnce}
-use Rattle.job_tree.specs.Modest.{IsModest}
+use Rattle.job_tree.specs.InRange.{IsInRange}
 use Rattle.exc_groups.specs.Exceptions.{Label, Exc, holds_cancelled}
 use Rattle.cancel_scopes.specs.Sight.{Tick, seen}
 use Rattle.job_meaning.specs.Walk.{Stack, Mode, Here, walk}
@@ -11,7 +11,7 @@ use Rattle.job_meaning.specs.Log.{Table, times_given}
 use Rattle.job_meaning.specs.Meaning.{root_walk, root_log, meaning, meaning_table, meaning_records, meaning_end, meaning_froms}
 use Rattle.job_meaning.specs.Follow.{follow, IsSettled}
 use Rattle.job_meaning.specs.Before.{Near, Agree}
-use Rattle.job_meaning.specs.declared.limits.TheConstants.{MOST_INPUT, LAST_TICK}
+use Rattle.job_meaning.specs.declared.limits.TheConstants.{MAX_INPUT, LAST_TICK}
 
 -- one tick is at most another, where each may be never
 abbrev pub AtMost : Tick → Tick → Type 0
@@ -97,4 +97,4 @@ UpgradingKeepsTheMeaning =
 
 -- a job whose numbers are in their ranges ends by the last tick
 abbrev pub EndsByTheLastTick : Type 0
-EndsByTheLastTick = (job : Tree) (input : List ℕ) → IsModest job → length input ≤ MOST_INPUT → meaning_end job input ≤ LAST_TICK
+EndsByTheLastTick = (job : Tree) (input : List ℕ) → IsInRange job → length input ≤ MAX_INPUT → meaning_end job input ≤ LAST_TICK

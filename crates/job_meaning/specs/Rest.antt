@@ -17,11 +17,11 @@ pub data Event : Type 0 where
   starts : (child : ℕ) → (label : Label) → (tick : ℕ) → Event
 
 -- the result of each child of a task, by its number: what is recorded of the children's outcomes
-abbrev pub Telling : Type 0
-Telling = ℕ → Result
+abbrev pub ChildOutcomes : Type 0
+ChildOutcomes = ℕ → Result
 
 -- the log of what was done, with what is recorded of the children
-abbrev pub fill : Telling → List Event → Log
+abbrev pub fill : ChildOutcomes → List Event → Log
 fill told [] = nil
 fill told (noted t e ∷ es) = entry t e (fill told es)
 fill told (signs l t ∷ es) = sign l t (fill told es)
@@ -29,7 +29,7 @@ fill told (enters l t d ∷ es) = entered l t d (fill told es)
 fill told (starts i l t ∷ es) = task l t (told i).end (told i).exc (told i).log (fill told es)
 
 -- children as members of their nursery
-abbrev pub told_members : Telling → List ℕ → List Member
+abbrev pub told_members : ChildOutcomes → List ℕ → List Member
 told_members told [] = []
 told_members told (i ∷ is) = record { end = (told i).end; exc = (told i).exc } ∷ told_members told is
 
@@ -114,7 +114,7 @@ with_children ms r = record r { members = ms ++ r.members }
 
 -- What a task results in, given its result so far, with these frames left on this stack. If no frame is left, it signs for
 -- its home nursery if it ends with an exception.
-unfoldable pub finish : Mode → Telling → List Frame → Here → Stack → Result → Result
+unfoldable pub finish : Mode → ChildOutcomes → List Frame → Here → Stack → Result → Result
 finish m told [] here st r = signed st r
 finish m told (steps_left ss ∷ fs) here st r = finish m told fs here st (and_then r (λ u. walk m ss (inside fs here) st u))
 finish m told (in_scope fail ∷ fs) here [] r = finish m told fs here [] r
@@ -138,7 +138,7 @@ waited ms u exc l outer = block_left a_nursery l outer (gathered l.label (record
 
 -- What the rest of a task that stopped in tick t results in, on its stack. An answer comes in the same tick, a sleep ends
 -- when it is due or cancelled, a wait ends with the last child; and a task that ended has nothing left.
-abbrev pub finished_from : Mode → Telling → Stopped → List Frame → Here → Stack → ℕ → Result
+abbrev pub finished_from : Mode → ChildOutcomes → Stopped → List Frame → Here → Stack → ℕ → Result
 finished_from m told to_begin fs here st t = finish m told fs here st (done_at t)
 finished_from m told (asking kernel purpose) fs here st t =
     finish m told fs here st (answered (answer_of kernel here) purpose here st t)
@@ -149,11 +149,11 @@ finished_from m told (awaiting children u exc) fs here (l ∷ outer) t =
 finished_from m told (at_end u e) fs here st t = record { end = u; exc = e; members = []; log = nil }
 
 -- what the rest of a task results in, on its stack in tick t
-abbrev pub rest_comes_to : Mode → Telling → Rest → Here → Stack → ℕ → Result
+abbrev pub rest_comes_to : Mode → ChildOutcomes → Rest → Here → Stack → ℕ → Result
 rest_comes_to m told rest here st t = finished_from m told rest.stopped rest.frames here st t
 
 -- what the whole task results in, with what it did before
-abbrev pub task_comes_to : Mode → Telling → List Event → Rest → Here → Stack → ℕ → Result
+abbrev pub task_comes_to : Mode → ChildOutcomes → List Event → Rest → Here → Stack → ℕ → Result
 task_comes_to m told made rest here st t =
     let r = rest_comes_to m told rest here st t in
     record r { log = followed_by (fill told made) r.log }

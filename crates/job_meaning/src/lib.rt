@@ -13,4 +13,4 @@ pub use laws::{
     law_causality, law_end, law_labels, law_monotone_sight, law_root, law_settled_table,
     law_upgrade,
 };
-pub use limits::{LAST_TICK, MOST_INPUT};
+pub use limits::{LAST_TICK, MAX_INPUT};

@@ -1,5 +1,5 @@
 /// The maximum number of bytes of the input of a run.
-pub const MOST_INPUT: usize = 16_777_216;
+pub const MAX_INPUT: usize = 16_777_216;
 
 /// A tick by which every job has ended: two to the 62. A job has at most a million step instances, and each takes at most as long
 /// as `forever`, which ends at tick two to the 40.

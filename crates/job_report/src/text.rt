@@ -1,5 +1,5 @@
 ghost use Rattle.std.specs.Prelude.{◌≡◌, IfOk, map};
-ghost use Rattle.task_roster.specs.Records.{row_in};
+ghost use Rattle.task_table.specs.Records.{row_in};
 ghost use Rattle.job_runner.specs.Runs.{name_of, rows_of};
 ghost use Rattle.job_report.specs.Text.{report_text, last_tick};
 

@@ -12,14 +12,14 @@ use Rattle.batch_commit.specs.Entries.{Added, AllPlaced, NonePlaced, placed, req
 use Rattle.line_kernels.specs.declared.answers.Answer.{Answer}
 use Rattle.scoped_workers.specs.Slots.{AreAnswers}
 use Rattle.task_machine.specs.declared.stop.Wake.{Wake}
-use Rattle.run_crew.specs.Ready.{MayGo}
-use Rattle.task_roster.specs.declared.roster.Running.{Running}
+use Rattle.run_refinement.specs.Ready.{MayGo}
+use Rattle.task_table.specs.declared.task_table.Running.{Running}
 use Rattle.job_runner.specs.declared.runner.Runner.{Runner}
-use Rattle.task_roster.specs.Roster.{running_at}
-use Rattle.task_roster.specs.Rows.{times}
+use Rattle.task_table.specs.TaskTable.{running_at}
+use Rattle.task_table.specs.Rows.{times}
 use Rattle.job_runner.specs.Shelves.{AreShelved, GoesBy, IsCalled, IsGoing, IsRight, IsSameJob, IsUnderway, NoneChanged, running_times, times_shelved}
 use Rattle.job_runner.specs.Steps.{SeesOnly}
-use Rattle.task_roster.proofs.Apart.{one_if}
+use Rattle.task_table.proofs.Apart.{one_if}
 use Rattle.job_runner.proofs.Places.{at_place, times_cons}
 use Rattle.job_runner.proofs.Shelving.{times_now, times_next, one_else, one_same, none_away}
 use Rattle.job_runner.proofs.Stopped.{some_is, some_has}
@@ -91,11 +91,11 @@ shelved_placed r b answers s current next =
       none_started = s.none_started;
       doze = s.doze;
       known = s.known;
-      current = subst (All (λ (e : Entry). IsCalled r.roster r.world e.task e.call)) (sym current)
-          (placed_same (IsCalled r.roster r.world) r.batch.current answers s.current);
-      next = subst (All (λ (a : Added). IsCalled r.roster r.world a.0 a.1)) (sym next) s.next;
+      current = subst (All (λ (e : Entry). IsCalled r.task_table r.world e.task e.call)) (sym current)
+          (placed_same (IsCalled r.task_table r.world) r.batch.current answers s.current);
+      next = subst (All (λ (a : Added). IsCalled r.task_table r.world a.0 a.1)) (sym next) s.next;
       once = λ id other.
-          let all : times_shelved r.batch r.clock id ≡ running_times r.world.book (running_at r.roster id) = s.once id other in
+          let all : times_shelved r.batch r.clock id ≡ running_times r.world.book (running_at r.task_table id) = s.once id other in
           let a : times_now id b.current ≡ times_now id r.batch.current =
           ap (times_now id) current ∙ ap (times id) (placed_tasks r.batch.current answers) in
           let c : times_next id b.next ≡ times_next id r.batch.next = ap (times_next id) next in
@@ -146,18 +146,18 @@ shelved_out r b place e s is current next =
       doze = s.doze;
       known = s.known;
       current =
-          subst (All (λ (x : Entry). IsCalled r.roster r.world x.task x.call)) (sym current)
-          (all_without (λ (x : Entry). IsCalled r.roster r.world x.task x.call) r.batch.current place s.current);
-      next = subst (All (λ (a : Added). IsCalled r.roster r.world a.0 a.1)) (sym next) s.next;
+          subst (All (λ (x : Entry). IsCalled r.task_table r.world x.task x.call)) (sym current)
+          (all_without (λ (x : Entry). IsCalled r.task_table r.world x.task x.call) r.batch.current place s.current);
+      next = subst (All (λ (a : Added). IsCalled r.task_table r.world a.0 a.1)) (sym next) s.next;
       once = λ id other.
-          let all : times_shelved r.batch r.clock id ≡ running_times r.world.book (running_at r.roster id) = s.once id tt in
+          let all : times_shelved r.batch r.clock id ≡ running_times r.world.book (running_at r.task_table id) = s.once id tt in
           let less : times_shelved r.batch r.clock id ≡ one_if (e.task == id) + times_shelved b r.clock id = fewer id in
           let none : one_if (e.task == id) ≡ 0 = one_else e.task id (λ f. other (sym f)) in
           omega (arith, all, less, none);
       away = λ id f.
           let key : e.task ≡ id = same_Some e.task id f in
-          let all : times_shelved r.batch r.clock id ≡ running_times r.world.book (running_at r.roster id) = s.once id tt in
-          let most : running_times r.world.book (running_at r.roster id) ≤ 1 = running_most r.world.book (running_at r.roster id) in
+          let all : times_shelved r.batch r.clock id ≡ running_times r.world.book (running_at r.task_table id) = s.once id tt in
+          let most : running_times r.world.book (running_at r.task_table id) ≤ 1 = running_most r.world.book (running_at r.task_table id) in
           let less : times_shelved r.batch r.clock id ≡ one_if (e.task == id) + times_shelved b r.clock id = fewer id in
           let one : one_if (e.task == id) ≡ 1 = one_same e.task id key in
           omega (arith, all, most, less, one);
@@ -187,7 +187,7 @@ pub commits_first : (r : Runner) (b : Batches) (answers : List Answer) → IsUnd
     AllPlaced b.current → IsCommitting r (record r { batch = b })
 commits_first r b answers w are current next all =
     record {
-      going = record { sound = w.going.sound; shelved = shelved_placed r b answers w.going.shelved current next; course = w.going.course };
+      going = record { sound = w.going.sound; shelved = shelved_placed r b answers w.going.shelved current next; interleaving = w.going.interleaving };
       right = subst (All HasRight) (sym current) (answers_right r.batch.current answers are);
       answered = all;
       same = record { job = refl; input = refl; limit = refl };
@@ -203,20 +203,20 @@ module _ {P : Type 0} (picks : P → ℕ → ℕ → P → Type 0) (was r : Runn
         sound = h.going.sound;
         shelved = subst (λ (x : ℕ). AreShelved (Some x) (record r { batch = b })) (sym out.its_task)
             (shelved_out r b out.place out.entry h.going.shelved out.at_place out.rest out.added);
-        course = h.going.course;
+        interleaving = h.going.interleaving;
       }
 
   -- and the task has not ended, and may continue by the wake with which it is taken
-  pub turn_goes : IsSomeAnd (running_at r.roster id) (λ (x : Running). MayGo r.world x.task wake)
+  pub turn_goes : IsSomeAnd (running_at r.task_table id) (λ (x : Running). MayGo r.world x.task wake)
   turn_goes =
-      subst (λ (key : ℕ). IsSomeAnd (running_at r.roster key) (λ (x : Running). MayGo r.world x.task wake)) (sym out.its_task)
-      (some_has (running_at r.roster out.entry.task) (λ (x : Running). MayGo r.world x.task wake) x.0 x.1
+      subst (λ (key : ℕ). IsSomeAnd (running_at r.task_table key) (λ (x : Running). MayGo r.world x.task wake)) (sym out.its_task)
+      (some_has (running_at r.task_table out.entry.task) (λ (x : Running). MayGo r.world x.task wake) x.0 x.1
       (x.2 out.entry.answer wake right out.its_wake))
     where
-      x : (x : Running) × (running_at r.roster out.entry.task ≡ Some x) × GoesBy r.world x.task out.entry.call
+      x : (x : Running) × (running_at r.task_table out.entry.task ≡ Some x) × GoesBy r.world x.task out.entry.call
       x =
-          some_is (running_at r.roster out.entry.task) (λ (y : Running). GoesBy r.world y.task out.entry.call)
-          (at_place (λ (e : Entry). IsCalled r.roster r.world e.task e.call) r.batch.current out.place out.entry out.at_place
+          some_is (running_at r.task_table out.entry.task) (λ (y : Running). GoesBy r.world y.task out.entry.call)
+          (at_place (λ (e : Entry). IsCalled r.task_table r.world e.task e.call) r.batch.current out.place out.entry out.at_place
           h.going.shelved.current)
 
       right : HasRight out.entry
@@ -261,7 +261,7 @@ module _ (was r told : Runner) (left b : Batches) (h : IsCommitting was r) (same
   pub commits_last : IsUnderway (record told { batch = b })
   commits_last =
       record {
-        going = record { sound = going.sound; shelved = turned_over told b going.shelved told_over current next; course = going.course };
+        going = record { sound = going.sound; shelved = turned_over told b going.shelved told_over current next; interleaving = going.interleaving };
         unchanged = unchanged;
         unplaced = fresh;
         nothing_added = next;

@@ -22,24 +22,24 @@ use Rattle.task_machine.specs.declared.task.Task.{Task}
 use Rattle.task_machine.specs.Fitting.{blocks_of, waits_of}
 use Rattle.task_machine.specs.Standing.{HasNurseryOf}
 use Rattle.task_machine.proofs.Stacked.{one_of}
-use Rattle.run_crew.specs.Crew.{LivesIn, HasHome, IsCrew}
-use Rattle.run_crew.specs.Leaving.{EndIsTold, Leaving}
-use Rattle.run_crew.specs.Ready.{Keeps, AreHomesOf}
-use Rattle.run_crew.specs.Step.{StopSays}
-use Rattle.run_crew.proofs.Found.{finds, puts}
-use Rattle.run_crew.proofs.Keeping.{homes_left, goes_left}
-use Rattle.run_crew.proofs.Left.{crew_left}
-use Rattle.run_crew.proofs.Told.{same_owner}
-use Rattle.task_roster.specs.declared.roster.Roster.{Roster}
-use Rattle.task_roster.specs.declared.roster.Running.{Running}
+use Rattle.run_refinement.specs.RunState.{LivesIn, HasHome, Refines}
+use Rattle.run_refinement.specs.Leaving.{EndIsTold, Leaving}
+use Rattle.run_refinement.specs.Ready.{Keeps, AreHomesOf}
+use Rattle.run_refinement.specs.Step.{StopSays}
+use Rattle.run_refinement.proofs.Found.{finds, puts}
+use Rattle.run_refinement.proofs.Keeping.{homes_left, goes_left}
+use Rattle.run_refinement.proofs.Left.{state_left}
+use Rattle.run_refinement.proofs.Told.{same_owner}
+use Rattle.task_table.specs.declared.task_table.TaskTable.{TaskTable}
+use Rattle.task_table.specs.declared.task_table.Running.{Running}
 use Rattle.job_runner.specs.declared.runner.Runner.{Runner}
-use Rattle.task_roster.specs.Roster.{running_at, task_of, gone_of, parent_of, many, IsRoster, Ends}
-use Rattle.task_roster.specs.Rows.{times}
-use Rattle.job_runner.specs.Shelves.{GoesBy, IsCalled, Dozes, berth_of, AreKnown, times_shelved, running_times, crew_in, AreOnCourse, IsGoing}
+use Rattle.task_table.specs.TaskTable.{running_at, task_of, gone_of, parent_of, many, IsTaskTable, Ends}
+use Rattle.task_table.specs.Rows.{times}
+use Rattle.job_runner.specs.Shelves.{GoesBy, IsCalled, Dozes, sleep_slot_of, AreKnown, times_shelved, running_times, state_in, IsRefined, IsGoing}
 use Rattle.autojump_clock.specs.Clock.{due_of}
 use Rattle.std.proofs.lemmas.Option.{none-some}
 use Rattle.job_runner.specs.Steps.{IsStopping}
-use Rattle.task_roster.proofs.Apart.{one_if}
+use Rattle.task_table.proofs.Apart.{one_if}
 use Rattle.job_runner.proofs.Shelving.{one_same, none_away}
 use Rattle.job_runner.proofs.Stopped.{some_is, some_has, no_timer}
 use Rattle.job_runner.proofs.Lived.{LivesBy, lives_by, task_at}
@@ -68,23 +68,23 @@ each_other key id (x ∷ xs) none P Q all more =
 -- ---- the task that ended
 
 -- a task that ended in a tick did so in the present one, where they are the same
-pub ends_now : (old new : Roster) (id tick now : ℕ) (exc : Option held.Exc) → tick ≡ now → Ends old new id tick exc →
+pub ends_now : (old new : TaskTable) (id tick now : ℕ) (exc : Option held.Exc) → tick ≡ now → Ends old new id tick exc →
     Ends old new id now exc
 ends_now old new id tick now exc is e = subst (λ (t : ℕ). Ends old new id t exc) is e
 
 -- the task with the nursery that is the home of the one of this row
 pub record HasWaiter (r : Runner) (row : ℕ) (home : Home) : Type 0 where
   pub task : Task
-  pub is : task_of r.roster (parent_of r.roster row) ≡ Some task
-  pub owned : HasNurseryOf home.nursery (blocks_of task.frames.items) (waits_of task.halt)
-  pub lives : LivesBy r.roster (parent_of r.roster row) task
-  pub earlier : parent_of r.roster row < row
+  pub is : task_of r.task_table (parent_of r.task_table row) ≡ Some task
+  pub owned : HasNurseryOf home.nursery (blocks_of task.frames.items) (waits_of task.task_state)
+  pub lives : LivesBy r.task_table (parent_of r.task_table row) task
+  pub earlier : parent_of r.task_table row < row
   pub runs : HasNursery r.world.book home.nursery (λ n. slice_get n.children home.place ≡ Some None)
 
-module _ (r : Runner) (roster : Roster) (id row : ℕ) (exc : Option held.Exc) (h : IsStopping id row (stops.Ended exc) r)
-    (e : Ends r.roster roster id r.world.tick exc) where
-  lived : (x : Running) × (running_at r.roster id ≡ Some x) × ((x.row ≡ row) × StopSays r.world x.task (stops.Ended exc))
-  lived = some_is (running_at r.roster id) (λ (x : Running). (x.row ≡ row) × StopSays r.world x.task (stops.Ended exc)) h.lives
+module _ (r : Runner) (task_table : TaskTable) (id row : ℕ) (exc : Option held.Exc) (h : IsStopping id row (stops.Ended exc) r)
+    (e : Ends r.task_table task_table id r.world.tick exc) where
+  lived : (x : Running) × (running_at r.task_table id ≡ Some x) × ((x.row ≡ row) × StopSays r.world x.task (stops.Ended exc))
+  lived = some_is (running_at r.task_table id) (λ (x : Running). (x.row ≡ row) × StopSays r.world x.task (stops.Ended exc)) h.lives
 
   -- the row that gets the end is that of the task that stopped
   pub its_row : e.row ≡ row
@@ -94,17 +94,17 @@ module _ (r : Runner) (roster : Roster) (id row : ℕ) (exc : Option held.Exc) (
       sym (ap (λ (x : Running). x.row) same) ∙ lived.2.0
 
   -- and the task lived in it until then
-  pub was_there : task_of r.roster row ≡ Some e.task
-  was_there = subst (λ (p : ℕ). task_of r.roster p ≡ Some e.task) its_row
-      (task_at r.roster h.shelved.agree id (record { task = e.task; row = e.row }) e.lived)
+  pub was_there : task_of r.task_table row ≡ Some e.task
+  was_there = subst (λ (p : ℕ). task_of r.task_table p ≡ Some e.task) its_row
+      (task_at r.task_table h.shelved.agree id (record { task = e.task; row = e.row }) e.lived)
 
   -- one settled table
   pub table_settled : IsSettled (meaning_table r.job.now r.input.now) r.job.now r.input.now
   table_settled = table_is_settled r.job.now r.input.now h.sound.names
 
   -- the run up to then is one of the definitions, in which the end of this task is not recorded yet
-  pub crew_before : IsCrew (meaning_table r.job.now r.input.now) r.job.now r.input.now r.world.tick (many r.roster) (Some row) (crew_in r)
-  crew_before = (h.course (meaning_table r.job.now r.input.now) table_settled).is
+  pub state_before : Refines (meaning_table r.job.now r.input.now) r.job.now r.input.now r.world.tick (many r.task_table) (Some row) (state_in r)
+  state_before = (h.interleaving (meaning_table r.job.now r.input.now) table_settled).is
 
   -- the task with the nursery that is its home has not ended, has an earlier row, and its end is not
   -- recorded in the nursery yet
@@ -114,7 +114,7 @@ module _ (r : Runner) (roster : Roster) (id row : ℕ) (exc : Option held.Exc) (
         task = keeps.task;
         is = keeps.lives;
         owned = keeps.owned;
-        lives = lives_by r.roster h.shelved.agree (parent_of r.roster row) keeps.task keeps.lives;
+        lives = lives_by r.task_table h.shelved.agree (parent_of r.task_table row) keeps.task keeps.lives;
         earlier = subst (λ (p : ℕ). p < row) same its.earlier;
         runs =
             let n = finds r.world.book home.nursery (λ n. (n.scope ≡ home.scope) × (slice_get n.children home.place ≡ Some None))
@@ -122,16 +122,16 @@ module _ (r : Runner) (roster : Roster) (id row : ℕ) (exc : Option held.Exc) (
             puts r.world.book home.nursery n.0 (λ n. slice_get n.children home.place ≡ Some None) n.1 n.2.1;
       }
     where
-      keeps : Keeps (crew_in r) (parent_of r.roster row) home.nursery
+      keeps : Keeps (state_in r) (parent_of r.task_table row) home.nursery
       keeps = h.shelved.homes row e.task home was_there at
 
-      its : LivesIn (crew_in r) crew_before.course.at crew_before.numbers row home
-      its = subst (HasHome (crew_in r) crew_before.course.at crew_before.numbers row) at (crew_before.follows row e.task was_there).home
+      its : LivesIn (state_in r) state_before.interleaving.at state_before.numbers row home
+      its = subst (HasHome (state_in r) state_before.interleaving.at state_before.numbers row) at (state_before.follows row e.task was_there).home
 
-      same : its.parent ≡ parent_of r.roster row
+      same : its.parent ≡ parent_of r.task_table row
       same =
-          same_owner (meaning_table r.job.now r.input.now) r.job.now r.input.now r.world.tick (many r.roster) (Some row) (crew_in r)
-          crew_before its.parent (parent_of r.roster row) its.starter
+          same_owner (meaning_table r.job.now r.input.now) r.job.now r.input.now r.world.tick (many r.task_table) (Some row) (state_in r)
+          state_before its.parent (parent_of r.task_table row) its.starter
           keeps.task home.nursery its.lives keeps.lives its.owned keeps.owned
 
   -- what `tell` requires
@@ -143,74 +143,74 @@ module _ (r : Runner) (roster : Roster) (id row : ℕ) (exc : Option held.Exc) (
       (subst (λ (i : ℕ). HasNursery r.world.book i (λ n. slice_get n.children y.0.place ≡ Some None)) y.2 (waiter_of y.0 y.1).runs)
 
   -- its row is still one of the table's
-  pub tell_row : row < many roster
-  tell_row = subst (λ (m : ℕ). row < m) (sym e.same.many) (lives_by r.roster h.shelved.agree row e.task was_there).below
+  pub tell_row : row < many task_table
+  tell_row = subst (λ (m : ℕ). row < m) (sym e.same.many) (lives_by r.task_table h.shelved.agree row e.task was_there).below
 
   -- and so is the row of the task that started it, where it has a home
   pub tell_parent : (nursery place : ℕ) → option_map {U = ℕ × ℕ} (λ (x : Home). (x.nursery, x.place)) e.task.home ≡ Some (nursery, place) →
-      parent_of roster row < many roster
+      parent_of task_table row < many task_table
   tell_parent nursery place f =
       let y = home_is e.task.home nursery place f in
-      subst (λ (m : ℕ). parent_of roster row < m) (sym e.same.many)
-      (subst (λ (p : ℕ). p < many r.roster) (sym (e.same.parent row)) (waiter_of y.0 y.1).lives.below)
+      subst (λ (m : ℕ). parent_of task_table row < m) (sym e.same.many)
+      (subst (λ (p : ℕ). p < many r.task_table) (sym (e.same.parent row)) (waiter_of y.0 y.1).lives.below)
 
 -- ---- all others
 
-abbrev pub ended_runner : Runner → Roster → NurseryBook → Batches → Runner
-ended_runner r roster book b = record r { roster = roster; world = record r.world { book = book }; batch = b }
+abbrev pub ended_runner : Runner → TaskTable → NurseryBook → Batches → Runner
+ended_runner r task_table book b = record r { task_table = task_table; world = record r.world { book = book }; batch = b }
 
-module _ (r : Runner) (roster : Roster) (book : NurseryBook) (b : Batches) (id row : ℕ) (exc : Option held.Exc)
+module _ (r : Runner) (task_table : TaskTable) (book : NurseryBook) (b : Batches) (id row : ℕ) (exc : Option held.Exc)
     (h : IsStopping id row (stops.Ended exc) r)
-    (e : Ends r.roster roster id r.world.tick exc) (told : EndIsTold r.world.book book e.task.home (option_map exc_of exc)) where
+    (e : Ends r.task_table task_table id r.world.tick exc) (told : EndIsTold r.world.book book e.task.home (option_map exc_of exc)) where
   left_by : (k : Table) → (settled : IsSettled k r.job.now r.input.now) →
-      Leaving r.world.tick row (crew_in r) (crew_in (ended_runner r roster book b)) ((h.course k settled).is.course.at row) e.task
+      Leaving r.world.tick row (state_in r) (state_in (ended_runner r task_table book b)) ((h.interleaving k settled).is.interleaving.at row) e.task
       (option_map exc_of exc)
   left_by k settled =
       record {
-        was = was_there r roster id row exc h e;
-        ended = (h.course k settled).ended;
+        was = was_there r task_table id row exc h e;
+        ended = (h.interleaving k settled).ended;
         world = refl;
         turns = refl;
         told = told;
-        left = ap (task_of roster) (sym at) ∙ e.left;
-        kept = ap (gone_of roster) (sym at) ∙ e.kept;
+        left = ap (task_of task_table) (sym at) ∙ e.left;
+        kept = ap (gone_of task_table) (sym at) ∙ e.kept;
         others = λ p differs. let d : p ≢ e.row = λ f. differs (f ∙ at) in (e.same.task p d, e.same.gone p d);
         start = e.same.start;
         children = e.same.children;
       }
     where
       at : e.row ≡ row
-      at = its_row r roster id row exc h e
+      at = its_row r task_table id row exc h e
 
   -- after its end is recorded, the run is one of the definitions, and no end is left to record
-  pub course_after : AreOnCourse (ended_runner r roster book b)
-  course_after k settled =
-      subst (λ (m : ℕ). IsCrew k r.job.now r.input.now r.world.tick m None (crew_in (ended_runner r roster book b))) (sym e.same.many)
-      (crew_left k r.job.now r.input.now r.world.tick (many r.roster) row (crew_in r) (crew_in (ended_runner r roster book b)) e.task
-      (option_map exc_of exc) (h.course k settled).is
+  pub interleaving_after : IsRefined (ended_runner r task_table book b)
+  interleaving_after k settled =
+      subst (λ (m : ℕ). Refines k r.job.now r.input.now r.world.tick m None (state_in (ended_runner r task_table book b))) (sym e.same.many)
+      (state_left k r.job.now r.input.now r.world.tick (many r.task_table) row (state_in r) (state_in (ended_runner r task_table book b)) e.task
+      (option_map exc_of exc) (h.interleaving k settled).is
       (left_by k settled))
 
-  homes_after : AreHomesOf (crew_in (ended_runner r roster book b)) (parent_of roster)
+  homes_after : AreHomesOf (state_in (ended_runner r task_table book b)) (parent_of task_table)
   homes_after p x home lives at =
-      subst (λ (n : ℕ). Keeps (crew_in (ended_runner r roster book b)) n home.nursery) (sym (e.same.parent p))
-      (homes_left (meaning_table r.job.now r.input.now) r.job.now r.input.now r.world.tick (many r.roster) row (crew_in r)
-      (crew_in (ended_runner r roster book b)) e.task (option_map exc_of exc)
-      (h.course (meaning_table r.job.now r.input.now) (table_settled r roster id row exc h e)).is
-      (left_by (meaning_table r.job.now r.input.now) (table_settled r roster id row exc h e)) (parent_of r.roster) h.shelved.homes p x
+      subst (λ (n : ℕ). Keeps (state_in (ended_runner r task_table book b)) n home.nursery) (sym (e.same.parent p))
+      (homes_left (meaning_table r.job.now r.input.now) r.job.now r.input.now r.world.tick (many r.task_table) row (state_in r)
+      (state_in (ended_runner r task_table book b)) e.task (option_map exc_of exc)
+      (h.interleaving (meaning_table r.job.now r.input.now) (table_settled r task_table id row exc h e)).is
+      (left_by (meaning_table r.job.now r.input.now) (table_settled r task_table id row exc h e)) (parent_of r.task_table) h.shelved.homes p x
       home lives at)
 
   goes_after : (x : Task) (call : Call) → GoesBy r.world x call → GoesBy (record r.world { book = book }) x call
   goes_after x call goes answer wake right is =
-      goes_left (meaning_table r.job.now r.input.now) r.job.now r.input.now r.world.tick (many r.roster) row (crew_in r)
-      (crew_in (ended_runner r roster book b)) e.task (option_map exc_of exc)
-      (h.course (meaning_table r.job.now r.input.now) (table_settled r roster id row exc h e)).is
-      (left_by (meaning_table r.job.now r.input.now) (table_settled r roster id row exc h e)) x wake (goes answer wake right is)
+      goes_left (meaning_table r.job.now r.input.now) r.job.now r.input.now r.world.tick (many r.task_table) row (state_in r)
+      (state_in (ended_runner r task_table book b)) e.task (option_map exc_of exc)
+      (h.interleaving (meaning_table r.job.now r.input.now) (table_settled r task_table id row exc h e)).is
+      (left_by (meaning_table r.job.now r.input.now) (table_settled r task_table id row exc h e)) x wake (goes answer wake right is)
 
-  called_after : (key : ℕ) (call : Call) → key ≢ id → IsCalled r.roster r.world key call →
-      IsCalled roster (record r.world { book = book }) key call
+  called_after : (key : ℕ) (call : Call) → key ≢ id → IsCalled r.task_table r.world key call →
+      IsCalled task_table (record r.world { book = book }) key call
   called_after key call differs c =
-      let x = some_is (running_at r.roster key) (λ (y : Running). GoesBy r.world y.task call) c in
-      some_has (running_at roster key) (λ (y : Running). GoesBy (record r.world { book = book }) y.task call) x.0
+      let x = some_is (running_at r.task_table key) (λ (y : Running). GoesBy r.world y.task call) c in
+      some_has (running_at task_table key) (λ (y : Running). GoesBy (record r.world { book = book }) y.task call) x.0
       (e.others key differs ∙ x.1) (goes_after x.0.task call x.2)
 
   -- a task that has a timer is another task
@@ -220,17 +220,17 @@ module _ (r : Runner) (roster : Roster) (book : NurseryBook) (b : Batches) (id r
       omega (arith, a))) ∙ (ap (due_of r.clock) (sym same) ∙ f))
 
   dozes_after : (key due : ℕ) → due_of r.clock key ≡ Some due →
-      IsSomeAnd (running_at roster key) (λ (y : Running). Dozes (record r.world { book = book }) due y.task)
+      IsSomeAnd (running_at task_table key) (λ (y : Running). Dozes (record r.world { book = book }) due y.task)
   dozes_after key due f =
-      let x = some_is (running_at r.roster key) (λ (y : Running). Dozes r.world due y.task) (h.shelved.doze key due f) in
-      some_has (running_at roster key) (λ (y : Running). Dozes (record r.world { book = book }) due y.task) x.0
+      let x = some_is (running_at r.task_table key) (λ (y : Running). Dozes r.world due y.task) (h.shelved.doze key due f) in
+      some_has (running_at task_table key) (λ (y : Running). Dozes (record r.world { book = book }) due y.task) x.0
       (e.others key (timer_else key due f) ∙ x.1)
       (record {
         asleep =
             record {
               ticks = x.2.asleep.ticks;
               since = x.2.asleep.since;
-              halt = x.2.asleep.halt;
+              task_state = x.2.asleep.task_state;
               due_is = x.2.asleep.due_is;
               began = x.2.asleep.began;
               later = x.2.asleep.later;
@@ -238,30 +238,30 @@ module _ (r : Runner) (roster : Roster) (book : NurseryBook) (b : Batches) (id r
         unseen = x.2.unseen;
       })
 
-  known_after : AreKnown roster (record r.world { book = book }) r.clock r.sleepers
-  known_after = record { berths = λ key. h.shelved.known.berths key ∙ berth key (due_of r.clock key) refl; sights = h.shelved.known.sights }
+  known_after : AreKnown task_table (record r.world { book = book }) r.clock r.sleepers
+  known_after = record { sleep_slots = λ key. h.shelved.known.sleep_slots key ∙ sleep_slot key (due_of r.clock key) refl; sights = h.shelved.known.sights }
     where
-      berth : (key : ℕ) (d : Option ℕ) → due_of r.clock key ≡ d → berth_of (due_of r.clock key) (running_at r.roster key)
-          ≡ berth_of (due_of r.clock key) (running_at roster key)
-      berth key None f = ap (λ (o : Option ℕ). berth_of o (running_at r.roster key)) f
-          ∙ sym (ap (λ (o : Option ℕ). berth_of o (running_at roster key)) f)
-      berth key (Some due) f = ap (berth_of (due_of r.clock key)) (sym (e.others key (timer_else key due f)))
+      sleep_slot : (key : ℕ) (d : Option ℕ) → due_of r.clock key ≡ d → sleep_slot_of (due_of r.clock key) (running_at r.task_table key)
+          ≡ sleep_slot_of (due_of r.clock key) (running_at task_table key)
+      sleep_slot key None f = ap (λ (o : Option ℕ). sleep_slot_of o (running_at r.task_table key)) f
+          ∙ sym (ap (λ (o : Option ℕ). sleep_slot_of o (running_at task_table key)) f)
+      sleep_slot key (Some due) f = ap (sleep_slot_of (due_of r.clock key)) (sym (e.others key (timer_else key due f)))
 
   none : times_shelved r.batch r.clock id ≡ 0
   none = h.shelved.away id refl
 
   -- those that were added to the next batch live still, and are ready by the same calls
-  pub added_after : All (λ (a : Added). IsCalled roster (record r.world { book = book }) a.0 a.1) r.batch.next
+  pub added_after : All (λ (a : Added). IsCalled task_table (record r.world { book = book }) a.0 a.1) r.batch.next
   added_after =
       each_other (λ (a : Added). a.0) id r.batch.next (let n : times_shelved r.batch r.clock id ≡ 0 = none in omega (arith, n))
-      (λ (a : Added). IsCalled r.roster r.world a.0 a.1) (λ (a : Added). IsCalled roster (record r.world { book = book }) a.0 a.1)
+      (λ (a : Added). IsCalled r.task_table r.world a.0 a.1) (λ (a : Added). IsCalled task_table (record r.world { book = book }) a.0 a.1)
       h.shelved.next (λ a differs c. called_after a.0 a.1 differs c)
 
   -- if those that were added may continue, and each is kept as often as it has to be
-  pub ended_going : IsRoster roster → b.current ≡ r.batch.current →
-      All (λ (a : Added). IsCalled roster (record r.world { book = book }) a.0 a.1) b.next →
-      ((other : ℕ) → times_shelved b r.clock other ≡ running_times book (running_at roster other)) →
-      IsGoing None (ended_runner r roster book b)
+  pub ended_going : IsTaskTable task_table → b.current ≡ r.batch.current →
+      All (λ (a : Added). IsCalled task_table (record r.world { book = book }) a.0 a.1) b.next →
+      ((other : ℕ) → times_shelved b r.clock other ≡ running_times book (running_at task_table other)) →
+      IsGoing None (ended_runner r task_table book b)
   ended_going agree current next once =
       record {
         sound = h.sound;
@@ -277,15 +277,15 @@ module _ (r : Runner) (roster : Roster) (book : NurseryBook) (b : Batches) (id r
               doze = dozes_after;
               known = known_after;
               current =
-                  subst (All (λ (x : Entry). IsCalled roster (record r.world { book = book }) x.task x.call)) (sym current)
+                  subst (All (λ (x : Entry). IsCalled task_table (record r.world { book = book }) x.task x.call)) (sym current)
                   (each_other (λ (x : Entry). x.task) id r.batch.current (let n : times_shelved r.batch r.clock id ≡ 0 = none in
                   omega (arith, n))
-                  (λ (x : Entry). IsCalled r.roster r.world x.task x.call) (λ (x : Entry).
-                  IsCalled roster (record r.world { book = book }) x.task x.call) h.shelved.current
+                  (λ (x : Entry). IsCalled r.task_table r.world x.task x.call) (λ (x : Entry).
+                  IsCalled task_table (record r.world { book = book }) x.task x.call) h.shelved.current
                   (λ x differs c. called_after x.task x.call differs c));
               next = next;
               once = λ other any. once other;
               away = none_away (λ (x : ℕ). times_shelved b r.clock x ≡ 0);
             };
-        course = course_after;
+        interleaving = interleaving_after;
       }

@@ -10,16 +10,16 @@ use Rattle.job_meaning.specs.Log.{Table}
 use Rattle.job_meaning.specs.Meaning.{meaning_table}
 use Rattle.job_meaning.proofs.Settled.{table_is_settled}
 use Rattle.line_kernels.specs.declared.answers.Answer.{Answer}
-use Rattle.run_course.specs.Course.{In}
-use Rattle.run_crew.specs.Laws.{AreDistinct}
-use Rattle.run_crew.proofs.FewTasks.{crew_few}
-use Rattle.task_roster.specs.Roster.{running_at, task_of, many, IsRoster}
-use Rattle.task_roster.specs.Rows.{times}
-use Rattle.task_roster.specs.declared.roster.Roster.{Roster}
-use Rattle.task_roster.specs.declared.roster.Running.{Running}
-use Rattle.task_roster.proofs.Apart.{one_if}
+use Rattle.interleavings.specs.Interleaving.{In}
+use Rattle.run_refinement.specs.Laws.{AreDistinct}
+use Rattle.run_refinement.proofs.FewTasks.{state_few}
+use Rattle.task_table.specs.TaskTable.{running_at, task_of, many, IsTaskTable}
+use Rattle.task_table.specs.Rows.{times}
+use Rattle.task_table.specs.declared.task_table.TaskTable.{TaskTable}
+use Rattle.task_table.specs.declared.task_table.Running.{Running}
+use Rattle.task_table.proofs.Apart.{one_if}
 use Rattle.job_runner.specs.declared.runner.Runner.{Runner}
-use Rattle.job_runner.specs.Shelves.{AreShelved, GoesBy, IsCalled, IsUnderway, crew_in, running_times, times_shelved}
+use Rattle.job_runner.specs.Shelves.{AreShelved, GoesBy, IsCalled, IsUnderway, state_in, running_times, times_shelved}
 use Rattle.job_runner.proofs.Lived.{one_id, task_at}
 use Rattle.job_runner.proofs.Places.{times_cons}
 use Rattle.job_runner.proofs.Shelving.{one_same}
@@ -34,21 +34,21 @@ row_in None = 0
 row_in (Some x) = x.row
 
 -- the row of each entry's task
-abbrev rows_in : Roster → List Entry → List ℕ
+abbrev rows_in : TaskTable → List Entry → List ℕ
 rows_in r [] = []
 rows_in r (e ∷ es) = row_in (running_at r e.task) ∷ rows_in r es
 
-rows_long : (r : Roster) (es : List Entry) → length (rows_in r es) ≡ length es
+rows_long : (r : TaskTable) (es : List Entry) → length (rows_in r es) ≡ length es
 rows_long r [] = refl
 rows_long r (e ∷ es) = ap suc (rows_long r es)
 
 -- the task of an entry has not ended
-record Runs (r : Roster) (e : Entry) : Type 0 where
+record Runs (r : TaskTable) (e : Entry) : Type 0 where
   pub running : Running
   pub is : running_at r e.task ≡ Some running
 
 -- a row that is among those of entries has its id among them
-among : (r : Roster) → IsRoster r → (id : ℕ) (x : Running) → running_at r id ≡ Some x → (es : List Entry) → All (Runs r) es →
+among : (r : TaskTable) → IsTaskTable r → (id : ℕ) (x : Running) → running_at r id ≡ Some x → (es : List Entry) → All (Runs r) es →
     In x.row (rows_in r es) →
     1 ≤ times id (map (λ (e : Entry). e.task) es)
 among r agree id x e [] all i = absurd i
@@ -64,7 +64,7 @@ among r agree id x e (y ∷ es) all (inr i) =
     omega (arith, some, more)
 
 -- entries of other tasks have other rows
-rows_differ : (r : Roster) → IsRoster r → (es : List Entry) → All (Runs r) es → ((id : ℕ) → times id (map (λ (e : Entry). e.task) es) ≤ 1) →
+rows_differ : (r : TaskTable) → IsTaskTable r → (es : List Entry) → All (Runs r) es → ((id : ℕ) → times id (map (λ (e : Entry). e.task) es) ≤ 1) →
     AreDistinct (rows_in r es)
 rows_differ r agree [] all once = tt
 rows_differ r agree (e ∷ es) all once = (no_other, rows_differ r agree es rest fewer)
@@ -86,7 +86,7 @@ rows_differ r agree (e ∷ es) all once = (no_other, rows_differ r agree es rest
         omega (arith, some, one, once e.task, more e.task)
 
 -- each is of a task that has not ended
-rows_live : (r : Roster) → IsRoster r → (es : List Entry) → All (Runs r) es → (s : ℕ) → In s (rows_in r es) → IsSome (task_of r s)
+rows_live : (r : TaskTable) → IsTaskTable r → (es : List Entry) → All (Runs r) es → (s : ℕ) → In s (rows_in r es) → IsSome (task_of r s)
 rows_live r agree [] all s i = absurd i
 rows_live r agree (e ∷ es) all s (inl h) =
     let f = All-head (Runs r) e es all in
@@ -112,13 +112,13 @@ requests_fewer (e ∷ es) = let one = one_request e.task e.call e.answer es in l
 -- a batch of a run makes at most 4,000,000 requests
 pub few_requests : (r : Runner) → IsUnderway r → length (requests_of r.batch.current) ≤ 4000000
 few_requests r h =
-    let distinct = rows_differ r.roster shelved.agree r.batch.current all once in
-    let crew = h.going.course k (table_is_settled r.job.now r.input.now h.going.sound.names) in
-    let few = crew_few k r.job.now r.input.now r.world.tick (many r.roster) (crew_in r) crew (rows_in r.roster r.batch.current) distinct
-    (rows_live r.roster shelved.agree r.batch.current all) in
-    let long = rows_long r.roster r.batch.current in
+    let distinct = rows_differ r.task_table shelved.agree r.batch.current all once in
+    let state = h.going.interleaving k (table_is_settled r.job.now r.input.now h.going.sound.names) in
+    let few = state_few k r.job.now r.input.now r.world.tick (many r.task_table) (state_in r) state (rows_in r.task_table r.batch.current) distinct
+    (rows_live r.task_table shelved.agree r.batch.current all) in
+    let long = rows_long r.task_table r.batch.current in
     let fewer = requests_fewer r.batch.current in
-    let size = h.going.sound.modest.size in
+    let size = h.going.sound.in_range.size in
     let most = few_steps r.job.now.format in
     omega (arith, few, long, fewer, size, most)
   where
@@ -128,15 +128,15 @@ few_requests r h =
     shelved : AreShelved None r
     shelved = h.going.shelved
 
-    runs : (e : Entry) → IsCalled r.roster r.world e.task e.call → Runs r.roster e
-    runs e called = let x = some_is (running_at r.roster e.task) (λ (y : Running). GoesBy r.world y.task e.call) called in
+    runs : (e : Entry) → IsCalled r.task_table r.world e.task e.call → Runs r.task_table e
+    runs e called = let x = some_is (running_at r.task_table e.task) (λ (y : Running). GoesBy r.world y.task e.call) called in
         record { running = x.0; is = x.1 }
 
-    all : All (Runs r.roster) r.batch.current
-    all = All-weaker (λ (e : Entry). IsCalled r.roster r.world e.task e.call) (Runs r.roster) runs r.batch.current shelved.current
+    all : All (Runs r.task_table) r.batch.current
+    all = All-weaker (λ (e : Entry). IsCalled r.task_table r.world e.task e.call) (Runs r.task_table) runs r.batch.current shelved.current
 
     once : (id : ℕ) → times id (map (λ (e : Entry). e.task) r.batch.current) ≤ 1
     once id =
-        let all_times : times_shelved r.batch r.clock id ≡ running_times r.world.book (running_at r.roster id) = shelved.once id tt in
-        let most = running_most r.world.book (running_at r.roster id) in
+        let all_times : times_shelved r.batch r.clock id ≡ running_times r.world.book (running_at r.task_table id) = shelved.once id tt in
+        let most = running_most r.world.book (running_at r.task_table id) in
         omega (arith, all_times, most)

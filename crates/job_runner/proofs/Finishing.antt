@@ -14,27 +14,27 @@ use Rattle.job_meaning.specs.Meaning.{From, meaning, meaning_end, meaning_table,
 use Rattle.job_meaning.specs.Shown.{row_of, shown}
 use Rattle.job_meaning.proofs.Settled.{table_is_settled, settled_is_meaning, one_table_is_settled}
 use Rattle.task_machine.specs.declared.world.World.{World}
-use Rattle.task_roster.specs.declared.record.Record.{Record}
+use Rattle.task_table.specs.declared.record.Record.{Record}
 use Rattle.task_machine.specs.declared.entry.ScopeFrom.{ScopeFrom}
 use Rattle.task_machine.specs.Noted.{entry_of, from_of, IsSlice}
-use Rattle.task_roster.specs.Records.{row_in, AreSlices}
-use Rattle.run_course.specs.Rows as course
-use Rattle.run_crew.specs.Crew.{Gone, IsCrew}
-use Rattle.run_crew.specs.Over.{IsOver, ShowsRow}
-use Rattle.run_crew.proofs.Blocks.{root_last}
-use Rattle.run_crew.proofs.Over.{crew_over}
+use Rattle.task_table.specs.Records.{row_in, AreSlices}
+use Rattle.interleavings.specs.Rows as interleaving
+use Rattle.run_refinement.specs.RunState.{Gone, Refines}
+use Rattle.run_refinement.specs.Over.{IsOver, ShowsRow}
+use Rattle.run_refinement.proofs.Blocks.{root_last}
+use Rattle.run_refinement.proofs.Over.{state_over}
 use Rattle.job_runner.specs.declared.finished.Run.{Run}
-use Rattle.task_roster.specs.declared.roster.Roster.{Roster}
-use Rattle.task_roster.specs.declared.roster.Running.{Running}
-use Rattle.task_roster.specs.declared.rows.Ended.{Ended}
-use Rattle.task_roster.specs.declared.rows.Row.{Row}
+use Rattle.task_table.specs.declared.task_table.TaskTable.{TaskTable}
+use Rattle.task_table.specs.declared.task_table.Running.{Running}
+use Rattle.task_table.specs.declared.rows.Ended.{Ended}
+use Rattle.task_table.specs.declared.rows.Row.{Row}
 use Rattle.job_runner.specs.declared.runner.Phase.TheVariants as phases
 use Rattle.job_runner.specs.declared.runner.Runner.{Runner}
 use Rattle.job_runner.specs.Phases.{phase_by, phase_of}
-use Rattle.task_roster.specs.Roster.{children_by, crew_of, gone_by, gone_from, gone_of, many, row_at, running_at, start_by, task_by, task_in, task_of, task_unless}
-use Rattle.task_roster.specs.Rows.{AreShown, EndIsShown, IsShown, ShowRecords}
+use Rattle.task_table.specs.TaskTable.{children_by, state_of, gone_by, gone_from, gone_of, many, row_at, running_at, start_by, task_by, task_in, task_of, task_unless}
+use Rattle.task_table.specs.Rows.{AreShown, EndIsShown, IsShown, ShowRecords}
 use Rattle.job_runner.specs.Runs.{IsRun, FollowsEach, froms_in, name_of, records_in}
-use Rattle.job_runner.specs.Shelves.{crew_in, IsUnderway}
+use Rattle.job_runner.specs.Shelves.{state_in, IsUnderway}
 use Rattle.job_runner.proofs.Places.{all_by_place}
 
 -- ---- the root has ended
@@ -61,7 +61,7 @@ none_lives (Some end) x y e none = refl
 -- ---- what is kept shows the row
 
 -- what is kept of an end, as it is read
-end_shown : (input : List ℕ) (row : course.Row) (end : Option Ended) (gone : Gone) → option_map gone_from end ≡ Some gone →
+end_shown : (input : List ℕ) (row : interleaving.Row) (end : Option Ended) (gone : Gone) → option_map gone_from end ≡ Some gone →
     gone.label ≡ row.label → gone.end ≡ row.end → gone.exc ≡ row.exc →
     map entry_of gone.entries ≡ map (shown input) row.entries → All (IsSlice input) gone.entries → map from_of gone.froms ≡ row.froms →
     EndIsShown input row end
@@ -77,10 +77,10 @@ end_shown input row (Some end) gone e label tick exc entries slices froms =
       froms = ap (λ (g : Gone). map from_of g.froms) is ∙ froms;
     }
 
-row_shown : (input : List ℕ) (roster : Roster) (world : World) (turns s : ℕ) (row : course.Row) (held : Row) → row_at roster s ≡ Some held →
-    ShowsRow input (crew_of roster world turns) s row →
+row_shown : (input : List ℕ) (task_table : TaskTable) (world : World) (turns s : ℕ) (row : interleaving.Row) (held : Row) → row_at task_table s ≡ Some held →
+    ShowsRow input (state_of task_table world turns) s row →
     IsShown input row held
-row_shown input roster world turns s row held e h =
+row_shown input task_table world turns s row held e h =
     record {
       start = sym (ap start_by e) ∙ h.start;
       children = sym (ap children_by e) ∙ h.children;
@@ -100,39 +100,39 @@ module _ (r : Runner) (w : IsUnderway r) (over : phase_of r ≡ phases.Over) whe
   abbrev k : Table
   k = meaning_table r.job.now r.input.now
 
-  crew : IsCrew k r.job.now r.input.now r.world.tick (many r.roster) None (crew_in r)
-  crew = w.going.course k (table_is_settled r.job.now r.input.now w.going.sound.names)
+  state : Refines k r.job.now r.input.now r.world.tick (many r.task_table) None (state_in r)
+  state = w.going.interleaving k (table_is_settled r.job.now r.input.now w.going.sound.names)
 
-  root : (g : Gone) × (gone_of r.roster 0 ≡ Some g)
-  root = gone_root r.batch.current (gone_of r.roster 0) over
+  root : (g : Gone) × (gone_of r.task_table 0 ≡ Some g)
+  root = gone_root r.batch.current (gone_of r.task_table 0) over
 
   -- no task lives
-  none_left : (p : ℕ) → task_of r.roster p ≡ None
-  none_left p = root_last k r.job.now r.input.now r.world.tick (many r.roster) (crew_in r) crew
-      (no_task r.roster.live (row_at r.roster 0) root.0 root.1) p
+  none_left : (p : ℕ) → task_of r.task_table p ≡ None
+  none_left p = root_last k r.job.now r.input.now r.world.tick (many r.task_table) (state_in r) state
+      (no_task r.task_table.live (row_at r.task_table 0) root.0 root.1) p
 
   -- so each row has its end
-  pub all_ended : (rows : List Row) → rows ≡ r.roster.rows.items → All (λ (x : Row). IsSome x.end) rows
+  pub all_ended : (rows : List Row) → rows ≡ r.task_table.rows.items → All (λ (x : Row). IsSome x.end) rows
   all_ended rows same = subst (All (λ (x : Row). IsSome x.end)) (sym same)
-      (all_by_place (λ (x : Row). IsSome x.end) r.roster.rows.items (λ p row e. by_end p row e row.end refl))
+      (all_by_place (λ (x : Row). IsSome x.end) r.task_table.rows.items (λ p row e. by_end p row e row.end refl))
     where
-      by_end : (p : ℕ) (row : Row) → row_at r.roster p ≡ Some row → (end : Option Ended) → row.end ≡ end → IsSome row.end
+      by_end : (p : ℕ) (row : Row) → row_at r.task_table p ≡ Some row → (end : Option Ended) → row.end ≡ end → IsSome row.end
       by_end p row e None f =
           let l = w.going.shelved.agree.lives p row e f in
-          none_lives row.end (running_at r.roster row.task) l.running l.is (sym (ap (task_by r.roster.live) e) ∙ none_left p)
+          none_lives row.end (running_at r.task_table row.task) l.running l.is (sym (ap (task_by r.task_table.live) e) ∙ none_left p)
       by_end p row e (Some end) f = ap is_some f
 
-  is_over : IsOver r.job.now r.input.now (many r.roster) (crew_in r)
-  is_over = crew_over r.job.now r.input.now w.going.sound.names w.going.sound.starts r.world.tick (many r.roster) (crew_in r) crew none_left
+  is_over : IsOver r.job.now r.input.now (many r.task_table) (state_in r)
+  is_over = state_over r.job.now r.input.now w.going.sound.names w.going.sound.starts r.world.tick (many r.task_table) (state_in r) state none_left
 
-  are_shown : AreShown r.input.now is_over.rows r.roster.rows.items
+  are_shown : AreShown r.input.now is_over.rows r.task_table.rows.items
   are_shown s held e =
-      row_shown r.input.now r.roster r.world r.turns s (is_over.rows s) held e
-      (is_over.shows s (slice_get_within r.roster.rows.items s held e))
+      row_shown r.input.now r.task_table r.world r.turns s (is_over.rows s) held e
+      (is_over.shows s (slice_get_within r.task_table.rows.items s held e))
 
   -- the records and froms of rows
-  module _ (rows : List Row) (same : rows ≡ r.roster.rows.items) (records : List Record) (froms : List ScopeFrom)
-      (tells : (input : List ℕ) (rs : ℕ → course.Row) → AreShown input rs rows → ShowRecords input rs records froms) where
+  module _ (rows : List Row) (same : rows ≡ r.task_table.rows.items) (records : List Record) (froms : List ScopeFrom)
+      (tells : (input : List ℕ) (rs : ℕ → interleaving.Row) → AreShown input rs rows → ShowRecords input rs records froms) where
     told : ShowRecords r.input.now is_over.rows records froms
     told = tells r.input.now is_over.rows (subst (AreShown r.input.now is_over.rows) (sym same) are_shown)
 
@@ -166,8 +166,8 @@ module _ (r : Runner) (w : IsUnderway r) (over : phase_of r ≡ phases.Over) whe
     -- and by its meaning the job ends within the limit
     pub ends_in_time : meaning_end r.job.now r.input.now ≤ r.limit
     ends_in_time =
-        let shows = is_over.shows 0 crew.some in
-        let ended = crew.ended 0 crew.some (none_left 0) in
+        let shows = is_over.shows 0 state.some in
+        let ended = state.ended 0 state.some (none_left 0) in
         let same : shows.gone ≡ ended.0 = same_Some shows.gone ended.0 (sym shows.is ∙ ended.1) in
         let end : shows.gone.end ≡ (is_over.rows 0).end = shows.end in
         let means : (is_over.rows 0).end ≡ meaning_end r.job.now r.input.now = is_over.end told.taken told.order in

@@ -20,27 +20,27 @@ use Rattle.job_meaning.specs.Log.{Table}
 use Rattle.job_meaning.specs.Meaning.{meaning_table, meaning_end}
 use Rattle.job_meaning.specs.Rest.{Stopped, at_end}
 use Rattle.job_meaning.proofs.Settled.{table_is_settled}
-use Rattle.task_machine.specs.declared.stop.Halt.{Halt}
-use Rattle.task_machine.specs.declared.stop.Halt.TheVariants.{ToBegin, Asked, Asleep, Awaits, Over}
+use Rattle.task_machine.specs.declared.stop.TaskState.{TaskState}
+use Rattle.task_machine.specs.declared.stop.TaskState.TheVariants.{ToBegin, Asked, Asleep, Awaits, Over}
 use Rattle.task_machine.specs.declared.task.Task.{Task}
 use Rattle.task_machine.specs.declared.world.World.{World}
 use Rattle.task_machine.specs.Fitting.{waits_of}
-use Rattle.task_machine.specs.Stops.{Numbers, IsHalt}
+use Rattle.task_machine.specs.Stops.{Numbers, IsTaskState}
 use Rattle.task_machine.specs.Tasks.{scope_of}
-use Rattle.run_course.specs.Course.{live}
-use Rattle.run_crew.specs.Crew.{HasMembers, IsCrew}
-use Rattle.run_crew.specs.Ready.{StaysTo, AllStay}
-use Rattle.run_crew.proofs.Blocks.{crew_blocked, crew_sleeps, crew_in_time}
-use Rattle.run_crew.proofs.Jumped.{crew_jumps}
-use Rattle.task_roster.specs.declared.roster.Roster.{Roster}
-use Rattle.task_roster.specs.declared.roster.Running.{Running}
+use Rattle.interleavings.specs.Interleaving.{live}
+use Rattle.run_refinement.specs.RunState.{HasMembers, Refines}
+use Rattle.run_refinement.specs.Ready.{StaysTo, AllStay}
+use Rattle.run_refinement.proofs.Blocks.{state_blocked, state_sleeps, state_in_time}
+use Rattle.run_refinement.proofs.Jumped.{state_jumps}
+use Rattle.task_table.specs.declared.task_table.TaskTable.{TaskTable}
+use Rattle.task_table.specs.declared.task_table.Running.{Running}
 use Rattle.job_runner.specs.declared.runner.Runner.{Runner}
 use Rattle.job_runner.specs.Jumps.{sight_by, sight_in, Wakes, IsNextTick, Slept, IsAnyNow, IsWaking}
-use Rattle.sleeper_sights.specs.Sleeping.{IsFirst}
-use Rattle.task_roster.specs.Roster.{running_at, task_of, gone_of, id_of, many, crew_of, IsRoster}
-use Rattle.task_roster.specs.Rows.{times}
-use Rattle.job_runner.specs.Shelves.{IsCalled, Dozes, berth_of, timer_times, settled_times, halt_times, running_times, times_shelved, crew_in, IsGoing, IsUnderway}
-use Rattle.task_roster.proofs.Apart.{one_if}
+use Rattle.sleepers.specs.Sleeping.{IsFirst}
+use Rattle.task_table.specs.TaskTable.{running_at, task_of, gone_of, id_of, many, state_of, IsTaskTable}
+use Rattle.task_table.specs.Rows.{times}
+use Rattle.job_runner.specs.Shelves.{IsCalled, Dozes, sleep_slot_of, timer_times, settled_times, task_state_times, running_times, times_shelved, state_in, IsGoing, IsUnderway}
+use Rattle.task_table.proofs.Apart.{one_if}
 use Rattle.job_runner.proofs.Known.{seen_by, sees_from}
 use Rattle.job_runner.proofs.Stopped.{some_is, some_has}
 use Rattle.job_runner.proofs.Lived.{lives_by, task_at}
@@ -48,30 +48,30 @@ use Rattle.job_runner.proofs.Lived.{lives_by, task_at}
 -- ---- which task has which id
 
 -- the id under which a task lives
-record LivesAt (r : Roster) (task : Task) : Type 0 where
+record LivesAt (r : TaskTable) (task : Task) : Type 0 where
   id : ℕ
   running : Running
   is : running_at r id ≡ Some running
   task_is : running.task ≡ task
 
-lives_at : (r : Roster) → IsRoster r → (p : ℕ) (task : Task) → task_of r p ≡ Some task → LivesAt r task
+lives_at : (r : TaskTable) → IsTaskTable r → (p : ℕ) (task : Task) → task_of r p ≡ Some task → LivesAt r task
 lives_at r agree p task e = let l = lives_by r agree p task e in
     record { id = id_of r p; running = l.running; is = l.is; task_is = l.task_is }
 
 -- ---- a run of which nobody is ready
 
-crew_now : (r : Runner) → IsGoing None r → IsCrew (meaning_table r.job.now r.input.now) r.job.now r.input.now r.world.tick (many r.roster)
-    None (crew_in r)
-crew_now r g = g.course (meaning_table r.job.now r.input.now) (table_is_settled r.job.now r.input.now g.sound.names)
+state_now : (r : Runner) → IsGoing None r → Refines (meaning_table r.job.now r.input.now) r.job.now r.input.now r.world.tick (many r.task_table)
+    None (state_in r)
+state_now r g = g.interleaving (meaning_table r.job.now r.input.now) (table_is_settled r.job.now r.input.now g.sound.names)
 
 -- the scope of each task is open
-pub scopes_open : (r : Runner) → IsGoing None r → (id : ℕ) (x : Running) → running_at r.roster id ≡ Some x →
+pub scopes_open : (r : Runner) → IsGoing None r → (id : ℕ) (x : Running) → running_at r.task_table id ≡ Some x →
     ForSome (scope_of x.task) (IsOpen r.world.scopes)
-scopes_open r g id x is = ((crew_now r g).follows x.row x.task (task_at r.roster g.shelved.agree id x is)).goes.scope
+scopes_open r g id x is = ((state_now r g).follows x.row x.task (task_at r.task_table g.shelved.agree id x is)).goes.scope
 
 -- ---- until when they stay
 
-over_has_ended : (ns : Numbers) (book : NurseryBook) (stopped : Stopped) → IsHalt ns book Over stopped → live stopped ≡ true → ⊥
+over_has_ended : (ns : Numbers) (book : NurseryBook) (stopped : Stopped) → IsTaskState ns book Over stopped → live stopped ≡ true → ⊥
 over_has_ended ns book (at_end t x) i l = let f : false ≡ true = l in cc
 over_has_ended ns book _ i l = absurd i
 
@@ -80,20 +80,20 @@ same_sleep a b c d e = (cc, cc)
 
 -- A run whose batch is over, and a bound up to which no sleeper is due or sees a cancellation.
 module _ (r : Runner) (w : IsUnderway r) (none : r.batch.current ≡ []) where
-  crew : IsCrew (meaning_table r.job.now r.input.now) r.job.now r.input.now r.world.tick (many r.roster) None (crew_in r)
-  crew = crew_now r w.going
+  state : Refines (meaning_table r.job.now r.input.now) r.job.now r.input.now r.world.tick (many r.task_table) None (state_in r)
+  state = state_now r w.going
 
   -- a task that has not ended has a timer as often as its blocked state says
-  timed_times : (task : Task) (at : LivesAt r.roster task) → timer_times (due_of r.clock at.id) ≡ halt_times r.world.book task.halt
+  timed_times : (task : Task) (at : LivesAt r.task_table task) → timer_times (due_of r.clock at.id) ≡ task_state_times r.world.book task.task_state
   timed_times task at =
-      let all : times_shelved r.batch r.clock at.id ≡ running_times r.world.book (running_at r.roster at.id) =
+      let all : times_shelved r.batch r.clock at.id ≡ running_times r.world.book (running_at r.task_table at.id) =
       w.going.shelved.once at.id tt in
       let current : times at.id (map (λ (e : Entry). e.task) r.batch.current) ≡ 0 =
       ap (λ (es : List Entry). times at.id (map (λ (e : Entry). e.task) es)) none in
       let next : times at.id (map (λ (a : Added). a.0) r.batch.next) ≡ 0 =
       ap (λ (es : List Added). times at.id (map (λ (a : Added). a.0) es)) w.nothing_added in
-      let its : running_times r.world.book (running_at r.roster at.id) ≡ halt_times r.world.book task.halt =
-      ap (running_times r.world.book) at.is ∙ ap (λ (t : Task). halt_times r.world.book t.halt) at.task_is in
+      let its : running_times r.world.book (running_at r.task_table at.id) ≡ task_state_times r.world.book task.task_state =
+      ap (running_times r.world.book) at.is ∙ ap (λ (t : Task). task_state_times r.world.book t.task_state) at.task_is in
       omega (arith, all, current, next, its)
 
   -- and where that is once, it sleeps
@@ -101,10 +101,10 @@ module _ (r : Runner) (w : IsUnderway r) (none : r.batch.current ≡ []) where
     id : ℕ
     due : ℕ
     timer : due_of r.clock id ≡ Some due
-    seen_by : sight_in r.roster r.world id ≡ sight (outer_of r.world.scopes (scope_of task))
+    seen_by : sight_in r.task_table r.world id ≡ sight (outer_of r.world.scopes (scope_of task))
     dozes : Dozes r.world due task
 
-  sleeps_as : (task : Task) → LivesAt r.roster task → halt_times r.world.book task.halt ≡ 1 → SleepsAs task
+  sleeps_as : (task : Task) → LivesAt r.task_table task → task_state_times r.world.book task.task_state ≡ 1 → SleepsAs task
   sleeps_as task at one = by_timer (due_of r.clock at.id) refl
     where
       by_timer : (d : Option ℕ) → due_of r.clock at.id ≡ d → SleepsAs task
@@ -126,22 +126,22 @@ module _ (r : Runner) (w : IsUnderway r) (none : r.batch.current ≡ []) where
 
   -- no sleeper is due before a tick, or sees a cancellation before it
   abbrev pub NoneBefore : ℕ → Type 0
-  NoneBefore u = (id due : ℕ) → due_of r.clock id ≡ Some due → (u ≤ due) × (upto u (sight_in r.roster r.world id) ≡ u)
+  NoneBefore u = (id due : ℕ) → due_of r.clock id ≡ Some due → (u ≤ due) × (upto u (sight_in r.task_table r.world id) ≡ u)
 
   -- before such a tick no task continues: each sleeps, or waits for a nursery of which a member
   -- runs
-  pub all_stay : (u : ℕ) → NoneBefore u → AllStay (crew_in r) u
-  all_stay u bound p task e = by_halt task.halt refl
+  pub all_stay : (u : ℕ) → NoneBefore u → AllStay (state_in r) u
+  all_stay u bound p task e = by_task_state task.task_state refl
     where
-      at : LivesAt r.roster task
-      at = lives_at r.roster w.going.shelved.agree p task e
+      at : LivesAt r.task_table task
+      at = lives_at r.task_table w.going.shelved.agree p task e
 
       -- a task that has to be kept according to its blocked state sleeps
-      asleep_as : (halt : Halt) → task.halt ≡ halt → halt_times r.world.book halt ≡ 1 → SleepsAs task
-      asleep_as halt h one = sleeps_as task at (ap (halt_times r.world.book) h ∙ one)
+      asleep_as : (task_state : TaskState) → task.task_state ≡ task_state → task_state_times r.world.book task_state ≡ 1 → SleepsAs task
+      asleep_as task_state h one = sleeps_as task at (ap (task_state_times r.world.book) h ∙ one)
 
-      by_nursery : (id since : ℕ) → task.halt ≡ Awaits id since → (o : Option Nursery) → nursery_at r.world.book id ≡ o →
-          IsSomeAnd o (λ (n : Nursery). HasMembers (crew_in r) crew.course.at r.world.tick (crew.numbers p) (crew.course.at p) id n) →
+      by_nursery : (id since : ℕ) → task.task_state ≡ Awaits id since → (o : Option Nursery) → nursery_at r.world.book id ≡ o →
+          IsSomeAnd o (λ (n : Nursery). HasMembers (state_in r) state.interleaving.at r.world.tick (state.numbers p) (state.interleaving.at p) id n) →
           IsSomeAnd o (λ (n : Nursery). is_settled n ≡ false)
       by_nursery id since h None f members = members
       by_nursery id since h (Some n) f members = by_settled (is_settled n) refl
@@ -150,35 +150,35 @@ module _ (r : Runner) (w : IsUnderway r) (none : r.batch.current ≡ []) where
           by_settled false g = g
           by_settled true g =
               let a = asleep_as (Awaits id since) h (ap settled_times f ∙ ap one_if g) in
-              absurd (let k : Awaits id since ≡ Asleep a.dozes.asleep.ticks a.dozes.asleep.since = sym h ∙ a.dozes.asleep.halt in cc)
+              absurd (let k : Awaits id since ≡ Asleep a.dozes.asleep.ticks a.dozes.asleep.since = sym h ∙ a.dozes.asleep.task_state in cc)
 
-      by_halt : (halt : Halt) → task.halt ≡ halt → StaysTo r.world u (scope_of task) halt
-      by_halt ToBegin h =
+      by_task_state : (task_state : TaskState) → task.task_state ≡ task_state → StaysTo r.world u (scope_of task) task_state
+      by_task_state ToBegin h =
           let a = asleep_as ToBegin h refl in
-          absurd (let k : ToBegin ≡ Asleep a.dozes.asleep.ticks a.dozes.asleep.since = sym h ∙ a.dozes.asleep.halt in cc)
-      by_halt (Asked kernel purpose) h =
+          absurd (let k : ToBegin ≡ Asleep a.dozes.asleep.ticks a.dozes.asleep.since = sym h ∙ a.dozes.asleep.task_state in cc)
+      by_task_state (Asked kernel purpose) h =
           let a = asleep_as (Asked kernel purpose) h refl in
-          absurd (let k : Asked kernel purpose ≡ Asleep a.dozes.asleep.ticks a.dozes.asleep.since = sym h ∙ a.dozes.asleep.halt in cc)
-      by_halt (Asleep ticks since) h =
+          absurd (let k : Asked kernel purpose ≡ Asleep a.dozes.asleep.ticks a.dozes.asleep.since = sym h ∙ a.dozes.asleep.task_state in cc)
+      by_task_state (Asleep ticks since) h =
           let a = asleep_as (Asleep ticks since) h refl in
           let b = bound a.id a.due a.timer in
-          let same = same_sleep ticks since a.dozes.asleep.ticks a.dozes.asleep.since (sym h ∙ a.dozes.asleep.halt) in (
+          let same = same_sleep ticks since a.dozes.asleep.ticks a.dozes.asleep.since (sym h ∙ a.dozes.asleep.task_state) in (
             (let le = b.0 in let due = a.dozes.asleep.due_is in let x = same.0 in let y = same.1 in omega (arith, le, due, x, y)),
             ap (upto u) (sym a.seen_by) ∙ b.1,
           )
-      by_halt (Awaits id since) h =
-          by_nursery id since h (nursery_at r.world.book id) refl ((crew.follows p task e).nurseries id (inr (ap waits_of h)))
-      by_halt Over h =
-          let it = crew.follows p task e in
-          absurd (over_has_ended (crew.numbers p) r.world.book (crew.course.at p).rest.stopped
-          (subst (λ (x : Halt). IsHalt (crew.numbers p) r.world.book x (crew.course.at p).rest.stopped) h it.halt)
+      by_task_state (Awaits id since) h =
+          by_nursery id since h (nursery_at r.world.book id) refl ((state.follows p task e).nurseries id (inr (ap waits_of h)))
+      by_task_state Over h =
+          let it = state.follows p task e in
+          absurd (over_has_ended (state.numbers p) r.world.book (state.interleaving.at p).rest.stopped
+          (subst (λ (x : TaskState). IsTaskState (state.numbers p) r.world.book x (state.interleaving.at p).rest.stopped) h it.task_state)
           (it.lives (λ f. none-some p f)))
 
   -- ---- what the clock asks
 
   -- a task that has a timer has not ended, and sleeps without seeing a cancellation
-  dozer : (id due : ℕ) → due_of r.clock id ≡ Some due → (x : Running) × (running_at r.roster id ≡ Some x) × Dozes r.world due x.task
-  dozer id due e = some_is (running_at r.roster id) (λ (x : Running). Dozes r.world due x.task) (w.going.shelved.doze id due e)
+  dozer : (id due : ℕ) → due_of r.clock id ≡ Some due → (x : Running) × (running_at r.task_table id ≡ Some x) × Dozes r.world due x.task
+  dozer id due e = some_is (running_at r.task_table id) (λ (x : Running). Dozes r.world due x.task) (w.going.shelved.doze id due e)
 
   -- so a timer is later than now
   pub timers_later : AllLater r.clock (now_of r.clock)
@@ -188,38 +188,38 @@ module _ (r : Runner) (w : IsUnderway r) (none : r.batch.current ≡ []) where
       omega (arith, later, now)
 
   none_before_zero : NoneBefore 0
-  none_before_zero id due e = (omega arith, by_tick (sight_in r.roster r.world id))
+  none_before_zero id due e = (omega arith, by_tick (sight_in r.task_table r.world id))
     where
       by_tick : (t : Tick) → upto 0 t ≡ 0
       by_tick None = refl
       by_tick (Some t) = omega arith
 
   -- a task that has not ended is one of the program's, of which one sleeps
-  pub has_timer : (s : ℕ) (task : Task) → task_of r.roster s ≡ Some task → HasTimer r.clock
+  pub has_timer : (s : ℕ) (task : Task) → task_of r.task_table s ≡ Some task → HasTimer r.clock
   has_timer s task e =
-      let h = crew_sleeps (meaning_table r.job.now r.input.now) r.job.now r.input.now r.world.tick (many r.roster) (crew_in r)
+      let h = state_sleeps (meaning_table r.job.now r.input.now) r.job.now r.input.now r.world.tick (many r.task_table) (state_in r)
       (table_is_settled r.job.now r.input.now w.going.sound.names) w.going.sound.names
-      w.going.sound.starts crew 0 (all_stay 0 none_before_zero) s task e in
-      let a = sleeps_as h.task (lives_at r.roster w.going.shelved.agree h.serial h.task h.lives) (ap (halt_times r.world.book) h.asleep) in
+      w.going.sound.starts state 0 (all_stay 0 none_before_zero) s task e in
+      let a = sleeps_as h.task (lives_at r.task_table w.going.shelved.agree h.serial h.task h.lives) (ap (task_state_times r.world.book) h.asleep) in
       (a.id, a.due, a.timer)
 
   -- the root lives where it has not ended
-  pub root_lives : gone_of r.roster 0 ≡ None → (task : Task) × (task_of r.roster 0 ≡ Some task)
-  root_lives e = by_task (task_of r.roster 0) refl
+  pub root_lives : gone_of r.task_table 0 ≡ None → (task : Task) × (task_of r.task_table 0 ≡ Some task)
+  root_lives e = by_task (task_of r.task_table 0) refl
     where
-      by_task : (o : Option Task) → task_of r.roster 0 ≡ o → (task : Task) × (task_of r.roster 0 ≡ Some task)
+      by_task : (o : Option Task) → task_of r.task_table 0 ≡ o → (task : Task) × (task_of r.task_table 0 ≡ Some task)
       by_task (Some task) f = (task, f)
-      by_task None f = let g = crew.ended 0 crew.some f in absurd (none-some g.0 (sym e ∙ g.1))
+      by_task None f = let g = state.ended 0 state.some f in absurd (none-some g.0 (sym e ∙ g.1))
 
   -- ---- the first tick from which a sleeper sees a cancellation
 
   module _ (first : Tick) (is_first : IsFirst r.sleepers first) where
     -- some sleeper sees from that tick on
     seer : (t : ℕ) → first ≡ Some t → (id : ℕ) × (due : ℕ) × (x : Running) × (due_of r.clock id ≡ Some due)
-        × (running_at r.roster id ≡ Some x) × (sight (outer_of r.world.scopes (scope_of x.task)) ≡ Some t)
+        × (running_at r.task_table id ≡ Some x) × (sight (outer_of r.world.scopes (scope_of x.task)) ≡ Some t)
     seer t e =
         let one = is_first.is_one t e in
-        let z = seen_by r.roster r.world r.clock r.sleepers w.going.shelved.known w.unchanged one.0 t one.1 in
+        let z = seen_by r.task_table r.world r.clock r.sleepers w.going.shelved.known w.unchanged one.0 t one.1 in
         (one.0, z.0.due, z.0.running, z.0.timer, z.0.lives, z.1)
 
     -- so it is later than the clock's tick, in which no sleeper sees a cancellation
@@ -256,12 +256,12 @@ module _ (r : Runner) (w : IsUnderway r) (none : r.batch.current ≡ []) where
           none_wakes : (u : ℕ) → Wakes r u → t ≤ u
           none_wakes u h = by_case h.on
             where
-              by_case : (h.due ≡ u) ⊎ (sight_in r.roster r.world h.id ≡ Some u) → t ≤ u
+              by_case : (h.due ≡ u) ⊎ (sight_in r.task_table r.world h.id ≡ Some u) → t ≤ u
               by_case (inl e) = let le = next.by_timers h.id h.due h.timer in omega (arith, le, e)
               by_case (inr e) =
                   let d = dozer h.id h.due h.timer in
                   let f = some_is first (λ (v : ℕ). v ≤ u) (is_first.least h.id u
-                  (sees_from r.roster r.world r.clock r.sleepers w.going.shelved.known w.unchanged h.id h.due d.0 u h.timer d.1
+                  (sees_from r.task_table r.world r.clock r.sleepers w.going.shelved.known w.unchanged h.id h.due d.0 u h.timer d.1
                   (sym (ap (sight_by r.world) d.1) ∙ e))) in
                   let le : t ≤ f.0 = next.by_cancel f.0 f.1 in
                   let more : f.0 ≤ u = f.2 in
@@ -276,7 +276,7 @@ module _ (r : Runner) (w : IsUnderway r) (none : r.batch.current ≡ []) where
           by_one now (inr h) = let lt = timers_later h.0 t h.1 in omega (arith, lt, now)
 
       -- no sleeper sees a cancellation before it
-      none_earlier : (id due : ℕ) (x : Running) → due_of r.clock id ≡ Some due → running_at r.roster id ≡ Some x →
+      none_earlier : (id due : ℕ) (x : Running) → due_of r.clock id ≡ Some due → running_at r.task_table id ≡ Some x →
           upto t (sight (outer_of r.world.scopes (scope_of x.task))) ≡ t
       none_earlier id due x e f = by_sight (sight (outer_of r.world.scopes (scope_of x.task))) refl
         where
@@ -284,7 +284,7 @@ module _ (r : Runner) (w : IsUnderway r) (none : r.batch.current ≡ []) where
           by_sight None g = refl
           by_sight (Some cancel) g =
               let u = some_is first (λ (v : ℕ). v ≤ cancel) (is_first.least id cancel
-              (sees_from r.roster r.world r.clock r.sleepers w.going.shelved.known w.unchanged id due x cancel e f g)) in
+              (sees_from r.task_table r.world r.clock r.sleepers w.going.shelved.known w.unchanged id due x cancel e f g)) in
               let le : t ≤ u.0 = next.by_cancel u.0 u.1 in
               let more : u.0 ≤ cancel = u.2 in
               omega (arith, le, more)
@@ -298,27 +298,27 @@ module _ (r : Runner) (w : IsUnderway r) (none : r.batch.current ≡ []) where
       later_world = record r.world { tick = t }
 
       -- the same tasks are a run of the definitions in that tick
-      pub course_jumps : (k : Table) → IsSettled k r.job.now r.input.now →
-          IsCrew k r.job.now r.input.now t (many r.roster) None (crew_of r.roster (record r.world { tick = t }) r.turns)
-      course_jumps k settled =
-          let c = w.going.course k settled in
-          crew_jumps k r.job.now r.input.now r.world.tick t (many r.roster) (crew_in r) (crew_of r.roster later_world r.turns)
+      pub interleaving_jumps : (k : Table) → IsSettled k r.job.now r.input.now →
+          Refines k r.job.now r.input.now t (many r.task_table) None (state_of r.task_table (record r.world { tick = t }) r.turns)
+      interleaving_jumps k settled =
+          let c = w.going.interleaving k settled in
+          state_jumps k r.job.now r.input.now r.world.tick t (many r.task_table) (state_in r) (state_of r.task_table later_world r.turns)
           (let lt = next_later in omega (arith, lt))
           (record { turns = refl; task = λ p. refl; gone = λ p. refl; start = λ p. refl; children = λ p. refl }) refl c
-          (crew_blocked k r.job.now r.input.now r.world.tick (many r.roster) (crew_in r) c t (all_stay t none_before_next))
+          (state_blocked k r.job.now r.input.now r.world.tick (many r.task_table) (state_in r) c t (all_stay t none_before_next))
 
       -- and while one lives, the meaning does not end before it
-      pub ends_later : (s : ℕ) (task : Task) → task_of r.roster s ≡ Some task → t ≤ meaning_end r.job.now r.input.now
+      pub ends_later : (s : ℕ) (task : Task) → task_of r.task_table s ≡ Some task → t ≤ meaning_end r.job.now r.input.now
       ends_later s task e =
-          crew_in_time r.job.now r.input.now t (many r.roster) (crew_of r.roster later_world r.turns) w.going.sound.names
+          state_in_time r.job.now r.input.now t (many r.task_table) (state_of r.task_table later_world r.turns) w.going.sound.names
           w.going.sound.starts
-          (course_jumps (meaning_table r.job.now r.input.now) (table_is_settled r.job.now r.input.now w.going.sound.names)) s task e
+          (interleaving_jumps (meaning_table r.job.now r.input.now) (table_is_settled r.job.now r.input.now w.going.sound.names)) s task e
 
       -- one is due in that tick, or sees a cancellation
-      any_now : (clock : Clock) → ((task : ℕ) → due_of clock task ≡ due_of r.clock task) → IsAnyNow r.roster later_world clock
+      any_now : (clock : Clock) → ((task : ℕ) → due_of clock task ≡ due_of r.clock task) → IsAnyNow r.task_table later_world clock
       any_now clock timers = by_one next.is_one
         where
-          by_one : (first ≡ Some t) ⊎ ((task : ℕ) × (due_of r.clock task ≡ Some t)) → IsAnyNow r.roster later_world clock
+          by_one : (first ≡ Some t) ⊎ ((task : ℕ) × (due_of r.clock task ≡ Some t)) → IsAnyNow r.task_table later_world clock
           by_one (inl e) =
               let z = seer t e in
               record {
@@ -330,15 +330,15 @@ module _ (r : Runner) (w : IsUnderway r) (none : r.batch.current ≡ []) where
               }
           by_one (inr h) = record { id = h.0; due = t; timer = timers h.0 ∙ h.1; timely = inl (omega arith) }
 
-      slept : (id due : ℕ) → due_of r.clock id ≡ Some due → IsSomeAnd (running_at r.roster id)
+      slept : (id due : ℕ) → due_of r.clock id ≡ Some due → IsSomeAnd (running_at r.task_table id)
           (λ (x : Running). Slept later_world due x.task)
       slept id due e =
           let d = dozer id due e in
-          some_has (running_at r.roster id) (λ (x : Running). Slept later_world due x.task) d.0 d.1
+          some_has (running_at r.task_table id) (λ (x : Running). Slept later_world due x.task) d.0 d.1
           (record {
             ticks = d.2.asleep.ticks;
             since = d.2.asleep.since;
-            halt = d.2.asleep.halt;
+            task_state = d.2.asleep.task_state;
             due_is = d.2.asleep.due_is;
             began = (let a = d.2.asleep.began in let lt = next_later in omega (arith, a, lt));
             not_over = next.by_timers id due e;
@@ -361,16 +361,16 @@ module _ (r : Runner) (w : IsUnderway r) (none : r.batch.current ≡ []) where
             slept = λ id due e. slept id due (sym (timers id) ∙ e);
             known =
                 record {
-                  berths = λ id. w.going.shelved.known.berths id ∙ ap (λ (d : Option ℕ). berth_of d (running_at r.roster id))
+                  sleep_slots = λ id. w.going.shelved.known.sleep_slots id ∙ ap (λ (d : Option ℕ). sleep_slot_of d (running_at r.task_table id))
                       (sym (timers id));
                   sights = w.going.shelved.known.sights;
                 };
             unchanged = w.unchanged;
             none_current = none;
-            next = subst (All (λ (a : Added). IsCalled r.roster later_world a.0 a.1)) (sym w.nothing_added)
-                (All-nil (λ (a : Added). IsCalled r.roster later_world a.0 a.1));
+            next = subst (All (λ (a : Added). IsCalled r.task_table later_world a.0 a.1)) (sym w.nothing_added)
+                (All-nil (λ (a : Added). IsCalled r.task_table later_world a.0 a.1));
             once = λ id.
-                let all : times_shelved r.batch r.clock id ≡ running_times r.world.book (running_at r.roster id) =
+                let all : times_shelved r.batch r.clock id ≡ running_times r.world.book (running_at r.task_table id) =
                 w.going.shelved.once id tt in
                 let same : timer_times (due_of clock id) ≡ timer_times (due_of r.clock id) = ap timer_times (timers id) in
                 omega (arith, all, same);

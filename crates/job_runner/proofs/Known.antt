@@ -9,35 +9,35 @@ use Rattle.cancel_scopes.specs.Sight.{Tick, sight}
 use Rattle.cancel_scopes.specs.Tree.{Stack, Tree, is_changed, outer_of}
 use Rattle.task_machine.specs.declared.world.World.{World}
 use Rattle.task_machine.specs.Tasks.{scope_of}
-use Rattle.run_crew.specs.Sights.{Shows}
-use Rattle.sleeper_sights.specs.Sleeping.{Sleeping, scope_in, sight_of, Moves, KeepsSights, SeesFrom}
-use Rattle.task_roster.specs.declared.roster.Roster.{Roster}
-use Rattle.task_roster.specs.declared.roster.Running.{Running}
-use Rattle.task_roster.specs.Roster.{running_at}
-use Rattle.job_runner.specs.Shelves.{berth_of, AreKnown, NoneChanged}
-use Rattle.run_crew.proofs.ActsKeep.{same_or}
+use Rattle.run_refinement.specs.Sights.{Shows}
+use Rattle.sleepers.specs.Sleeping.{Sleeping, scope_in, sight_of, Moves, KeepsSights, SeesFrom}
+use Rattle.task_table.specs.declared.task_table.TaskTable.{TaskTable}
+use Rattle.task_table.specs.declared.task_table.Running.{Running}
+use Rattle.task_table.specs.TaskTable.{running_at}
+use Rattle.job_runner.specs.Shelves.{sleep_slot_of, AreKnown, NoneChanged}
+use Rattle.run_refinement.proofs.ActsKeep.{same_or}
 
 -- ---- which tasks are known
 
 -- a task that sleeps in a scope has a timer, and lives in that scope
-pub record SleepsIn (roster : Roster) (clock : Clock) (id key : ℕ) : Type 0 where
+pub record SleepsIn (task_table : TaskTable) (clock : Clock) (id key : ℕ) : Type 0 where
   pub due : ℕ
   pub running : Running
   pub timer : due_of clock id ≡ Some due
-  pub lives : running_at roster id ≡ Some running
+  pub lives : running_at task_table id ≡ Some running
   pub in_scope : scope_of running.task ≡ Some key
 
 -- a task that is kept as sleeping in a scope has a timer, and is in that scope
-pub sleeps_in : (roster : Roster) (world : World) (clock : Clock) (sleepers : Sleeping) → AreKnown roster world clock sleepers →
+pub sleeps_in : (task_table : TaskTable) (world : World) (clock : Clock) (sleepers : Sleeping) → AreKnown task_table world clock sleepers →
     (id key : ℕ) → scope_in sleepers id ≡ Some key →
-    SleepsIn roster clock id key
-sleeps_in roster world clock sleepers k id key e = by_timer (due_of clock id) refl (running_at roster id) refl (sym (k.berths id) ∙ e)
+    SleepsIn task_table clock id key
+sleeps_in task_table world clock sleepers k id key e = by_timer (due_of clock id) refl (running_at task_table id) refl (sym (k.sleep_slots id) ∙ e)
   where
-    by_timer : (d : Option ℕ) → due_of clock id ≡ d → (o : Option Running) → running_at roster id ≡ o →
-        berth_of (due_of clock id) (running_at roster id) ≡ Some key → SleepsIn roster clock id key
-    by_timer None f o g h = absurd (none-some key (sym (ap (λ (d : Option ℕ). berth_of d (running_at roster id)) f) ∙ h))
+    by_timer : (d : Option ℕ) → due_of clock id ≡ d → (o : Option Running) → running_at task_table id ≡ o →
+        sleep_slot_of (due_of clock id) (running_at task_table id) ≡ Some key → SleepsIn task_table clock id key
+    by_timer None f o g h = absurd (none-some key (sym (ap (λ (d : Option ℕ). sleep_slot_of d (running_at task_table id)) f) ∙ h))
     by_timer (Some due) f None g h =
-        absurd (none-some key (sym (ap (λ (d : Option ℕ). berth_of d (running_at roster id)) f ∙ ap (berth_of (Some due)) g) ∙ h))
+        absurd (none-some key (sym (ap (λ (d : Option ℕ). sleep_slot_of d (running_at task_table id)) f ∙ ap (sleep_slot_of (Some due)) g) ∙ h))
     by_timer (Some due) f (Some x) g h =
         record {
           due = due;
@@ -45,15 +45,15 @@ sleeps_in roster world clock sleepers k id key e = by_timer (due_of clock id) re
           timer = f;
           lives = g;
           in_scope =
-              sym (ap (λ (d : Option ℕ). berth_of d (running_at roster id)) f ∙ ap (berth_of (Some due)) g) ∙ h;
+              sym (ap (λ (d : Option ℕ). sleep_slot_of d (running_at task_table id)) f ∙ ap (sleep_slot_of (Some due)) g) ∙ h;
         }
 
 -- and vice versa
-pub berth_is : (roster : Roster) (world : World) (clock : Clock) (sleepers : Sleeping) → AreKnown roster world clock sleepers →
+pub sleep_slot_is : (task_table : TaskTable) (world : World) (clock : Clock) (sleepers : Sleeping) → AreKnown task_table world clock sleepers →
     (id due : ℕ) (x : Running) → due_of clock id ≡ Some due →
-    running_at roster id ≡ Some x → scope_in sleepers id ≡ scope_of x.task
-berth_is roster world clock sleepers k id due x e f = k.berths id
-    ∙ (ap (λ (d : Option ℕ). berth_of d (running_at roster id)) e ∙ ap (berth_of (Some due)) f)
+    running_at task_table id ≡ Some x → scope_in sleepers id ≡ scope_of x.task
+sleep_slot_is task_table world clock sleepers k id due x e f = k.sleep_slots id
+    ∙ (ap (λ (d : Option ℕ). sleep_slot_of d (running_at task_table id)) e ∙ ap (sleep_slot_of (Some due)) f)
 
 -- ---- what it sees
 
@@ -72,61 +72,61 @@ shown_sight tree key kept unchanged h = by_known h.known
     by_known (inr e) = absurd (let f : false ≡ true = sym unchanged ∙ e in cc)
 
 -- if no scope is marked as changed, a sleeper's effective deadline is the one that is kept of its scope
-pub known_sight : (roster : Roster) (world : World) (clock : Clock) (sleepers : Sleeping) → AreKnown roster world clock sleepers →
+pub known_sight : (task_table : TaskTable) (world : World) (clock : Clock) (sleepers : Sleeping) → AreKnown task_table world clock sleepers →
     NoneChanged world → (id due : ℕ) (x : Running) →
-    due_of clock id ≡ Some due → running_at roster id ≡ Some x →
+    due_of clock id ≡ Some due → running_at task_table id ≡ Some x →
     sight (outer_of world.scopes (scope_of x.task)) ≡ kept_sight sleepers (scope_of x.task)
-known_sight roster world clock sleepers k unchanged id due x e f = by_scope (scope_of x.task) refl
+known_sight task_table world clock sleepers k unchanged id due x e f = by_scope (scope_of x.task) refl
   where
     by_scope : (o : Option ℕ) → scope_of x.task ≡ o → sight (outer_of world.scopes o) ≡ kept_sight sleepers o
     by_scope None h = refl
     by_scope (Some key) h =
         shown_sight world.scopes key (sight_of sleepers key) (unchanged key)
-        (k.sights id key (berth_is roster world clock sleepers k id due x e f ∙ h))
+        (k.sights id key (sleep_slot_is task_table world clock sleepers k id due x e f ∙ h))
 
 -- a sleeper that sees a cancellation from a tick on, by its scope
-pub sees_from : (roster : Roster) (world : World) (clock : Clock) (sleepers : Sleeping) → AreKnown roster world clock sleepers →
+pub sees_from : (task_table : TaskTable) (world : World) (clock : Clock) (sleepers : Sleeping) → AreKnown task_table world clock sleepers →
     NoneChanged world → (id due : ℕ) (x : Running) (t : ℕ) →
-    due_of clock id ≡ Some due → running_at roster id ≡ Some x → sight (outer_of world.scopes (scope_of x.task)) ≡ Some t →
+    due_of clock id ≡ Some due → running_at task_table id ≡ Some x → sight (outer_of world.scopes (scope_of x.task)) ≡ Some t →
     SeesFrom sleepers id t
-sees_from roster world clock sleepers k unchanged id due x t e f sees = by_scope (scope_of x.task) refl
+sees_from task_table world clock sleepers k unchanged id due x t e f sees = by_scope (scope_of x.task) refl
   where
     by_scope : (o : Option ℕ) → scope_of x.task ≡ o → SeesFrom sleepers id t
     by_scope None h = absurd (none-some t (ap (λ (o : Option ℕ). sight (outer_of world.scopes o)) (sym h) ∙ sees))
     by_scope (Some key) h =
         record {
           scope = key;
-          sleeps = berth_is roster world clock sleepers k id due x e f ∙ h;
-          sight = sym (known_sight roster world clock sleepers k unchanged id due x e f ∙ ap (kept_sight sleepers) h) ∙ sees;
+          sleeps = sleep_slot_is task_table world clock sleepers k id due x e f ∙ h;
+          sight = sym (known_sight task_table world clock sleepers k unchanged id due x e f ∙ ap (kept_sight sleepers) h) ∙ sees;
         }
 
 -- if no scope is marked as changed, a task that is kept as seeing a cancellation from a tick on has that tick
 -- as its effective deadline
-pub seen_by : (roster : Roster) (world : World) (clock : Clock) (sleepers : Sleeping) → AreKnown roster world clock sleepers →
+pub seen_by : (task_table : TaskTable) (world : World) (clock : Clock) (sleepers : Sleeping) → AreKnown task_table world clock sleepers →
     NoneChanged world → (id t : ℕ) → (s : SeesFrom sleepers id t) →
-    (z : SleepsIn roster clock id s.scope) × (sight (outer_of world.scopes (scope_of z.running.task)) ≡ Some t)
-seen_by roster world clock sleepers k unchanged id t s =
-    let z = sleeps_in roster world clock sleepers k id s.scope s.sleeps in (
+    (z : SleepsIn task_table clock id s.scope) × (sight (outer_of world.scopes (scope_of z.running.task)) ≡ Some t)
+seen_by task_table world clock sleepers k unchanged id t s =
+    let z = sleeps_in task_table world clock sleepers k id s.scope s.sleeps in (
       z,
-      known_sight roster world clock sleepers k unchanged id z.due z.running z.timer z.lives
+      known_sight task_table world clock sleepers k unchanged id z.due z.running z.timer z.lives
           ∙ (ap (kept_sight sleepers) z.in_scope ∙ s.sight),
     )
 
 -- ---- one that is woken
 
 -- a task that has no timer any more sleeps in no scope
-pub known_without : (roster : Roster) (world : World) (old new : Clock) (was are : Sleeping) (id : ℕ) → AreKnown roster world old was →
+pub known_without : (task_table : TaskTable) (world : World) (old new : Clock) (was are : Sleeping) (id : ℕ) → AreKnown task_table world old was →
     Updates old new id None → Moves was are id None →
-    KeepsSights was are → AreKnown roster world new are
-known_without roster world old new was are id k u m keeps =
-    record { berths = λ other. berth other (same_or other id); sights = λ other key e. sight_at other key e (same_or other id) }
+    KeepsSights was are → AreKnown task_table world new are
+known_without task_table world old new was are id k u m keeps =
+    record { sleep_slots = λ other. sleep_slot other (same_or other id); sights = λ other key e. sight_at other key e (same_or other id) }
   where
-    berth : (other : ℕ) → (other ≡ id) ⊎ (other ≢ id) → scope_in are other ≡ berth_of (due_of new other) (running_at roster other)
-    berth other (inl e) =
-        subst (λ (n : ℕ). scope_in are n ≡ berth_of (due_of new n) (running_at roster n)) (sym e)
-        (m.changed ∙ sym (ap (λ (d : Option ℕ). berth_of d (running_at roster id)) u.changed))
-    berth other (inr differs) =
-        m.others other differs ∙ (k.berths other ∙ ap (λ (d : Option ℕ). berth_of d (running_at roster other))
+    sleep_slot : (other : ℕ) → (other ≡ id) ⊎ (other ≢ id) → scope_in are other ≡ sleep_slot_of (due_of new other) (running_at task_table other)
+    sleep_slot other (inl e) =
+        subst (λ (n : ℕ). scope_in are n ≡ sleep_slot_of (due_of new n) (running_at task_table n)) (sym e)
+        (m.changed ∙ sym (ap (λ (d : Option ℕ). sleep_slot_of d (running_at task_table id)) u.changed))
+    sleep_slot other (inr differs) =
+        m.others other differs ∙ (k.sleep_slots other ∙ ap (λ (d : Option ℕ). sleep_slot_of d (running_at task_table other))
         (sym (u.others other differs)))
 
     sight_at : (other key : ℕ) → scope_in are other ≡ Some key → (other ≡ id) ⊎ (other ≢ id) → Shows world.scopes key (sight_of are key)

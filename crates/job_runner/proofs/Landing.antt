@@ -12,16 +12,16 @@ use Rattle.cancel_scopes.specs.Sight.{Tick}
 use Rattle.job_meaning.specs.Meaning.{meaning_end}
 use Rattle.task_machine.specs.declared.task.Task.{Task}
 use Rattle.task_machine.specs.declared.world.World.{World}
-use Rattle.run_crew.specs.Crew.{Gone}
+use Rattle.run_refinement.specs.RunState.{Gone}
 use Rattle.job_runner.specs.declared.runner.Phase.TheVariants as phases
-use Rattle.sleeper_sights.specs.Sleeping.{IsFirst}
+use Rattle.sleepers.specs.Sleeping.{IsFirst}
 use Rattle.job_runner.specs.declared.runner.Runner.{Runner}
 use Rattle.job_runner.specs.Jumps.{IsNextTick, IsPast, IsWaking, WakesOnly}
 use Rattle.job_runner.specs.Phases.{phase_by, phase_of}
-use Rattle.task_roster.specs.Roster.{running_at, task_of, gone_of}
-use Rattle.task_roster.specs.Rows.{times}
-use Rattle.job_runner.specs.Shelves.{IsCalled, AreShelved, AreOnCourse, IsSound, IsUnderway, NoneChanged, running_times, times_shelved}
-use Rattle.job_runner.proofs.Jumped.{timers_later, cancel_later, has_timer, root_lives, is_next_tick, next_later, course_jumps, ends_later, has_jumped}
+use Rattle.task_table.specs.TaskTable.{running_at, task_of, gone_of}
+use Rattle.task_table.specs.Rows.{times}
+use Rattle.job_runner.specs.Shelves.{IsCalled, AreShelved, IsRefined, IsSound, IsUnderway, NoneChanged, running_times, times_shelved}
+use Rattle.job_runner.proofs.Jumped.{timers_later, cancel_later, has_timer, root_lives, is_next_tick, next_later, interleaving_jumps, ends_later, has_jumped}
 
 -- ---- the batch
 
@@ -55,12 +55,12 @@ turned_over r batch h none current next =
       none_started = h.none_started;
       doze = h.doze;
       known = h.known;
-      current = subst (All (λ (e : Entry). IsCalled r.roster r.world e.task e.call)) (sym current)
-          (All-map (λ (e : Entry). IsCalled r.roster r.world e.task e.call) unplaced r.batch.next h.next);
-      next = subst (All (λ (a : Added). IsCalled r.roster r.world a.0 a.1)) (sym next)
-          (All-nil (λ (a : Added). IsCalled r.roster r.world a.0 a.1));
+      current = subst (All (λ (e : Entry). IsCalled r.task_table r.world e.task e.call)) (sym current)
+          (All-map (λ (e : Entry). IsCalled r.task_table r.world e.task e.call) unplaced r.batch.next h.next);
+      next = subst (All (λ (a : Added). IsCalled r.task_table r.world a.0 a.1)) (sym next)
+          (All-nil (λ (a : Added). IsCalled r.task_table r.world a.0 a.1));
       once = λ id other.
-          let all : times_shelved r.batch r.clock id ≡ running_times r.world.book (running_at r.roster id) = h.once id other in
+          let all : times_shelved r.batch r.clock id ≡ running_times r.world.book (running_at r.task_table id) = h.once id other in
           let was : times id (map (λ (e : Entry). e.task) r.batch.current) ≡ 0 =
           ap (λ (es : List Entry). times id (map (λ (e : Entry). e.task) es)) none in
           let a : times id (map (λ (e : Entry). e.task) batch.current) ≡ times id (map (λ (x : Added). x.0) r.batch.next) =
@@ -76,10 +76,10 @@ turned_over r batch h none current next =
 module _ (r : Runner) (w : IsUnderway r) (blocked : phase_of r ≡ phases.Blocked) (cancel : Tick) (is_first : IsFirst r.sleepers cancel)
   where
     none : r.batch.current ≡ []
-    none = (blocked_none r.batch.current (gone_of r.roster 0) blocked).0
+    none = (blocked_none r.batch.current (gone_of r.task_table 0) blocked).0
 
-    root : (task : Task) × (task_of r.roster 0 ≡ Some task)
-    root = root_lives r w none (blocked_none r.batch.current (gone_of r.roster 0) blocked).1
+    root : (task : Task) × (task_of r.task_table 0 ≡ Some task)
+    root = root_lives r w none (blocked_none r.batch.current (gone_of r.task_table 0) blocked).1
 
     -- what the clock asks
     pub none_due : AllLater r.clock (now_of r.clock)
@@ -126,9 +126,9 @@ module _ (r : Runner) (w : IsUnderway r) (blocked : phase_of r ≡ phases.Blocke
             subst (λ (v : World). IsWaking (record r { clock = clock; world = v })) (sym is_world)
             (has_jumped r w none cancel is_first t jumps.next clock jumps.within jumps.now jumps.limit jumps.timers)
 
-        on_course : AreOnCourse (record r { clock = clock; world = world })
-        on_course = subst (λ (v : World). AreOnCourse (record r { clock = clock; world = v })) (sym is_world)
-            (course_jumps r w none cancel is_first t jumps.next)
+        is_refined : IsRefined (record r { clock = clock; world = world })
+        is_refined = subst (λ (v : World). IsRefined (record r { clock = clock; world = v })) (sym is_world)
+            (interleaving_jumps r w none cancel is_first t jumps.next)
 
         -- with those that may continue in the current batch
         pub landed : (woken : Runner) → woken ≡ record r {
@@ -145,7 +145,7 @@ module _ (r : Runner) (w : IsUnderway r) (blocked : phase_of r ≡ phases.Blocke
               going = record {
                 sound = subst (λ (x : Runner). IsSound x.job.now) (sym rest) w.going.sound;
                 shelved = turned_over woken batch shelved over current next;
-                course = subst AreOnCourse (sym rest) on_course;
+                interleaving = subst IsRefined (sym rest) is_refined;
               };
               unchanged = subst (λ (x : Runner). NoneChanged x.world) (sym rest)
                   (subst (λ (v : World). NoneChanged v) (sym is_world) w.unchanged);

@@ -1,27 +1,27 @@
 -- What lives, by its row and by its id.
 use Rattle.std.proofs.Common.{◌≡◌, ◌≢◌, ℕ, ◌<◌, Option, Some, None, refl, ap, sym, ◌∙◌}
 use Rattle.std.proofs.lemmas.Option.{slice_get_within}
-use Rattle.run_crew.proofs.ActsKeep.{not_both}
-use Rattle.run_crew.proofs.Found.{below_length}
+use Rattle.run_refinement.proofs.ActsKeep.{not_both}
+use Rattle.run_refinement.proofs.Found.{below_length}
 use Rattle.task_machine.proofs.Stacked.{one_of}
 use Rattle.task_machine.specs.declared.task.Task.{Task}
-use Rattle.task_roster.specs.declared.roster.Roster.{Roster}
-use Rattle.task_roster.specs.declared.roster.Running.{Running}
-use Rattle.task_roster.specs.declared.rows.Ended.{Ended}
-use Rattle.task_roster.specs.declared.rows.Row.{Row}
-use Rattle.task_roster.specs.Roster.{row_at, running_at, task_in, task_unless, task_by, id_by, task_of, id_of, many, HasRow, Lives, IsRoster}
+use Rattle.task_table.specs.declared.task_table.TaskTable.{TaskTable}
+use Rattle.task_table.specs.declared.task_table.Running.{Running}
+use Rattle.task_table.specs.declared.rows.Ended.{Ended}
+use Rattle.task_table.specs.declared.rows.Row.{Row}
+use Rattle.task_table.specs.TaskTable.{row_at, running_at, task_in, task_unless, task_by, id_by, task_of, id_of, many, HasRow, Lives, IsTaskTable}
 
 -- ---- what lives, by its row
 
 -- the task of a row that has not ended lives under the id of the row
-pub record LivesBy (r : Roster) (p : ℕ) (task : Task) : Type 0 where
+pub record LivesBy (r : TaskTable) (p : ℕ) (task : Task) : Type 0 where
   pub running : Running
   pub is : running_at r (id_of r p) ≡ Some running
   pub task_is : running.task ≡ task
   pub row_is : running.row ≡ p
   pub below : p < many r
 
-lives_under : (r : Roster) (p : ℕ) (row : Row) (task : Task) → IsRoster r → row_at r p ≡ Some row → (x : Option Ended) → row.end ≡ x →
+lives_under : (r : TaskTable) (p : ℕ) (row : Row) (task : Task) → IsTaskTable r → row_at r p ≡ Some row → (x : Option Ended) → row.end ≡ x →
     task_by r.live (Some row) ≡ Some task → LivesBy r p task
 lives_under r p row task ok at (Some x) ends e =
     absurd (not_both {o = task_by r.live (Some row)} (ap (λ (o : Option Ended). task_unless o (running_at r row.task)) ends) e)
@@ -37,7 +37,7 @@ lives_under r p row task ok at None ends e =
     }
 
 -- the task of a row that has not ended lives under the id of the row
-pub lives_by : (r : Roster) → IsRoster r → (p : ℕ) (task : Task) → task_of r p ≡ Some task → LivesBy r p task
+pub lives_by : (r : TaskTable) → IsTaskTable r → (p : ℕ) (task : Task) → task_of r p ≡ Some task → LivesBy r p task
 lives_by r ok p task e = by_row (row_at r p) refl e
   where
     by_row : (o : Option Row) → row_at r p ≡ o → task_by r.live o ≡ Some task → LivesBy r p task
@@ -47,18 +47,18 @@ lives_by r ok p task e = by_row (row_at r p) refl e
 -- ---- what has which row
 
 -- the task of a row, by its id
-pub task_at : (r : Roster) → IsRoster r → (id : ℕ) (x : Running) → running_at r id ≡ Some x → task_of r x.row ≡ Some x.task
+pub task_at : (r : TaskTable) → IsTaskTable r → (id : ℕ) (x : Running) → running_at r id ≡ Some x → task_of r x.row ≡ Some x.task
 task_at r agree id x lives =
     let h : HasRow r x.row id = agree.rows id x lives in
     ap (task_by r.live) h.is ∙ ap (λ (e : Option Ended). task_unless e (running_at r h.row.task)) h.endless
     ∙ ap (λ (n : ℕ). task_in (running_at r n)) h.id_is ∙ ap task_in lives
 
 -- the task with an id has one of the table's rows
-pub row_below : (r : Roster) → IsRoster r → (id : ℕ) (x : Running) → running_at r id ≡ Some x → x.row < many r
+pub row_below : (r : TaskTable) → IsTaskTable r → (id : ℕ) (x : Running) → running_at r id ≡ Some x → x.row < many r
 row_below r agree id x lives = let h : HasRow r x.row id = agree.rows id x lives in slice_get_within r.rows.items x.row h.row h.is
 
 -- two ids of one row are the same
-pub one_id : (r : Roster) → IsRoster r → (id other : ℕ) (x y : Running) → running_at r id ≡ Some x → running_at r other ≡ Some y →
+pub one_id : (r : TaskTable) → IsTaskTable r → (id other : ℕ) (x y : Running) → running_at r id ≡ Some x → running_at r other ≡ Some y →
     y.row ≡ x.row → other ≡ id
 one_id r agree id other x y e f same =
     let h : HasRow r x.row id = agree.rows id x e in
@@ -68,10 +68,10 @@ one_id r agree id other x y e f same =
     sym g.id_is ∙ (ap (λ (z : Row). z.task) one ∙ h.id_is)
 
 -- what lives under different ids has different rows
-pub rows_apart : (r : Roster) → IsRoster r → (id other : ℕ) (x y : Running) → running_at r id ≡ Some x → running_at r other ≡ Some y →
+pub rows_apart : (r : TaskTable) → IsTaskTable r → (id other : ℕ) (x y : Running) → running_at r id ≡ Some x → running_at r other ≡ Some y →
     other ≢ id → y.row ≢ x.row
 rows_apart r agree id other x y e f differs same = differs (one_id r agree id other x y e f same)
 
 -- and the id of its row is its own
-pub id_at : (r : Roster) → IsRoster r → (id : ℕ) (x : Running) → running_at r id ≡ Some x → id_of r x.row ≡ id
+pub id_at : (r : TaskTable) → IsTaskTable r → (id : ℕ) (x : Running) → running_at r id ≡ Some x → id_of r x.row ≡ id
 id_at r ok id x e = let h : HasRow r x.row id = ok.rows id x e in ap id_by h.is ∙ h.id_is

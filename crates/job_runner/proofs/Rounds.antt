@@ -5,21 +5,21 @@ use Rattle.job_tree.specs.Tree.{Tree}
 use Rattle.job_meaning.specs.Meaning.{meaning_table}
 use Rattle.job_meaning.proofs.Settled.{table_is_settled}
 use Rattle.batch_commit.specs.declared.entry.Entry.{Entry}
-use Rattle.run_crew.specs.Crew.{Gone}
-use Rattle.run_crew.proofs.Blocks.{crew_turns}
+use Rattle.run_refinement.specs.RunState.{Gone}
+use Rattle.run_refinement.proofs.Blocks.{state_turns}
 use Rattle.job_runner.specs.declared.runner.Phase.{Phase}
 use Rattle.job_runner.specs.declared.runner.Phase.TheVariants.{Ready, Blocked, Over}
 use Rattle.job_runner.specs.declared.runner.Runner.{Runner}
-use Rattle.task_roster.specs.Roster.{many}
+use Rattle.task_table.specs.TaskTable.{many}
 use Rattle.job_runner.specs.Phases.{phase_by, phase_of}
 use Rattle.job_runner.specs.Rounds.{jumps_before, most_turns, rounds_left}
-use Rattle.job_runner.specs.Shelves.{IsSameJob, IsUnderway, crew_in}
+use Rattle.job_runner.specs.Shelves.{IsSameJob, IsUnderway, state_in}
 
 -- a run had no more turns than it has at most
 pub few_turns : (r : Runner) → IsUnderway r → r.turns ≤ most_turns r
 few_turns r u =
-    crew_turns (meaning_table r.job.now r.input.now) r.job.now r.input.now r.world.tick (many r.roster) None (crew_in r)
-    (u.going.course (meaning_table r.job.now r.input.now) (table_is_settled r.job.now r.input.now u.going.sound.names))
+    state_turns (meaning_table r.job.now r.input.now) r.job.now r.input.now r.world.tick (many r.task_table) None (state_in r)
+    (u.going.interleaving (meaning_table r.job.now r.input.now) (table_is_settled r.job.now r.input.now u.going.sound.names))
 
 -- a task is ready where the run is
 pub ready_some : (es : List Entry) (ended : Option Gone) → phase_by es ended ≡ Ready → 0 < length es

@@ -11,10 +11,10 @@ use Rattle.batch_commit.specs.declared.entry.Entry.{Entry}
 use Rattle.batch_commit.specs.Batch.{Batches}
 use Rattle.batch_commit.specs.Entries.{Added}
 use Rattle.job_runner.specs.declared.runner.Runner.{Runner}
-use Rattle.task_roster.specs.Rows.{times}
-use Rattle.task_roster.specs.Roster.{running_at}
+use Rattle.task_table.specs.Rows.{times}
+use Rattle.task_table.specs.TaskTable.{running_at}
 use Rattle.job_runner.specs.Shelves.{IsCalled, times_shelved, running_times, IsElse, AreShelved}
-use Rattle.task_roster.proofs.Apart.{one_if}
+use Rattle.task_table.proofs.Apart.{one_if}
 
 -- ---- how often an id occurs
 
@@ -91,7 +91,7 @@ none_away P id e = absurd (let f : None ≡ Some id = e in cc)
 -- it is in the next batch
 pub shelved_next : (r : Runner) (b : Batches) (id : ℕ) (call : Call) → AreShelved (Some id) r → b.current ≡ r.batch.current →
     b.next ≡ r.batch.next ++ (id, call) ∷ [] →
-    IsCalled r.roster r.world id call → running_times r.world.book (running_at r.roster id) ≡ 1 → AreShelved None (record r { batch = b })
+    IsCalled r.task_table r.world id call → running_times r.world.book (running_at r.task_table id) ≡ 1 → AreShelved None (record r { batch = b })
 shelved_next r b id call s current next called one =
     record {
       agree = s.agree;
@@ -103,13 +103,13 @@ shelved_next r b id call s current next called one =
       none_started = s.none_started;
       doze = s.doze;
       known = s.known;
-      current = subst (All (λ (e : Entry). IsCalled r.roster r.world e.task e.call)) (sym current) s.current;
+      current = subst (All (λ (e : Entry). IsCalled r.task_table r.world e.task e.call)) (sym current) s.current;
       next =
-          subst (All (λ (a : Added). IsCalled r.roster r.world a.0 a.1)) (sym next)
-          (All-push (λ (a : Added). IsCalled r.roster r.world a.0 a.1) r.batch.next (id, call) s.next called);
+          subst (All (λ (a : Added). IsCalled r.task_table r.world a.0 a.1)) (sym next)
+          (All-push (λ (a : Added). IsCalled r.task_table r.world a.0 a.1) r.batch.next (id, call) s.next called);
       once =
           once_again id (times_shelved r.batch r.clock) (times_shelved b r.clock)
-          (λ (x : ℕ). running_times r.world.book (running_at r.roster x)) s.once (s.away id refl) more one;
+          (λ (x : ℕ). running_times r.world.book (running_at r.task_table x)) s.once (s.away id refl) more one;
       away = none_away (λ (x : ℕ). times_shelved b r.clock x ≡ 0);
     }
   where
@@ -121,7 +121,7 @@ shelved_next r b id call s current next called one =
         omega (arith, a, c)
 
 -- it waits
-pub shelved_waiting : (r : Runner) (id : ℕ) → AreShelved (Some id) r → running_times r.world.book (running_at r.roster id) ≡ 0 →
+pub shelved_waiting : (r : Runner) (id : ℕ) → AreShelved (Some id) r → running_times r.world.book (running_at r.task_table id) ≡ 0 →
     AreShelved None r
 shelved_waiting r id s none =
     record {
@@ -136,7 +136,7 @@ shelved_waiting r id s none =
       known = s.known;
       current = s.current;
       next = s.next;
-      once = once_waiting id (times_shelved r.batch r.clock) (λ (x : ℕ). running_times r.world.book (running_at r.roster x)) s.once
+      once = once_waiting id (times_shelved r.batch r.clock) (λ (x : ℕ). running_times r.world.book (running_at r.task_table x)) s.once
           (s.away id refl) none;
       away = none_away (λ (x : ℕ). times_shelved r.batch r.clock x ≡ 0);
     }

@@ -11,13 +11,13 @@ use Rattle.batch_commit.specs.Batch.{Batches}
 use Rattle.batch_commit.specs.Entries.{Added}
 use Rattle.task_machine.specs.declared.task.Task.{Task}
 use Rattle.task_machine.specs.declared.world.World.{World}
-use Rattle.run_crew.specs.Turn.{serials_from}
-use Rattle.task_roster.specs.declared.roster.Roster.{Roster}
+use Rattle.run_refinement.specs.Turn.{serials_from}
+use Rattle.task_table.specs.declared.task_table.TaskTable.{TaskTable}
 use Rattle.job_runner.specs.declared.runner.Runner.{Runner}
-use Rattle.task_roster.specs.Rows.{times}
-use Rattle.task_roster.specs.Roster.{running_at, task_of, task_by, start_of, children_of, parent_of, many, IsRoster, Starts}
+use Rattle.task_table.specs.Rows.{times}
+use Rattle.task_table.specs.TaskTable.{running_at, task_of, task_by, start_of, children_of, parent_of, many, IsTaskTable, Starts}
 use Rattle.job_runner.specs.Steps.{StartsAll, TakesStarted, to_begin}
-use Rattle.task_roster.proofs.Apart.{one_if}
+use Rattle.task_table.proofs.Apart.{one_if}
 use Rattle.job_runner.proofs.Shelving.{times_push, one_same, one_else}
 
 -- ---- lists
@@ -82,11 +82,11 @@ serials_more m (suc n) =
 -- ---- tasks of a task table
 
 -- no task has a row past those of the table
-pub none_past : (r : Roster) (p : ℕ) → many r ≤ p → task_of r p ≡ None
+pub none_past : (r : TaskTable) (p : ℕ) → many r ≤ p → task_of r p ≡ None
 none_past r p le = ap (task_by r.live) (slice_get_past r.rows.items p le)
 
 -- no task at all
-pub starts_none : (r : Roster) (parent tick : ℕ) → StartsAll r r parent [] tick []
+pub starts_none : (r : TaskTable) (parent tick : ℕ) → StartsAll r r parent [] tick []
 starts_none r parent tick = record {
   as_many = refl;
   lives = λ i id task e. absurd (let f : None ≡ Some id = e in cc);
@@ -107,7 +107,7 @@ starts_none r parent tick = record {
 }
 
 -- one more
-module _ (old mid new : Roster) (parent : ℕ) (tasks : List Task) (tick : ℕ) (ids : List ℕ) (task : Task) (id : ℕ)
+module _ (old mid new : TaskTable) (parent : ℕ) (tasks : List Task) (tick : ℕ) (ids : List ℕ) (task : Task) (id : ℕ)
     (a : StartsAll old mid parent tasks tick ids)
     (s : Starts mid new parent task tick id) (there : parent < many old) where
   longer : length (tasks ++ task ∷ []) ≡ length tasks + 1
@@ -208,7 +208,7 @@ module _ (old mid new : Roster) (parent : ℕ) (tasks : List Task) (tick : ℕ) 
           none_past new (many old + i) (omega (arith, le, more, there_now))
           ∙ sym (slice_get_past (tasks ++ task ∷ []) i (omega (arith, le, longer)))
 
-  at_more : {A : Type 0} (get : Roster → ℕ → A) (x : A) → ((p : ℕ) → p < many mid → p ≢ parent → get new p ≡ get mid p) →
+  at_more : {A : Type 0} (get : TaskTable → ℕ → A) (x : A) → ((p : ℕ) → p < many mid → p ≢ parent → get new p ≡ get mid p) →
       get new (many mid) ≡ x →
       ((i : ℕ) → i < length tasks → get mid (many old + i) ≡ x) → (i : ℕ) → i < length (tasks ++ task ∷ []) → get new (many old + i) ≡ x
   at_more get x same last before i lt = by (by_place (length tasks) i (omega (arith, lt, longer)))
@@ -256,20 +256,20 @@ pub record Taking (old now : Runner) (parent : ℕ) : Type 0 where
   pub taken : List Task
   pub ids : List ℕ
   pub left : old.world.started.items ≡ taken ++ now.world.started.items
-  pub starts : StartsAll old.roster now.roster parent taken old.world.tick ids
-  pub agree : IsRoster now.roster
+  pub starts : StartsAll old.task_table now.task_table parent taken old.world.tick ids
+  pub agree : IsTaskTable now.task_table
   pub world : now.world ≡ record old.world { started = now.world.started }
   pub current : now.batch.current ≡ old.batch.current
   pub next : now.batch.next ≡ old.batch.next ++ to_begin ids
-  pub rest : now ≡ record old { world = now.world; roster = now.roster; batch = now.batch }
+  pub rest : now ≡ record old { world = now.world; task_table = now.task_table; batch = now.batch }
 
 -- at first no task that waited in the world was taken
-pub taking_none : (r : Runner) (parent : ℕ) → IsRoster r.roster → Taking r r parent
+pub taking_none : (r : Runner) (parent : ℕ) → IsTaskTable r.task_table → Taking r r parent
 taking_none r parent agree = record {
   taken = [];
   ids = [];
   left = refl;
-  starts = starts_none r.roster parent r.world.tick;
+  starts = starts_none r.task_table parent r.world.tick;
   agree = agree;
   world = refl;
   current = refl;
@@ -278,23 +278,23 @@ taking_none r parent agree = record {
 }
 
 -- the starter's row is still one of the table's, after tasks were taken
-pub row_there : (old now : Runner) (parent : ℕ) → Taking old now parent → parent < many old.roster → parent < many now.roster
+pub row_there : (old now : Runner) (parent : ℕ) → Taking old now parent → parent < many old.task_table → parent < many now.task_table
 row_there old now parent t lt = let more = t.starts.more in omega (arith, lt, more)
 
 -- one more task was taken from the world: it has the next row and its id, and is ready to begin
-pub taking_more : (old now : Runner) (w : World) (roster : Roster) (b : Batches) (parent tick : ℕ) (task : Task) (id : ℕ) →
-    Taking old now parent → parent < many old.roster →
+pub taking_more : (old now : Runner) (w : World) (task_table : TaskTable) (b : Batches) (parent tick : ℕ) (task : Task) (id : ℕ) →
+    Taking old now parent → parent < many old.task_table →
     now.world.started.items ≡ task ∷ w.started.items → w ≡ record now.world { started = w.started } → tick ≡ w.tick →
-    Starts now.roster roster parent task tick id → IsRoster roster →
+    Starts now.task_table task_table parent task tick id → IsTaskTable task_table →
     b.current ≡ now.batch.current → b.next ≡ now.batch.next ++ (id, Begin) ∷ [] →
-    Taking old (record now { world = w; roster = roster; batch = b }) parent
-taking_more old now w roster b parent tick task id t there first world tick_is starts agree current next = record {
+    Taking old (record now { world = w; task_table = task_table; batch = b }) parent
+taking_more old now w task_table b parent tick task id t there first world tick_is starts agree current next = record {
   taken = t.taken ++ task ∷ [];
   ids = t.ids ++ id ∷ [];
   left = t.left ∙ ap (λ (ts : List Task). t.taken ++ ts) first ∙ sym (append_assoc t.taken (task ∷ []) w.started.items);
   starts =
-      starts_more old.roster now.roster roster parent t.taken old.world.tick t.ids task id t.starts
-      (subst (λ (v : ℕ). Starts now.roster roster parent task v id)
+      starts_more old.task_table now.task_table task_table parent t.taken old.world.tick t.ids task id t.starts
+      (subst (λ (v : ℕ). Starts now.task_table task_table parent task v id)
       (tick_is ∙ (ap (λ (x : World). x.tick) world ∙ ap (λ (x : World). x.tick) t.world)) starts) there;
   agree = agree;
   world = world ∙ ap (λ (x : World). record x { started = w.started }) t.world;
@@ -302,7 +302,7 @@ taking_more old now w roster b parent tick task id t there first world tick_is s
   next =
       next ∙ ap (λ (xs : List Added). xs ++ (id, Begin) ∷ []) t.next ∙ append_assoc old.batch.next (to_begin t.ids) ((id, Begin) ∷ [])
       ∙ ap (λ (xs : List Added). old.batch.next ++ xs) (sym (map-append (λ (x : ℕ). (x, Begin)) t.ids (id ∷ [])));
-  rest = ap (λ (r : Runner). record r { world = w; roster = roster; batch = b }) t.rest;
+  rest = ap (λ (r : Runner). record r { world = w; task_table = task_table; batch = b }) t.rest;
 }
 
 -- once no task waits in the world, all that were started are taken
@@ -312,7 +312,7 @@ pub taking_all : (old now : Runner) (w : World) (parent : ℕ) → Taking old no
 taking_all old now w parent t none left world = record {
   ids = t.ids;
   starts =
-      subst (λ (ts : List Task). StartsAll old.roster now.roster parent ts old.world.tick t.ids)
+      subst (λ (ts : List Task). StartsAll old.task_table now.task_table parent ts old.world.tick t.ids)
       (sym (t.left ∙ ap (λ (ts : List Task). t.taken ++ ts) none ∙ append-nil t.taken)) t.starts;
   agree = t.agree;
   world = world ∙ ap (λ (x : World). record x { started = w.started }) t.world;

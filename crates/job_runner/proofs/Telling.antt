@@ -10,23 +10,23 @@ use Rattle.batch_commit.specs.Entries.{Added}
 use Rattle.cancel_scopes.specs.Sight.{Tick, sight}
 use Rattle.cancel_scopes.specs.Tree.{Tree, stack_of, is_changed, IsOpen, SameMarks, OtherMarksKeep, TakesChanged}
 use Rattle.std.proofs.lemmas.List.Elements.{All-weaker}
-use Rattle.task_machine.specs.declared.stop.Halt.{Halt}
-use Rattle.task_machine.specs.declared.stop.Halt.TheVariants.{Asleep}
+use Rattle.task_machine.specs.declared.stop.TaskState.{TaskState}
+use Rattle.task_machine.specs.declared.stop.TaskState.TheVariants.{Asleep}
 use Rattle.task_machine.specs.declared.stop.Wake.{Wake}
 use Rattle.task_machine.specs.declared.stop.Wake.TheVariants as wakes
 use Rattle.task_machine.specs.declared.task.Task.{Task}
 use Rattle.task_machine.specs.declared.world.World.{World}
 use Rattle.task_machine.specs.Tasks.{scope_of}
-use Rattle.run_crew.specs.Ready.{IsTimely}
-use Rattle.run_crew.specs.Sights.{Shows}
-use Rattle.run_crew.proofs.ActsKeep.{same_or}
-use Rattle.run_crew.proofs.Jumped.{crew_takes}
-use Rattle.sleeper_sights.specs.Sleeping.{Sleeping, scope_in, sight_of, SameScopes, Sees}
-use Rattle.task_roster.specs.declared.roster.Roster.{Roster}
-use Rattle.task_roster.specs.declared.roster.Running.{Running}
-use Rattle.task_roster.specs.Roster.{running_at, many}
+use Rattle.run_refinement.specs.Ready.{IsTimely}
+use Rattle.run_refinement.specs.Sights.{Shows}
+use Rattle.run_refinement.proofs.ActsKeep.{same_or}
+use Rattle.run_refinement.proofs.Jumped.{state_takes}
+use Rattle.sleepers.specs.Sleeping.{Sleeping, scope_in, sight_of, SameScopes, Sees}
+use Rattle.task_table.specs.declared.task_table.TaskTable.{TaskTable}
+use Rattle.task_table.specs.declared.task_table.Running.{Running}
+use Rattle.task_table.specs.TaskTable.{running_at, many}
 use Rattle.job_runner.specs.declared.runner.Runner.{Runner}
-use Rattle.job_runner.specs.Shelves.{GoesBy, IsCalled, Dozes, AreKnown, NoneChanged, crew_in, AreOnCourse, IsGoing}
+use Rattle.job_runner.specs.Shelves.{GoesBy, IsCalled, Dozes, AreKnown, NoneChanged, state_in, IsRefined, IsGoing}
 use Rattle.job_runner.specs.Steps.{SeesOnly}
 use Rattle.job_runner.proofs.Counting.{count_below, fewer_below, found_within}
 use Rattle.job_runner.proofs.Stopped.{some_is, some_has}
@@ -37,8 +37,8 @@ marked world changed = record world { scopes = record (world.scopes) { changed =
 
 -- ---- a task that may continue may still do so
 
-timely_marked : (w : World) (changed : List Bool) (scope : Option ℕ) (halt : Halt) (wake : Wake) → IsTimely w scope halt wake →
-    IsTimely (marked w changed) scope halt wake
+timely_marked : (w : World) (changed : List Bool) (scope : Option ℕ) (task_state : TaskState) (wake : Wake) → IsTimely w scope task_state wake →
+    IsTimely (marked w changed) scope task_state wake
 timely_marked w changed scope (Asleep ticks since) wakes.Due h = h
 timely_marked w changed scope (Asleep ticks since) wakes.Seen h = h
 timely_marked w changed scope _ _ h = h
@@ -46,9 +46,9 @@ timely_marked w changed scope _ _ h = h
 goes_marked : (w : World) (changed : List Bool) (task : Task) (call : Call) → GoesBy w task call → GoesBy (marked w changed) task call
 goes_marked w changed task call h answer wake right e =
     let may = h answer wake right e in
-    record { fits = may.fits; timely = timely_marked w changed (scope_of task) task.halt wake may.timely }
+    record { fits = may.fits; timely = timely_marked w changed (scope_of task) task.task_state wake may.timely }
 
-called_marked : (r : Roster) (w : World) (changed : List Bool) (id : ℕ) (call : Call) → IsCalled r w id call →
+called_marked : (r : TaskTable) (w : World) (changed : List Bool) (id : ℕ) (call : Call) → IsCalled r w id call →
     IsCalled r (marked w changed) id call
 called_marked r w changed id call h =
     let x = some_is (running_at r id) (λ (y : Running). GoesBy w y.task call) h in
@@ -79,27 +79,27 @@ shows_marked w changed scope was now kept mark h = record { stack = h.stack; ope
 
 -- a run with other marks, of which the sleepers know
 module _ (r : Runner) (going : IsGoing None r) (changed : List Bool) (sleepers : Sleeping)
-    (known : AreKnown r.roster (marked r.world changed) r.clock sleepers) where
+    (known : AreKnown r.task_table (marked r.world changed) r.clock sleepers) where
   abbrev told : Runner
   told = record r { world = marked r.world changed; sleepers = sleepers }
 
-  course_told : AreOnCourse told
-  course_told k settled =
-      (crew_takes k r.job.now r.input.now r.world.tick (many r.roster) None (crew_in r) (crew_in told)
+  interleaving_told : IsRefined told
+  interleaving_told k settled =
+      (state_takes k r.job.now r.input.now r.world.tick (many r.task_table) None (state_in r) (state_in told)
       (record { turns = refl; task = λ p. refl; gone = λ p. refl; start = λ p. refl; children = λ p. refl }) refl
-      (going.course k settled)).0
+      (going.interleaving k settled)).0
 
   dozes_told : (key due : ℕ) → due_of r.clock key ≡ Some due →
-      IsSomeAnd (running_at r.roster key) (λ (x : Running). Dozes (marked r.world changed) due x.task)
+      IsSomeAnd (running_at r.task_table key) (λ (x : Running). Dozes (marked r.world changed) due x.task)
   dozes_told key due e =
-      let x = some_is (running_at r.roster key) (λ (y : Running). Dozes r.world due y.task) (going.shelved.doze key due e) in
-      some_has (running_at r.roster key) (λ (y : Running). Dozes (marked r.world changed) due y.task) x.0 x.1
+      let x = some_is (running_at r.task_table key) (λ (y : Running). Dozes r.world due y.task) (going.shelved.doze key due e) in
+      some_has (running_at r.task_table key) (λ (y : Running). Dozes (marked r.world changed) due y.task) x.0 x.1
       (record {
         asleep =
             record {
               ticks = x.2.asleep.ticks;
               since = x.2.asleep.since;
-              halt = x.2.asleep.halt;
+              task_state = x.2.asleep.task_state;
               due_is = x.2.asleep.due_is;
               began = x.2.asleep.began;
               later = x.2.asleep.later;
@@ -124,17 +124,17 @@ module _ (r : Runner) (going : IsGoing None r) (changed : List Bool) (sleepers :
               doze = dozes_told;
               known = known;
               current =
-                  All-weaker (λ (e : Entry). IsCalled r.roster r.world e.task e.call)
-                  (λ (e : Entry). IsCalled r.roster (marked r.world changed) e.task e.call)
-                  (λ e. called_marked r.roster r.world changed e.task e.call) r.batch.current going.shelved.current;
+                  All-weaker (λ (e : Entry). IsCalled r.task_table r.world e.task e.call)
+                  (λ (e : Entry). IsCalled r.task_table (marked r.world changed) e.task e.call)
+                  (λ e. called_marked r.task_table r.world changed e.task e.call) r.batch.current going.shelved.current;
               next =
-                  All-weaker (λ (a : Added). IsCalled r.roster r.world a.0 a.1)
-                  (λ (a : Added). IsCalled r.roster (marked r.world changed) a.0 a.1)
-                  (λ a. called_marked r.roster r.world changed a.0 a.1) r.batch.next going.shelved.next;
+                  All-weaker (λ (a : Added). IsCalled r.task_table r.world a.0 a.1)
+                  (λ (a : Added). IsCalled r.task_table (marked r.world changed) a.0 a.1)
+                  (λ a. called_marked r.task_table r.world changed a.0 a.1) r.batch.next going.shelved.next;
               once = going.shelved.once;
               away = going.shelved.away;
             };
-        course = course_told;
+        interleaving = interleaving_told;
       }
 
 -- one scope is known anew
@@ -164,7 +164,7 @@ module _ (r : Runner) (going : IsGoing None r) (id : ℕ) (changed : List Bool) 
   told_going =
       going_marked r going changed sleepers
       (record {
-        berths = λ key. same key ∙ going.shelved.known.berths key;
+        sleep_slots = λ key. same key ∙ going.shelved.known.sleep_slots key;
         sights =
             λ key scope e. sight_told key scope e (same_or scope id);
       })
@@ -176,7 +176,7 @@ still_going : (r : Runner) → IsGoing None r → (changed : List Bool) →
 still_going r going changed marks =
     going_marked r going changed r.sleepers
     (record {
-      berths = going.shelved.known.berths;
+      sleep_slots = going.shelved.known.sleep_slots;
       sights = λ key scope e. shows_marked r.world changed scope (sight_of r.sleepers scope) (sight_of r.sleepers scope) refl (marks scope)
           (going.shelved.known.sights key scope e);
     })

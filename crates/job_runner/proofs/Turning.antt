@@ -19,8 +19,8 @@ use Rattle.job_meaning.specs.Follow.{IsSettled}
 use Rattle.job_meaning.specs.Log.{Table}
 use Rattle.job_meaning.specs.Meaning.{meaning_table}
 use Rattle.job_meaning.proofs.Settled.{table_is_settled}
-use Rattle.task_machine.specs.declared.stop.Halt.{Halt}
-use Rattle.task_machine.specs.declared.stop.Halt.TheVariants.{ToBegin, Asked, Asleep, Awaits, Over}
+use Rattle.task_machine.specs.declared.stop.TaskState.{TaskState}
+use Rattle.task_machine.specs.declared.stop.TaskState.TheVariants.{ToBegin, Asked, Asleep, Awaits, Over}
 use Rattle.task_machine.specs.declared.stop.Stop.{Stop}
 use Rattle.task_machine.specs.declared.stop.Stop.TheVariants.{Ask, Sleep, Wait, Ended}
 use Rattle.task_machine.specs.declared.stop.Wake.{Wake}
@@ -31,60 +31,60 @@ use Rattle.task_machine.specs.Fitting.{blocks_of, waits_of}
 use Rattle.task_machine.specs.Tasks.{scope_of}
 use Rattle.task_machine.specs.Waking.{WakesFrom, wake_in}
 use Rattle.task_machine.proofs.Stacked.{one_of}
-use Rattle.run_course.specs.Course.{Started}
-use Rattle.run_course.specs.Woken.{MayWake}
-use Rattle.run_crew.specs.Crew.{Crew, Follows, IsCrew}
-use Rattle.run_crew.specs.Moved.{SameTasks}
-use Rattle.run_crew.specs.Ready.{IsTimely, MayGo, AreHomesOf}
-use Rattle.run_crew.specs.Step.{TakesTurn, StopSays, EndsAs, StoppedIn}
-use Rattle.run_crew.specs.Turn.{Turning, numbers_then, leaving_by, serials_from}
-use Rattle.run_crew.specs.Turn as turns
-use Rattle.run_crew.proofs.Blocks.{crew_turns}
-use Rattle.run_crew.proofs.CrewFits.{crew_fits}
-use Rattle.run_crew.proofs.CrewTurn.{nursery_same}
-use Rattle.run_crew.proofs.Found.{below_length, nth}
-use Rattle.run_crew.proofs.Going.{may_wake}
-use Rattle.run_crew.proofs.Jumped.{crew_takes}
-use Rattle.run_crew.proofs.Keeping.{still_goes, homes_kept, seen_still}
-use Rattle.run_crew.proofs.Parts.{begun_at}
-use Rattle.run_crew.proofs.SightsStay.{shows_still}
-use Rattle.run_crew.specs.Sights.{Shows}
-use Rattle.sleeper_sights.specs.Sleeping.{scope_in, sight_of}
+use Rattle.interleavings.specs.Interleaving.{Started}
+use Rattle.interleavings.specs.Woken.{MayWake}
+use Rattle.run_refinement.specs.RunState.{RunState, Follows, Refines}
+use Rattle.run_refinement.specs.Moved.{SameTasks}
+use Rattle.run_refinement.specs.Ready.{IsTimely, MayGo, AreHomesOf}
+use Rattle.run_refinement.specs.Step.{TakesTurn, StopSays, EndsAs, StoppedIn}
+use Rattle.run_refinement.specs.Turn.{Turning, numbers_then, leaving_by, serials_from}
+use Rattle.run_refinement.specs.Turn as turns
+use Rattle.run_refinement.proofs.Blocks.{state_turns}
+use Rattle.run_refinement.proofs.StateFits.{state_fits}
+use Rattle.run_refinement.proofs.StateTurn.{nursery_same}
+use Rattle.run_refinement.proofs.Found.{below_length, nth}
+use Rattle.run_refinement.proofs.Going.{may_wake}
+use Rattle.run_refinement.proofs.Jumped.{state_takes}
+use Rattle.run_refinement.proofs.Keeping.{still_goes, homes_kept, seen_still}
+use Rattle.run_refinement.proofs.Parts.{begun_at}
+use Rattle.run_refinement.proofs.SightsStay.{shows_still}
+use Rattle.run_refinement.specs.Sights.{Shows}
+use Rattle.sleepers.specs.Sleeping.{scope_in, sight_of}
 use Rattle.autojump_clock.specs.Clock.{due_of}
 use Rattle.std.proofs.lemmas.Option.{none-some}
-use Rattle.run_crew.proofs.Stepped.{other_follows, turning_of, stepped, stop_says}
-use Rattle.task_roster.specs.declared.roster.Roster.{Roster}
-use Rattle.task_roster.specs.declared.roster.Running.{Running}
+use Rattle.run_refinement.proofs.Stepped.{other_follows, turning_of, stepped, stop_says}
+use Rattle.task_table.specs.declared.task_table.TaskTable.{TaskTable}
+use Rattle.task_table.specs.declared.task_table.Running.{Running}
 use Rattle.job_runner.specs.declared.runner.Runner.{Runner}
-use Rattle.task_roster.specs.Rows.{times}
-use Rattle.task_roster.specs.Roster.{running_at, task_of, gone_of, start_of, children_of, parent_of, many, crew_of, HasRow, MayTurn, HasTurn}
-use Rattle.job_runner.specs.Shelves.{GoesBy, IsCalled, Dozes, berth_of, AreKnown, times_shelved, settled_times, halt_times, running_times, AreShelved, crew_in, IsGoing}
+use Rattle.task_table.specs.Rows.{times}
+use Rattle.task_table.specs.TaskTable.{running_at, task_of, gone_of, start_of, children_of, parent_of, many, state_of, HasRow, MayTurn, HasTurn}
+use Rattle.job_runner.specs.Shelves.{GoesBy, IsCalled, Dozes, sleep_slot_of, AreKnown, times_shelved, settled_times, task_state_times, running_times, AreShelved, state_in, IsGoing}
 use Rattle.job_runner.specs.Steps.{StartsAll, to_begin, TakesStarted, IsStopping}
-use Rattle.task_roster.proofs.Apart.{one_if}
+use Rattle.task_table.proofs.Apart.{one_if}
 use Rattle.job_runner.proofs.Shelving.{times_now, times_next, one_same}
 use Rattle.job_runner.proofs.Starting.{got_once}
 use Rattle.job_runner.proofs.Known.{sleeps_in}
 use Rattle.job_runner.proofs.Stopped.{some_is, some_has, no_timer}
 use Rattle.job_runner.proofs.Lived.{task_at, row_below, rows_apart}
 use Rattle.job_tree.proofs.Sizes.{few_steps}
-use Rattle.job_tree.specs.Modest.{most_steps}
+use Rattle.job_tree.specs.InRange.{most_steps}
 
 -- ---- a world from which the started tasks were taken
 
-timely_on : (w : World) (x : World) (scope : Option ℕ) (halt : Halt) (wake : Wake) → IsTimely w scope halt wake →
-    IsTimely (record w { started = x.started }) scope halt wake
+timely_on : (w : World) (x : World) (scope : Option ℕ) (task_state : TaskState) (wake : Wake) → IsTimely w scope task_state wake →
+    IsTimely (record w { started = x.started }) scope task_state wake
 timely_on w x scope (Asleep ticks since) wakes.Due h = h
 timely_on w x scope (Asleep ticks since) wakes.Seen h = h
 timely_on w x scope _ _ h = h
 
 goes_on : (w : World) (x : World) (task : Task) (wake : Wake) → MayGo w task wake → MayGo (record w { started = x.started }) task wake
-goes_on w x task wake h = record { fits = h.fits; timely = timely_on w x (scope_of task) task.halt wake h.timely }
+goes_on w x task wake h = record { fits = h.fits; timely = timely_on w x (scope_of task) task.task_state wake h.timely }
 
 says_on : (w : World) (x : World) (task : Task) (stop : Stop) → StopSays w task stop → StopSays (record w { started = x.started }) task stop
 says_on w x task (Ask request) h = h
 says_on w x task (Sleep due) h =
-    record { ticks = h.ticks; halt = h.halt; short = h.short; due_is = h.due_is; later = h.later; unseen = h.unseen }
-says_on w x task (Wait id) h = record { since = h.since; halt = h.halt; there = h.there }
+    record { ticks = h.ticks; task_state = h.task_state; short = h.short; due_is = h.due_is; later = h.later; unseen = h.unseen }
+says_on w x task (Wait id) h = record { since = h.since; task_state = h.task_state; there = h.there }
 says_on w x task (Ended exc) h = tt
 
 -- ---- lists
@@ -125,19 +125,19 @@ times_both id added ids =
 
 -- a task that has its turn now and may continue may have its turn
 pub may_turn : (id : ℕ) (r : Runner) (wake : Wake) → IsGoing (Some id) r →
-    IsSomeAnd (running_at r.roster id) (λ (x : Running). MayGo r.world x.task wake) → turns.IsSound r.world.scopes →
-    (x : Running) → running_at r.roster id ≡ Some x → MayTurn r.world x.task wake
+    IsSomeAnd (running_at r.task_table id) (λ (x : Running). MayGo r.world x.task wake) → turns.IsSound r.world.scopes →
+    (x : Running) → running_at r.task_table id ≡ Some x → MayTurn r.world x.task wake
 may_turn id r wake going goes sound x lives =
-    let g = some_is (running_at r.roster id) (λ (y : Running). MayGo r.world y.task wake) goes in
+    let g = some_is (running_at r.task_table id) (λ (y : Running). MayGo r.world y.task wake) goes in
     let is : g.0 ≡ x = one_of g.0 x (sym g.1 ∙ lives) in
     let may : MayGo r.world x.task wake = subst (λ (y : Running). MayGo r.world y.task wake) is g.2 in
     let k = meaning_table r.job.now r.input.now in
-    let c : IsCrew k r.job.now r.input.now r.world.tick (many r.roster) None (crew_in r) =
-    going.course k (table_is_settled r.job.now r.input.now going.sound.names) in
-    let at : task_of r.roster x.row ≡ Some x.task = task_at r.roster going.shelved.agree id x lives in
+    let c : Refines k r.job.now r.input.now r.world.tick (many r.task_table) None (state_in r) =
+    going.interleaving k (table_is_settled r.job.now r.input.now going.sound.names) in
+    let at : task_of r.task_table x.row ≡ Some x.task = task_at r.task_table going.shelved.agree id x lives in
     record {
-      fits = crew_fits k r.job.now r.input.now r.world.tick (many r.roster) None (crew_in r) c sound x.row x.task at;
-      modest = (c.follows x.row x.task at).modest;
+      fits = state_fits k r.job.now r.input.now r.world.tick (many r.task_table) None (state_in r) c sound x.row x.task at;
+      in_range = (c.follows x.row x.task at).in_range;
       wake = may.fits;
     }
 
@@ -145,20 +145,20 @@ may_turn id r wake going goes sound x lives =
 pub turns_few : (away : Option ℕ) (r : Runner) → IsGoing away r → r.turns ≤ 2000001
 turns_few away r going =
     let k = meaning_table r.job.now r.input.now in
-    let c : IsCrew k r.job.now r.input.now r.world.tick (many r.roster) None (crew_in r) =
-    going.course k (table_is_settled r.job.now r.input.now going.sound.names) in
+    let c : Refines k r.job.now r.input.now r.world.tick (many r.task_table) None (state_in r) =
+    going.interleaving k (table_is_settled r.job.now r.input.now going.sound.names) in
     let few : r.turns ≤ 2 * size_of r.job.now.steps + 1 =
-    crew_turns k r.job.now r.input.now r.world.tick (many r.roster) None (crew_in r) c in
-    let size : size_of r.job.now.steps ≤ most_steps r.job.now.format = going.sound.modest.size in
+    state_turns k r.job.now r.input.now r.world.tick (many r.task_table) None (state_in r) c in
+    let size : size_of r.job.now.steps ≤ most_steps r.job.now.format = going.sound.in_range.size in
     let most : most_steps r.job.now.format ≤ 1000000 = few_steps r.job.now.format in
     omega (arith, few, size, most)
 
 -- ---- the turn
 
-module _ (id : ℕ) (wake : Wake) (stop : Stop) (r new : Runner) (ro : Roster) (w : World) (going : IsGoing (Some id) r)
-    (goes : IsSomeAnd (running_at r.roster id) (λ (x : Running). MayGo r.world x.task wake))
-    (turn : HasTurn r.roster ro r.world w id wake stop) (sound : turns.IsSound r.world.scopes)
-    (sound_after : turns.IsSound w.scopes) (takes : TakesStarted (record r { world = w; roster = ro; turns = r.turns + 1 }) new turn.row)
+module _ (id : ℕ) (wake : Wake) (stop : Stop) (r new : Runner) (ro : TaskTable) (w : World) (going : IsGoing (Some id) r)
+    (goes : IsSomeAnd (running_at r.task_table id) (λ (x : Running). MayGo r.world x.task wake))
+    (turn : HasTurn r.task_table ro r.world w id wake stop) (sound : turns.IsSound r.world.scopes)
+    (sound_after : turns.IsSound w.scopes) (takes : TakesStarted (record r { world = w; task_table = ro; turns = r.turns + 1 }) new turn.row)
   where
     job : Job
     job = r.job.now
@@ -167,20 +167,20 @@ module _ (id : ℕ) (wake : Wake) (stop : Stop) (r new : Runner) (ro : Roster) (
     t = r.world.tick
 
     abbrev m : ℕ
-    m = many r.roster
+    m = many r.task_table
 
     abbrev s : ℕ
     s = turn.row
 
     -- the tasks of the program right after the turn, and those of the runner after the started tasks were taken
-    abbrev that : Crew
-    that = crew_of new.roster w (r.turns + 1)
+    abbrev that : RunState
+    that = state_of new.task_table w (r.turns + 1)
 
     abbrev left : Runner
-    left = record r { world = record w { started = new.world.started }; roster = new.roster; batch = new.batch; turns = r.turns + 1 }
+    left = record r { world = record w { started = new.world.started }; task_table = new.task_table; batch = new.batch; turns = r.turns + 1 }
 
     new_is : new ≡ left
-    new_is = takes.rest ∙ ap (λ (x : World). record r { world = x; roster = new.roster; batch = new.batch; turns = r.turns + 1 })
+    new_is = takes.rest ∙ ap (λ (x : World). record r { world = x; task_table = new.task_table; batch = new.batch; turns = r.turns + 1 })
         takes.world
 
     tick : w.tick ≡ t
@@ -189,14 +189,14 @@ module _ (id : ℕ) (wake : Wake) (stop : Stop) (r new : Runner) (ro : Roster) (
     same_many : many ro ≡ m
     same_many = turn.same.many
 
-    started_at : StartsAll ro new.roster s w.started.items w.tick takes.ids
+    started_at : StartsAll ro new.task_table s w.started.items w.tick takes.ids
     started_at = takes.starts
 
-    row_at_all : HasRow r.roster s id
+    row_at_all : HasRow r.task_table s id
     row_at_all = going.shelved.agree.rows id (record { task = turn.before; row = s }) turn.lived
 
     row_there : s < many ro
-    row_there = let lt : s < m = row_below r.roster going.shelved.agree id (record { task = turn.before; row = s }) turn.lived in
+    row_there = let lt : s < m = row_below r.task_table going.shelved.agree id (record { task = turn.before; row = s }) turn.lived in
         omega (arith, lt, same_many)
 
     below : (p : ℕ) → p < m → p < many ro
@@ -204,19 +204,19 @@ module _ (id : ℕ) (wake : Wake) (stop : Stop) (r new : Runner) (ro : Roster) (
 
     may : MayGo r.world turn.before wake
     may =
-        let g = some_is (running_at r.roster id) (λ (y : Running). MayGo r.world y.task wake) goes in
+        let g = some_is (running_at r.task_table id) (λ (y : Running). MayGo r.world y.task wake) goes in
         subst (λ (y : Running). MayGo r.world y.task wake) (one_of g.0 (record { task = turn.before; row = s }) (sym g.1 ∙ turn.lived)) g.2
 
-    gone_same : (p : ℕ) → gone_of new.roster p ≡ gone_of r.roster p
+    gone_same : (p : ℕ) → gone_of new.task_table p ≡ gone_of r.task_table p
     gone_same p = started_at.same_gone p ∙ by_test (eqb_tells p s)
       where
-        by_test : (((p == s) ≡ true) × (p ≡ s)) ⊎ (((p == s) ≡ false) × (p ≢ s)) → gone_of ro p ≡ gone_of r.roster p
-        by_test (inl h) = subst (λ (n : ℕ). gone_of ro n ≡ gone_of r.roster n) (sym h.1) turn.gone
+        by_test : (((p == s) ≡ true) × (p ≡ s)) ⊎ (((p == s) ≡ false) × (p ≢ s)) → gone_of ro p ≡ gone_of r.task_table p
+        by_test (inl h) = subst (λ (n : ℕ). gone_of ro n ≡ gone_of r.task_table n) (sym h.1) turn.gone
         by_test (inr h) = turn.same.gone p h.1
 
-    turn_taken : TakesTurn t m s (crew_in r) that turn.before turn.after wake stop
+    turn_taken : TakesTurn t m s (state_in r) that turn.before turn.after wake stop
     turn_taken = record {
-      task = task_at r.roster going.shelved.agree id (record { task = turn.before; row = s }) turn.lived;
+      task = task_at r.task_table going.shelved.agree id (record { task = turn.before; row = s }) turn.lived;
       goes = may;
       stays = turn.stays;
       world = turn.world;
@@ -224,54 +224,54 @@ module _ (id : ℕ) (wake : Wake) (stop : Stop) (r new : Runner) (ro : Roster) (
       sound_after = sound_after;
       none_left = going.shelved.none_started;
       fits_after = turn.fits;
-      modest = turn.modest;
+      in_range = turn.in_range;
       turn = turn.turn;
       turns = refl;
       task_after = started_at.same_task s row_there ∙ turn.task;
-      child_after = λ i. ap (λ (n : ℕ). task_of new.roster (n + i)) (sym same_many) ∙ started_at.task i;
+      child_after = λ i. ap (λ (n : ℕ). task_of new.task_table (n + i)) (sym same_many) ∙ started_at.task i;
       other_after = λ p lt differs. started_at.same_task p (below p lt) ∙ turn.same.task p differs;
       gone_after = gone_same;
       start_after = λ p lt. started_at.same_start p (below p lt) ∙ turn.same.start p;
-      start_child = λ i lt. ap (λ (n : ℕ). start_of new.roster (n + i)) (sym same_many) ∙ started_at.start i lt ∙ tick;
+      start_child = λ i lt. ap (λ (n : ℕ). start_of new.task_table (n + i)) (sym same_many) ∙ started_at.start i lt ∙ tick;
       more_children =
           started_at.child ∙ ap (λ (xs : List ℕ). xs ++ serials_from (many ro) (length w.started.items)) (turn.same.children s)
-          ∙ ap (λ (n : ℕ). children_of r.roster s ++ serials_from n (length w.started.items)) same_many;
+          ∙ ap (λ (n : ℕ). children_of r.task_table s ++ serials_from n (length w.started.items)) same_many;
       children_after = λ p lt differs. started_at.same_children p (below p lt) differs ∙ turn.same.children p;
-      no_children = λ i lt. ap (λ (n : ℕ). children_of new.roster (n + i)) (sym same_many) ∙ started_at.childless i lt;
+      no_children = λ i lt. ap (λ (n : ℕ). children_of new.task_table (n + i)) (sym same_many) ∙ started_at.childless i lt;
     }
 
-    same_tasks : SameTasks that (crew_in left)
+    same_tasks : SameTasks that (state_in left)
     same_tasks = record { turns = refl; task = λ p. refl; gone = λ p. refl; start = λ p. refl; children = λ p. refl }
 
-    count : m + length w.started.items ≡ many new.roster
-    count = let more : many new.roster ≡ many ro + length w.started.items = started_at.more in omega (arith, more, same_many)
+    count : m + length w.started.items ≡ many new.task_table
+    count = let more : many new.task_table ≡ many ro + length w.started.items = started_at.more in omega (arith, more, same_many)
 
     -- for each settled table
     module _ (k : Table) (settled : IsSettled k r.job.now r.input.now) where
-      c : IsCrew k r.job.now r.input.now t m None (crew_in r)
-      c = going.course k settled
+      c : Refines k r.job.now r.input.now t m None (state_in r)
+      c = going.interleaving k settled
 
       stopped_there : StoppedIn k r.job.now r.input.now t (m + length w.started.items) s stop that
       stopped_there =
-          stepped k r.job.now r.input.now t m s (crew_in r) that turn.before turn.after wake stop settled going.sound.names
+          stepped k r.job.now r.input.now t m s (state_in r) that turn.before turn.after wake stop settled going.sound.names
           going.sound.starts
           c turn_taken
-          (may_wake k r.job.now r.input.now t m (crew_in r) settled going.sound.names going.sound.starts c s turn.before turn_taken.task
+          (may_wake k r.job.now r.input.now t m (state_in r) settled going.sound.names going.sound.starts c s turn.before turn_taken.task
           wake
           may)
 
-      stopped_left : StoppedIn k r.job.now r.input.now t (m + length w.started.items) s stop (crew_in left)
+      stopped_left : StoppedIn k r.job.now r.input.now t (m + length w.started.items) s stop (state_in left)
       stopped_left =
           let x =
-          crew_takes k r.job.now r.input.now t (m + length w.started.items) (leaving_by stop s) that (crew_in left) same_tasks
+          state_takes k r.job.now r.input.now t (m + length w.started.items) (leaving_by stop s) that (state_in left) same_tasks
           (ap (λ (v : ℕ). record w { tick = v; started = new.world.started }) tick) stopped_there.is in
           record { is = x.0; ended = subst (λ (at : ℕ → Started). EndsAs stop t (at s)) (sym x.1) stopped_there.ended }
 
       -- what the turn leaves is a run of the definitions by that table, in which this task stopped so
-      pub stopped_course : StoppedIn k r.job.now r.input.now w.tick (many new.roster) s stop (crew_in left)
-      stopped_course =
-          subst (λ (v : ℕ). StoppedIn k r.job.now r.input.now v (many new.roster) s stop (crew_in left)) (sym tick)
-          (subst (λ (n : ℕ). StoppedIn k r.job.now r.input.now t n s stop (crew_in left)) count stopped_left)
+      pub stopped_interleaving : StoppedIn k r.job.now r.input.now w.tick (many new.task_table) s stop (state_in left)
+      stopped_interleaving =
+          subst (λ (v : ℕ). StoppedIn k r.job.now r.input.now v (many new.task_table) s stop (state_in left)) (sym tick)
+          (subst (λ (n : ℕ). StoppedIn k r.job.now r.input.now t n s stop (state_in left)) count stopped_left)
 
     -- ---- the other tasks
 
@@ -281,20 +281,20 @@ module _ (id : ℕ) (wake : Wake) (stop : Stop) (r new : Runner) (ro : Roster) (
     settled : IsSettled table r.job.now r.input.now
     settled = table_is_settled r.job.now r.input.now going.sound.names
 
-    crew : IsCrew table r.job.now r.input.now t m None (crew_in r)
-    crew = going.course table settled
+    state : Refines table r.job.now r.input.now t m None (state_in r)
+    state = going.interleaving table settled
 
-    wakes_so : MayWake crew.course.froms crew.course.tasks t (crew.course.at s) (wake_in r.world.book turn.before.halt wake)
-        (crew.course.at s).rest.stopped
-    wakes_so = may_wake table r.job.now r.input.now t m (crew_in r) settled going.sound.names going.sound.starts crew s turn.before
+    wakes_so : MayWake state.interleaving.froms state.interleaving.tasks t (state.interleaving.at s) (wake_in r.world.book turn.before.task_state wake)
+        (state.interleaving.at s).rest.stopped
+    wakes_so = may_wake table r.job.now r.input.now t m (state_in r) settled going.sound.names going.sound.starts state s turn.before
         turn_taken.task wake may
 
-    turned_so : (T : Turning table r.job.now r.input.now t m s (crew_in r) that crew.numbers turn.before turn.after stop crew.course)
+    turned_so : (T : Turning table r.job.now r.input.now t m s (state_in r) that state.numbers turn.before turn.after stop state.interleaving)
         × (length T.move.begun ≡ length w.started.items)
-    turned_so = turning_of table r.job.now r.input.now t m s (crew_in r) that turn.before turn.after wake stop settled going.sound.names
-        going.sound.starts crew turn_taken wakes_so
+    turned_so = turning_of table r.job.now r.input.now t m s (state_in r) that turn.before turn.after wake stop settled going.sound.names
+        going.sound.starts state turn_taken wakes_so
 
-    abbrev T : Turning table r.job.now r.input.now t m s (crew_in r) that crew.numbers turn.before turn.after stop crew.course
+    abbrev T : Turning table r.job.now r.input.now t m s (state_in r) that state.numbers turn.before turn.after stop state.interleaving
     T = turned_so.0
 
     -- under an id that something lived under right after the turn, nothing was started
@@ -312,34 +312,34 @@ module _ (id : ℕ) (wake : Wake) (stop : Stop) (r new : Runner) (ro : Roster) (
         by_order (inr h) = omega (arith, h)
 
     -- a task that had another id still has it
-    lived_still : (other : ℕ) (y : Running) → other ≢ id → running_at r.roster other ≡ Some y → running_at new.roster other ≡ Some y
+    lived_still : (other : ℕ) (y : Running) → other ≢ id → running_at r.task_table other ≡ Some y → running_at new.task_table other ≡ Some y
     lived_still other y differs lives =
         let at : running_at ro other ≡ Some y = turn.others other differs ∙ lives in
         started_at.others other (not_new other y at) ∙ at
 
-    none_new : (other : ℕ) (y : Running) → other ≢ id → running_at r.roster other ≡ Some y → times other takes.ids ≡ 0
+    none_new : (other : ℕ) (y : Running) → other ≢ id → running_at r.task_table other ≡ Some y → times other takes.ids ≡ 0
     none_new other y differs lives = not_new other y (turn.others other differs ∙ lives)
 
-    module _ (other : ℕ) (y : Running) (differs : other ≢ id) (lives : running_at r.roster other ≡ Some y) where
+    module _ (other : ℕ) (y : Running) (differs : other ≢ id) (lives : running_at r.task_table other ≡ Some y) where
       y_below : y.row < m
-      y_below = row_below r.roster going.shelved.agree other y lives
+      y_below = row_below r.task_table going.shelved.agree other y lives
 
       y_else : y.row ≢ s
-      y_else = rows_apart r.roster going.shelved.agree id other (record { task = turn.before; row = s }) y turn.lived lives differs
+      y_else = rows_apart r.task_table going.shelved.agree id other (record { task = turn.before; row = s }) y turn.lived lives differs
 
-      y_task : task_of r.roster y.row ≡ Some y.task
-      y_task = task_at r.roster going.shelved.agree other y lives
+      y_task : task_of r.task_table y.row ≡ Some y.task
+      y_task = task_at r.task_table going.shelved.agree other y lives
 
-      y_follows : Follows that T.is.froms r.input.now t T.is.at (numbers_then crew.numbers s m T.took.numbers_after)
+      y_follows : Follows that T.is.froms r.input.now t T.is.at (numbers_then state.numbers s m T.took.numbers_after)
           (leaving_by stop s) y.row
           y.task
       y_follows =
-          other_follows table r.job.now r.input.now t m s (crew_in r) that turn.before turn.after stop settled going.sound.names
-          going.sound.starts crew T y.row y_below y_else y.task y_task
+          other_follows table r.job.now r.input.now t m s (state_in r) that turn.before turn.after stop settled going.sound.names
+          going.sound.starts state T y.row y_below y_else y.task y_task
 
       goes_still : (v : Wake) → MayGo r.world y.task v → MayGo left.world y.task v
       goes_still v h =
-          goes_on w new.world y.task v (still_goes settled going.sound.names going.sound.starts crew T y.row y_below y_else y.task y_task
+          goes_on w new.world y.task v (still_goes settled going.sound.names going.sound.starts state T y.row y_below y_else y.task y_task
           y_follows v h)
 
       dozes_still : (due : ℕ) → Dozes r.world due y.task → Dozes left.world due y.task
@@ -349,30 +349,30 @@ module _ (id : ℕ) (wake : Wake) (stop : Stop) (r new : Runner) (ro : Roster) (
                 record {
                   ticks = h.asleep.ticks;
                   since = h.asleep.since;
-                  halt = h.asleep.halt;
+                  task_state = h.asleep.task_state;
                   due_is = h.asleep.due_is;
                   began = (let a = h.asleep.began in let b = tick in omega (arith, a, b));
                   later = (let a = h.asleep.later in let b = tick in omega (arith, a, b));
                 };
             unseen =
                 ap (λ (v : ℕ). seen (outer_of w.scopes (scope_of y.task)) v) tick
-                ∙ seen_still settled going.sound.names going.sound.starts crew T y.row y_below y_else y.task y_task y_follows ∙ h.unseen;
+                ∙ seen_still settled going.sound.names going.sound.starts state T y.row y_below y_else y.task y_task y_follows ∙ h.unseen;
           }
 
       -- a nursery that it waits for is the same
-      by_halt : (h : Halt) → y.task.halt ≡ h → halt_times w.book h ≡ halt_times r.world.book h
-      by_halt ToBegin e = refl
-      by_halt (Asked kernel purpose) e = refl
-      by_halt (Asleep ticks since) e = refl
-      by_halt (Awaits nursery since) e =
+      by_task_state : (h : TaskState) → y.task.task_state ≡ h → task_state_times w.book h ≡ task_state_times r.world.book h
+      by_task_state ToBegin e = refl
+      by_task_state (Asked kernel purpose) e = refl
+      by_task_state (Asleep ticks since) e = refl
+      by_task_state (Awaits nursery since) e =
           ap settled_times
-          (nursery_same crew T y.row y.task y_else y_task nursery
+          (nursery_same state T y.row y.task y_else y_task nursery
           (inr (ap waits_of e)))
-      by_halt Over e = refl
+      by_task_state Over e = refl
 
-      same_times : running_times left.world.book (running_at new.roster other) ≡ running_times r.world.book (running_at r.roster other)
+      same_times : running_times left.world.book (running_at new.task_table other) ≡ running_times r.world.book (running_at r.task_table other)
       same_times =
-          ap (running_times w.book) (lived_still other y differs lives) ∙ by_halt y.task.halt refl
+          ap (running_times w.book) (lived_still other y differs lives) ∙ by_task_state y.task.task_state refl
           ∙ sym (ap (running_times r.world.book) lives)
 
     -- ---- the shelves
@@ -380,10 +380,10 @@ module _ (id : ℕ) (wake : Wake) (stop : Stop) (r new : Runner) (ro : Roster) (
     none_here : times_shelved r.batch r.clock id ≡ 0
     none_here = going.shelved.away id refl
 
-    called_still : (key : ℕ) (call : Call) → key ≢ id → IsCalled r.roster r.world key call → IsCalled new.roster left.world key call
+    called_still : (key : ℕ) (call : Call) → key ≢ id → IsCalled r.task_table r.world key call → IsCalled new.task_table left.world key call
     called_still key call differs h =
-        let y = some_is (running_at r.roster key) (λ (x : Running). GoesBy r.world x.task call) h in
-        some_has (running_at new.roster key) (λ (x : Running). GoesBy left.world x.task call) y.0 (lived_still key y.0 differs y.1)
+        let y = some_is (running_at r.task_table key) (λ (x : Running). GoesBy r.world x.task call) h in
+        some_has (running_at new.task_table key) (λ (x : Running). GoesBy left.world x.task call) y.0 (lived_still key y.0 differs y.1)
         (λ answer v right e. goes_still key y.0 differs y.1 v (y.2 answer v right e))
 
     -- a task that has a timer is another task
@@ -391,72 +391,72 @@ module _ (id : ℕ) (wake : Wake) (stop : Stop) (r new : Runner) (ro : Roster) (
     timer_else key due f same =
         none-some due (sym (no_timer (due_of r.clock id) (let a = none_here in omega (arith, a))) ∙ (ap (due_of r.clock) (sym same) ∙ f))
 
-    sleeper_still : (key due : ℕ) → due_of r.clock key ≡ Some due → (y : Running) × (running_at r.roster key ≡ Some y)
+    sleeper_still : (key due : ℕ) → due_of r.clock key ≡ Some due → (y : Running) × (running_at r.task_table key ≡ Some y)
         × Dozes r.world due y.task
-    sleeper_still key due f = some_is (running_at r.roster key) (λ (z : Running). Dozes r.world due z.task) (going.shelved.doze key due f)
+    sleeper_still key due f = some_is (running_at r.task_table key) (λ (z : Running). Dozes r.world due z.task) (going.shelved.doze key due f)
 
     sleeps_still : (key due : ℕ) → due_of r.clock key ≡ Some due →
-        IsSomeAnd (running_at new.roster key) (λ (z : Running). Dozes left.world due z.task)
+        IsSomeAnd (running_at new.task_table key) (λ (z : Running). Dozes left.world due z.task)
     sleeps_still key due f =
         let y = sleeper_still key due f in
-        some_has (running_at new.roster key) (λ (z : Running). Dozes left.world due z.task) y.0
+        some_has (running_at new.task_table key) (λ (z : Running). Dozes left.world due z.task) y.0
         (lived_still key y.0 (timer_else key due f) y.1)
         (dozes_still key y.0 (timer_else key due f) y.1 due y.2)
 
     -- each sleeper is still known by its scope, and the scope by its effective deadline (`sight`)
-    known_still : AreKnown new.roster left.world r.clock r.sleepers
-    known_still = record { berths = λ key. going.shelved.known.berths key ∙ berth key (due_of r.clock key) refl; sights = sight_still }
+    known_still : AreKnown new.task_table left.world r.clock r.sleepers
+    known_still = record { sleep_slots = λ key. going.shelved.known.sleep_slots key ∙ sleep_slot key (due_of r.clock key) refl; sights = sight_still }
       where
-        berth : (key : ℕ) (d : Option ℕ) → due_of r.clock key ≡ d → berth_of (due_of r.clock key) (running_at r.roster key)
-            ≡ berth_of (due_of r.clock key) (running_at new.roster key)
-        berth key None f = ap (λ (o : Option ℕ). berth_of o (running_at r.roster key)) f
-            ∙ sym (ap (λ (o : Option ℕ). berth_of o (running_at new.roster key)) f)
-        berth key (Some due) f =
+        sleep_slot : (key : ℕ) (d : Option ℕ) → due_of r.clock key ≡ d → sleep_slot_of (due_of r.clock key) (running_at r.task_table key)
+            ≡ sleep_slot_of (due_of r.clock key) (running_at new.task_table key)
+        sleep_slot key None f = ap (λ (o : Option ℕ). sleep_slot_of o (running_at r.task_table key)) f
+            ∙ sym (ap (λ (o : Option ℕ). sleep_slot_of o (running_at new.task_table key)) f)
+        sleep_slot key (Some due) f =
             let y = sleeper_still key due f in
-            ap (berth_of (due_of r.clock key)) (y.1 ∙ sym (lived_still key y.0 (timer_else key due f) y.1))
+            ap (sleep_slot_of (due_of r.clock key)) (y.1 ∙ sym (lived_still key y.0 (timer_else key due f) y.1))
 
         sight_still : (key scope : ℕ) → scope_in r.sleepers key ≡ Some scope → Shows left.world.scopes scope (sight_of r.sleepers scope)
         sight_still key scope f =
-            let z = sleeps_in r.roster r.world r.clock r.sleepers going.shelved.known key scope f in
+            let z = sleeps_in r.task_table r.world r.clock r.sleepers going.shelved.known key scope f in
             let differs = timer_else key z.due z.timer in
-            let h = shows_still settled going.sound.names going.sound.starts crew T z.running.row (y_below key z.running differs z.lives)
+            let h = shows_still settled going.sound.names going.sound.starts state T z.running.row (y_below key z.running differs z.lives)
             (y_else key z.running differs z.lives) z.running.task
             (y_task key z.running differs z.lives) (y_follows key z.running differs z.lives) scope z.in_scope (sight_of r.sleepers scope)
             (going.shelved.known.sights key scope f) in
             record { stack = h.stack; opened = h.opened; known = h.known }
 
     -- a task that was started has to begin
-    begins : (i : ℕ) (task : Task) → slice_get w.started.items i ≡ Some task → task.halt ≡ ToBegin
+    begins : (i : ℕ) (task : Task) → slice_get w.started.items i ≡ Some task → task.task_state ≡ ToBegin
     begins i task e =
         let started : w.started.items ≡ T.took.tasks = T.took.started
         ∙ ap (λ (ts : List Task). ts ++ T.took.tasks) going.shelved.none_started in
         let b = begun_at T.took.numbers_after w.book (blocks_of turn.after.frames.items)
-        (waits_of turn.after.halt) T.took.tasks T.move.begun
+        (waits_of turn.after.task_state) T.took.tasks T.move.begun
         T.took.begun i task (sym (ap (λ (ts : List Task). slice_get ts i) started) ∙ e) in
-        b.2.halt
+        b.2.task_state
 
     new_task : (i key : ℕ) → slice_get takes.ids i ≡ Some key → (task : Task)
-        × (running_at new.roster key ≡ Some (record { task = task; row = many ro + i })) × (task.halt ≡ ToBegin)
+        × (running_at new.task_table key ≡ Some (record { task = task; row = many ro + i })) × (task.task_state ≡ ToBegin)
     new_task i key e =
         let lt : i < length w.started.items = (let a = below_length takes.ids i key e in let b = started_at.as_many in omega (arith, a, b))
         in
         let task = nth w.started.items i lt in
         (task.0, (started_at.lives i key task.0 e task.1).1, begins i task.0 task.1)
 
-    begin_goes : (task : Task) → task.halt ≡ ToBegin → GoesBy left.world task calls.Begin
+    begin_goes : (task : Task) → task.task_state ≡ ToBegin → GoesBy left.world task calls.Begin
     begin_goes task e answer v right is =
         let f : Some wakes.Begin ≡ Some v = is in
         let g : wakes.Begin ≡ v = cc in
         subst (MayGo left.world task) g
         (record {
-          fits = subst (λ (h : Halt). WakesFrom h task.part left.world.book wakes.Begin) (sym e) tt;
-          timely = subst (λ (h : Halt). IsTimely left.world (scope_of task) h wakes.Begin) (sym e) tt;
+          fits = subst (λ (h : TaskState). WakesFrom h task.part left.world.book wakes.Begin) (sym e) tt;
+          timely = subst (λ (h : TaskState). IsTimely left.world (scope_of task) h wakes.Begin) (sym e) tt;
         })
 
-    called_new : (i key : ℕ) → slice_get takes.ids i ≡ Some key → IsCalled new.roster left.world key calls.Begin
+    called_new : (i key : ℕ) → slice_get takes.ids i ≡ Some key → IsCalled new.task_table left.world key calls.Begin
     called_new i key e =
         let x = new_task i key e in
-        some_has (running_at new.roster key) (λ (z : Running). GoesBy left.world z.task calls.Begin)
+        some_has (running_at new.task_table key) (λ (z : Running). GoesBy left.world z.task calls.Begin)
         (record { task = x.0; row = many ro + i }) x.1 (begin_goes x.0 x.2)
 
     -- how often each task is kept
@@ -467,12 +467,12 @@ module _ (id : ℕ) (wake : Wake) (stop : Stop) (r new : Runner) (ro : Roster) (
         ap (times_next other) takes.next ∙ times_both other r.batch.next takes.ids in
         omega (arith, a, b)
 
-    once_of : (other : ℕ) → other ≢ id → (o : Option Running) → running_at r.roster other ≡ o →
-        times_shelved left.batch r.clock other ≡ running_times left.world.book (running_at new.roster other)
+    once_of : (other : ℕ) → other ≢ id → (o : Option Running) → running_at r.task_table other ≡ o →
+        times_shelved left.batch r.clock other ≡ running_times left.world.book (running_at new.task_table other)
     once_of other differs (Some y) e =
         let a = more_times other in
         let b : times other takes.ids ≡ 0 = none_new other y differs e in
-        let c : times_shelved r.batch r.clock other ≡ running_times r.world.book (running_at r.roster other) =
+        let c : times_shelved r.batch r.clock other ≡ running_times r.world.book (running_at r.task_table other) =
         going.shelved.once other differs in
         let d = same_times other y differs e in
         omega (arith, a, b, c, d)
@@ -485,28 +485,28 @@ module _ (id : ℕ) (wake : Wake) (stop : Stop) (r new : Runner) (ro : Roster) (
         nothing = turn.others other differs ∙ e
 
         by_order : (0 < times other takes.ids) ⊎ (times other takes.ids ≤ 0) →
-            times_shelved left.batch r.clock other ≡ running_times left.world.book (running_at new.roster other)
+            times_shelved left.batch r.clock other ≡ running_times left.world.book (running_at new.task_table other)
         by_order (inl h) =
             let g = got_once other takes.ids (omega (arith, h)) in
             let x = new_task g.0 other g.1 in
             let a = more_times other in
             let b = before in
             let c : times other takes.ids ≤ 1 = started_at.once other in
-            let d : running_times left.world.book (running_at new.roster other) ≡ 1 =
-            ap (running_times w.book) x.1 ∙ ap (halt_times w.book) x.2 in
+            let d : running_times left.world.book (running_at new.task_table other) ≡ 1 =
+            ap (running_times w.book) x.1 ∙ ap (task_state_times w.book) x.2 in
             omega (arith, a, b, c, d, h)
         by_order (inr h) =
             let a = more_times other in
             let b = before in
             let none : times other takes.ids ≡ 0 = omega (arith, h) in
-            let d : running_times left.world.book (running_at new.roster other) ≡ 0 =
+            let d : running_times left.world.book (running_at new.task_table other) ≡ 0 =
             ap (running_times w.book) (started_at.others other none ∙ nothing) in
             omega (arith, a, b, none, d)
 
-    homes_there : AreHomesOf that (parent_of new.roster)
+    homes_there : AreHomesOf that (parent_of new.task_table)
     homes_there =
-        homes_kept crew T (parent_of r.roster) (parent_of new.roster) (λ p lt. started_at.same_parent p (below p lt) ∙ turn.same.parent p)
-        (λ i lt. ap (λ (n : ℕ). parent_of new.roster (n + i)) (sym same_many)
+        homes_kept state T (parent_of r.task_table) (parent_of new.task_table) (λ p lt. started_at.same_parent p (below p lt) ∙ turn.same.parent p)
+        (λ i lt. ap (λ (n : ℕ). parent_of new.task_table (n + i)) (sym same_many)
         ∙ started_at.parent_is i (let e = turned_so.1 in omega (arith, lt, e))) going.shelved.homes
 
     shelved_left : AreShelved (Some id) left
@@ -523,18 +523,18 @@ module _ (id : ℕ) (wake : Wake) (stop : Stop) (r new : Runner) (ro : Roster) (
           doze = sleeps_still;
           known = known_still;
           current =
-              subst (All (λ (e : Entry). IsCalled new.roster left.world e.task e.call)) (sym takes.current)
+              subst (All (λ (e : Entry). IsCalled new.task_table left.world e.task e.call)) (sym takes.current)
               (each_not (λ (e : Entry). e.task) id r.batch.current (let a = none_here in omega (arith, a))
-              (λ (e : Entry). IsCalled r.roster r.world e.task e.call)
-              (λ (e : Entry). IsCalled new.roster left.world e.task e.call) going.shelved.current (λ e. called_still e.task e.call));
+              (λ (e : Entry). IsCalled r.task_table r.world e.task e.call)
+              (λ (e : Entry). IsCalled new.task_table left.world e.task e.call) going.shelved.current (λ e. called_still e.task e.call));
           next =
-              subst (All (λ (a : Added). IsCalled new.roster left.world a.0 a.1)) (sym takes.next)
-              (All-append (λ (a : Added). IsCalled new.roster left.world a.0 a.1) r.batch.next (to_begin takes.ids)
+              subst (All (λ (a : Added). IsCalled new.task_table left.world a.0 a.1)) (sym takes.next)
+              (All-append (λ (a : Added). IsCalled new.task_table left.world a.0 a.1) r.batch.next (to_begin takes.ids)
               (each_not (λ (a : Added). a.0) id r.batch.next (let a = none_here in omega (arith, a))
-              (λ (a : Added). IsCalled r.roster r.world a.0 a.1)
-              (λ (a : Added). IsCalled new.roster left.world a.0 a.1) going.shelved.next (λ a. called_still a.0 a.1))
-              (each_begins takes.ids (λ (a : Added). IsCalled new.roster left.world a.0 a.1) called_new));
-          once = λ other differs. once_of other differs (running_at r.roster other) refl;
+              (λ (a : Added). IsCalled r.task_table r.world a.0 a.1)
+              (λ (a : Added). IsCalled new.task_table left.world a.0 a.1) going.shelved.next (λ a. called_still a.0 a.1))
+              (each_begins takes.ids (λ (a : Added). IsCalled new.task_table left.world a.0 a.1) called_new));
+          once = λ other differs. once_of other differs (running_at r.task_table other) refl;
           away = λ key e.
               let f : Some id ≡ Some key = e in
               let same : id ≡ key = cc in
@@ -543,57 +543,57 @@ module _ (id : ℕ) (wake : Wake) (stop : Stop) (r new : Runner) (ro : Roster) (
               omega (arith, a, b, c));
         }
 
-    lives_left : IsSomeAnd (running_at new.roster id) (λ (x : Running). (x.row ≡ s) × StopSays left.world x.task stop)
+    lives_left : IsSomeAnd (running_at new.task_table id) (λ (x : Running). (x.row ≡ s) × StopSays left.world x.task stop)
     lives_left =
-        some_has (running_at new.roster id) (λ (x : Running). (x.row ≡ s) × StopSays left.world x.task stop)
+        some_has (running_at new.task_table id) (λ (x : Running). (x.row ≡ s) × StopSays left.world x.task stop)
         (record { task = turn.after; row = s })
         (started_at.others id (not_new id (record { task = turn.after; row = s }) turn.lives) ∙ turn.lives) (
           refl,
           says_on w new.world turn.after stop
-              (stop_says table r.job.now r.input.now t m s (crew_in r) that turn.before turn.after wake stop settled going.sound.names
-              going.sound.starts crew turn_taken wakes_so),
+              (stop_says table r.job.now r.input.now t m s (state_in r) that turn.before turn.after wake stop settled going.sound.names
+              going.sound.starts state turn_taken wakes_so),
         )
 
     -- the task has stopped, and those that it started are ready to begin
     pub is_stopping : IsStopping id s stop new
     is_stopping =
         subst (IsStopping id s stop) (sym new_is)
-        (record { sound = going.sound; shelved = shelved_left; lives = lives_left; course = stopped_course })
+        (record { sound = going.sound; shelved = shelved_left; lives = lives_left; interleaving = stopped_interleaving })
 
 -- ---- for the code
 
 -- a turn is of the row that its task has
-pub row_is : (id row : ℕ) (r : Runner) (ro : Roster) (w : World) (wake : Wake) (stop : Stop) →
-    IsSomeAnd (running_at r.roster id) (λ (x : Running). x.row ≡ row) →
-    (turn : HasTurn r.roster ro r.world w id wake stop) → turn.row ≡ row
+pub row_is : (id row : ℕ) (r : Runner) (ro : TaskTable) (w : World) (wake : Wake) (stop : Stop) →
+    IsSomeAnd (running_at r.task_table id) (λ (x : Running). x.row ≡ row) →
+    (turn : HasTurn r.task_table ro r.world w id wake stop) → turn.row ≡ row
 row_is id row r ro w wake stop at turn =
-    let g = some_is (running_at r.roster id) (λ (x : Running). x.row ≡ row) at in
+    let g = some_is (running_at r.task_table id) (λ (x : Running). x.row ≡ row) at in
     let same : g.0 ≡ record { task = turn.before; row = turn.row } =
     one_of g.0 (record { task = turn.before; row = turn.row }) (sym g.1 ∙ turn.lived) in
     sym (ap (λ (x : Running). x.row) same) ∙ g.2
 
 -- the row of a task that had its turn is one of the table's
-pub row_within : (id row : ℕ) (r : Runner) (ro : Roster) (w : World) (wake : Wake) (stop : Stop) → IsGoing (Some id) r →
-    IsSomeAnd (running_at r.roster id) (λ (x : Running). x.row ≡ row) →
-    HasTurn r.roster ro r.world w id wake stop → row < many ro
+pub row_within : (id row : ℕ) (r : Runner) (ro : TaskTable) (w : World) (wake : Wake) (stop : Stop) → IsGoing (Some id) r →
+    IsSomeAnd (running_at r.task_table id) (λ (x : Running). x.row ≡ row) →
+    HasTurn r.task_table ro r.world w id wake stop → row < many ro
 row_within id row r ro w wake stop going at turn =
     let e = row_is id row r ro w wake stop at turn in
-    let lt : turn.row < many r.roster =
-    row_below r.roster going.shelved.agree id (record { task = turn.before; row = turn.row }) turn.lived in
-    let same : many ro ≡ many r.roster = turn.same.many in
+    let lt : turn.row < many r.task_table =
+    row_below r.task_table going.shelved.agree id (record { task = turn.before; row = turn.row }) turn.lived in
+    let same : many ro ≡ many r.task_table = turn.same.many in
     omega (arith, e, lt, same)
 
 -- after a turn whose started tasks were taken, its task is one that stopped so
-pub goes_stopping : (id row : ℕ) (r new : Runner) (ro : Roster) (w : World) (wake : Wake) (stop : Stop) → IsGoing (Some id) r →
-    IsSomeAnd (running_at r.roster id) (λ (x : Running). MayGo r.world x.task wake) →
-    IsSomeAnd (running_at r.roster id) (λ (x : Running). x.row ≡ row) →
-    (turn : HasTurn r.roster ro r.world w id wake stop) → turns.IsSound r.world.scopes → turns.IsSound w.scopes →
-    TakesStarted (record r { world = w; roster = ro; turns = r.turns + 1 }) new row → IsStopping id row stop new
+pub goes_stopping : (id row : ℕ) (r new : Runner) (ro : TaskTable) (w : World) (wake : Wake) (stop : Stop) → IsGoing (Some id) r →
+    IsSomeAnd (running_at r.task_table id) (λ (x : Running). MayGo r.world x.task wake) →
+    IsSomeAnd (running_at r.task_table id) (λ (x : Running). x.row ≡ row) →
+    (turn : HasTurn r.task_table ro r.world w id wake stop) → turns.IsSound r.world.scopes → turns.IsSound w.scopes →
+    TakesStarted (record r { world = w; task_table = ro; turns = r.turns + 1 }) new row → IsStopping id row stop new
 goes_stopping id row r new ro w wake stop going goes at turn sound sound_after takes =
     let e = row_is id row r ro w wake stop at turn in
     subst (λ (n : ℕ). IsStopping id n stop new) e
     (is_stopping id wake stop r new ro w going goes turn sound sound_after
-    (subst (λ (n : ℕ). TakesStarted (record r { world = w; roster = ro; turns = r.turns + 1 }) new n) (sym e) takes))
+    (subst (λ (n : ℕ). TakesStarted (record r { world = w; task_table = ro; turns = r.turns + 1 }) new n) (sym e) takes))
 
 -- a tree is sound if its stacks are chains that begin with their own scopes, each once
 pub scopes_sound : (tree other : Tree) → tree ≡ other → IsOwn tree → IsChain tree → IsApart tree → turns.IsSound other

@@ -11,34 +11,34 @@ use Rattle.task_machine.specs.declared.stop.Stop.{Stop}
 use Rattle.task_machine.specs.declared.stop.Stop.TheVariants.{Ask, Sleep, Wait, Ended}
 use Rattle.task_machine.specs.declared.stop.Wake.{Wake}
 use Rattle.task_machine.specs.declared.world.World.{World}
-use Rattle.task_roster.specs.declared.roster.Roster.{Roster}
-use Rattle.task_roster.specs.declared.roster.Running.{Running}
-use Rattle.task_roster.specs.Roster.{running_at, HasTurn, Ends}
+use Rattle.task_table.specs.declared.task_table.TaskTable.{TaskTable}
+use Rattle.task_table.specs.declared.task_table.Running.{Running}
+use Rattle.task_table.specs.TaskTable.{running_at, HasTurn, Ends}
 use Rattle.job_runner.specs.declared.runner.Runner.{Runner}
 use Rattle.job_runner.specs.Steps.{TakesStarted, TellsEnd, SeesOnly}
-use Rattle.job_runner.specs.Turns.{GoesOn, IsSameCrew, ComesOf, TakesTurn, TakesTurns, no_turn, and_turn, with_answers, Commits}
+use Rattle.job_runner.specs.Turns.{GoesOn, IsSameRunState, ComesOf, TakesTurn, TakesTurns, no_turn, and_turn, with_answers, Commits}
 use Rattle.job_runner.proofs.Turning.{row_is}
 
 -- a task that had its turn, whose started tasks were taken, continued
-pub goes_on : (id row : ℕ) (r new : Runner) (ro : Roster) (w : World) (wake : Wake) (stop : Stop) →
-    IsSomeAnd (running_at r.roster id) (λ (x : Running). x.row ≡ row) → HasTurn r.roster ro r.world w id wake stop →
-    TakesStarted (record r { world = w; roster = ro; turns = r.turns + 1 }) new row → GoesOn id wake stop r new
+pub goes_on : (id row : ℕ) (r new : Runner) (ro : TaskTable) (w : World) (wake : Wake) (stop : Stop) →
+    IsSomeAnd (running_at r.task_table id) (λ (x : Running). x.row ≡ row) → HasTurn r.task_table ro r.world w id wake stop →
+    TakesStarted (record r { world = w; task_table = ro; turns = r.turns + 1 }) new row → GoesOn id wake stop r new
 goes_on id row r new ro w wake stop at turn takes =
     record {
-      roster = ro;
+      task_table = ro;
       world = w;
       turn = turn;
       started =
-          subst (λ (n : ℕ). TakesStarted (record r { world = w; roster = ro; turns = r.turns + 1 }) new n)
+          subst (λ (n : ℕ). TakesStarted (record r { world = w; task_table = ro; turns = r.turns + 1 }) new n)
           (sym (row_is id row r ro w wake stop at turn)) takes;
     }
 
 -- a task that has ended left, and its end was recorded in its nursery
-pub told_comes : (r new : Runner) (ro : Roster) (id : ℕ) (exc : Option held.Exc) (nursery place : ℕ) (told : Option Exc) (waiter : ℕ) →
-    Ends r.roster ro id r.world.tick exc → TellsEnd (record r { roster = ro }) new nursery place told waiter →
+pub told_comes : (r new : Runner) (ro : TaskTable) (id : ℕ) (exc : Option held.Exc) (nursery place : ℕ) (told : Option Exc) (waiter : ℕ) →
+    Ends r.task_table ro id r.world.tick exc → TellsEnd (record r { task_table = ro }) new nursery place told waiter →
     ComesOf id (Ended exc) r new
 told_comes r new ro id exc nursery place told waiter ends tells = (
-  subst (λ (x : Roster). Ends r.roster x id r.world.tick exc) (sym (ap (λ (x : Runner). x.roster) tells.rest)) ends,
+  subst (λ (x : TaskTable). Ends r.task_table x id r.world.tick exc) (sym (ap (λ (x : Runner). x.task_table) tells.rest)) ends,
   ap (λ (x : Runner). x.world) tells.rest,
 )
 
@@ -89,7 +89,7 @@ all_turns picks was r told answers left b before after turns same over only curr
       last = r;
       turns = turns;
       none_left = over;
-      roster = ap (λ (x : Runner). x.roster) only;
+      task_table = ap (λ (x : Runner). x.task_table) only;
       world = world;
       ready = current ∙ ap (λ (x : Batches). map unplaced x.next) (ap (λ (x : Runner). x.batch) only ∙ same);
       tick = ap (λ (w : World). w.tick) world ∙ turns_tick picks (with_answers was answers) r before after turns;

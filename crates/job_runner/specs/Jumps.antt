@@ -4,34 +4,34 @@ use Rattle.autojump_clock.specs.Clock.{Clock, now_of, limit_of, due_of}
 use Rattle.batch_commit.specs.Entries.{Added}
 use Rattle.cancel_scopes.specs.Sight.{Tick, reached, seen, sight}
 use Rattle.cancel_scopes.specs.Tree.{outer_of}
-use Rattle.task_machine.specs.declared.stop.Halt.TheVariants.{Asleep}
+use Rattle.task_machine.specs.declared.stop.TaskState.TheVariants.{Asleep}
 use Rattle.task_machine.specs.declared.task.Task.{Task}
 use Rattle.task_machine.specs.declared.world.World.{World}
 use Rattle.task_machine.specs.Tasks.{scope_of}
-use Rattle.run_crew.specs.Ready.{AreHomesOf}
+use Rattle.run_refinement.specs.Ready.{AreHomesOf}
 use Rattle.job_meaning.specs.declared.limits.TheConstants.{LAST_TICK}
-use Rattle.task_roster.specs.Roster.{running_at, parent_of, IsRoster}
-use Rattle.task_roster.specs.declared.roster.Roster.{Roster}
-use Rattle.task_roster.specs.declared.roster.Running.{Running}
+use Rattle.task_table.specs.TaskTable.{running_at, parent_of, IsTaskTable}
+use Rattle.task_table.specs.declared.task_table.TaskTable.{TaskTable}
+use Rattle.task_table.specs.declared.task_table.Running.{Running}
 use Rattle.job_runner.specs.declared.fault.RunFault.{RunFault}
 use Rattle.job_runner.specs.declared.fault.RunFault.TheVariants.{Limit, NoMemory}
 use Rattle.job_runner.specs.declared.runner.Runner.{Runner}
-use Rattle.job_runner.specs.Shelves.{IsCalled, AreKnown, NoneChanged, times_shelved, running_times, crew_in}
+use Rattle.job_runner.specs.Shelves.{IsCalled, AreKnown, NoneChanged, times_shelved, running_times, state_in}
 
 -- the tick from which the task with an id sees a cancellation
 abbrev pub sight_by : World → Option Running → Tick
 sight_by world None = None
 sight_by world (Some x) = sight (outer_of world.scopes (scope_of x.task))
 
-abbrev pub sight_in : Roster → World → ℕ → Tick
-sight_in roster world id = sight_by world (running_at roster id)
+abbrev pub sight_in : TaskTable → World → ℕ → Tick
+sight_in task_table world id = sight_by world (running_at task_table id)
 
 -- a sleeper continues in this tick: it is due then, or sees a cancellation from then on
 pub record Wakes (r : Runner) (t : ℕ) : Type 0 where
   pub id : ℕ
   pub due : ℕ
   pub timer : due_of r.clock id ≡ Some due
-  pub on : (due ≡ t) ⊎ (sight_in r.roster r.world id ≡ Some t)
+  pub on : (due ≡ t) ⊎ (sight_in r.task_table r.world id ≡ Some t)
 
 -- The tick of the next jump: a sleeper continues in it, and none earlier. There is only one.
 pub record IsNextTick (r : Runner) (t : ℕ) : Type 0 where
@@ -53,40 +53,40 @@ PassesLimit r NoMemory = Unit {0}
 pub record Slept (world : World) (due : ℕ) (task : Task) : Type 0 where
   pub ticks : ℕ
   pub since : ℕ
-  pub halt : task.halt ≡ Asleep ticks since
+  pub task_state : task.task_state ≡ Asleep ticks since
   pub due_is : due ≡ since + ticks
   pub began : since < world.tick
   pub not_over : world.tick ≤ due
 
 -- a sleeper is due in this tick, or sees a cancellation
-pub record IsAnyNow (roster : Roster) (world : World) (clock : Clock) : Type 0 where
+pub record IsAnyNow (task_table : TaskTable) (world : World) (clock : Clock) : Type 0 where
   pub id : ℕ
   pub due : ℕ
   pub timer : due_of clock id ≡ Some due
-  pub timely : (due ≤ world.tick) ⊎ (reached (sight_in roster world id) world.tick ≡ true)
+  pub timely : (due ≤ world.tick) ⊎ (reached (sight_in task_table world id) world.tick ≡ true)
 
 -- The clock reached a later tick, and so did the world. Sleepers that may continue are being made
 -- ready.
 pub record IsWaking (r : Runner) : Type 0 where
-  pub agree : IsRoster r.roster
-  pub homes : AreHomesOf (crew_in r) (parent_of r.roster)
+  pub agree : IsTaskTable r.task_table
+  pub homes : AreHomesOf (state_in r) (parent_of r.task_table)
   pub now : now_of r.clock ≡ r.world.tick
   pub limit : limit_of r.clock ≡ r.limit
   pub within : r.world.tick ≤ r.limit
   pub bounded : r.limit ≤ LAST_TICK
   pub none_started : r.world.started.items ≡ []
-  pub slept : (id due : ℕ) → due_of r.clock id ≡ Some due → IsSomeAnd (running_at r.roster id) (λ (x : Running). Slept r.world due x.task)
-  pub known : AreKnown r.roster r.world r.clock r.sleepers
+  pub slept : (id due : ℕ) → due_of r.clock id ≡ Some due → IsSomeAnd (running_at r.task_table id) (λ (x : Running). Slept r.world due x.task)
+  pub known : AreKnown r.task_table r.world r.clock r.sleepers
   pub unchanged : NoneChanged r.world
   pub none_current : r.batch.current ≡ []
-  pub next : All (λ (a : Added). IsCalled r.roster r.world a.0 a.1) r.batch.next
-  pub once : (id : ℕ) → times_shelved r.batch r.clock id ≡ running_times r.world.book (running_at r.roster id)
-  pub someone : (r.batch.next ≢ []) ⊎ IsAnyNow r.roster r.world r.clock
+  pub next : All (λ (a : Added). IsCalled r.task_table r.world a.0 a.1) r.batch.next
+  pub once : (id : ℕ) → times_shelved r.batch r.clock id ≡ running_times r.world.book (running_at r.task_table id)
+  pub someone : (r.batch.next ≢ []) ⊎ IsAnyNow r.task_table r.world r.clock
 
 -- no sleeper is left that sees a cancellation
 abbrev pub NoneSees : Runner → Type 0
 NoneSees r =
-    (id due : ℕ) → due_of r.clock id ≡ Some due → IsSomeAnd (running_at r.roster id)
+    (id due : ℕ) → due_of r.clock id ≡ Some due → IsSomeAnd (running_at r.task_table id)
     (λ (x : Running). seen (outer_of r.world.scopes (scope_of x.task)) r.world.tick ≡ false)
 
 -- nothing but the sleepers and the next batch changed

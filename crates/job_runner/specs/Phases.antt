@@ -1,8 +1,8 @@
 -- What clauses state about a runner.
 use Rattle.std.specs.Prelude.{Option, Some, None, List, [], ◌∷◌}
 use Rattle.batch_commit.specs.declared.entry.Entry.{Entry}
-use Rattle.run_crew.specs.Crew.{Gone}
-use Rattle.task_roster.specs.Roster.{gone_of}
+use Rattle.run_refinement.specs.RunState.{Gone}
+use Rattle.task_table.specs.TaskTable.{gone_of}
 use Rattle.job_runner.specs.declared.runner.Phase.{Phase}
 use Rattle.job_runner.specs.declared.runner.Phase.TheVariants.{Ready, Blocked, Over}
 use Rattle.job_runner.specs.declared.runner.Runner.{Runner}
@@ -15,4 +15,4 @@ phase_by [] (Some g) = Over
 phase_by [] None = Blocked
 
 abbrev pub phase_of : Runner → Phase
-phase_of r = phase_by r.batch.current (gone_of r.roster 0)
+phase_of r = phase_by r.batch.current (gone_of r.task_table 0)

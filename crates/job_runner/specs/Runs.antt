@@ -5,10 +5,10 @@ use Rattle.job_meaning.specs.Log.{Table}
 use Rattle.job_meaning.specs.Meaning.{From, root_log, records_of, all_entered, froms_by, meaning_end, meaning_froms}
 use Rattle.job_meaning.specs.Follow.{follow, IsSettled}
 use Rattle.job_meaning.specs.Shown.{Row, Ending, well, by_cancellation, with_exception, row_of, meaning_rows}
-use Rattle.task_roster.specs.declared.record.Record.{Record}
+use Rattle.task_table.specs.declared.record.Record.{Record}
 use Rattle.task_machine.specs.declared.entry.ScopeFrom.{ScopeFrom}
 use Rattle.task_machine.specs.Noted.{from_of}
-use Rattle.task_roster.specs.Records.{row_in, AreSlices}
+use Rattle.task_table.specs.Records.{row_in, AreSlices}
 use Rattle.job_runner.specs.declared.finished.Run.{Run}
 use Rattle.job_runner.specs.declared.fault.RunFault.{RunFault}
 use Rattle.job_runner.specs.declared.fault.RunFault.TheVariants.{Limit, NoMemory}

@@ -13,7 +13,7 @@ use Rattle.cancel_scopes.specs.Tree.{outer_of, is_changed}
 use Rattle.job_tree.specs.Tree.{Tree}
 use Rattle.job_tree.specs.Names.{GivesNamesOnce}
 use Rattle.job_tree.specs.Starting.{StartsInNurseries}
-use Rattle.job_tree.specs.Modest.{IsModest}
+use Rattle.job_tree.specs.InRange.{IsInRange}
 use Rattle.job_meaning.specs.Follow.{IsSettled}
 use Rattle.job_meaning.specs.Log.{Table}
 use Rattle.line_kernels.specs.Answers.{IsAnswer}
@@ -21,22 +21,22 @@ use Rattle.line_kernels.specs.declared.answers.Answer.{Answer}
 use Rattle.nursery_book.specs.Nursery.{Nursery, is_settled}
 use Rattle.nursery_book.specs.Book.{nursery_at}
 use Rattle.nursery_book.specs.declared.book.NurseryBook.{NurseryBook}
-use Rattle.task_machine.specs.declared.stop.Halt.{Halt}
-use Rattle.task_machine.specs.declared.stop.Halt.TheVariants.{ToBegin, Asked, Asleep, Awaits, Over}
+use Rattle.task_machine.specs.declared.stop.TaskState.{TaskState}
+use Rattle.task_machine.specs.declared.stop.TaskState.TheVariants.{ToBegin, Asked, Asleep, Awaits, Over}
 use Rattle.task_machine.specs.declared.stop.Wake.{Wake}
 use Rattle.task_machine.specs.declared.task.Task.{Task}
 use Rattle.task_machine.specs.declared.world.World.{World}
 use Rattle.task_machine.specs.Tasks.{scope_of}
-use Rattle.run_crew.specs.Crew.{Crew, IsCrew}
-use Rattle.run_crew.specs.Ready.{MayGo, AreHomesOf}
-use Rattle.run_crew.specs.Sights.{Shows}
-use Rattle.sleeper_sights.specs.Sleeping.{Sleeping, scope_in, sight_of}
+use Rattle.run_refinement.specs.RunState.{RunState, Refines}
+use Rattle.run_refinement.specs.Ready.{MayGo, AreHomesOf}
+use Rattle.run_refinement.specs.Sights.{Shows}
+use Rattle.sleepers.specs.Sleeping.{Sleeping, scope_in, sight_of}
 use Rattle.job_meaning.specs.declared.limits.TheConstants.{LAST_TICK}
-use Rattle.task_roster.specs.declared.roster.Roster.{Roster}
-use Rattle.task_roster.specs.declared.roster.Running.{Running}
+use Rattle.task_table.specs.declared.task_table.TaskTable.{TaskTable}
+use Rattle.task_table.specs.declared.task_table.Running.{Running}
 use Rattle.job_runner.specs.declared.runner.Runner.{Runner}
-use Rattle.task_roster.specs.Rows.{times}
-use Rattle.task_roster.specs.Roster.{running_at, parent_of, many, crew_of, IsRoster}
+use Rattle.task_table.specs.Rows.{times}
+use Rattle.task_table.specs.TaskTable.{running_at, parent_of, many, state_of, IsTaskTable}
 
 -- ---- why a task is ready
 
@@ -51,8 +51,8 @@ GoesBy world task call = (answer : Option Answer) (wake : Wake) → IsRight call
     MayGo world task wake
 
 -- the task with an id has not ended, and is ready by this call
-abbrev pub IsCalled : Roster → World → ℕ → Call → Type 0
-IsCalled roster world id call = IsSomeAnd (running_at roster id) (λ x. GoesBy world x.task call)
+abbrev pub IsCalled : TaskTable → World → ℕ → Call → Type 0
+IsCalled task_table world id call = IsSomeAnd (running_at task_table id) (λ x. GoesBy world x.task call)
 
 -- ---- sleepers
 
@@ -60,7 +60,7 @@ IsCalled roster world id call = IsSomeAnd (running_at roster id) (λ x. GoesBy w
 pub record IsAsleep (world : World) (due : ℕ) (task : Task) : Type 0 where
   pub ticks : ℕ
   pub since : ℕ
-  pub halt : task.halt ≡ Asleep ticks since
+  pub task_state : task.task_state ≡ Asleep ticks since
   pub due_is : due ≡ since + ticks
   pub began : since ≤ world.tick
   pub later : world.tick < due
@@ -71,20 +71,20 @@ pub record Dozes (world : World) (due : ℕ) (task : Task) : Type 0 where
   pub unseen : seen (outer_of world.scopes (scope_of task)) world.tick ≡ false
 
 -- each task that has a timer has not ended, and sleeps without seeing a cancellation until it is due
-abbrev pub AllDoze : Roster → World → Clock → Type 0
-AllDoze roster world clock = (id due : ℕ) → due_of clock id ≡ Some due →
-    IsSomeAnd (running_at roster id) (λ (x : Running). Dozes world due x.task)
+abbrev pub AllDoze : TaskTable → World → Clock → Type 0
+AllDoze task_table world clock = (id due : ℕ) → due_of clock id ≡ Some due →
+    IsSomeAnd (running_at task_table id) (λ (x : Running). Dozes world due x.task)
 
 -- the scope in which a task with such a timer sleeps
-abbrev pub berth_of : Option ℕ → Option Running → Option ℕ
-berth_of None o = None
-berth_of (Some due) None = None
-berth_of (Some due) (Some x) = scope_of x.task
+abbrev pub sleep_slot_of : Option ℕ → Option Running → Option ℕ
+sleep_slot_of None o = None
+sleep_slot_of (Some due) None = None
+sleep_slot_of (Some due) (Some x) = scope_of x.task
 
 -- Each task that has a timer is known by the scope in which it sleeps, and each such scope by its effective deadline (`sight`),
 -- unless that was lowered and the scope is still marked as changed.
-pub record AreKnown (roster : Roster) (world : World) (clock : Clock) (sleepers : Sleeping) : Type 0 where
-  pub berths : (id : ℕ) → scope_in sleepers id ≡ berth_of (due_of clock id) (running_at roster id)
+pub record AreKnown (task_table : TaskTable) (world : World) (clock : Clock) (sleepers : Sleeping) : Type 0 where
+  pub sleep_slots : (id : ℕ) → scope_in sleepers id ≡ sleep_slot_of (due_of clock id) (running_at task_table id)
   pub sights : (id key : ℕ) → scope_in sleepers id ≡ Some key → Shows world.scopes key (sight_of sleepers key)
 
 -- no scope is marked as changed
@@ -109,16 +109,16 @@ settled_times None = 0
 settled_times (Some n) = if is_settled n then 1 else 0
 
 -- and a task, by its blocked state: once, except for one that waits for a nursery of which a member runs
-abbrev pub halt_times : NurseryBook → Halt → ℕ
-halt_times book ToBegin = 1
-halt_times book (Asked kernel purpose) = 1
-halt_times book (Asleep ticks since) = 1
-halt_times book (Awaits id since) = settled_times (nursery_at book id)
-halt_times book Over = 0
+abbrev pub task_state_times : NurseryBook → TaskState → ℕ
+task_state_times book ToBegin = 1
+task_state_times book (Asked kernel purpose) = 1
+task_state_times book (Asleep ticks since) = 1
+task_state_times book (Awaits id since) = settled_times (nursery_at book id)
+task_state_times book Over = 0
 
 abbrev pub running_times : NurseryBook → Option Running → ℕ
 running_times book None = 0
-running_times book (Some x) = halt_times book x.task.halt
+running_times book (Some x) = task_state_times book x.task.task_state
 
 -- an id that is not the one of the task that has its turn
 abbrev pub IsElse : Option ℕ → ℕ → Type 0
@@ -129,28 +129,28 @@ IsElse (Some away) id = id ≢ away
 
 -- What the runner keeps is consistent. The task with one id may be missing: it is having its turn.
 pub record AreShelved (turning : Option ℕ) (r : Runner) : Type 0 where
-  pub agree : IsRoster r.roster
-  pub homes : AreHomesOf (crew_of r.roster r.world r.turns) (parent_of r.roster)
+  pub agree : IsTaskTable r.task_table
+  pub homes : AreHomesOf (state_of r.task_table r.world r.turns) (parent_of r.task_table)
   pub now : now_of r.clock ≡ r.world.tick
   pub limit : limit_of r.clock ≡ r.limit
   pub within : r.world.tick ≤ r.limit
   pub bounded : r.limit ≤ LAST_TICK
   pub none_started : r.world.started.items ≡ []
-  pub doze : AllDoze r.roster r.world r.clock
-  pub known : AreKnown r.roster r.world r.clock r.sleepers
-  pub current : All (λ (e : Entry). IsCalled r.roster r.world e.task e.call) r.batch.current
-  pub next : All (λ (a : Added). IsCalled r.roster r.world a.0 a.1) r.batch.next
-  pub once : (id : ℕ) → IsElse turning id → times_shelved r.batch r.clock id ≡ running_times r.world.book (running_at r.roster id)
+  pub doze : AllDoze r.task_table r.world r.clock
+  pub known : AreKnown r.task_table r.world r.clock r.sleepers
+  pub current : All (λ (e : Entry). IsCalled r.task_table r.world e.task e.call) r.batch.current
+  pub next : All (λ (a : Added). IsCalled r.task_table r.world a.0 a.1) r.batch.next
+  pub once : (id : ℕ) → IsElse turning id → times_shelved r.batch r.clock id ≡ running_times r.world.book (running_at r.task_table id)
   pub away : ForSome turning (λ (id : ℕ). times_shelved r.batch r.clock id ≡ 0)
 
 -- the tasks of the program, as a runner keeps them
-abbrev pub crew_in : Runner → Crew
-crew_in r = crew_of r.roster r.world r.turns
+abbrev pub state_in : Runner → RunState
+state_in r = state_of r.task_table r.world r.turns
 
 -- For each settled table they are a run of the definitions.
-abbrev pub AreOnCourse : Runner → Type 0
-AreOnCourse r = (k : Table) → IsSettled k r.job.now r.input.now →
-    IsCrew k r.job.now r.input.now r.world.tick (many r.roster) None (crew_in r)
+abbrev pub IsRefined : Runner → Type 0
+IsRefined r = (k : Table) → IsSettled k r.job.now r.input.now →
+    Refines k r.job.now r.input.now r.world.tick (many r.task_table) None (state_in r)
 
 -- the job, the input and the limit stay
 pub record IsSameJob (old new : Runner) : Type 0 where
@@ -162,13 +162,13 @@ pub record IsSameJob (old new : Runner) : Type 0 where
 pub record IsSound (job : Tree) : Type 0 where
   pub names : GivesNamesOnce job
   pub starts : StartsInNurseries job
-  pub modest : IsModest job
+  pub in_range : IsInRange job
 
 -- A run between two turns, or during the turn of the task with this id.
 pub record IsGoing (away : Option ℕ) (r : Runner) : Type 0 where
   pub sound : IsSound r.job.now
   pub shelved : AreShelved away r
-  pub course : AreOnCourse r
+  pub interleaving : IsRefined r
 
 -- A run between two calls of its caller: no answers are placed for its batch, and no task was added to the next one.
 pub record IsUnderway (r : Runner) : Type 0 where

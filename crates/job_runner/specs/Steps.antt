@@ -9,19 +9,19 @@ use Rattle.nursery_book.specs.Nursery.{Nursery, is_settled, with_child}
 use Rattle.nursery_book.specs.Book.{HasNursery, Changes}
 use Rattle.task_machine.specs.declared.stop.Stop.{Stop}
 use Rattle.task_machine.specs.declared.task.Task.{Task}
-use Rattle.run_crew.specs.Step.{StopSays, StoppedIn}
-use Rattle.run_crew.specs.Turn.{serials_from}
-use Rattle.task_roster.specs.Rows.{times}
-use Rattle.task_roster.specs.Roster.{running_at, task_of, gone_of, start_of, children_of, parent_of, id_of, many, IsRoster}
-use Rattle.task_roster.specs.declared.roster.Roster.{Roster}
-use Rattle.task_roster.specs.declared.roster.Running.{Running}
+use Rattle.run_refinement.specs.Step.{StopSays, StoppedIn}
+use Rattle.run_refinement.specs.Turn.{serials_from}
+use Rattle.task_table.specs.Rows.{times}
+use Rattle.task_table.specs.TaskTable.{running_at, task_of, gone_of, start_of, children_of, parent_of, id_of, many, IsTaskTable}
+use Rattle.task_table.specs.declared.task_table.TaskTable.{TaskTable}
+use Rattle.task_table.specs.declared.task_table.Running.{Running}
 use Rattle.job_runner.specs.declared.runner.Runner.{Runner}
-use Rattle.job_runner.specs.Shelves.{IsSound, AreShelved, crew_in}
+use Rattle.job_runner.specs.Shelves.{IsSound, AreShelved, state_in}
 
 -- ---- the tasks that a task started
 
 -- These tasks were started in that tick by the one of that row, and have the next rows and these ids.
-pub record StartsAll (old new : Roster) (parent : ℕ) (tasks : List Task) (tick : ℕ) (ids : List ℕ) : Type 0 where
+pub record StartsAll (old new : TaskTable) (parent : ℕ) (tasks : List Task) (tick : ℕ) (ids : List ℕ) : Type 0 where
   pub as_many : length ids ≡ length tasks
   -- each has its id, which no task had before
   pub lives :
@@ -48,13 +48,13 @@ to_begin ids = map (λ (id : ℕ). (id, Begin)) ids
 -- The tasks that waited in the world were taken, and are ready to begin.
 pub record TakesStarted (old new : Runner) (parent : ℕ) : Type 0 where
   pub ids : List ℕ
-  pub starts : StartsAll old.roster new.roster parent old.world.started.items old.world.tick ids
-  pub agree : IsRoster new.roster
+  pub starts : StartsAll old.task_table new.task_table parent old.world.started.items old.world.tick ids
+  pub agree : IsTaskTable new.task_table
   pub world : new.world ≡ record old.world { started = new.world.started }
   pub none_left : new.world.started.items ≡ []
   pub current : new.batch.current ≡ old.batch.current
   pub next : new.batch.next ≡ old.batch.next ++ to_begin ids
-  pub rest : new ≡ record old { world = new.world; roster = new.roster; batch = new.batch }
+  pub rest : new ≡ record old { world = new.world; task_table = new.task_table; batch = new.batch }
 
 -- ---- a task that stopped
 
@@ -62,9 +62,9 @@ pub record TakesStarted (old new : Runner) (parent : ℕ) : Type 0 where
 pub record IsStopping (id row : ℕ) (stop : Stop) (r : Runner) : Type 0 where
   pub sound : IsSound r.job.now
   pub shelved : AreShelved (Some id) r
-  pub lives : IsSomeAnd (running_at r.roster id) (λ (x : Running). (x.row ≡ row) × StopSays r.world x.task stop)
-  pub course : (k : Table) → IsSettled k r.job.now r.input.now →
-      StoppedIn k r.job.now r.input.now r.world.tick (many r.roster) row stop (crew_in r)
+  pub lives : IsSomeAnd (running_at r.task_table id) (λ (x : Running). (x.row ≡ row) × StopSays r.world x.task stop)
+  pub interleaving : (k : Table) → IsSettled k r.job.now r.input.now →
+      StoppedIn k r.job.now r.input.now r.world.tick (many r.task_table) row stop (state_in r)
 
 -- what does not change when the runner handles a stop
 pub record IsSameTurn (old new : Runner) : Type 0 where

@@ -7,30 +7,30 @@ use Rattle.task_machine.specs.declared.stop.Stop.{Stop}
 use Rattle.task_machine.specs.declared.stop.Stop.TheVariants.{Ask, Sleep, Wait, Ended}
 use Rattle.task_machine.specs.declared.stop.Wake.{Wake}
 use Rattle.task_machine.specs.declared.world.World.{World}
-use Rattle.task_roster.specs.declared.roster.Roster.{Roster}
-use Rattle.task_roster.specs.Roster.{HasTurn, Ends}
+use Rattle.task_table.specs.declared.task_table.TaskTable.{TaskTable}
+use Rattle.task_table.specs.TaskTable.{HasTurn, Ends}
 use Rattle.job_runner.specs.declared.runner.Runner.{Runner}
 use Rattle.job_runner.specs.Steps.{TakesStarted}
 
 -- The task with an id continued with this wake to its next stop, and the tasks that it started were taken from the world.
 pub record GoesOn (id : ℕ) (wake : Wake) (stop : Stop) (old new : Runner) : Type 0 where
-  pub roster : Roster
+  pub task_table : TaskTable
   pub world : World
-  pub turn : HasTurn old.roster roster old.world world id wake stop
-  pub started : TakesStarted (record old { world = world; roster = roster; turns = old.turns + 1 }) new turn.row
+  pub turn : HasTurn old.task_table task_table old.world world id wake stop
+  pub started : TakesStarted (record old { world = world; task_table = task_table; turns = old.turns + 1 }) new turn.row
 
 -- the tasks and what they share stay
-abbrev pub IsSameCrew : Runner → Runner → Type 0
-IsSameCrew old new = (new.roster ≡ old.roster) × (new.world ≡ old.world)
+abbrev pub IsSameRunState : Runner → Runner → Type 0
+IsSameRunState old new = (new.task_table ≡ old.task_table) × (new.world ≡ old.world)
 
 -- How a stop is handled: a task that has ended leaves, and its end may be recorded in its nursery. After another stop all tasks
 -- stay as they are.
 abbrev pub ComesOf : ℕ → Stop → Runner → Runner → Type 0
-ComesOf id (Ask request) old new = IsSameCrew old new
-ComesOf id (Sleep due) old new = IsSameCrew old new
-ComesOf id (Wait nursery) old new = IsSameCrew old new
+ComesOf id (Ask request) old new = IsSameRunState old new
+ComesOf id (Sleep due) old new = IsSameRunState old new
+ComesOf id (Wait nursery) old new = IsSameRunState old new
 ComesOf id (Ended exc) old new =
-    Ends old.roster new.roster id old.world.tick exc × (new.world ≡ record old.world { book = new.world.book })
+    Ends old.task_table new.task_table id old.world.tick exc × (new.world ≡ record old.world { book = new.world.book })
 
 -- the task with an id had one turn, and no other task had
 pub record TakesTurn (id : ℕ) (wake : Wake) (old new : Runner) : Type 0 where
@@ -58,7 +58,7 @@ pub record Commits {P : Type 0} (picks : P → ℕ → ℕ → P → Type 0) (ol
   pub last : Runner
   pub turns : TakesTurns picks (with_answers old answers) before last after
   pub none_left : last.batch.current ≡ []
-  pub roster : new.roster ≡ last.roster
+  pub task_table : new.task_table ≡ last.task_table
   pub world : new.world ≡ record last.world { scopes = record (last.world.scopes) { changed = new.world.scopes.changed } }
   pub ready : new.batch.current ≡ map unplaced last.batch.next
   pub tick : new.world.tick ≡ old.world.tick

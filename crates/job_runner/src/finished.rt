@@ -1,6 +1,6 @@
 use job_tree::Name;
 use task_machine::ScopeFrom;
-use task_roster::{Outcome, Record};
+use task_table::{Outcome, Record};
 
 /// A finished run: the records of the job's meaning.
 #[derive(Drop)]

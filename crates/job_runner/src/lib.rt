@@ -2,8 +2,8 @@
 //!
 //! The layer promises that `run` returns the records of the one-thread meaning (`job_meaning`), for every number of workers,
 //! every picker and every gate, or the limit exactly if the meaning ends later. `run_to_end` has no limit. `Runner` is a run
-//! batch by batch: its tasks have their turns (`task_machine`), are kept in a task table (`task_roster`), and the clock jumps
-//! when every task is blocked. That its records are those of the meaning follows from the law of `run_crew`.
+//! batch by batch: its tasks have their turns (`task_machine`), are kept in a task table (`task_table`), and the clock jumps
+//! when every task is blocked. That its records are those of the meaning follows from the law of `run_refinement`.
 #![tactic(auto)]
 
 mod fault;
@@ -18,11 +18,11 @@ mod stopping;
 pub use batch_commit::{Forward, Pick, Reverse, Turn};
 pub use fault::RunFault;
 pub use finished::Run;
-pub use job_meaning::{LAST_TICK, MOST_INPUT};
-pub use limits::{GREATEST_LIMIT, MOST_WORKERS};
+pub use job_meaning::{LAST_TICK, MAX_INPUT};
+pub use limits::{MAX_LIMIT, MAX_WORKERS};
 pub use runner::{Phase, Runner};
 pub use running::{run, run_to_end};
 pub use scoped_workers::{Gate, NoGate};
 pub use settings::Settings;
 pub use task_machine::{Entry, ScopeFrom};
-pub use task_roster::{Outcome, Record};
+pub use task_table::{Outcome, Record};

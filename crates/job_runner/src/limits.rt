@@ -1,5 +1,5 @@
 /// The maximum number of workers of a run.
-pub const MOST_WORKERS: usize = 64;
+pub const MAX_WORKERS: usize = 64;
 
 /// The maximum limit of a run, in ticks.
-pub const GREATEST_LIMIT: u64 = 4_294_967_295;
+pub const MAX_LIMIT: u64 = 4_294_967_295;

@@ -1,10 +1,10 @@
 ghost use Rattle.std.specs.Prelude.{◌≡◌, ◌+◌, ◌≤◌, ◌<◌, None, Some, IsSomeAnd, IfOk, OnOk, length};
 ghost use Rattle.batch_commit.specs.Entries.{requests_of};
-ghost use Rattle.job_meaning.specs.declared.limits.TheConstants.{LAST_TICK, MOST_INPUT};
+ghost use Rattle.job_meaning.specs.declared.limits.TheConstants.{LAST_TICK, MAX_INPUT};
 ghost use Rattle.job_meaning.specs.Meaning.{meaning_end};
-ghost use Rattle.run_crew.specs.Ready.{MayGo};
+ghost use Rattle.run_refinement.specs.Ready.{MayGo};
 ghost use Rattle.scoped_workers.specs.Slots.{AreAnswers};
-ghost use Rattle.task_roster.specs.Roster.{running_at, many, IsRoster};
+ghost use Rattle.task_table.specs.TaskTable.{running_at, many, IsTaskTable};
 ghost use Rattle.job_runner.specs.declared.runner.Phase.TheVariants.{Ready, Over};
 ghost use Rattle.job_runner.specs.Phases.{phase_of};
 ghost use Rattle.job_runner.specs.Runs.{IsRun, FollowsEach, turns_of};
@@ -19,10 +19,10 @@ use buffer_parts::Part;
 use cancel_scopes::stacks_are_chains;
 use job_grammar::{Job, spelled_jobs_are_sound};
 use line_kernels::{Answer, Request};
-use sleeper_sights::Sleepers;
+use sleepers::Sleepers;
 use std::alloc::{AllocError, Global};
 use task_machine::{Stop, Task, Wake, World};
-use task_roster::{Roster, records_of};
+use task_table::{TaskTable, records_of};
 
 /// What a run waits for.
 #[derive(Clone, Copy, Debug, PartialEq, Eq)]
@@ -44,7 +44,7 @@ pub struct Runner<'a> {
     pub(crate) limit: u64,
     pub(crate) world: World<'a>,
     pub(crate) clock: MockClock,
-    pub(crate) roster: Roster<'a>,
+    pub(crate) task_table: TaskTable<'a>,
     // The tasks that sleep in a cancel scope.
     pub(crate) sleepers: Sleepers,
     pub(crate) batch: ReadyBatch<'a>,
@@ -52,7 +52,7 @@ pub struct Runner<'a> {
 }
 
 impl<'a> Runner<'a> {
-    /// Returns a run at tick 0, whose root is ready to begin. The input has at most `MOST_INPUT` bytes. The limit is the
+    /// Returns a run at tick 0, whose root is ready to begin. The input has at most `MAX_INPUT` bytes. The limit is the
     /// last tick to which the clock may jump, at most `LAST_TICK`. The only error is that memory was refused.
     pub fn open(
         alloc: Global,
@@ -60,7 +60,7 @@ impl<'a> Runner<'a> {
         input: &'a [u8],
         limit: u64,
     ) -> Result<Runner<'a>, AllocError>
-        requires small { length input.now ≤ MOST_INPUT }
+        requires small { length input.now ≤ MAX_INPUT }
         requires bounded { limit ≤ LAST_TICK }
         ensures underway { IfOk result IsUnderway }
         ensures ready { IfOk result (λ r. phase_of r ≡ Ready) }
@@ -72,7 +72,7 @@ impl<'a> Runner<'a> {
         spelled_jobs_are_sound();
         let _steps = job.steps();
         let task = Task::root(alloc, job, Part::whole(input))?;
-        let (roster, root) = Roster::of_root(alloc, task)?;
+        let (task_table, root) = TaskTable::of_root(alloc, task)?;
         let mut batch = ReadyBatch::new(alloc);
         batch.add(root, Call::Begin)?;
         batch.turn_over();
@@ -83,7 +83,7 @@ impl<'a> Runner<'a> {
             limit,
             world: World::new(alloc),
             clock: MockClock::new(alloc, limit),
-            roster,
+            task_table,
             sleepers: Sleepers::new(alloc),
             batch,
             turns: 0,
@@ -98,7 +98,7 @@ impl<'a> Runner<'a> {
         if !self.batch.is_empty() {
             return Phase::Ready;
         }
-        if self.roster.is_over() {
+        if self.task_table.is_over() {
             return Phase::Over;
         }
         Phase::Blocked
@@ -160,14 +160,14 @@ impl<'a> Runner<'a> {
     // Executes a turn of the task with an id.
     fn take_turn(&mut self, id: TaskId, wake: Wake<'a>) -> Result<(), AllocError>
         requires going { IsGoing (Some id) self.old }
-        requires goes { IsSomeAnd (running_at self.old.roster id) (λ x. MayGo self.old.world x.task wake) }
+        requires goes { IsSomeAnd (running_at self.old.task_table id) (λ x. MayGo self.old.world x.task wake) }
         ensures going { OnOk result (IsGoing None self.new) }
         ensures takes { OnOk result (TakesTurn id wake.entry self.old self.new) }
         ensures same { OnOk result (IsSameJob self.old self.new) }
         ensures current { OnOk result (self.new.batch.current ≡ self.old.batch.current) }
         ensures turns { OnOk result (self.new.turns ≡ self.old.turns + 1) }
     {
-        let row = self.roster.row(id);
+        let row = self.task_table.row(id);
         let stop = self.go(id, row, wake)?;
         self.stopped(id, row, stop)?;
         Ok(())
@@ -176,8 +176,8 @@ impl<'a> Runner<'a> {
     // The task with an id and a row continues to its next stop, and those that it started are ready to begin.
     fn go(&mut self, id: TaskId, row: usize, wake: Wake<'a>) -> Result<Stop<'a>, AllocError>
         requires going { IsGoing (Some id) self.old }
-        requires goes { IsSomeAnd (running_at self.old.roster id) (λ x. MayGo self.old.world x.task wake) }
-        requires row { IsSomeAnd (running_at self.old.roster id) (λ x. x.row ≡ row) }
+        requires goes { IsSomeAnd (running_at self.old.task_table id) (λ x. MayGo self.old.world x.task wake) }
+        requires row { IsSomeAnd (running_at self.old.task_table id) (λ x. x.row ≡ row) }
         ensures stopping { IfOk result (λ stop. IsStopping id row stop self.new) }
         ensures goes { IfOk result (λ stop. GoesOn id wake.entry stop self.old self.new) }
         ensures same { OnOk result (IsSameJob self.old self.new) }
@@ -185,7 +185,7 @@ impl<'a> Runner<'a> {
         ensures turns { OnOk result (self.new.turns ≡ self.old.turns + 1) }
     {
         stacks_are_chains(self.world.scopes());
-        let stop = self.roster.turn(id, wake, &mut self.world)?;
+        let stop = self.task_table.turn(id, wake, &mut self.world)?;
         stacks_are_chains(self.world.scopes());
         self.turns += 1;
         self.take_started(row)?;
@@ -194,12 +194,12 @@ impl<'a> Runner<'a> {
 
     // The tasks that the one of this row started are ready to begin.
     fn take_started(&mut self, row: usize) -> Result<(), AllocError>
-        requires agree { IsRoster self.old.roster }
-        requires row { row < many self.old.roster }
+        requires agree { IsTaskTable self.old.task_table }
+        requires row { row < many self.old.task_table }
         ensures { OnOk result (TakesStarted self.old self.new row) }
     {
         'started: while let Some(task) = self.world.take_started() {
-            let id = self.roster.start(row, task, self.world.now())?;
+            let id = self.task_table.start(row, task, self.world.now())?;
             self.batch.add(id, Call::Begin)?;
         }
         Ok(())
@@ -218,11 +218,11 @@ impl<'a> Runner<'a> {
         let Runner {
             alloc,
             job,
-            roster,
+            task_table,
             turns,
             ..
         } = self;
-        let (records, froms) = records_of(alloc, roster.into_rows())?;
+        let (records, froms) = records_of(alloc, task_table.into_rows())?;
         Ok(Run::new(job.name(), records, froms, turns))
     }
 }

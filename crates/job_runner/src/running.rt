@@ -1,12 +1,12 @@
 ghost use Rattle.std.specs.Prelude.{◌≡◌, ◌+◌, ◌*◌, ◌<◌, ◌≤◌, IfOk, IfErr, length};
-ghost use Rattle.job_meaning.specs.declared.limits.TheConstants.{LAST_TICK, MOST_INPUT};
+ghost use Rattle.job_meaning.specs.declared.limits.TheConstants.{LAST_TICK, MAX_INPUT};
 ghost use Rattle.job_meaning.specs.Meaning.{meaning_end, meaning_froms};
 ghost use Rattle.job_meaning.specs.Shown.{meaning_rows};
 ghost use Rattle.job_tree.specs.Names.{size_of};
-ghost use Rattle.task_roster.specs.Records.{AreSlices};
+ghost use Rattle.task_table.specs.Records.{AreSlices};
 ghost use Rattle.job_runner.specs.declared.runner.Phase.TheVariants.{Ready};
 ghost use Rattle.job_runner.specs.Phases.{phase_of};
-ghost use Rattle.job_runner.specs.declared.limits.TheConstants.{MOST_WORKERS};
+ghost use Rattle.job_runner.specs.declared.limits.TheConstants.{MAX_WORKERS};
 ghost use Rattle.job_runner.specs.Runs.{IsRun, name_of, rows_of, records_in, scope_froms_of, turns_of, IsLate};
 ghost use Rattle.job_runner.specs.Shelves.{IsSameJob, IsUnderway};
 
@@ -21,7 +21,7 @@ use scoped_workers::{Gate, work};
 use std::alloc::{AllocError, Global};
 use std::thread::Threads;
 
-/// Runs a job over an input of at most `MOST_INPUT` bytes, in turns of its tasks, one tick after another. The result is that of
+/// Runs a job over an input of at most `MAX_INPUT` bytes, in turns of its tasks, one tick after another. The result is that of
 /// the job's one-thread meaning, whatever the number of workers, the order of picks and the gate: its records, or `Limit` exactly
 /// if the meaning ends later than the limit. Instead of either it may return that memory was refused. The picker picks each turn.
 /// The workers compute the answers to the requests of all tasks that are ready together, and call the gate before and after each.
@@ -34,7 +34,7 @@ pub fn run<'a, R: Threads + Sync, P: Pick, G: Gate + Sync>(
     picker: &mut P,
     gate: &G,
 ) -> Result<Run<'a>, RunFault>
-    requires { length input.now ≤ MOST_INPUT }
+    requires { length input.now ≤ MAX_INPUT }
     ensures name { IfOk result (λ run. name_of run ≡ job.now.name) }
     ensures records { IfOk result (λ run. rows_of run ≡ meaning_rows job.now input.now) }
     ensures lines { IfOk result (λ run. AreSlices input.now (records_in run)) }
@@ -68,9 +68,9 @@ pub fn run_to_end<'a, R: Threads + Sync, P: Pick, G: Gate + Sync>(
     picker: &mut P,
     gate: &G,
 ) -> Result<Run<'a>, AllocError>
-    requires small { length input.now ≤ MOST_INPUT }
+    requires small { length input.now ≤ MAX_INPUT }
     requires some_workers { 1 ≤ workers }
-    requires few_workers { workers ≤ MOST_WORKERS }
+    requires few_workers { workers ≤ MAX_WORKERS }
     ensures name { IfOk result (λ run. name_of run ≡ job.now.name) }
     ensures records { IfOk result (λ run. rows_of run ≡ meaning_rows job.now input.now) }
     ensures lines { IfOk result (λ run. AreSlices input.now (records_in run)) }
@@ -98,9 +98,9 @@ fn run_until<'a, R: Threads + Sync, P: Pick, G: Gate + Sync>(
     picker: &mut P,
     gate: &G,
 ) -> Result<Run<'a>, RunFault>
-    requires small { length input.now ≤ MOST_INPUT }
+    requires small { length input.now ≤ MAX_INPUT }
     requires some_workers { 1 ≤ workers }
-    requires few_workers { workers ≤ MOST_WORKERS }
+    requires few_workers { workers ≤ MAX_WORKERS }
     requires bounded { limit ≤ LAST_TICK }
     ensures run { IfOk result (IsRun job.now input.now) }
     ensures turns { IfOk result (λ run. turns_of run ≤ 2 * size_of job.now.steps + 1) }

@@ -3,7 +3,7 @@ ghost use Rattle.std.specs.Option.{option_map};
 ghost use Rattle.exc_groups.specs.Held.{exc_of};
 ghost use Rattle.nursery_book.specs.Book.{HasNursery};
 ghost use Rattle.task_machine.specs.declared.stop.Stop.TheVariants.{Ask, Sleep, Wait, Ended};
-ghost use Rattle.task_roster.specs.Roster.{parent_of, id_of, many};
+ghost use Rattle.task_table.specs.TaskTable.{parent_of, id_of, many};
 ghost use Rattle.job_runner.specs.Shelves.{IsGoing};
 ghost use Rattle.job_runner.specs.Steps.{IsStopping, IsSameTurn, TellsEnd};
 ghost use Rattle.job_runner.specs.Turns.{ComesOf};
@@ -60,7 +60,7 @@ impl<'a> Runner<'a> {
     {
         let _row = row;
         self.clock.sleep_until(id, due)?;
-        if let Some(scope) = self.roster.scope(id) {
+        if let Some(scope) = self.task_table.scope(id) {
             let sight = self.world.scopes().seen_from(scope);
             self.sleepers.add(id, scope, sight)?;
         }
@@ -89,9 +89,9 @@ impl<'a> Runner<'a> {
         ensures comes { OnOk result (ComesOf id (Ended exc) self.old self.new) }
         ensures same { OnOk result (IsSameTurn self.old self.new) }
     {
-        let home = self.roster.home(id);
+        let home = self.task_table.home(id);
         let told = copy_of(self.alloc, &exc)?;
-        self.roster.end(id, self.world.now(), exc)?;
+        self.task_table.end(id, self.world.now(), exc)?;
         if let Some(at) = home {
             let (nursery, place) = at;
             self.tell(row, nursery, place, told)?;
@@ -108,14 +108,14 @@ impl<'a> Runner<'a> {
         exc: Option<Exc>,
     ) -> Result<(), AllocError>
         requires runs { HasNursery self.old.world.book nursery (λ n. slice_get n.children place ≡ Some None) }
-        requires row { row < many self.old.roster }
-        requires parent { parent_of self.old.roster row < many self.old.roster }
+        requires row { row < many self.old.task_table }
+        requires parent { parent_of self.old.task_table row < many self.old.task_table }
         ensures { OnOk result (TellsEnd self.old self.new nursery place (option_map exc_of exc)
-            (id_of self.old.roster (parent_of self.old.roster row))) }
+            (id_of self.old.task_table (parent_of self.old.task_table row))) }
     {
         self.world.book_mut().child_ended(nursery, place, exc);
         if self.world.book().settled(nursery) {
-            let waiter = self.roster.parent(row);
+            let waiter = self.task_table.parent(row);
             self.batch.add(waiter, Call::Settled)?;
         }
         Ok(())

@@ -11,10 +11,10 @@ use Rattle.job_tokens.specs.declared.token.Shape.{Shape}
 use Rattle.job_tokens.specs.declared.token.Shape.TheVariants as shape
 use Rattle.job_syntax.specs.declared.keyword.Keyword.{Keyword}
 use Rattle.job_syntax.specs.declared.keyword.Keyword.TheVariants as word
-use Rattle.job_syntax.specs.declared.symbol.Symbol.{Symbol}
-use Rattle.job_syntax.specs.declared.symbol.Symbol.TheVariants as symbol
+use Rattle.job_syntax.specs.declared.nonterminal.Nonterminal.{Nonterminal}
+use Rattle.job_syntax.specs.declared.nonterminal.Nonterminal.TheVariants as nonterminal
 use Rattle.job_syntax.specs.Keywords.{spelling, among, keywords, keyword_of}
-use Rattle.job_syntax.specs.Symbols.{Rest, next, text_rest, step_rest, cleanup_rest, tail_rest, scope_rest, shield_rest, fail_rest, over_rest, nursery_rest, nursery_shield_rest, outer, tail, cleanup, ◌>>=◌}
+use Rattle.job_syntax.specs.Nonterminals.{Rest, next, text_rest, step_rest, cleanup_rest, tail_rest, scope_rest, shield_rest, fail_rest, over_rest, nursery_rest, nursery_shield_rest, outer, tail, cleanup, ◌>>=◌}
 use Rattle.job_syntax.specs.declared.role.Role.{Role}
 use Rattle.job_syntax.specs.declared.role.Role.TheVariants as role
 use Rattle.job_syntax.specs.Pieces.{Piece, keyword, named, number, string, opens, ends, deadline_pieces, flag_pieces, over_pieces, step_pieces, steps_pieces, AreSteps, IsStep}
@@ -57,63 +57,63 @@ cleanup_of format false ps rest is = is
 cleanup_of format true ps rest is = is
 
 -- what begins a block, followed by what it leaves, is a block
-abbrev BlockFits : (format : Format) → Bool → List Symbol → List Piece → Type 0
+abbrev BlockFits : (format : Format) → Bool → List Nonterminal → List Piece → Type 0
 BlockFits format inside ss ps = (rest : List Piece) × IsBlock format inside ps rest × Fits format ss rest
 
 -- a step before a block
-step_on : (format : Format) (inside : Bool) (s : Step) (ss : List Symbol) (ps rest : List Piece) (steps : Steps) → IsStep format inside s →
+step_on : (format : Format) (inside : Bool) (s : Step) (ss : List Nonterminal) (ps rest : List Piece) (steps : Steps) → IsStep format inside s →
     AreSteps format inside steps →
     ps ≡ step_pieces s (steps_pieces steps rest) → Fits format ss rest → BlockFits format inside ss ps
 step_on format inside s ss ps rest steps is are e fits = (rest, (step s steps, (is, are), e), fits)
 
 -- ---- steps
 
-plain_step : (format : Format) (inside : Bool) (s : Step) (first : Piece) (ss : List Symbol) (ps : List Piece) → IsStep format inside s →
+plain_step : (format : Format) (inside : Bool) (s : Step) (first : Piece) (ss : List Nonterminal) (ps : List Piece) → IsStep format inside s →
     ((rest : List Piece) → step_pieces s rest ≡ first ∷ ends ∷ rest)
-    → Fits format (symbol.Semicolon ∷ outer inside ∷ ss) ps → BlockFits format inside ss (first ∷ ps)
+    → Fits format (nonterminal.Semicolon ∷ outer inside ∷ ss) ps → BlockFits format inside ss (first ∷ ps)
 plain_step format inside s first ss ps is printed (r, e, (q, block, fits)) =
     let b = block_of format inside r q block in
     step_on format inside s ss (first ∷ ps) q b.0 is b.1 (ap (on first) (e ∙ ap (on ends) b.2) ∙ sym (printed (steps_pieces b.0 q))) fits
 
-number_step : (format : Format) (inside : Bool) (s : ℕ → Step) (first : Piece) (ss : List Symbol) (ps : List Piece) →
+number_step : (format : Format) (inside : Bool) (s : ℕ → Step) (first : Piece) (ss : List Nonterminal) (ps : List Piece) →
     ((n : ℕ) → IsStep format inside (s n)) →
     ((n : ℕ) (rest : List Piece) → step_pieces (s n) rest ≡ first ∷ number n ∷ ends ∷ rest)
-    → Fits format (symbol.Number ∷ symbol.Semicolon ∷ outer inside ∷ ss) ps → BlockFits format inside ss (first ∷ ps)
+    → Fits format (nonterminal.Number ∷ nonterminal.Semicolon ∷ outer inside ∷ ss) ps → BlockFits format inside ss (first ∷ ps)
 number_step format inside s first ss ps is printed (r, (n, e), (r', e', (q, block, fits))) =
     let b = block_of format inside r' q block in
     step_on format inside (s n) ss (first ∷ ps) q b.0 (is n) b.1 (ap (on first) (e ∙ ap (on (number n)) (e' ∙ ap (on ends) b.2))
     ∙ sym (printed n (steps_pieces b.0 q))) fits
 
-name_step : (format : Format) (inside : Bool) (s : List ℕ → Step) (role : Role) (name : Symbol)
+name_step : (format : Format) (inside : Bool) (s : List ℕ → Step) (role : Role) (name : Nonterminal)
     (names : (ps rest : List Piece) → Stands format name ps rest → (n : List ℕ) × (ps ≡ named role n ∷ rest)) (first : Piece)
-    (ss : List Symbol)
+    (ss : List Nonterminal)
     (ps : List Piece) → ((n : List ℕ) → IsStep format inside (s n))
     → ((n : List ℕ) (rest : List Piece) → step_pieces (s n) rest ≡ first ∷ named role n ∷ ends ∷ rest) →
-    Fits format (name ∷ symbol.Semicolon ∷ outer inside ∷ ss) ps → BlockFits format inside ss (first ∷ ps)
+    Fits format (name ∷ nonterminal.Semicolon ∷ outer inside ∷ ss) ps → BlockFits format inside ss (first ∷ ps)
 name_step format inside s role name names first ss ps is printed (r, stands, (r', e', (q, block, fits))) =
     let n = names ps r stands in
     let b = block_of format inside r' q block in
     step_on format inside (s n.0) ss (first ∷ ps) q b.0 (is n.0) b.1 (ap (on first) (n.1 ∙ ap (on (named role n.0)) (e' ∙ ap (on ends) b.2))
     ∙ sym (printed n.0 (steps_pieces b.0 q))) fits
 
-find_step : (format : Format) (inside : Bool) (ss : List Symbol) (ps : List Piece) →
-    Fits format (symbol.Text ∷ symbol.Semicolon ∷ outer inside ∷ ss) ps →
+find_step : (format : Format) (inside : Bool) (ss : List Nonterminal) (ps : List Piece) →
+    Fits format (nonterminal.Text ∷ nonterminal.Semicolon ∷ outer inside ∷ ss) ps →
     BlockFits format inside ss (keyword word.Find ∷ ps)
 find_step format inside ss ps (r, (t, e), (r', e', (q, block, fits))) =
     let b = block_of format inside r' q block in
     step_on format inside (find t) ss (keyword word.Find ∷ ps) q b.0 tt b.1
     (ap (on (keyword word.Find)) (e ∙ ap (on (string t)) (e' ∙ ap (on ends) b.2))) fits
 
-need_step : (format : Format) (inside : Bool) (ss : List Symbol) (ps : List Piece) →
-    Fits format (symbol.Text ∷ symbol.Raised ∷ symbol.Semicolon ∷ outer inside ∷ ss) ps →
+need_step : (format : Format) (inside : Bool) (ss : List Nonterminal) (ps : List Piece) →
+    Fits format (nonterminal.Text ∷ nonterminal.Raised ∷ nonterminal.Semicolon ∷ outer inside ∷ ss) ps →
     BlockFits format inside ss (keyword word.Need ∷ ps)
 need_step format inside ss ps (r, (t, e), (r', (n, e'), (r'', e'', (q, block, fits)))) =
     let b = block_of format inside r'' q block in
     step_on format inside (need t n) ss (keyword word.Need ∷ ps) q b.0 tt b.1
     (ap (on (keyword word.Need)) (e ∙ ap (on (string t)) (e' ∙ ap (on (named role.Raised n)) (e'' ∙ ap (on ends) b.2)))) fits
 
-scope_step : (format : Format) (inside : Bool) (ss : List Symbol) (ps : List Piece) →
-    Fits format (symbol.Given ∷ symbol.Scope ∷ outer inside ∷ ss) ps →
+scope_step : (format : Format) (inside : Bool) (ss : List Nonterminal) (ps : List Piece) →
+    Fits format (nonterminal.Given ∷ nonterminal.Scope ∷ outer inside ∷ ss) ps →
     BlockFits format inside ss (keyword word.Scope ∷ ps)
 scope_step format inside ss ps (r, (n, e), (r', (d, s, f, body, are, e'), (q, block, fits))) =
     let b = block_of format inside r' q block in
@@ -124,8 +124,8 @@ scope_step format inside ss ps (r, (n, e), (r', (d, s, f, body, are, e'), (q, bl
     step_on format inside (scope n d s f body) ss (keyword word.Scope ∷ ps) q b.0 are b.1
     (ap (on (keyword word.Scope)) (e ∙ ap (on (named role.Given n)) tail_is)) fits
 
-nursery_step : (format : Format) (inside : Bool) (ss : List Symbol) (ps : List Piece) →
-    Fits format (symbol.Given ∷ symbol.Nursery ∷ outer inside ∷ ss) ps → BlockFits format inside ss (keyword word.Nursery ∷ ps)
+nursery_step : (format : Format) (inside : Bool) (ss : List Nonterminal) (ps : List Piece) →
+    Fits format (nonterminal.Given ∷ nonterminal.Nursery ∷ outer inside ∷ ss) ps → BlockFits format inside ss (keyword word.Nursery ∷ ps)
 nursery_step format inside ss ps (r, (n, e), (r', (d, s, body, may, are, e'), (q, block, fits))) =
     let b = block_of format inside r' q block in
     let tail_is : r ≡ deadline_pieces d (flag_pieces word.Shield s (opens ∷ steps_pieces body (steps_pieces b.0 q))) = e'
@@ -133,30 +133,30 @@ nursery_step format inside ss ps (r, (n, e), (r', (d, s, body, may, are, e'), (q
     step_on format inside (nursery n d s body) ss (keyword word.Nursery ∷ ps) q b.0 (may, are) b.1
     (ap (on (keyword word.Nursery)) (e ∙ ap (on (named role.Given n)) tail_is)) fits
 
-repeat_step : (format : Format) (inside : Bool) (ss : List Symbol) (ps : List Piece) → format ≡ Two →
-    Fits format (symbol.Number ∷ symbol.Open ∷ symbol.Steps ∷ outer inside ∷ ss) ps →
+repeat_step : (format : Format) (inside : Bool) (ss : List Nonterminal) (ps : List Piece) → format ≡ Two →
+    Fits format (nonterminal.Number ∷ nonterminal.Open ∷ nonterminal.Steps ∷ outer inside ∷ ss) ps →
     BlockFits format inside ss (keyword word.Repeat ∷ ps)
 repeat_step format inside ss ps two (r, (n, e), (r', e', (r'', (body, are, e''), (q, block, fits)))) =
     let b = block_of format inside r'' q block in
     step_on format inside (repeat n body) ss (keyword word.Repeat ∷ ps) q b.0 (two, are) b.1
     (ap (on (keyword word.Repeat)) (e ∙ ap (on (number n)) (e' ∙ ap (on opens) (e'' ∙ ap (steps_pieces body) b.2)))) fits
 
-start_step : (format : Format) (ss : List Symbol) (ps : List Piece) → Fits format (symbol.Given ∷ symbol.Over ∷ symbol.Items ∷ ss) ps →
+start_step : (format : Format) (ss : List Nonterminal) (ps : List Piece) → Fits format (nonterminal.Given ∷ nonterminal.Over ∷ nonterminal.Items ∷ ss) ps →
     BlockFits format true ss (keyword word.Start ∷ ps)
 start_step format ss ps (r, (n, e), (r', (o, body, are, e'), (q, (steps, behind, e''), fits))) =
     step_on format true (start n o body) ss (keyword word.Start ∷ ps) q steps (refl, are) behind
     (ap (on (keyword word.Start)) (e ∙ ap (on (named role.Given n))
     (e' ∙ ap (λ (x : List Piece). over_pieces o (opens ∷ steps_pieces body x)) e''))) fits
 
-try_step : (format : Format) (inside : Bool) (ss : List Symbol) (ps : List Piece) →
-    Fits format (symbol.Open ∷ symbol.Steps ∷ tail inside ∷ ss) ps →
+try_step : (format : Format) (inside : Bool) (ss : List Nonterminal) (ps : List Piece) →
+    Fits format (nonterminal.Open ∷ nonterminal.Steps ∷ tail inside ∷ ss) ps →
     BlockFits format inside ss (keyword word.Try ∷ ps)
 try_step format inside ss ps (r, e, (r', (body, are, e'), (q, block, fits))) =
     let t = tail_of format inside r' q block in
     step_on format inside (attempt body t.0 t.1) ss (keyword word.Try ∷ ps) q t.2 (t.3, are, t.4, t.5) t.6
     (ap (on (keyword word.Try)) (e ∙ ap (on opens) (e' ∙ ap (steps_pieces body) t.7))) fits
 
-by_step : (format : Format) (inside : Bool) (k : Keyword) (ss : List Symbol) (ps : List Piece) →
+by_step : (format : Format) (inside : Bool) (k : Keyword) (ss : List Nonterminal) (ps : List Piece) →
     Left format (step_rest format inside k) ss ps →
     BlockFits format inside ss (keyword k ∷ ps)
 by_step format inside word.Sleep ss ps left = number_step format inside sleep (keyword word.Sleep) ss ps (λ n. tt) (λ n rest. refl) left
@@ -169,9 +169,9 @@ by_step format inside word.Head ss ps left = number_step format inside head (key
 by_step format inside word.Longest ss ps left = plain_step format inside longest (keyword word.Longest) ss ps tt (λ rest. refl) left
 by_step format inside word.Need ss ps left = need_step format inside ss ps left
 by_step format inside word.Raise ss ps left =
-    name_step format inside raise role.Raised symbol.Raised (λ ps rest s. s) (keyword word.Raise) ss ps (λ n. tt) (λ n rest. refl) left
+    name_step format inside raise role.Raised nonterminal.Raised (λ ps rest s. s) (keyword word.Raise) ss ps (λ n. tt) (λ n rest. refl) left
 by_step format inside word.Cancel ss ps left =
-    name_step format inside cancel role.Target symbol.Target (λ ps rest s. s) (keyword word.Cancel) ss ps (λ n. tt) (λ n rest. refl) left
+    name_step format inside cancel role.Target nonterminal.Target (λ ps rest s. s) (keyword word.Cancel) ss ps (λ n. tt) (λ n rest. refl) left
 by_step format inside word.Scope ss ps left = scope_step format inside ss ps left
 by_step format inside word.Nursery ss ps left = nursery_step format inside ss ps left
 by_step format true word.Start ss ps left = start_step format ss ps left
@@ -183,24 +183,24 @@ by_step format inside _ ss ps left = absurd left
 
 -- ---- what may follow a handler or the block of a `try`
 
-abbrev CleanupFits : (format : Format) → Bool → List Symbol → List Piece → Type 0
+abbrev CleanupFits : (format : Format) → Bool → List Nonterminal → List Piece → Type 0
 CleanupFits format inside ss ps = (rest : List Piece) × IsCleanupAndBlock format inside ps rest × Fits format ss rest
 
-abbrev TailFits : (format : Format) → Bool → List Symbol → List Piece → Type 0
+abbrev TailFits : (format : Format) → Bool → List Nonterminal → List Piece → Type 0
 TailFits format inside ss ps = (rest : List Piece) × IsTail format inside ps rest × Fits format ss rest
 
-unclean : (format : Format) (inside : Bool) (ss : List Symbol) (ps : List Piece) → BlockFits format inside ss ps →
+unclean : (format : Format) (inside : Bool) (ss : List Nonterminal) (ps : List Piece) → BlockFits format inside ss ps →
     CleanupFits format inside ss ps
 unclean format inside ss ps (rest, (steps, are, e), fits) = (rest, (uncleaned, steps, tt, are, e), fits)
 
-clean_step : (format : Format) (inside : Bool) (ss : List Symbol) (ps : List Piece) →
-    Fits format (symbol.Open ∷ symbol.Steps ∷ outer inside ∷ ss) ps →
+clean_step : (format : Format) (inside : Bool) (ss : List Nonterminal) (ps : List Piece) →
+    Fits format (nonterminal.Open ∷ nonterminal.Steps ∷ outer inside ∷ ss) ps →
     CleanupFits format inside ss (keyword word.Finally ∷ ps)
 clean_step format inside ss ps (r, e, (r', (body, are, e'), (q, block, fits))) =
     let b = block_of format inside r' q block in
     (q, (finally body, b.0, are, b.1, ap (on (keyword word.Finally)) (e ∙ ap (on opens) (e' ∙ ap (steps_pieces body) b.2))), fits)
 
-by_cleanup : (format : Format) (inside : Bool) (k : Keyword) (ss : List Symbol) (ps : List Piece) →
+by_cleanup : (format : Format) (inside : Bool) (k : Keyword) (ss : List Nonterminal) (ps : List Piece) →
     Left format (cleanup_rest format inside k) ss ps →
     CleanupFits format inside ss (keyword k ∷ ps)
 by_cleanup format inside word.Finally ss ps left = clean_step format inside ss ps left
@@ -235,8 +235,8 @@ by_cleanup One inside word.Repeat ss ps left = absurd left
 by_cleanup format inside word.Try ss ps left = unclean format inside ss (keyword word.Try ∷ ps) (by_step format inside word.Try ss ps left)
 by_cleanup format inside _ ss ps left = absurd left
 
-handler_step : (format : Format) (inside : Bool) (ss : List Symbol) (ps : List Piece) →
-    Fits format (symbol.Handled ∷ symbol.Open ∷ symbol.Steps ∷ cleanup inside ∷ ss) ps →
+handler_step : (format : Format) (inside : Bool) (ss : List Nonterminal) (ps : List Piece) →
+    Fits format (nonterminal.Handled ∷ nonterminal.Open ∷ nonterminal.Steps ∷ cleanup inside ∷ ss) ps →
     TailFits format inside ss (keyword word.Except ∷ ps)
 handler_step format inside ss ps (r, (n, e), (r', e', (r'', (body, are, e''), (q, block, fits)))) =
     let c = cleanup_of format inside r'' q block in (
@@ -255,8 +255,8 @@ handler_step format inside ss ps (r, (n, e), (r', e', (r'', (body, are, e''), (q
       fits,
     )
 
-finally_step : (format : Format) (inside : Bool) (ss : List Symbol) (ps : List Piece) →
-    Fits format (symbol.Open ∷ symbol.Steps ∷ outer inside ∷ ss) ps →
+finally_step : (format : Format) (inside : Bool) (ss : List Nonterminal) (ps : List Piece) →
+    Fits format (nonterminal.Open ∷ nonterminal.Steps ∷ outer inside ∷ ss) ps →
     TailFits format inside ss (keyword word.Finally ∷ ps)
 finally_step format inside ss ps (r, e, (r', (body, are, e'), (q, block, fits))) =
     let b = block_of format inside r' q block in (
@@ -275,7 +275,7 @@ finally_step format inside ss ps (r, e, (r', (body, are, e'), (q, block, fits)))
       fits,
     )
 
-by_tail : (format : Format) (inside : Bool) (k : Keyword) (ss : List Symbol) (ps : List Piece) → Left format (tail_rest inside k) ss ps →
+by_tail : (format : Format) (inside : Bool) (k : Keyword) (ss : List Nonterminal) (ps : List Piece) → Left format (tail_rest inside k) ss ps →
     TailFits format inside ss (keyword k ∷ ps)
 by_tail format inside word.Except ss ps left = handler_step format inside ss ps left
 by_tail format inside word.Finally ss ps left = finally_step format inside ss ps left
@@ -283,25 +283,25 @@ by_tail format inside _ ss ps left = absurd left
 
 -- ---- the heads of scopes and starts
 
-body_on : (format : Format) (ss : List Symbol) (ps : List Piece) → Fits format (symbol.Open ∷ symbol.Steps ∷ ss) ps →
+body_on : (format : Format) (ss : List Nonterminal) (ps : List Piece) → Fits format (nonterminal.Open ∷ nonterminal.Steps ∷ ss) ps →
     (rest : List Piece) × (body : Steps)
     × AreSteps format false body × (ps ≡ opens ∷ steps_pieces body rest) × Fits format ss rest
 body_on format ss ps (r, e, (q, (body, are, e'), fits)) = (q, body, are, e ∙ ap (on opens) e', fits)
 
-by_fail : (format : Format) (k : Keyword) (ss : List Symbol) (ps : List Piece) → Left format (fail_rest k) ss ps →
-    Fits format (symbol.Fail ∷ ss) (keyword k ∷ ps)
+by_fail : (format : Format) (k : Keyword) (ss : List Nonterminal) (ps : List Piece) → Left format (fail_rest k) ss ps →
+    Fits format (nonterminal.Fail ∷ ss) (keyword k ∷ ps)
 by_fail format word.Fail ss ps left = let b = body_on format ss ps left in (b.0, (true, b.1, b.2, ap (on (keyword word.Fail)) b.3), b.4)
 by_fail format _ ss ps left = absurd left
 
-by_shield : (format : Format) (k : Keyword) (ss : List Symbol) (ps : List Piece) → Left format (shield_rest k) ss ps →
-    Fits format (symbol.Shield ∷ ss) (keyword k ∷ ps)
+by_shield : (format : Format) (k : Keyword) (ss : List Nonterminal) (ps : List Piece) → Left format (shield_rest k) ss ps →
+    Fits format (nonterminal.Shield ∷ ss) (keyword k ∷ ps)
 by_shield format word.Shield ss ps (r, (f, body, are, e), fits) = (r, (true, f, body, are, ap (on (keyword word.Shield)) e), fits)
 by_shield format word.Fail ss ps left = let b = body_on format ss ps left in
     (b.0, (false, true, b.1, b.2, ap (on (keyword word.Fail)) b.3), b.4)
 by_shield format _ ss ps left = absurd left
 
-by_scope : (format : Format) (k : Keyword) (ss : List Symbol) (ps : List Piece) → Left format (scope_rest k) ss ps →
-    Fits format (symbol.Scope ∷ ss) (keyword k ∷ ps)
+by_scope : (format : Format) (k : Keyword) (ss : List Nonterminal) (ps : List Piece) → Left format (scope_rest k) ss ps →
+    Fits format (nonterminal.Scope ∷ ss) (keyword k ∷ ps)
 by_scope format word.After ss ps (r, (n, e), (q, (s, f, body, are, e'), fits)) =
     (q, (After n, s, f, body, are, ap (on (keyword word.After)) (e ∙ ap (on (number n)) e')), fits)
 by_scope format word.At ss ps (r, (n, e), (q, (s, f, body, are, e'), fits)) =
@@ -311,19 +311,19 @@ by_scope format word.Fail ss ps left = let b = body_on format ss ps left in
     (b.0, (Never, false, true, b.1, b.2, ap (on (keyword word.Fail)) b.3), b.4)
 by_scope format _ ss ps left = absurd left
 
-items_on : (format : Format) (ss : List Symbol) (ps : List Piece) → Fits format (symbol.Open ∷ symbol.Items ∷ ss) ps →
+items_on : (format : Format) (ss : List Nonterminal) (ps : List Piece) → Fits format (nonterminal.Open ∷ nonterminal.Items ∷ ss) ps →
     (rest : List Piece) × (body : Steps) × AreSteps format true body × (ps ≡ opens ∷ steps_pieces body rest) × Fits format ss rest
 items_on format ss ps (r, e, (q, (body, are, e'), fits)) = (q, body, are, e ∙ ap (on opens) e', fits)
 
-by_nursery_shield : (format : Format) (k : Keyword) (ss : List Symbol) (ps : List Piece) →
-    Left format (nursery_shield_rest format k) ss ps → Fits format (symbol.NurseryShield ∷ ss) (keyword k ∷ ps)
+by_nursery_shield : (format : Format) (k : Keyword) (ss : List Nonterminal) (ps : List Piece) →
+    Left format (nursery_shield_rest format k) ss ps → Fits format (nonterminal.NurseryShield ∷ ss) (keyword k ∷ ps)
 by_nursery_shield One k ss ps left = absurd left
 by_nursery_shield Two word.Shield ss ps left =
     let b = items_on Two ss ps left in (b.0, (true, b.1, tt, b.2, ap (on (keyword word.Shield)) b.3), b.4)
 by_nursery_shield Two _ ss ps left = absurd left
 
-by_nursery : (format : Format) (k : Keyword) (ss : List Symbol) (ps : List Piece) → Left format (nursery_rest format k) ss ps →
-    Fits format (symbol.Nursery ∷ ss) (keyword k ∷ ps)
+by_nursery : (format : Format) (k : Keyword) (ss : List Nonterminal) (ps : List Piece) → Left format (nursery_rest format k) ss ps →
+    Fits format (nonterminal.Nursery ∷ ss) (keyword k ∷ ps)
 by_nursery One k ss ps left = absurd left
 by_nursery Two word.After ss ps (r, (n, e), (q, (s, body, may, are, e'), fits)) =
     (q, (After n, s, body, tt, are, ap (on (keyword word.After)) (e ∙ ap (on (number n)) e')), fits)
@@ -331,14 +331,14 @@ by_nursery Two word.Shield ss ps left =
     let b = items_on Two ss ps left in (b.0, (Never, true, b.1, tt, b.2, ap (on (keyword word.Shield)) b.3), b.4)
 by_nursery Two _ ss ps left = absurd left
 
-by_over : (format : Format) (k : Keyword) (ss : List Symbol) (ps : List Piece) → Left format (over_rest k) ss ps →
-    Fits format (symbol.Over ∷ ss) (keyword k ∷ ps)
+by_over : (format : Format) (k : Keyword) (ss : List Nonterminal) (ps : List Piece) → Left format (over_rest k) ss ps →
+    Fits format (nonterminal.Over ∷ ss) (keyword k ∷ ps)
 by_over format word.Over ss ps (r, (n, e), left) = let b = body_on format ss r left in
     (b.0, (Some n, b.1, b.2, ap (on (keyword word.Over)) (e ∙ ap (on (number n)) b.3)), b.4)
 by_over format _ ss ps left = absurd left
 
-by_text : (format : Format) (k : Keyword) (ss : List Symbol) (ps : List Piece) → Left format (text_rest k) ss ps →
-    Fits format (symbol.Job ∷ ss) (keyword k ∷ ps)
+by_text : (format : Format) (k : Keyword) (ss : List Nonterminal) (ps : List Piece) → Left format (text_rest k) ss ps →
+    Fits format (nonterminal.Job ∷ ss) (keyword k ∷ ps)
 by_text format word.Job ss ps (r, (n, e), left) =
     let b = body_on format ss r left in
     let job : Tree = record { format = format; name = n; steps = b.1 } in
@@ -348,9 +348,9 @@ by_text format _ ss ps left = absurd left
 -- ---- all nonterminals
 
 -- a word that is a keyword is its spelling
-by_keyword : (format : Format) (s : Symbol) (rest : Keyword → Rest) → role_of s ≡ role.Plain →
-    ((k : Keyword) (ss : List Symbol) (ps : List Piece) → Left format (rest k) ss ps → Fits format (s ∷ ss) (keyword k ∷ ps)) →
-    (w : List ℕ) (o : Option Keyword) → keyword_of w ≡ o → (ss : List Symbol) (ps : List Piece) → Left format (o >>= rest) ss ps →
+by_keyword : (format : Format) (s : Nonterminal) (rest : Keyword → Rest) → role_of s ≡ role.Plain →
+    ((k : Keyword) (ss : List Nonterminal) (ps : List Piece) → Left format (rest k) ss ps → Fits format (s ∷ ss) (keyword k ∷ ps)) →
+    (w : List ℕ) (o : Option Keyword) → keyword_of w ≡ o → (ss : List Nonterminal) (ps : List Piece) → Left format (o >>= rest) ss ps →
     Fits format (s ∷ ss) (record { shape = shape.Word w; role = role_of s } ∷ ps)
 by_keyword format s rest same each w None is ss ps left = absurd left
 by_keyword format s rest same each w (Some k) is ss ps left =
@@ -359,78 +359,78 @@ by_keyword format s rest same each w (Some k) is ss ps left =
     subst (λ (p : Piece). Fits format (s ∷ ss) (p ∷ ps)) e (each k ss ps left)
 
 -- a token that can be read for a nonterminal, followed by what it leaves, fits that nonterminal and those after it
-pub forward : (format : Format) (s : Symbol) (shape : Shape) (ss : List Symbol) (ps : List Piece) →
+pub forward : (format : Format) (s : Nonterminal) (shape : Shape) (ss : List Nonterminal) (ps : List Piece) →
     Left format (next format s shape) ss ps →
     Fits format (s ∷ ss) (record { shape = shape; role = role_of s } ∷ ps)
-forward format symbol.Job (shape.Word w) ss ps left = by_keyword format symbol.Job text_rest refl (by_text format) w
+forward format nonterminal.Job (shape.Word w) ss ps left = by_keyword format nonterminal.Job text_rest refl (by_text format) w
     (keyword_of w) refl ss ps left
-forward format symbol.Job _ ss ps left = absurd left
-forward format symbol.Steps (shape.Word w) ss ps left =
-    by_keyword format symbol.Steps (step_rest format false) refl (by_step format false) w (keyword_of w) refl ss ps left
-forward format symbol.Steps (shape.Mark mark.Close) ss ps left = (ps, (stop, tt, refl), left)
-forward format symbol.Steps _ ss ps left = absurd left
-forward format symbol.Items (shape.Word w) ss ps left =
-    by_keyword format symbol.Items (step_rest format true) refl (by_step format true) w (keyword_of w) refl ss ps left
-forward format symbol.Items (shape.Mark mark.Close) ss ps left = (ps, (stop, tt, refl), left)
-forward format symbol.Items _ ss ps left = absurd left
-forward format symbol.StepsTail (shape.Word w) ss ps left =
-    by_keyword format symbol.StepsTail (tail_rest false) refl (by_tail format false) w (keyword_of w) refl ss ps left
-forward format symbol.StepsTail _ ss ps left = absurd left
-forward format symbol.ItemsTail (shape.Word w) ss ps left =
-    by_keyword format symbol.ItemsTail (tail_rest true) refl (by_tail format true) w (keyword_of w) refl ss ps left
-forward format symbol.ItemsTail _ ss ps left = absurd left
-forward format symbol.StepsCleanup (shape.Word w) ss ps left =
-    by_keyword format symbol.StepsCleanup (cleanup_rest format false) refl (by_cleanup format false) w (keyword_of w) refl ss ps left
-forward format symbol.StepsCleanup (shape.Mark mark.Close) ss ps left = (ps, (uncleaned, stop, tt, tt, refl), left)
-forward format symbol.StepsCleanup _ ss ps left = absurd left
-forward format symbol.ItemsCleanup (shape.Word w) ss ps left =
-    by_keyword format symbol.ItemsCleanup (cleanup_rest format true) refl (by_cleanup format true) w (keyword_of w) refl ss ps left
-forward format symbol.ItemsCleanup (shape.Mark mark.Close) ss ps left = (ps, (uncleaned, stop, tt, tt, refl), left)
-forward format symbol.ItemsCleanup _ ss ps left = absurd left
-forward format symbol.Scope (shape.Word w) ss ps left = by_keyword format symbol.Scope scope_rest refl (by_scope format) w
+forward format nonterminal.Job _ ss ps left = absurd left
+forward format nonterminal.Steps (shape.Word w) ss ps left =
+    by_keyword format nonterminal.Steps (step_rest format false) refl (by_step format false) w (keyword_of w) refl ss ps left
+forward format nonterminal.Steps (shape.Mark mark.Close) ss ps left = (ps, (stop, tt, refl), left)
+forward format nonterminal.Steps _ ss ps left = absurd left
+forward format nonterminal.Items (shape.Word w) ss ps left =
+    by_keyword format nonterminal.Items (step_rest format true) refl (by_step format true) w (keyword_of w) refl ss ps left
+forward format nonterminal.Items (shape.Mark mark.Close) ss ps left = (ps, (stop, tt, refl), left)
+forward format nonterminal.Items _ ss ps left = absurd left
+forward format nonterminal.StepsTail (shape.Word w) ss ps left =
+    by_keyword format nonterminal.StepsTail (tail_rest false) refl (by_tail format false) w (keyword_of w) refl ss ps left
+forward format nonterminal.StepsTail _ ss ps left = absurd left
+forward format nonterminal.ItemsTail (shape.Word w) ss ps left =
+    by_keyword format nonterminal.ItemsTail (tail_rest true) refl (by_tail format true) w (keyword_of w) refl ss ps left
+forward format nonterminal.ItemsTail _ ss ps left = absurd left
+forward format nonterminal.StepsCleanup (shape.Word w) ss ps left =
+    by_keyword format nonterminal.StepsCleanup (cleanup_rest format false) refl (by_cleanup format false) w (keyword_of w) refl ss ps left
+forward format nonterminal.StepsCleanup (shape.Mark mark.Close) ss ps left = (ps, (uncleaned, stop, tt, tt, refl), left)
+forward format nonterminal.StepsCleanup _ ss ps left = absurd left
+forward format nonterminal.ItemsCleanup (shape.Word w) ss ps left =
+    by_keyword format nonterminal.ItemsCleanup (cleanup_rest format true) refl (by_cleanup format true) w (keyword_of w) refl ss ps left
+forward format nonterminal.ItemsCleanup (shape.Mark mark.Close) ss ps left = (ps, (uncleaned, stop, tt, tt, refl), left)
+forward format nonterminal.ItemsCleanup _ ss ps left = absurd left
+forward format nonterminal.Scope (shape.Word w) ss ps left = by_keyword format nonterminal.Scope scope_rest refl (by_scope format) w
     (keyword_of w) refl ss ps left
-forward format symbol.Scope (shape.Mark mark.Open) ss ps (rest, (body, are, e), fits) =
+forward format nonterminal.Scope (shape.Mark mark.Open) ss ps (rest, (body, are, e), fits) =
     (rest, (Never, false, false, body, are, ap (on opens) e), fits)
-forward format symbol.Scope _ ss ps left = absurd left
-forward format symbol.Shield (shape.Word w) ss ps left = by_keyword format symbol.Shield shield_rest refl (by_shield format) w
+forward format nonterminal.Scope _ ss ps left = absurd left
+forward format nonterminal.Shield (shape.Word w) ss ps left = by_keyword format nonterminal.Shield shield_rest refl (by_shield format) w
     (keyword_of w) refl ss ps left
-forward format symbol.Shield (shape.Mark mark.Open) ss ps (rest, (body, are, e), fits) = (
+forward format nonterminal.Shield (shape.Mark mark.Open) ss ps (rest, (body, are, e), fits) = (
   rest,
   (false, false, body, are, ap (on opens) e),
   fits,
 )
-forward format symbol.Shield _ ss ps left = absurd left
-forward format symbol.Fail (shape.Word w) ss ps left = by_keyword format symbol.Fail fail_rest refl (by_fail format) w
+forward format nonterminal.Shield _ ss ps left = absurd left
+forward format nonterminal.Fail (shape.Word w) ss ps left = by_keyword format nonterminal.Fail fail_rest refl (by_fail format) w
     (keyword_of w) refl ss ps left
-forward format symbol.Fail (shape.Mark mark.Open) ss ps (rest, (body, are, e), fits) = (rest, (false, body, are, ap (on opens) e), fits)
-forward format symbol.Fail _ ss ps left = absurd left
-forward format symbol.Nursery (shape.Word w) ss ps left =
-    by_keyword format symbol.Nursery (nursery_rest format) refl (by_nursery format) w (keyword_of w) refl ss ps left
-forward format symbol.Nursery (shape.Mark mark.Open) ss ps (rest, (body, are, e), fits) =
+forward format nonterminal.Fail (shape.Mark mark.Open) ss ps (rest, (body, are, e), fits) = (rest, (false, body, are, ap (on opens) e), fits)
+forward format nonterminal.Fail _ ss ps left = absurd left
+forward format nonterminal.Nursery (shape.Word w) ss ps left =
+    by_keyword format nonterminal.Nursery (nursery_rest format) refl (by_nursery format) w (keyword_of w) refl ss ps left
+forward format nonterminal.Nursery (shape.Mark mark.Open) ss ps (rest, (body, are, e), fits) =
     (rest, (Never, false, body, plain_head format, are, ap (on opens) e), fits)
-forward format symbol.Nursery _ ss ps left = absurd left
-forward format symbol.NurseryShield (shape.Word w) ss ps left =
-    by_keyword format symbol.NurseryShield (nursery_shield_rest format) refl (by_nursery_shield format) w (keyword_of w) refl ss ps left
-forward format symbol.NurseryShield (shape.Mark mark.Open) ss ps (rest, (body, are, e), fits) =
+forward format nonterminal.Nursery _ ss ps left = absurd left
+forward format nonterminal.NurseryShield (shape.Word w) ss ps left =
+    by_keyword format nonterminal.NurseryShield (nursery_shield_rest format) refl (by_nursery_shield format) w (keyword_of w) refl ss ps left
+forward format nonterminal.NurseryShield (shape.Mark mark.Open) ss ps (rest, (body, are, e), fits) =
     (rest, (false, body, plain_head format, are, ap (on opens) e), fits)
-forward format symbol.NurseryShield _ ss ps left = absurd left
-forward format symbol.Over (shape.Word w) ss ps left = by_keyword format symbol.Over over_rest refl (by_over format) w
+forward format nonterminal.NurseryShield _ ss ps left = absurd left
+forward format nonterminal.Over (shape.Word w) ss ps left = by_keyword format nonterminal.Over over_rest refl (by_over format) w
     (keyword_of w) refl ss ps left
-forward format symbol.Over (shape.Mark mark.Open) ss ps (rest, (body, are, e), fits) = (rest, (None, body, are, ap (on opens) e), fits)
-forward format symbol.Over _ ss ps left = absurd left
-forward format symbol.Given (shape.Word w) ss ps left = (ps, (w, refl), left)
-forward format symbol.Given _ ss ps left = absurd left
-forward format symbol.Raised (shape.Word w) ss ps left = (ps, (w, refl), left)
-forward format symbol.Raised _ ss ps left = absurd left
-forward format symbol.Handled (shape.Word w) ss ps left = (ps, (w, refl), left)
-forward format symbol.Handled _ ss ps left = absurd left
-forward format symbol.Target (shape.Word w) ss ps left = (ps, (w, refl), left)
-forward format symbol.Target _ ss ps left = absurd left
-forward format symbol.Number (shape.Number (Some n)) ss ps left = (ps, (n, refl), left)
-forward format symbol.Number _ ss ps left = absurd left
-forward format symbol.Text (shape.Text t) ss ps left = (ps, (t, refl), left)
-forward format symbol.Text _ ss ps left = absurd left
-forward format symbol.Open (shape.Mark mark.Open) ss ps left = (ps, refl, left)
-forward format symbol.Open _ ss ps left = absurd left
-forward format symbol.Semicolon (shape.Mark mark.Semicolon) ss ps left = (ps, refl, left)
-forward format symbol.Semicolon _ ss ps left = absurd left
+forward format nonterminal.Over (shape.Mark mark.Open) ss ps (rest, (body, are, e), fits) = (rest, (None, body, are, ap (on opens) e), fits)
+forward format nonterminal.Over _ ss ps left = absurd left
+forward format nonterminal.Given (shape.Word w) ss ps left = (ps, (w, refl), left)
+forward format nonterminal.Given _ ss ps left = absurd left
+forward format nonterminal.Raised (shape.Word w) ss ps left = (ps, (w, refl), left)
+forward format nonterminal.Raised _ ss ps left = absurd left
+forward format nonterminal.Handled (shape.Word w) ss ps left = (ps, (w, refl), left)
+forward format nonterminal.Handled _ ss ps left = absurd left
+forward format nonterminal.Target (shape.Word w) ss ps left = (ps, (w, refl), left)
+forward format nonterminal.Target _ ss ps left = absurd left
+forward format nonterminal.Number (shape.Number (Some n)) ss ps left = (ps, (n, refl), left)
+forward format nonterminal.Number _ ss ps left = absurd left
+forward format nonterminal.Text (shape.Text t) ss ps left = (ps, (t, refl), left)
+forward format nonterminal.Text _ ss ps left = absurd left
+forward format nonterminal.Open (shape.Mark mark.Open) ss ps left = (ps, refl, left)
+forward format nonterminal.Open _ ss ps left = absurd left
+forward format nonterminal.Semicolon (shape.Mark mark.Semicolon) ss ps left = (ps, refl, left)
+forward format nonterminal.Semicolon _ ss ps left = absurd left

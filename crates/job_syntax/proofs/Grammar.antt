@@ -7,10 +7,10 @@ use Rattle.job_tree.specs.declared.deadline.Deadline.TheVariants.{Never, After, 
 use Rattle.job_tree.specs.Tree.{sleep, checkpoint, forever, pace, find, head, longest, need, raise, cancel, scope, nursery, start, repeat, attempt, Steps, stop, step, Handled, unhandled, except, Cleaned, uncleaned, finally, Tree}
 use Rattle.job_syntax.specs.declared.keyword.Keyword.{Keyword}
 use Rattle.job_syntax.specs.declared.keyword.Keyword.TheVariants as word
-use Rattle.job_syntax.specs.declared.symbol.Symbol.{Symbol}
-use Rattle.job_syntax.specs.declared.symbol.Symbol.TheVariants as symbol
+use Rattle.job_syntax.specs.declared.nonterminal.Nonterminal.{Nonterminal}
+use Rattle.job_syntax.specs.declared.nonterminal.Nonterminal.TheVariants as nonterminal
 use Rattle.job_syntax.specs.Keywords.{spelling, keyword_of}
-use Rattle.job_syntax.specs.Symbols.{Rest, next, step_rest, cleanup_rest, outer, tail, cleanup, ◌>>=◌}
+use Rattle.job_syntax.specs.Nonterminals.{Rest, next, step_rest, cleanup_rest, outer, tail, cleanup, ◌>>=◌}
 use Rattle.job_syntax.specs.declared.role.Role.TheVariants as role
 use Rattle.job_syntax.specs.Pieces.{Piece, keyword, named, number, string, opens, closes, ends, deadline_pieces, flag_pieces, over_pieces, steps_pieces, handler_pieces, cleanup_pieces, job_onto, IsNurseryHead, AreSteps, IsHandler, IsCleanup, HasTail}
 use Rattle.job_syntax.specs.Syntax.{Stands, Fits, role_of}
@@ -18,59 +18,59 @@ use Rattle.job_syntax.specs.Syntax.{Stands, Fits, role_of}
 -- ---- completion
 
 -- the shortest tokens of a nonterminal, followed by others
-abbrev shortest : (format : Format) → Symbol → List Piece → List Piece
-shortest format symbol.Job rest = job_onto (record { format = format; name = []; steps = stop }) rest
-shortest format symbol.Steps rest = closes ∷ rest
-shortest format symbol.Items rest = closes ∷ rest
-shortest format symbol.StepsTail rest = handler_pieces unhandled (cleanup_pieces (finally stop) (closes ∷ rest))
-shortest format symbol.ItemsTail rest = handler_pieces unhandled (cleanup_pieces (finally stop) (closes ∷ rest))
-shortest format symbol.StepsCleanup rest = closes ∷ rest
-shortest format symbol.ItemsCleanup rest = closes ∷ rest
-shortest format symbol.Scope rest = opens ∷ closes ∷ rest
-shortest format symbol.Shield rest = opens ∷ closes ∷ rest
-shortest format symbol.Fail rest = opens ∷ closes ∷ rest
-shortest format symbol.Nursery rest = opens ∷ closes ∷ rest
-shortest format symbol.NurseryShield rest = opens ∷ closes ∷ rest
-shortest format symbol.Over rest = opens ∷ closes ∷ rest
-shortest format symbol.Given rest = named role.Given [] ∷ rest
-shortest format symbol.Raised rest = named role.Raised [] ∷ rest
-shortest format symbol.Handled rest = named role.Handled [] ∷ rest
-shortest format symbol.Target rest = named role.Target [] ∷ rest
-shortest format symbol.Number rest = number 0 ∷ rest
-shortest format symbol.Text rest = string [] ∷ rest
-shortest format symbol.Open rest = opens ∷ rest
-shortest format symbol.Semicolon rest = ends ∷ rest
+abbrev shortest : (format : Format) → Nonterminal → List Piece → List Piece
+shortest format nonterminal.Job rest = job_onto (record { format = format; name = []; steps = stop }) rest
+shortest format nonterminal.Steps rest = closes ∷ rest
+shortest format nonterminal.Items rest = closes ∷ rest
+shortest format nonterminal.StepsTail rest = handler_pieces unhandled (cleanup_pieces (finally stop) (closes ∷ rest))
+shortest format nonterminal.ItemsTail rest = handler_pieces unhandled (cleanup_pieces (finally stop) (closes ∷ rest))
+shortest format nonterminal.StepsCleanup rest = closes ∷ rest
+shortest format nonterminal.ItemsCleanup rest = closes ∷ rest
+shortest format nonterminal.Scope rest = opens ∷ closes ∷ rest
+shortest format nonterminal.Shield rest = opens ∷ closes ∷ rest
+shortest format nonterminal.Fail rest = opens ∷ closes ∷ rest
+shortest format nonterminal.Nursery rest = opens ∷ closes ∷ rest
+shortest format nonterminal.NurseryShield rest = opens ∷ closes ∷ rest
+shortest format nonterminal.Over rest = opens ∷ closes ∷ rest
+shortest format nonterminal.Given rest = named role.Given [] ∷ rest
+shortest format nonterminal.Raised rest = named role.Raised [] ∷ rest
+shortest format nonterminal.Handled rest = named role.Handled [] ∷ rest
+shortest format nonterminal.Target rest = named role.Target [] ∷ rest
+shortest format nonterminal.Number rest = number 0 ∷ rest
+shortest format nonterminal.Text rest = string [] ∷ rest
+shortest format nonterminal.Open rest = opens ∷ rest
+shortest format nonterminal.Semicolon rest = ends ∷ rest
 
 -- nothing needs to follow the name of a nursery
 pub plain_head : (format : Format) → IsNurseryHead format Never false
 plain_head One = (refl, refl)
 plain_head Two = tt
 
-shortest_stands : (format : Format) (s : Symbol) (rest : List Piece) → Stands format s (shortest format s rest) rest
-shortest_stands format symbol.Job rest = (record { format = format; name = []; steps = stop }, refl, tt, refl)
-shortest_stands format symbol.Steps rest = (stop, tt, refl)
-shortest_stands format symbol.Items rest = (stop, tt, refl)
-shortest_stands format symbol.StepsTail rest = (unhandled, finally stop, stop, tt, tt, tt, tt, refl)
-shortest_stands format symbol.ItemsTail rest = (unhandled, finally stop, stop, tt, tt, tt, tt, refl)
-shortest_stands format symbol.StepsCleanup rest = (uncleaned, stop, tt, tt, refl)
-shortest_stands format symbol.ItemsCleanup rest = (uncleaned, stop, tt, tt, refl)
-shortest_stands format symbol.Scope rest = (Never, false, false, stop, tt, refl)
-shortest_stands format symbol.Shield rest = (false, false, stop, tt, refl)
-shortest_stands format symbol.Fail rest = (false, stop, tt, refl)
-shortest_stands format symbol.Nursery rest = (Never, false, stop, plain_head format, tt, refl)
-shortest_stands format symbol.NurseryShield rest = (false, stop, plain_head format, tt, refl)
-shortest_stands format symbol.Over rest = (None, stop, tt, refl)
-shortest_stands format symbol.Given rest = ([], refl)
-shortest_stands format symbol.Raised rest = ([], refl)
-shortest_stands format symbol.Handled rest = ([], refl)
-shortest_stands format symbol.Target rest = ([], refl)
-shortest_stands format symbol.Number rest = (0, refl)
-shortest_stands format symbol.Text rest = ([], refl)
-shortest_stands format symbol.Open rest = refl
-shortest_stands format symbol.Semicolon rest = refl
+shortest_stands : (format : Format) (s : Nonterminal) (rest : List Piece) → Stands format s (shortest format s rest) rest
+shortest_stands format nonterminal.Job rest = (record { format = format; name = []; steps = stop }, refl, tt, refl)
+shortest_stands format nonterminal.Steps rest = (stop, tt, refl)
+shortest_stands format nonterminal.Items rest = (stop, tt, refl)
+shortest_stands format nonterminal.StepsTail rest = (unhandled, finally stop, stop, tt, tt, tt, tt, refl)
+shortest_stands format nonterminal.ItemsTail rest = (unhandled, finally stop, stop, tt, tt, tt, tt, refl)
+shortest_stands format nonterminal.StepsCleanup rest = (uncleaned, stop, tt, tt, refl)
+shortest_stands format nonterminal.ItemsCleanup rest = (uncleaned, stop, tt, tt, refl)
+shortest_stands format nonterminal.Scope rest = (Never, false, false, stop, tt, refl)
+shortest_stands format nonterminal.Shield rest = (false, false, stop, tt, refl)
+shortest_stands format nonterminal.Fail rest = (false, stop, tt, refl)
+shortest_stands format nonterminal.Nursery rest = (Never, false, stop, plain_head format, tt, refl)
+shortest_stands format nonterminal.NurseryShield rest = (false, stop, plain_head format, tt, refl)
+shortest_stands format nonterminal.Over rest = (None, stop, tt, refl)
+shortest_stands format nonterminal.Given rest = ([], refl)
+shortest_stands format nonterminal.Raised rest = ([], refl)
+shortest_stands format nonterminal.Handled rest = ([], refl)
+shortest_stands format nonterminal.Target rest = ([], refl)
+shortest_stands format nonterminal.Number rest = (0, refl)
+shortest_stands format nonterminal.Text rest = ([], refl)
+shortest_stands format nonterminal.Open rest = refl
+shortest_stands format nonterminal.Semicolon rest = refl
 
 -- each list of nonterminals has a completion
-pub completed : (format : Format) (ss : List Symbol) → (ps : List Piece) × Fits format ss ps
+pub completed : (format : Format) (ss : List Nonterminal) → (ps : List Piece) × Fits format ss ps
 completed format [] = ([], refl)
 completed format (s ∷ ss) = let others = completed format ss in
     (shortest format s others.0, (others.0, shortest_stands format s others.0, others.1))
@@ -78,16 +78,16 @@ completed format (s ∷ ss) = let others = completed format ss in
 -- ---- back: from a token and the rest to what must be in the rest
 
 -- what the first token leaves
-abbrev pub Left : (format : Format) → Rest → List Symbol → List Piece → Type 0
+abbrev pub Left : (format : Format) → Rest → List Nonterminal → List Piece → Type 0
 Left format None ss ps = ⊥
 Left format (Some more) ss ps = Fits format (more ++ ss) ps
 
-abbrev pub Goes : (format : Format) → Symbol → List Symbol → List Piece → Type 0
+abbrev pub Goes : (format : Format) → Nonterminal → List Nonterminal → List Piece → Type 0
 Goes format s ss [] = ⊥
 Goes format s ss (p ∷ ps) = Left format (next format s p.shape) ss ps × (p.role ≡ role_of s)
 
 -- the first token of the rest of a block
-abbrev First : (format : Format) → Bool → List Symbol → List Piece → Type 0
+abbrev First : (format : Format) → Bool → List Nonterminal → List Piece → Type 0
 First format inside ss [] = ⊥
 First format inside ss (p ∷ ps) = ((p ≡ closes) × Fits format ss ps) ⊎
     ((k : Keyword) × (p ≡ keyword k) × Left format (step_rest format inside k) ss ps)
@@ -109,7 +109,7 @@ cleanup_stands : (format : Format) (inside : Bool) (c : Cleaned) (steps : Steps)
 cleanup_stands format false c steps rest clean are = (c, steps, clean, are, refl)
 cleanup_stands format true c steps rest clean are = (c, steps, clean, are, refl)
 
-start_left : (format : Format) (inside : Bool) (n : List ℕ) (o : Option ℕ) (body others : Steps) (ss : List Symbol) (rest : List Piece) →
+start_left : (format : Format) (inside : Bool) (n : List ℕ) (o : Option ℕ) (body others : Steps) (ss : List Nonterminal) (rest : List Piece) →
     inside ≡ true →
     AreSteps format false body → AreSteps format inside others → Fits format ss rest
     → Left format (step_rest format inside word.Start) ss (named role.Given n ∷ over_pieces o
@@ -121,7 +121,7 @@ start_left format true n o body others ss rest e are behind fits = (
 )
 start_left format false n o body others ss rest e are behind fits = absurd cc
 
-repeat_left : (format : Format) (inside : Bool) (n : ℕ) (body others : Steps) (ss : List Symbol) (rest : List Piece) → format ≡ Two →
+repeat_left : (format : Format) (inside : Bool) (n : ℕ) (body others : Steps) (ss : List Nonterminal) (rest : List Piece) → format ≡ Two →
     AreSteps format false body → AreSteps format inside others → Fits format ss rest
     → Left format (step_rest format inside word.Repeat) ss (number n ∷ opens ∷ steps_pieces body (steps_pieces others rest))
 repeat_left Two inside n body others ss rest e are behind fits = (
@@ -135,7 +135,7 @@ repeat_left Two inside n body others ss rest e are behind fits = (
 )
 repeat_left One inside n body others ss rest e are behind fits = absurd cc
 
-first_of_block : (format : Format) (inside : Bool) (steps : Steps) (ss : List Symbol) (rest : List Piece) → AreSteps format inside steps →
+first_of_block : (format : Format) (inside : Bool) (steps : Steps) (ss : List Nonterminal) (rest : List Piece) → AreSteps format inside steps →
     Fits format ss rest →
     First format inside ss (steps_pieces steps rest)
 first_of_block format inside stop ss rest are fits = inl (refl, fits)
@@ -226,44 +226,44 @@ keyword_of-spelled word.Job = refl
 keyword_of-spelled _ = refl
 
 -- a keyword, followed by what it leaves
-by_keyword : (format : Format) (words : Keyword → Rest) (k : Keyword) (ss : List Symbol) (ps : List Piece) → Left format (words k) ss ps →
+by_keyword : (format : Format) (words : Keyword → Rest) (k : Keyword) (ss : List Nonterminal) (ps : List Piece) → Left format (words k) ss ps →
     Left format (keyword_of (spelling k) >>= words) ss ps
 by_keyword format words k ss ps left = subst (λ (o : Option Keyword). Left format (o >>= words) ss ps) (sym (keyword_of-spelled k)) left
 
 -- a word other than `finally` begins what a block begins with
-finally_no_step : (format : Format) (inside : Bool) (k : Keyword) (ss : List Symbol) (ps : List Piece) →
+finally_no_step : (format : Format) (inside : Bool) (k : Keyword) (ss : List Nonterminal) (ps : List Piece) →
     Left format (step_rest format inside k) ss ps →
     Left format (cleanup_rest format inside k) ss ps
 finally_no_step format inside word.Finally ss ps left = absurd left
 finally_no_step format inside _ ss ps left = left
 
-goes_block : (format : Format) (inside : Bool) (ss : List Symbol) (ps : List Piece) → First format inside ss ps →
+goes_block : (format : Format) (inside : Bool) (ss : List Nonterminal) (ps : List Piece) → First format inside ss ps →
     Goes format (outer inside) ss ps
 goes_block format inside ss [] first = absurd first
-goes_block format false ss (p ∷ ps) (inl (e, fits)) = subst (λ (x : Piece). Goes format symbol.Steps ss (x ∷ ps)) (sym e) (fits, refl)
+goes_block format false ss (p ∷ ps) (inl (e, fits)) = subst (λ (x : Piece). Goes format nonterminal.Steps ss (x ∷ ps)) (sym e) (fits, refl)
 goes_block format false ss (p ∷ ps) (inr (k, e, left)) =
-    subst (λ (x : Piece). Goes format symbol.Steps ss (x ∷ ps)) (sym e) (by_keyword format (step_rest format false) k ss ps left, refl)
-goes_block format true ss (p ∷ ps) (inl (e, fits)) = subst (λ (x : Piece). Goes format symbol.Items ss (x ∷ ps)) (sym e) (fits, refl)
+    subst (λ (x : Piece). Goes format nonterminal.Steps ss (x ∷ ps)) (sym e) (by_keyword format (step_rest format false) k ss ps left, refl)
+goes_block format true ss (p ∷ ps) (inl (e, fits)) = subst (λ (x : Piece). Goes format nonterminal.Items ss (x ∷ ps)) (sym e) (fits, refl)
 goes_block format true ss (p ∷ ps) (inr (k, e, left)) =
-    subst (λ (x : Piece). Goes format symbol.Items ss (x ∷ ps)) (sym e) (by_keyword format (step_rest format true) k ss ps left, refl)
+    subst (λ (x : Piece). Goes format nonterminal.Items ss (x ∷ ps)) (sym e) (by_keyword format (step_rest format true) k ss ps left, refl)
 
-goes_uncleaned : (format : Format) (inside : Bool) (ss : List Symbol) (ps : List Piece) → First format inside ss ps →
+goes_uncleaned : (format : Format) (inside : Bool) (ss : List Nonterminal) (ps : List Piece) → First format inside ss ps →
     Goes format (cleanup inside) ss ps
 goes_uncleaned format inside ss [] first = absurd first
-goes_uncleaned format false ss (p ∷ ps) (inl (e, fits)) = subst (λ (x : Piece). Goes format symbol.StepsCleanup ss (x ∷ ps)) (sym e)
+goes_uncleaned format false ss (p ∷ ps) (inl (e, fits)) = subst (λ (x : Piece). Goes format nonterminal.StepsCleanup ss (x ∷ ps)) (sym e)
     (fits, refl)
-goes_uncleaned format false ss (p ∷ ps) (inr (k, e, left)) = subst (λ (x : Piece). Goes format symbol.StepsCleanup ss (x ∷ ps)) (sym e)
+goes_uncleaned format false ss (p ∷ ps) (inr (k, e, left)) = subst (λ (x : Piece). Goes format nonterminal.StepsCleanup ss (x ∷ ps)) (sym e)
     (by_keyword format (cleanup_rest format false) k ss ps (finally_no_step format false k ss ps left), refl)
-goes_uncleaned format true ss (p ∷ ps) (inl (e, fits)) = subst (λ (x : Piece). Goes format symbol.ItemsCleanup ss (x ∷ ps)) (sym e)
+goes_uncleaned format true ss (p ∷ ps) (inl (e, fits)) = subst (λ (x : Piece). Goes format nonterminal.ItemsCleanup ss (x ∷ ps)) (sym e)
     (fits, refl)
-goes_uncleaned format true ss (p ∷ ps) (inr (k, e, left)) = subst (λ (x : Piece). Goes format symbol.ItemsCleanup ss (x ∷ ps)) (sym e)
+goes_uncleaned format true ss (p ∷ ps) (inr (k, e, left)) = subst (λ (x : Piece). Goes format nonterminal.ItemsCleanup ss (x ∷ ps)) (sym e)
     (by_keyword format (cleanup_rest format true) k ss ps (finally_no_step format true k ss ps left), refl)
 
 -- a block with its opening mark, followed by others
-block_fits : (format : Format) (inside : Bool) (body others : Steps) (ss : List Symbol) (rest : List Piece) → AreSteps format false body →
+block_fits : (format : Format) (inside : Bool) (body others : Steps) (ss : List Nonterminal) (rest : List Piece) → AreSteps format false body →
     AreSteps format inside others →
     Fits format ss rest
-    → Fits format (symbol.Open ∷ symbol.Steps ∷ outer inside ∷ ss) (opens ∷ steps_pieces body (steps_pieces others rest))
+    → Fits format (nonterminal.Open ∷ nonterminal.Steps ∷ outer inside ∷ ss) (opens ∷ steps_pieces body (steps_pieces others rest))
 block_fits format inside body others ss rest are behind fits = (
   steps_pieces body (steps_pieces others rest),
   refl,
@@ -274,7 +274,7 @@ block_fits format inside body others ss rest are behind fits = (
   ),
 )
 
-on_cleanup : (format : Format) (inside : Bool) (c : Cleaned) (steps : Steps) (ss : List Symbol) (rest : List Piece) → IsCleanup format c →
+on_cleanup : (format : Format) (inside : Bool) (c : Cleaned) (steps : Steps) (ss : List Nonterminal) (rest : List Piece) → IsCleanup format c →
     AreSteps format inside steps →
     Fits format ss rest → Goes format (cleanup inside) ss (cleanup_pieces c (steps_pieces steps rest))
 unfolding keyword_of
@@ -283,10 +283,10 @@ on_cleanup format inside uncleaned steps ss rest clean are fits =
 on_cleanup format false (finally body) steps ss rest clean are fits = (block_fits format false body steps ss rest clean are fits, refl)
 on_cleanup format true (finally body) steps ss rest clean are fits = (block_fits format true body steps ss rest clean are fits, refl)
 
-handler_fits : (format : Format) (inside : Bool) (n : List ℕ) (body : Steps) (c : Cleaned) (others : Steps) (ss : List Symbol)
+handler_fits : (format : Format) (inside : Bool) (n : List ℕ) (body : Steps) (c : Cleaned) (others : Steps) (ss : List Nonterminal)
     (rest : List Piece) →
     AreSteps format false body → IsCleanup format c → AreSteps format inside others → Fits format ss rest
-    → Fits format (symbol.Handled ∷ symbol.Open ∷ symbol.Steps ∷ cleanup inside ∷ ss)
+    → Fits format (nonterminal.Handled ∷ nonterminal.Open ∷ nonterminal.Steps ∷ cleanup inside ∷ ss)
     (named role.Handled n ∷ opens ∷ steps_pieces body (cleanup_pieces c (steps_pieces others rest)))
 handler_fits format inside n body c others ss rest are clean behind fits =
     let after = cleanup_pieces c (steps_pieces others rest) in (
@@ -299,7 +299,7 @@ handler_fits format inside n body c others ss rest are clean behind fits =
       ),
     )
 
-on_tail : (format : Format) (inside : Bool) (h : Handled) (c : Cleaned) (steps : Steps) (ss : List Symbol) (rest : List Piece) →
+on_tail : (format : Format) (inside : Bool) (h : Handled) (c : Cleaned) (steps : Steps) (ss : List Nonterminal) (rest : List Piece) →
     HasTail h c → IsHandler format h →
     IsCleanup format c → AreSteps format inside steps → Fits format ss rest → Goes format (tail inside) ss
     (handler_pieces h (cleanup_pieces c (steps_pieces steps rest)))
@@ -315,28 +315,28 @@ on_tail format true unhandled (finally body) steps ss rest has handler clean are
 on_tail format inside unhandled uncleaned steps ss rest has handler clean are fits = absurd has
 
 -- a body with its opening mark
-body_fits : (format : Format) (body : Steps) (ss : List Symbol) (rest : List Piece) → AreSteps format false body → Fits format ss rest →
-    Fits format (symbol.Open ∷ symbol.Steps ∷ ss) (opens ∷ steps_pieces body rest)
+body_fits : (format : Format) (body : Steps) (ss : List Nonterminal) (rest : List Piece) → AreSteps format false body → Fits format ss rest →
+    Fits format (nonterminal.Open ∷ nonterminal.Steps ∷ ss) (opens ∷ steps_pieces body rest)
 body_fits format body ss rest are fits = (steps_pieces body rest, refl, (rest, (body, are, refl), fits))
 
-on_fail : (format : Format) (f : Bool) (body : Steps) (ss : List Symbol) (rest : List Piece) → AreSteps format false body →
+on_fail : (format : Format) (f : Bool) (body : Steps) (ss : List Nonterminal) (rest : List Piece) → AreSteps format false body →
     Fits format ss rest →
-    Goes format symbol.Fail ss (flag_pieces word.Fail f (opens ∷ steps_pieces body rest))
+    Goes format nonterminal.Fail ss (flag_pieces word.Fail f (opens ∷ steps_pieces body rest))
 unfolding keyword_of
 on_fail format true body ss rest are fits = (body_fits format body ss rest are fits, refl)
 on_fail format false body ss rest are fits = ((rest, (body, are, refl), fits), refl)
 
-on_shield : (format : Format) (s f : Bool) (body : Steps) (ss : List Symbol) (rest : List Piece) → AreSteps format false body →
+on_shield : (format : Format) (s f : Bool) (body : Steps) (ss : List Nonterminal) (rest : List Piece) → AreSteps format false body →
     Fits format ss rest →
-    Goes format symbol.Shield ss (flag_pieces word.Shield s (flag_pieces word.Fail f (opens ∷ steps_pieces body rest)))
+    Goes format nonterminal.Shield ss (flag_pieces word.Shield s (flag_pieces word.Fail f (opens ∷ steps_pieces body rest)))
 unfolding keyword_of
 on_shield format true f body ss rest are fits = ((rest, (f, body, are, refl), fits), refl)
 on_shield format false true body ss rest are fits = (body_fits format body ss rest are fits, refl)
 on_shield format false false body ss rest are fits = ((rest, (body, are, refl), fits), refl)
 
-on_scope : (format : Format) (d : Deadline) (s f : Bool) (body : Steps) (ss : List Symbol) (rest : List Piece) →
+on_scope : (format : Format) (d : Deadline) (s f : Bool) (body : Steps) (ss : List Nonterminal) (rest : List Piece) →
     AreSteps format false body → Fits format ss rest →
-    Goes format symbol.Scope ss (deadline_pieces d (flag_pieces word.Shield s (flag_pieces word.Fail f (opens ∷ steps_pieces body rest))))
+    Goes format nonterminal.Scope ss (deadline_pieces d (flag_pieces word.Shield s (flag_pieces word.Fail f (opens ∷ steps_pieces body rest))))
 unfolding keyword_of
 on_scope format (After n) s f body ss rest are fits =
     let behind = flag_pieces word.Shield s (flag_pieces word.Fail f (opens ∷ steps_pieces body rest)) in
@@ -348,17 +348,17 @@ on_scope format Never true f body ss rest are fits = ((rest, (f, body, are, refl
 on_scope format Never false true body ss rest are fits = (body_fits format body ss rest are fits, refl)
 on_scope format Never false false body ss rest are fits = ((rest, (body, are, refl), fits), refl)
 
-on_nursery_shield : (format : Format) (s : Bool) (body : Steps) (ss : List Symbol) (rest : List Piece) → IsNurseryHead format Never s →
+on_nursery_shield : (format : Format) (s : Bool) (body : Steps) (ss : List Nonterminal) (rest : List Piece) → IsNurseryHead format Never s →
     AreSteps format true body → Fits format ss rest →
-    Goes format symbol.NurseryShield ss (flag_pieces word.Shield s (opens ∷ steps_pieces body rest))
+    Goes format nonterminal.NurseryShield ss (flag_pieces word.Shield s (opens ∷ steps_pieces body rest))
 unfolding keyword_of
 on_nursery_shield Two true body ss rest may are fits = ((steps_pieces body rest, refl, (rest, (body, are, refl), fits)), refl)
 on_nursery_shield One true body ss rest may are fits = let e = may.1 in absurd cc
 on_nursery_shield format false body ss rest may are fits = ((rest, (body, are, refl), fits), refl)
 
-on_nursery : (format : Format) (d : Deadline) (s : Bool) (body : Steps) (ss : List Symbol) (rest : List Piece) →
+on_nursery : (format : Format) (d : Deadline) (s : Bool) (body : Steps) (ss : List Nonterminal) (rest : List Piece) →
     IsNurseryHead format d s → AreSteps format true body → Fits format ss rest →
-    Goes format symbol.Nursery ss (deadline_pieces d (flag_pieces word.Shield s (opens ∷ steps_pieces body rest)))
+    Goes format nonterminal.Nursery ss (deadline_pieces d (flag_pieces word.Shield s (opens ∷ steps_pieces body rest)))
 unfolding keyword_of
 on_nursery Two (After n) s body ss rest may are fits =
     ((flag_pieces word.Shield s (opens ∷ steps_pieces body rest), (n, refl), (rest, (s, body, tt, are, refl), fits)), refl)
@@ -369,15 +369,15 @@ on_nursery One (At n) s body ss rest may are fits = let e = may.0 in absurd cc
 on_nursery One Never true body ss rest may are fits = let e = may.1 in absurd cc
 on_nursery format Never false body ss rest may are fits = ((rest, (body, are, refl), fits), refl)
 
-on_over : (format : Format) (o : Option ℕ) (body : Steps) (ss : List Symbol) (rest : List Piece) → AreSteps format false body →
+on_over : (format : Format) (o : Option ℕ) (body : Steps) (ss : List Nonterminal) (rest : List Piece) → AreSteps format false body →
     Fits format ss rest →
-    Goes format symbol.Over ss (over_pieces o (opens ∷ steps_pieces body rest))
+    Goes format nonterminal.Over ss (over_pieces o (opens ∷ steps_pieces body rest))
 unfolding keyword_of
 on_over format (Some n) body ss rest are fits = ((opens ∷ steps_pieces body rest, (n, refl), body_fits format body ss rest are fits), refl)
 on_over format None body ss rest are fits = ((rest, (body, are, refl), fits), refl)
 
-on_job : (format : Format) (job : Tree) (ss : List Symbol) (rest : List Piece) → AreSteps format false job.steps → Fits format ss rest →
-    Goes format symbol.Job ss (job_onto job rest)
+on_job : (format : Format) (job : Tree) (ss : List Nonterminal) (rest : List Piece) → AreSteps format false job.steps → Fits format ss rest →
+    Goes format nonterminal.Job ss (job_onto job rest)
 unfolding keyword_of
 on_job format job ss rest are fits = (
   (opens ∷ steps_pieces job.steps rest, (job.name, refl), body_fits format job.steps ss rest are fits),
@@ -385,40 +385,40 @@ on_job format job ss rest are fits = (
 )
 
 -- what fits begins with a token that can be read for the first nonterminal, and the rest fits what is left
-pub goes : (format : Format) (s : Symbol) (ss : List Symbol) (ps : List Piece) → Fits format (s ∷ ss) ps → Goes format s ss ps
-goes format symbol.Job ss ps (rest, (job, same, are, e), fits) = subst (Goes format symbol.Job ss) (sym e)
+pub goes : (format : Format) (s : Nonterminal) (ss : List Nonterminal) (ps : List Piece) → Fits format (s ∷ ss) ps → Goes format s ss ps
+goes format nonterminal.Job ss ps (rest, (job, same, are, e), fits) = subst (Goes format nonterminal.Job ss) (sym e)
     (on_job format job ss rest are fits)
-goes format symbol.Steps ss ps (rest, (steps, are, e), fits) =
-    subst (Goes format symbol.Steps ss) (sym e) (goes_block format false ss (steps_pieces steps rest)
+goes format nonterminal.Steps ss ps (rest, (steps, are, e), fits) =
+    subst (Goes format nonterminal.Steps ss) (sym e) (goes_block format false ss (steps_pieces steps rest)
     (first_of_block format false steps ss rest are fits))
-goes format symbol.Items ss ps (rest, (steps, are, e), fits) =
-    subst (Goes format symbol.Items ss) (sym e) (goes_block format true ss (steps_pieces steps rest)
+goes format nonterminal.Items ss ps (rest, (steps, are, e), fits) =
+    subst (Goes format nonterminal.Items ss) (sym e) (goes_block format true ss (steps_pieces steps rest)
     (first_of_block format true steps ss rest are fits))
-goes format symbol.StepsTail ss ps (rest, (h, c, steps, has, handler, clean, are, e), fits) =
-    subst (Goes format symbol.StepsTail ss) (sym e) (on_tail format false h c steps ss rest has handler clean are fits)
-goes format symbol.ItemsTail ss ps (rest, (h, c, steps, has, handler, clean, are, e), fits) =
-    subst (Goes format symbol.ItemsTail ss) (sym e) (on_tail format true h c steps ss rest has handler clean are fits)
-goes format symbol.StepsCleanup ss ps (rest, (c, steps, clean, are, e), fits) =
-    subst (Goes format symbol.StepsCleanup ss) (sym e) (on_cleanup format false c steps ss rest clean are fits)
-goes format symbol.ItemsCleanup ss ps (rest, (c, steps, clean, are, e), fits) =
-    subst (Goes format symbol.ItemsCleanup ss) (sym e) (on_cleanup format true c steps ss rest clean are fits)
-goes format symbol.Scope ss ps (rest, (d, s, f, body, are, e), fits) = subst (Goes format symbol.Scope ss) (sym e)
+goes format nonterminal.StepsTail ss ps (rest, (h, c, steps, has, handler, clean, are, e), fits) =
+    subst (Goes format nonterminal.StepsTail ss) (sym e) (on_tail format false h c steps ss rest has handler clean are fits)
+goes format nonterminal.ItemsTail ss ps (rest, (h, c, steps, has, handler, clean, are, e), fits) =
+    subst (Goes format nonterminal.ItemsTail ss) (sym e) (on_tail format true h c steps ss rest has handler clean are fits)
+goes format nonterminal.StepsCleanup ss ps (rest, (c, steps, clean, are, e), fits) =
+    subst (Goes format nonterminal.StepsCleanup ss) (sym e) (on_cleanup format false c steps ss rest clean are fits)
+goes format nonterminal.ItemsCleanup ss ps (rest, (c, steps, clean, are, e), fits) =
+    subst (Goes format nonterminal.ItemsCleanup ss) (sym e) (on_cleanup format true c steps ss rest clean are fits)
+goes format nonterminal.Scope ss ps (rest, (d, s, f, body, are, e), fits) = subst (Goes format nonterminal.Scope ss) (sym e)
     (on_scope format d s f body ss rest are fits)
-goes format symbol.Shield ss ps (rest, (s, f, body, are, e), fits) = subst (Goes format symbol.Shield ss) (sym e)
+goes format nonterminal.Shield ss ps (rest, (s, f, body, are, e), fits) = subst (Goes format nonterminal.Shield ss) (sym e)
     (on_shield format s f body ss rest are fits)
-goes format symbol.Fail ss ps (rest, (f, body, are, e), fits) = subst (Goes format symbol.Fail ss) (sym e)
+goes format nonterminal.Fail ss ps (rest, (f, body, are, e), fits) = subst (Goes format nonterminal.Fail ss) (sym e)
     (on_fail format f body ss rest are fits)
-goes format symbol.Nursery ss ps (rest, (d, s, body, may, are, e), fits) =
-    subst (Goes format symbol.Nursery ss) (sym e) (on_nursery format d s body ss rest may are fits)
-goes format symbol.NurseryShield ss ps (rest, (s, body, may, are, e), fits) =
-    subst (Goes format symbol.NurseryShield ss) (sym e) (on_nursery_shield format s body ss rest may are fits)
-goes format symbol.Over ss ps (rest, (o, body, are, e), fits) = subst (Goes format symbol.Over ss) (sym e)
+goes format nonterminal.Nursery ss ps (rest, (d, s, body, may, are, e), fits) =
+    subst (Goes format nonterminal.Nursery ss) (sym e) (on_nursery format d s body ss rest may are fits)
+goes format nonterminal.NurseryShield ss ps (rest, (s, body, may, are, e), fits) =
+    subst (Goes format nonterminal.NurseryShield ss) (sym e) (on_nursery_shield format s body ss rest may are fits)
+goes format nonterminal.Over ss ps (rest, (o, body, are, e), fits) = subst (Goes format nonterminal.Over ss) (sym e)
     (on_over format o body ss rest are fits)
-goes format symbol.Given ss ps (rest, (n, e), fits) = subst (Goes format symbol.Given ss) (sym e) (fits, refl)
-goes format symbol.Raised ss ps (rest, (n, e), fits) = subst (Goes format symbol.Raised ss) (sym e) (fits, refl)
-goes format symbol.Handled ss ps (rest, (n, e), fits) = subst (Goes format symbol.Handled ss) (sym e) (fits, refl)
-goes format symbol.Target ss ps (rest, (n, e), fits) = subst (Goes format symbol.Target ss) (sym e) (fits, refl)
-goes format symbol.Number ss ps (rest, (n, e), fits) = subst (Goes format symbol.Number ss) (sym e) (fits, refl)
-goes format symbol.Text ss ps (rest, (n, e), fits) = subst (Goes format symbol.Text ss) (sym e) (fits, refl)
-goes format symbol.Open ss ps (rest, e, fits) = subst (Goes format symbol.Open ss) (sym e) (fits, refl)
-goes format symbol.Semicolon ss ps (rest, e, fits) = subst (Goes format symbol.Semicolon ss) (sym e) (fits, refl)
+goes format nonterminal.Given ss ps (rest, (n, e), fits) = subst (Goes format nonterminal.Given ss) (sym e) (fits, refl)
+goes format nonterminal.Raised ss ps (rest, (n, e), fits) = subst (Goes format nonterminal.Raised ss) (sym e) (fits, refl)
+goes format nonterminal.Handled ss ps (rest, (n, e), fits) = subst (Goes format nonterminal.Handled ss) (sym e) (fits, refl)
+goes format nonterminal.Target ss ps (rest, (n, e), fits) = subst (Goes format nonterminal.Target ss) (sym e) (fits, refl)
+goes format nonterminal.Number ss ps (rest, (n, e), fits) = subst (Goes format nonterminal.Number ss) (sym e) (fits, refl)
+goes format nonterminal.Text ss ps (rest, (n, e), fits) = subst (Goes format nonterminal.Text ss) (sym e) (fits, refl)
+goes format nonterminal.Open ss ps (rest, e, fits) = subst (Goes format nonterminal.Open ss) (sym e) (fits, refl)
+goes format nonterminal.Semicolon ss ps (rest, e, fits) = subst (Goes format nonterminal.Semicolon ss) (sym e) (fits, refl)

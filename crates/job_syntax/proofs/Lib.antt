@@ -5,6 +5,6 @@ pub mod Again
 pub mod Steps
 pub mod Names
 pub mod Deep
-pub mod Modest
+pub mod InRange
 pub mod Starting
 pub mod Upgraded

@@ -5,14 +5,14 @@ use Rattle.job_tree.specs.Tree.{Tree}
 use Rattle.job_tokens.specs.declared.token.Shape.{Shape}
 use Rattle.job_tokens.specs.declared.token.Token.{Token}
 use Rattle.job_tokens.specs.Shapes.{shapes_of}
-use Rattle.job_syntax.specs.declared.symbol.Symbol.{Symbol}
-use Rattle.job_syntax.specs.Symbols.{Rest, next}
+use Rattle.job_syntax.specs.declared.nonterminal.Nonterminal.{Nonterminal}
+use Rattle.job_syntax.specs.Nonterminals.{Rest, next}
 use Rattle.job_syntax.specs.Pieces.{Piece, shapes_in, roles_in, job_onto, job_pieces, AreSteps}
 use Rattle.job_syntax.specs.Syntax.{Fits, IsText, role_of, roles_at, or_nothing, whole_job}
 use Rattle.job_syntax.proofs.Grammar.{Left, goes}
 
 -- the roles found along tokens that fit are those of their pieces
-pub roles_at-in : (format : Format) (ss : List Symbol) (tokens : List Token) (ps : List Piece) → Fits format ss ps →
+pub roles_at-in : (format : Format) (ss : List Nonterminal) (tokens : List Token) (ps : List Piece) → Fits format ss ps →
     shapes_of tokens ≡ shapes_in ps →
     roles_at format ss tokens ≡ roles_in ps
 roles_at-in format ss [] [] fits e = refl
@@ -32,7 +32,7 @@ roles_at-in format (s ∷ ss) (t ∷ ts) (p ∷ ps) fits e =
     tail : shapes_of ts ≡ shapes_in ps
     tail = cc
 
-    by_rest : ((more : List Symbol) → Fits format (more ++ ss) ps → shapes_of ts ≡ shapes_in ps →
+    by_rest : ((more : List Nonterminal) → Fits format (more ++ ss) ps → shapes_of ts ≡ shapes_in ps →
         roles_at format (more ++ ss) ts ≡ roles_in ps) →
         (r : Rest) → Left format r ss ps → role_of s ∷ or_nothing r (λ more. roles_at format (more ++ ss) ts) ≡ p.role ∷ roles_in ps
     by_rest others None fit = absurd fit

@@ -4,8 +4,8 @@ use Rattle.job_tree.specs.declared.format.Format.{Format}
 use Rattle.job_tokens.specs.declared.token.Shape.{Shape}
 use Rattle.job_tokens.specs.declared.token.Token.{Token}
 use Rattle.job_tokens.specs.Shapes.{shapes_of}
-use Rattle.job_syntax.specs.declared.symbol.Symbol.{Symbol}
-use Rattle.job_syntax.specs.Symbols.{Rest, next}
+use Rattle.job_syntax.specs.declared.nonterminal.Nonterminal.{Nonterminal}
+use Rattle.job_syntax.specs.Nonterminals.{Rest, next}
 use Rattle.job_syntax.specs.Pieces.{Piece, shapes_in}
 use Rattle.job_syntax.specs.Syntax.{IsText, Begins, LeavesAt, fault_at, or_stop, role_of}
 use Rattle.job_syntax.proofs.Grammar.{Left, goes, completed}
@@ -14,17 +14,17 @@ use Rattle.job_syntax.proofs.Forward.{forward}
 -- ---- one token
 
 -- what may follow a token, if it can occur there
-abbrev Follows : (format : Format) → Rest → List Symbol → List Shape → Type 0
+abbrev Follows : (format : Format) → Rest → List Nonterminal → List Shape → Type 0
 Follows format None ss shapes = ⊥
 Follows format (Some more) ss shapes = IsText format (more ++ ss) shapes
 
-follows_of : (format : Format) (rest : Rest) (ss : List Symbol) (ps : List Piece) (shapes : List Shape) → Left format rest ss ps →
+follows_of : (format : Format) (rest : Rest) (ss : List Nonterminal) (ps : List Piece) (shapes : List Shape) → Left format rest ss ps →
     shapes_in ps ≡ shapes →
     Follows format rest ss shapes
 follows_of format None ss ps shapes left e = left
 follows_of format (Some more) ss ps shapes left e = (ps, left, e)
 
-text_back : (format : Format) (s : Symbol) (ss : List Symbol) (shape : Shape) (shapes : List Shape) →
+text_back : (format : Format) (s : Nonterminal) (ss : List Nonterminal) (shape : Shape) (shapes : List Shape) →
     IsText format (s ∷ ss) (shape ∷ shapes) →
     Follows format (next format s shape) ss shapes
 text_back format s ss shape shapes ([], fits, e) = absurd cc
@@ -34,7 +34,7 @@ text_back format s ss shape shapes (p ∷ ps, fits, e) =
     follows_of format (next format s shape) ss ps shapes (subst (λ (x : Shape). Left format (next format s x) ss ps) head
     (goes format s ss (p ∷ ps) fits).0) tail
 
-text_forward : (format : Format) (s : Symbol) (ss more : List Symbol) (shape : Shape) (shapes : List Shape) →
+text_forward : (format : Format) (s : Nonterminal) (ss more : List Nonterminal) (shape : Shape) (shapes : List Shape) →
     next format s shape ≡ Some more →
     IsText format (more ++ ss) shapes → IsText format (s ∷ ss) (shape ∷ shapes)
 text_forward format s ss more shape shapes is (ps, fits, e) = (
@@ -43,16 +43,16 @@ text_forward format s ss more shape shapes is (ps, fits, e) = (
   ap (λ (x : List Shape). shape ∷ x) e,
 )
 
-text_on : (format : Format) (s : Symbol) (ss more : List Symbol) (shape : Shape) (shapes : List Shape) → next format s shape ≡ Some more →
+text_on : (format : Format) (s : Nonterminal) (ss more : List Nonterminal) (shape : Shape) (shapes : List Shape) → next format s shape ≡ Some more →
     IsText format (s ∷ ss) (shape ∷ shapes) → IsText format (more ++ ss) shapes
 text_on format s ss more shape shapes is text = subst (λ (r : Rest). Follows format r ss shapes) is
     (text_back format s ss shape shapes text)
 
-text_stops : (format : Format) (s : Symbol) (ss : List Symbol) (shape : Shape) (shapes : List Shape) → next format s shape ≡ None →
+text_stops : (format : Format) (s : Nonterminal) (ss : List Nonterminal) (shape : Shape) (shapes : List Shape) → next format s shape ≡ None →
     IsText format (s ∷ ss) (shape ∷ shapes) → ⊥
 text_stops format s ss shape shapes is text = subst (λ (r : Rest). Follows format r ss shapes) is (text_back format s ss shape shapes text)
 
-no_text : (format : Format) (s : Symbol) (ss : List Symbol) → IsText format (s ∷ ss) [] → ⊥
+no_text : (format : Format) (s : Nonterminal) (ss : List Nonterminal) → IsText format (s ∷ ss) [] → ⊥
 no_text format s ss ([], fits, e) = goes format s ss [] fits
 no_text format s ss (p ∷ ps, fits, e) = absurd cc
 
@@ -61,17 +61,17 @@ nothing_behind format shape shapes (ps, fits, e) =
     let h : shapes_in [] ≡ shape ∷ shapes = ap shapes_in (sym fits) ∙ e in
     absurd cc
 
-begins_nothing : (format : Format) (ss : List Symbol) → Begins format ss []
+begins_nothing : (format : Format) (ss : List Nonterminal) → Begins format ss []
 begins_nothing format ss = let c = completed format ss in (shapes_in c.0, (c.0, c.1, refl))
 
 -- ---- all tokens
 
 -- what the result of `fault_at` means
-abbrev pub IsFault : (format : Format) → ℕ → List Symbol → List Token → Option ℕ → Type 0
+abbrev pub IsFault : (format : Format) → ℕ → List Nonterminal → List Token → Option ℕ → Type 0
 IsFault format end ss tokens None = IsText format ss (shapes_of tokens)
 IsFault format end ss tokens (Some at) = LeavesAt format end ss tokens at
 
-leaves_on : (format : Format) (end : ℕ) (s : Symbol) (ss more : List Symbol) (t : Token) (ts : List Token) (at : ℕ) →
+leaves_on : (format : Format) (end : ℕ) (s : Nonterminal) (ss more : List Nonterminal) (t : Token) (ts : List Token) (at : ℕ) →
     next format s t.shape ≡ Some more →
     LeavesAt format end (more ++ ss) ts at → LeavesAt format end (s ∷ ss) (t ∷ ts) at
 leaves_on format end s ss more t ts at is (inl stops) = inl (record {
@@ -91,14 +91,14 @@ leaves_on format end s ss more t ts at is (inr early) = inr (
   early.1,
 )
 
-fault_on : (format : Format) (end : ℕ) (s : Symbol) (ss more : List Symbol) (t : Token) (ts : List Token) (o : Option ℕ) →
+fault_on : (format : Format) (end : ℕ) (s : Nonterminal) (ss more : List Nonterminal) (t : Token) (ts : List Token) (o : Option ℕ) →
     next format s t.shape ≡ Some more →
     IsFault format end (more ++ ss) ts o → IsFault format end (s ∷ ss) (t ∷ ts) o
 fault_on format end s ss more t ts None is text = text_forward format s ss more t.shape (shapes_of ts) is text
 fault_on format end s ss more t ts (Some at) is leaves = leaves_on format end s ss more t ts at is leaves
 
 -- if no place is found, the tokens are a whole text; if a place is found, they leave the grammar there
-pub fault_at-means : (format : Format) (end : ℕ) (ss : List Symbol) (tokens : List Token) →
+pub fault_at-means : (format : Format) (end : ℕ) (ss : List Nonterminal) (tokens : List Token) →
     IsFault format end ss tokens (fault_at format end ss tokens)
 fault_at-means format end [] [] = ([], refl, refl)
 fault_at-means format end [] (t ∷ ts) = inl (record {
@@ -113,7 +113,7 @@ fault_at-means format end [] (t ∷ ts) = inl (record {
 fault_at-means format end (s ∷ ss) [] = inr (record { begins = begins_nothing format (s ∷ ss); not_whole = no_text format s ss }, refl)
 fault_at-means format end (s ∷ ss) (t ∷ ts) = by_rest (λ more. fault_at-means format end (more ++ ss) ts) (next format s t.shape) refl
   where
-    by_rest : ((more : List Symbol) → IsFault format end (more ++ ss) ts (fault_at format end (more ++ ss) ts)) → (r : Rest) →
+    by_rest : ((more : List Nonterminal) → IsFault format end (more ++ ss) ts (fault_at format end (more ++ ss) ts)) → (r : Rest) →
         next format s t.shape ≡ r →
         IsFault format end (s ∷ ss) (t ∷ ts) (or_stop r t.at (λ more. fault_at format end (more ++ ss) ts))
     by_rest others None is = inl (record {
@@ -130,19 +130,19 @@ fault_at-means format end (s ∷ ss) (t ∷ ts) = by_rest (λ more. fault_at-mea
 -- ---- the other way: the place at which tokens leave the grammar is found
 
 -- no place is found in the tokens of a whole text
-pub fault_at-text : (format : Format) (end : ℕ) (ss : List Symbol) (tokens : List Token) → IsText format ss (shapes_of tokens) →
+pub fault_at-text : (format : Format) (end : ℕ) (ss : List Nonterminal) (tokens : List Token) → IsText format ss (shapes_of tokens) →
     fault_at format end ss tokens ≡ None
 fault_at-text format end [] [] text = refl
 fault_at-text format end [] (t ∷ ts) text = absurd (nothing_behind format t.shape (shapes_of ts) text)
 fault_at-text format end (s ∷ ss) [] text = absurd (no_text format s ss text)
 fault_at-text format end (s ∷ ss) (t ∷ ts) text = by_rest (λ more. fault_at-text format end (more ++ ss) ts) (next format s t.shape) refl
   where
-    by_rest : ((more : List Symbol) → IsText format (more ++ ss) (shapes_of ts) → fault_at format end (more ++ ss) ts ≡ None) → (r : Rest) →
+    by_rest : ((more : List Nonterminal) → IsText format (more ++ ss) (shapes_of ts) → fault_at format end (more ++ ss) ts ≡ None) → (r : Rest) →
         next format s t.shape ≡ r → or_stop r t.at (λ more. fault_at format end (more ++ ss) ts) ≡ None
     by_rest others None is = absurd (text_stops format s ss t.shape (shapes_of ts) is text)
     by_rest others (Some more) is = others more (text_on format s ss more t.shape (shapes_of ts) is text)
 
-found_stop : (format : Format) (end : ℕ) (ss : List Symbol) (front : List Token) (stop : Token) (rest : List Token) →
+found_stop : (format : Format) (end : ℕ) (ss : List Nonterminal) (front : List Token) (stop : Token) (rest : List Token) →
     Begins format ss (shapes_of front) →
     (Begins format ss (shapes_of (front ++ stop ∷ [])) → ⊥) → fault_at format end ss (front ++ stop ∷ rest) ≡ Some stop.at
 found_stop format end [] [] stop rest begins no_further = refl
@@ -157,7 +157,7 @@ found_stop format end [] (t ∷ front) stop rest begins no_further = absurd
 found_stop format end (s ∷ ss) (t ∷ front) stop rest begins no_further =
     by_rest (λ more. found_stop format end (more ++ ss) front stop rest) (next format s t.shape) refl
   where
-    by_rest : ((more : List Symbol) → Begins format (more ++ ss) (shapes_of front) →
+    by_rest : ((more : List Nonterminal) → Begins format (more ++ ss) (shapes_of front) →
         (Begins format (more ++ ss) (shapes_of (front ++ stop ∷ [])) → ⊥) →
         fault_at format end (more ++ ss) (front ++ stop ∷ rest) ≡ Some stop.at) → (r : Rest) → next format s t.shape ≡ r →
         or_stop r t.at (λ more. fault_at format end (more ++ ss) (front ++ stop ∷ rest)) ≡ Some stop.at
@@ -165,7 +165,7 @@ found_stop format end (s ∷ ss) (t ∷ front) stop rest begins no_further =
     by_rest others (Some more) is = others more (begins.0, text_on format s ss more t.shape (shapes_of front ++ begins.0) is begins.1)
         (λ b. no_further (b.0, text_forward format s ss more t.shape (shapes_of (front ++ stop ∷ []) ++ b.0) is b.1))
 
-found_end : (format : Format) (end : ℕ) (ss : List Symbol) (tokens : List Token) → Begins format ss (shapes_of tokens) →
+found_end : (format : Format) (end : ℕ) (ss : List Nonterminal) (tokens : List Token) → Begins format ss (shapes_of tokens) →
     (IsText format ss (shapes_of tokens) → ⊥) →
     fault_at format end ss tokens ≡ Some end
 found_end format end [] [] begins not_whole = absurd (not_whole ([], refl, refl))
@@ -174,7 +174,7 @@ found_end format end [] (t ∷ ts) begins not_whole = absurd (nothing_behind for
 found_end format end (s ∷ ss) (t ∷ ts) begins not_whole = by_rest (λ more. found_end format end (more ++ ss) ts)
     (next format s t.shape) refl
   where
-    by_rest : ((more : List Symbol) → Begins format (more ++ ss) (shapes_of ts) → (IsText format (more ++ ss) (shapes_of ts) → ⊥) →
+    by_rest : ((more : List Nonterminal) → Begins format (more ++ ss) (shapes_of ts) → (IsText format (more ++ ss) (shapes_of ts) → ⊥) →
         fault_at format end (more ++ ss) ts ≡ Some end) → (r : Rest) → next format s t.shape ≡ r →
         or_stop r t.at (λ more. fault_at format end (more ++ ss) ts) ≡ Some end
     by_rest others None is = absurd (text_stops format s ss t.shape (shapes_of ts ++ begins.0) is begins.1)
@@ -182,7 +182,7 @@ found_end format end (s ∷ ss) (t ∷ ts) begins not_whole = by_rest (λ more. 
         (λ text. not_whole (text_forward format s ss more t.shape (shapes_of ts) is text))
 
 -- the place at which tokens leave the grammar is the one that is found
-pub fault_at-leaves : (format : Format) (end : ℕ) (ss : List Symbol) (tokens : List Token) (at : ℕ) → LeavesAt format end ss tokens at →
+pub fault_at-leaves : (format : Format) (end : ℕ) (ss : List Nonterminal) (tokens : List Token) (at : ℕ) → LeavesAt format end ss tokens at →
     fault_at format end ss tokens ≡ Some at
 fault_at-leaves format end ss tokens at (inl stops) = ap (fault_at format end ss) stops.whole
     ∙ found_stop format end ss stops.front stops.stop stops.rest stops.begins stops.no_further ∙ ap Some (sym stops.place)

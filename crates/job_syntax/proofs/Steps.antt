@@ -5,7 +5,7 @@ use Rattle.job_tree.specs.Tree as tree
 use Rattle.job_tree.specs.Blocks.{step_of, steps_of}
 use Rattle.job_tokens.specs.declared.token.Mark.TheVariants as mark
 use Rattle.job_tokens.specs.declared.token.Shape.{Shape}
-use Rattle.job_syntax.specs.Symbols.{◌>>=◌}
+use Rattle.job_syntax.specs.Nonterminals.{◌>>=◌}
 use Rattle.job_syntax.specs.Reading.{Read, Blocks, mark_at, step_at, steps_with, blocks_at}
 
 -- steps before a block

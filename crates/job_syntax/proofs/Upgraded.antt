@@ -12,7 +12,7 @@ use Rattle.job_syntax.specs.declared.keyword.Keyword.TheVariants as word
 use Rattle.job_syntax.specs.Keywords.{keyword_of}
 use Rattle.job_syntax.specs.Pieces.{Piece, shapes_in, opens, deadline_pieces, flag_pieces, over_pieces, steps_pieces, step_pieces, handler_pieces, cleanup_pieces, job_pieces, IsNurseryHead, AreSteps, IsStep, IsHandler, IsCleanup}
 use Rattle.job_syntax.specs.Ranges.{number_fault}
-use Rattle.job_syntax.proofs.Modest.{AllInRange, all_in_range, no_fault}
+use Rattle.job_syntax.proofs.InRange.{AllInRange, all_in_range, no_fault}
 
 -- ---- blocks
 

@@ -1,5 +1,5 @@
 pub mod Keywords
-pub mod Symbols
+pub mod Nonterminals
 pub mod Pieces
 pub mod Syntax
 pub mod Depth

@@ -1,6 +1,6 @@
 -- The ranges of the numbers of a job text.
 use Rattle.std.specs.Prelude.{ℕ, List, [], ◌∷◌, Bool, true, false, ◌&&◌, nat_le, Option, Some, None, if◌then◌else◌}
-use Rattle.job_tree.specs.declared.limits.TheConstants.{GREATEST_NUMBER, GREATEST_PACE, MOST_COPIES, MOST_PASSES}
+use Rattle.job_tree.specs.declared.limits.TheConstants.{MAX_NUMBER, MAX_PACE, MAX_COPIES, MAX_PASSES}
 use Rattle.job_tree.specs.declared.format.Format.{Format}
 use Rattle.job_tree.specs.declared.format.Format.TheVariants.{One, Two}
 use Rattle.job_tokens.specs.declared.token.Shape.{Shape}
@@ -19,15 +19,15 @@ keyword_in (shape.Mark mark) = None
 
 -- the maximum of a number after `repeat`, which begins no step in format 1
 abbrev pub most_passes : Format → ℕ
-most_passes One = GREATEST_NUMBER
-most_passes Two = MOST_PASSES
+most_passes One = MAX_NUMBER
+most_passes Two = MAX_PASSES
 
 -- the minimum and the maximum of a number after a keyword; `repeat` has its own range in format 2
 abbrev pub range_of : Format → Option Keyword → ℕ × ℕ
-range_of format (Some word.Over) = (1, MOST_COPIES)
-range_of format (Some word.Pace) = (1, GREATEST_PACE)
+range_of format (Some word.Over) = (1, MAX_COPIES)
+range_of format (Some word.Pace) = (1, MAX_PACE)
 range_of format (Some word.Repeat) = (0, most_passes format)
-range_of format _ = (0, GREATEST_NUMBER)
+range_of format _ = (0, MAX_NUMBER)
 
 -- a number in its range; `None` is a number with a leading zero or above the maximum of the lexer
 abbrev pub fits : Format → Option Keyword → Option ℕ → Bool

@@ -12,7 +12,7 @@ use Rattle.job_tokens.specs.Shapes.{word_in, number_in, text_in, mark_in}
 use Rattle.job_syntax.specs.declared.keyword.Keyword.{Keyword}
 use Rattle.job_syntax.specs.declared.keyword.Keyword.TheVariants as word
 use Rattle.job_syntax.specs.Keywords.{spelling, keyword_of}
-use Rattle.job_syntax.specs.Symbols.{◌>>=◌}
+use Rattle.job_syntax.specs.Nonterminals.{◌>>=◌}
 use Rattle.job_syntax.specs.Depth.{most_deep}
 
 -- a value and the tokens after it

@@ -3,7 +3,7 @@ ghost use Rattle.job_syntax.specs.Ranges.{most_passes, range_of, fits, is_in_ran
 
 use crate::keyword::Keyword;
 use job_tokens::{Shape, Token};
-use job_tree::{Format, GREATEST_NUMBER, GREATEST_PACE, MOST_COPIES, MOST_PASSES};
+use job_tree::{Format, MAX_COPIES, MAX_NUMBER, MAX_PACE, MAX_PASSES};
 
 /// Returns the place of the first number that has a leading zero or is out of its range in a text of this format,
 /// or `None` if there is none. The range depends on the keyword directly before the number.
@@ -61,10 +61,10 @@ fn range_of(format: Format, before: Option<Keyword>) -> (u64, u64)
     ensures { result ≡ range_of format before }
 {
     match before {
-        Some(Keyword::Over) => (1, MOST_COPIES),
-        Some(Keyword::Pace) => (1, GREATEST_PACE),
+        Some(Keyword::Over) => (1, MAX_COPIES),
+        Some(Keyword::Pace) => (1, MAX_PACE),
         Some(Keyword::Repeat) => (0, most_passes(format)),
-        _ => (0, GREATEST_NUMBER),
+        _ => (0, MAX_NUMBER),
     }
 }
 
@@ -74,7 +74,7 @@ fn most_passes(format: Format) -> u64
     ensures { result ≡ most_passes format }
 {
     match format {
-        Format::One => GREATEST_NUMBER,
-        Format::Two => MOST_PASSES,
+        Format::One => MAX_NUMBER,
+        Format::Two => MAX_PASSES,
     }
 }

@@ -2,7 +2,7 @@
 use Rattle.std.proofs.Common.{◌≡◌, ℕ, suc, ◌+◌, ◌-◌, ◌*◌, ◌≤◌, ◌<◌, true, false, List, refl, ap, sym, subst, ◌∙◌, arith, suc-mul}
 use Rattle.std.specs.Option.{is_some}
 use Rattle.job_tree.specs.Tree.{Steps}
-use Rattle.job_tree.specs.Modest.{AreModest}
+use Rattle.job_tree.specs.InRange.{AreInRange}
 use Rattle.job_tree.specs.Names.{size_of}
 use Rattle.job_meaning.specs.Walk.{in_pass}
 use Rattle.job_story.specs.Story.{Tale, no_more}
@@ -20,20 +20,20 @@ use Rattle.job_teller.proofs.Steps.{ends_small}
 pub record AtPass (h : Here) (t count : ℕ) (body : Steps) (i : ℕ) (start : List held.Event) (w : Told)
     (now : List held.Event) : Type 0 where
   pub going : Going h.task.now start w now (tell_passes 0 count (pass body h) t) (λ u. tell_passes i (count - i) (pass body h) u)
-  pub modest : AreModest body
+  pub in_range : AreInRange body
   pub room : HasRoom ((count - i) * (1 + size_of body)) h w.end
 
 pub at_first : (h : Here) (t count : ℕ) (body : Steps) (start : List held.Event) (w : Told) → IsTold w (told_at t no_more) →
-    AreModest body →
+    AreInRange body →
     HasRoom (count * (1 + size_of body)) h t → AtPass h t count body 0 start w start
-at_first h t count body start w told modest room =
+at_first h t count body start w told in_range room =
     let none : count ≡ count - 0 = omega arith in
     record {
       going =
           subst (λ (n : ℕ). Going h.task.now start w start (tell_passes 0 count (pass body h) t) (λ u. tell_passes 0 n
           (pass body h) u)) none
           (going_start h.task.now start w t (λ u. tell_passes 0 count (pass body h) u) told);
-      modest = modest;
+      in_range = in_range;
       room =
           subst (λ (n : ℕ). HasRoom (n * (1 + size_of body)) h w.end) none
           (subst (λ (u : ℕ). HasRoom (count * (1 + size_of body)) h u) (sym told.end) room);
@@ -74,7 +74,7 @@ pub pass_next : (h : Here) (t count : ℕ) (body : Steps) (i : ℕ) (start mid n
     AtPass h t count body (i + 1) start x now
 pass_next h t count body i start mid now w v x at lt u ends tells join well =
     let fits : v.end ≤ u + size_of body * 1099511627776 =
-    ends_small v (table_of h) body (at_place (in_pass i (here_of h)) (scene_of h)) (scopes_of h) u at.modest at.room.small tells.told in
+    ends_small v (table_of h) body (at_place (in_pass i (here_of h)) (scene_of h)) (scopes_of h) u at.in_range at.room.small tells.told in
     let from : u ≡ w.end = ends in
     let over : x.end ≡ v.end = (join at.going.before _ at.going.tells.told tells.told).end ∙ sym tells.told.end in
     record {
@@ -82,7 +82,7 @@ pass_next h t count body i start mid now w v x at lt u ends tells join well =
           going_next h.task.now start mid now w v x _ _ (λ y. pass body h i y) (λ y. tell_passes (i + 1) (count - (i + 1))
           (pass body h) y) at.going
           (first_left i count (pass body h) lt) u ends tells join well;
-      modest = at.modest;
+      in_range = at.in_range;
       room = record {
         room = omega (
           arith,

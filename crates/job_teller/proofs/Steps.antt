@@ -4,7 +4,7 @@ use Rattle.std.specs.Option.{is_some}
 use Rattle.job_tree.specs.Tree as tree
 use Rattle.job_tree.specs.Tree.{Step, Steps, stop, step, Handled}
 use Rattle.job_tree.specs.Blocks.{step_of, steps_of}
-use Rattle.job_tree.specs.Modest.{AreModest, IsModestStep, IsModestHandler}
+use Rattle.job_tree.specs.InRange.{AreInRange, IsInRangeStep, IsInRangeHandler}
 use Rattle.job_tree.specs.Names.{size_of, size_in, handled_size}
 use Rattle.job_tree.specs.declared.step.Step as held_step
 use Rattle.job_meaning.specs.Log.{Table, Result}
@@ -21,39 +21,39 @@ use Rattle.job_meaning.proofs.Ends.{EndsBy, ends_step, ends_by, ends_handler}
 use Rattle.job_teller.proofs.Going.{Going, going_start, going_failed, going_next, going_stop}
 
 -- a walk of steps ends before any tick is too large
-pub ends_small : (w : Told) (k : Table) (ss : Steps) (scene : Scene) (st : Stack) (t : ℕ) → AreModest ss →
+pub ends_small : (w : Told) (k : Table) (ss : Steps) (scene : Scene) (st : Stack) (t : ℕ) → AreInRange ss →
     length scene.here.input ≤ 16777216 →
     IsTold w (tell k ss scene st t) → w.end ≤ t + size_of ss * 1099511627776
-ends_small w k ss scene st t modest small told =
+ends_small w k ss scene st t in_range small told =
     let walked = walk (by_table k) ss scene.here st t in
-    let ends : EndsBy (t + size_of ss * 1099511627776) walked = ends_by (by_table k) ss scene.here st t modest small in
+    let ends : EndsBy (t + size_of ss * 1099511627776) walked = ends_by (by_table k) ss scene.here st t in_range small in
     let fits : walked.end ≤ t + size_of ss * 1099511627776 = ends.end in
     let same : (tell k ss scene st t).end ≡ walked.end = ap (λ (r : Result). r.end) (tell_is k ss scene st t) in
     let end : w.end ≡ (tell k ss scene st t).end = told.end in
     omega (arith, fits, same, end)
 
-pub ends_one : (w : Told) (k : Table) (s : Step) (scene : Scene) (st : Stack) (t : ℕ) → IsModestStep s →
+pub ends_one : (w : Told) (k : Table) (s : Step) (scene : Scene) (st : Stack) (t : ℕ) → IsInRangeStep s →
     length scene.here.input ≤ 16777216 →
     IsTold w (tell_step k s scene st t) → w.end ≤ t + size_in s * 1099511627776
-ends_one w k s scene st t modest small told =
+ends_one w k s scene st t in_range small told =
     let walked = walk_step (by_table k) s scene.here st t in
-    let ends : EndsBy (t + size_in s * 1099511627776) walked = ends_step (by_table k) s scene.here st t modest small in
+    let ends : EndsBy (t + size_in s * 1099511627776) walked = ends_step (by_table k) s scene.here st t in_range small in
     let fits : walked.end ≤ t + size_in s * 1099511627776 = ends.end in
     let same : (tell_step k s scene st t).end ≡ walked.end = ap (λ (r : Result). r.end) (step_is k s scene st t) in
     let end : w.end ≡ (tell_step k s scene st t).end = told.end in
     omega (arith, fits, same, end)
 
-pub ends_handled : (w : Told) (k : Table) (x : Handled) (ss : Steps) (scene : Scene) (st : Stack) (t : ℕ) → AreModest ss →
-    IsModestHandler x →
+pub ends_handled : (w : Told) (k : Table) (x : Handled) (ss : Steps) (scene : Scene) (st : Stack) (t : ℕ) → AreInRange ss →
+    IsInRangeHandler x →
     length scene.here.input ≤ 16777216 → IsTold w (tell_handler k x scene st (tell k ss scene st t)) →
     w.end ≤ t + size_of ss * 1099511627776 + handled_size x * 1099511627776
-ends_handled w k x ss scene st t modest modest_handler small told =
+ends_handled w k x ss scene st t in_range in_range_handler small told =
     let walked = walk (by_table k) ss scene.here st t in
     let done = walk_handler (by_table k) x scene.here st walked in
     let tale = tell_handler k x scene st (tell k ss scene st t) in
     let ends : EndsBy (t + size_of ss * 1099511627776 + handled_size x * 1099511627776) done =
-    ends_handler (by_table k) x scene.here st walked (t + size_of ss * 1099511627776) modest_handler small
-    (ends_by (by_table k) ss scene.here st t modest small) in
+    ends_handler (by_table k) x scene.here st walked (t + size_of ss * 1099511627776) in_range_handler small
+    (ends_by (by_table k) ss scene.here st t in_range small) in
     let fits : done.end ≤ t + size_of ss * 1099511627776 + handled_size x * 1099511627776 = ends.end in
     let same : tale.end ≡ done.end =
     ap (λ (r : Result). r.end) (handler_is k x scene st (tell k ss scene st t) walked (tell_is k ss scene st t)) in
@@ -64,15 +64,15 @@ ends_handled w k x ss scene st t modest modest_handler small told =
 pub record AtStep (h : Here) (t : ℕ) (all left : Steps) (start : List held.Event) (w : Told) (now : List held.Event) : Type 0 where
   pub going : Going h.task.now start w now (tell (table_of h) all (scene_of h) (scopes_of h) t)
       (λ u. tell (table_of h) left (scene_of h) (scopes_of h) u)
-  pub modest : AreModest left
+  pub in_range : AreInRange left
   pub room : HasRoom (size_of left) h w.end
 
-pub at_start : (h : Here) (t : ℕ) (all : Steps) (start : List held.Event) (w : Told) → IsTold w (told_at t no_more) → AreModest all →
+pub at_start : (h : Here) (t : ℕ) (all : Steps) (start : List held.Event) (w : Told) → IsTold w (told_at t no_more) → AreInRange all →
     HasRoom (size_of all) h t → AtStep h t all all start w start
-at_start h t all start w told modest room =
+at_start h t all start w told in_range room =
     record {
       going = going_start h.task.now start w t (λ u. tell (table_of h) all (scene_of h) (scopes_of h) u) told;
-      modest = modest;
+      in_range = in_range;
       room = subst (λ (u : ℕ). HasRoom (size_of all) h u) (sym told.end) room;
     }
 
@@ -111,14 +111,14 @@ pub at_next : (h : Here) (t : ℕ) (all rest : Steps) (s : Step) (start mid now 
 unfolding tell
 at_next h t all rest s start mid now w v x at u ends tells join well =
     let fits : v.end ≤ u + size_in s * 1099511627776 =
-    ends_one v (table_of h) s (scene_of h) (scopes_of h) u at.modest.0 at.room.small tells.told in
+    ends_one v (table_of h) s (scene_of h) (scopes_of h) u at.in_range.0 at.room.small tells.told in
     let from : u ≡ w.end = ends in
     let over : x.end ≡ v.end = (join at.going.before _ at.going.tells.told tells.told).end ∙ sym tells.told.end in
     record {
       going =
           going_next h.task.now start mid now w v x _ _ (λ y. tell_step (table_of h) s (scene_of h) (scopes_of h) y)
           (λ y. tell (table_of h) rest (scene_of h) (scopes_of h) y) at.going (λ y. refl) u ends tells join well;
-      modest = at.modest.1;
+      in_range = at.in_range.1;
       room = record { room = omega (arith, at.room.room, fits, from, over); small = at.room.small };
     }
 

@@ -6,7 +6,7 @@ use Rattle.buffer_parts.specs.Cuts.{cut_of}
 use Rattle.cancel_scopes.specs.Sight.{Tick}
 use Rattle.exc_groups.specs.Exceptions.{Label}
 use Rattle.job_tree.specs.Tree.{Step, scope, nursery, start, repeat, attempt, Steps}
-use Rattle.job_meaning.specs.declared.limits.TheConstants.{MOST_INPUT}
+use Rattle.job_meaning.specs.declared.limits.TheConstants.{MAX_INPUT}
 use Rattle.job_meaning.specs.Log.{Table}
 use Rattle.job_meaning.specs.Walk as meaning
 use Rattle.job_meaning.specs.Walk.{Kind, a_scope, a_nursery, within, here_in, home_of, in_pass, label_here, label_over}
@@ -80,7 +80,7 @@ pass body h i t = tell (table_of h) body (at_place (in_pass i (here_of h)) (scen
 -- 40 ticks.
 pub record HasRoom (size : ℕ) (h : Here) (t : ℕ) : Type 0 where
   pub room : t + size * 1099511627776 ≤ 4611686018427387904
-  pub small : length (input_of h) ≤ MOST_INPUT
+  pub small : length (input_of h) ≤ MAX_INPUT
 
 -- a step with no block of steps in it
 abbrev pub IsLeaf : Step → Type 0

@@ -1,11 +1,11 @@
 ghost use Rattle.std.specs.Prelude.{◌≡◌, ◌+◌, ◌<◌, ◌≤◌, ◌^◌, length, map, Option, IfOk, Some};
 ghost use Rattle.buffer_parts.specs.Part.{range_of, span_of};
 ghost use Rattle.line_kernels.specs.Kernels.{found_in, head_of, longest_in, needed_in, count_in};
-ghost use Rattle.job_meaning.specs.declared.limits.TheConstants.{MOST_INPUT};
+ghost use Rattle.job_meaning.specs.declared.limits.TheConstants.{MAX_INPUT};
 ghost use Rattle.job_meaning.specs.Walk.{paced, due, label_on};
 ghost use Rattle.job_story.specs.Tell.{tell_step, tell_sleep, tell_lines, tell_need, tell_raise, tell_cancel};
 ghost use Rattle.job_tree.specs.Blocks.{step_of};
-ghost use Rattle.job_tree.specs.Modest.{IsModestStep, IsModestDeadline};
+ghost use Rattle.job_tree.specs.InRange.{IsInRangeStep, IsInRangeDeadline};
 ghost use Rattle.job_tree.specs.Names.{size_in};
 ghost use Rattle.job_teller.specs.Heres.{HasRoom, IsLeaf, input_of, scene_of, scopes_of, table_of};
 ghost use Rattle.job_teller.specs.Tales.{Tells};
@@ -33,7 +33,7 @@ pub(crate) fn tell_leaf<'a>(
     events: &mut Vec<Event>,
 ) -> Result<Told, AllocError>
     requires leaf { IsLeaf (step_of step.now) }
-    requires modest { IsModestStep (step_of step.now) }
+    requires in_range { IsInRangeStep (step_of step.now) }
     requires room { HasRoom (size_in (step_of step.now)) here tick }
     ensures { IfOk result (λ w. Tells here.entry.task.now events.old.items w events.new.items
         (tell_step (table_of here.entry) (step_of step.now) (scene_of here.entry) (scopes_of here.entry) tick)) }
@@ -91,7 +91,7 @@ pub(crate) fn pace<'a>(
 ) -> Result<Told, AllocError>
     requires some { 1 ≤ per_tick }
     requires few { per_tick ≤ 1000000 }
-    requires small { length (input_of here) ≤ MOST_INPUT }
+    requires small { length (input_of here) ≤ MAX_INPUT }
     requires room { tick ≤ 4611686018427387904 }
     ensures { IfOk result (λ told. Tells here.entry.task.now events.old.items told events.new.items
         (tell_sleep (scopes_of here.entry) here.entry.in_cleanup
@@ -106,9 +106,9 @@ pub(crate) fn pace<'a>(
 
 // The number of lines of the task's part.
 fn line_count(here: Here<'_, '_>) -> Result<u64, AllocError>
-    requires { length (input_of here) ≤ MOST_INPUT }
+    requires { length (input_of here) ≤ MAX_INPUT }
     ensures count { IfOk result (λ n. n ≡ count_in (input_of here.entry) (range_of here.entry.part)) }
-    ensures few { IfOk result (λ n. n ≤ MOST_INPUT) }
+    ensures few { IfOk result (λ n. n ≤ MAX_INPUT) }
 {
     let Answer::Count(count) = answer(here.alloc, &Kernel::Count, here.part)? else {
         unreachable!()
@@ -244,7 +244,7 @@ pub(crate) fn cancel<'a>(
 
 /// Returns the tick from which its deadline cancels a scope or nursery that is entered in a tick, or `None` for never.
 pub(crate) fn due(deadline: Deadline, tick: u64) -> Option<u64>
-    requires modest { IsModestDeadline deadline }
+    requires in_range { IsInRangeDeadline deadline }
     requires room { tick ≤ 4611686018427387904 }
     ensures { result ≡ due deadline tick }
 {

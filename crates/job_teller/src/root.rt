@@ -1,5 +1,5 @@
 ghost use Rattle.std.specs.Prelude.{◌≡◌, ◌≤◌, length, map, IfOk};
-ghost use Rattle.job_meaning.specs.declared.limits.TheConstants.{MOST_INPUT};
+ghost use Rattle.job_meaning.specs.declared.limits.TheConstants.{MAX_INPUT};
 ghost use Rattle.job_meaning.specs.Meaning.{root_label};
 ghost use Rattle.job_story.specs.Events.{events_of};
 ghost use Rattle.job_story.specs.Froms.{table_in};
@@ -19,14 +19,14 @@ use std::alloc::{AllocError, Global};
 /// cancelled.
 ///
 /// The events are in the order of the walk and not sorted by tick: all events of a started task, from its start to its end, are
-/// at the point where the task was started. The input has at most `MOST_INPUT` bytes. The only error is a failed allocation.
+/// at the point where the task was started. The input has at most `MAX_INPUT` bytes. The only error is a failed allocation.
 pub fn tell<'a>(
     alloc: Global,
     job: &'a Job,
     input: &'a [u8],
     froms: &Froms,
 ) -> Result<Vec<Event>, AllocError>
-    requires { length input.now ≤ MOST_INPUT }
+    requires { length input.now ≤ MAX_INPUT }
     ensures { IfOk result (λ events. map event_of events.items ≡ events_of (root_label job.now.name)
         (story_by (table_in froms.now) job.now input.now)) }
 {

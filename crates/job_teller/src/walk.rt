@@ -1,7 +1,7 @@
 ghost use Rattle.std.specs.Prelude.{◌≡◌, ◌+◌, ◌*◌, ◌<◌, ◌≤◌, ◌^◌, ℕ, Option, IfOk, ◌++◌, ◌∷◌, [], List};
 ghost use Rattle.buffer_parts.specs.Part.{buffer_of, range_of};
 ghost use Rattle.job_tree.specs.Blocks.{step_of, steps_of, handled_of, cleaned_of};
-ghost use Rattle.job_tree.specs.Modest.{AreModest, IsModestStep, IsModestOver, IsModestHandler, IsModestCleanup};
+ghost use Rattle.job_tree.specs.InRange.{AreInRange, IsInRangeStep, IsInRangeOver, IsInRangeHandler, IsInRangeCleanup};
 ghost use Rattle.job_tree.specs.Names.{copies_of, size_of, size_in, handled_size, cleaned_size};
 ghost use Rattle.job_story.specs.Held.{kind_of};
 ghost use Rattle.job_story.specs.Story.{Tale};
@@ -32,7 +32,7 @@ fn tell_steps<'a>(
     tick: u64,
     events: &mut Vec<Event>,
 ) -> Result<Told, AllocError>
-    requires modest { AreModest (steps_of steps.now) }
+    requires in_range { AreInRange (steps_of steps.now) }
     requires room { HasRoom (size_of (steps_of steps.now)) here tick }
     ensures { IfOk result (λ w. Tells here.entry.task.now events.old.items w events.new.items
         (tell (table_of here.entry) (steps_of steps.now) (scene_of here.entry) (scopes_of here.entry) tick)) }
@@ -57,7 +57,7 @@ fn tell_step<'a>(
     tick: u64,
     events: &mut Vec<Event>,
 ) -> Result<Told, AllocError>
-    requires modest { IsModestStep (step_of step.now) }
+    requires in_range { IsInRangeStep (step_of step.now) }
     requires room { HasRoom (size_in (step_of step.now)) here tick }
     ensures { IfOk result (λ w. Tells here.entry.task.now events.old.items w events.new.items
         (tell_step (table_of here.entry) (step_of step.now) (scene_of here.entry) (scopes_of here.entry) tick)) }
@@ -104,7 +104,7 @@ fn tell_block<'a>(
     events: &mut Vec<Event>,
 ) -> Result<Told, AllocError>
     requires known { block.now.from ≡ table_of here block.now.label }
-    requires modest { AreModest body.now }
+    requires in_range { AreInRange body.now }
     requires room { HasRoom (size_of body.now) here tick }
     ensures { IfOk result (λ w. Tells here.entry.task.now events.old.items w events.new.items
         (tell_block (table_of here.entry) (kind_of block.now.kind) block.now.label tick block.now.deadline block.now.shield
@@ -133,7 +133,7 @@ fn tell_inside<'a>(
     tick: u64,
     events: &mut Vec<Event>,
 ) -> Result<Told, AllocError>
-    requires modest { AreModest body.now }
+    requires in_range { AreInRange body.now }
     requires room { HasRoom (size_of body.now) here tick }
     ensures { IfOk result (λ w. Tells here.entry.task.now events.old.items w events.new.items
         (inside (kind_of block.now.kind) block.now.label block.now.shield body.now here.entry tick block.now.from)) }
@@ -169,8 +169,8 @@ fn tell_start<'a>(
     tick: u64,
     events: &mut Vec<Event>,
 ) -> Result<Told, AllocError>
-    requires some { IsModestOver over }
-    requires modest { AreModest body.now }
+    requires some { IsInRangeOver over }
+    requires in_range { AreInRange body.now }
     requires room { HasRoom (copies_of over * (1 + size_of body.now)) here tick }
     ensures { IfOk result (λ w. Tells here.entry.task.now events.old.items w events.new.items
         (started_by name.now over body.now here.entry tick)) }
@@ -194,7 +194,7 @@ pub(crate) fn tell_child<'a>(
     tick: u64,
     events: &mut Vec<Event>,
 ) -> Result<Told, AllocError>
-    requires modest { AreModest (steps_of steps.now) }
+    requires in_range { AreInRange (steps_of steps.now) }
     requires room { HasRoom (size_of (steps_of steps.now)) here tick }
     requires same { buffer_of part ≡ input_of here }
     ensures { IfOk result (λ w. Tells here.entry.task.now events.old.items w events.new.items
@@ -238,7 +238,7 @@ fn tell_children<'a>(
 ) -> Result<Told, AllocError>
     requires some { 1 ≤ copies }
     requires few { copies ≤ 64 }
-    requires modest { AreModest body.now }
+    requires in_range { AreInRange body.now }
     requires room { HasRoom (size_of body.now) here tick }
     ensures { IfOk result (λ w. Tells here.entry.task.now events.old.items w events.new.items
         (tell_each copies (started_over name.now copies body.now here.entry tick) tick)) }
@@ -262,7 +262,7 @@ fn tell_passes<'a>(
     tick: u64,
     events: &mut Vec<Event>,
 ) -> Result<Told, AllocError>
-    requires modest { AreModest body.now }
+    requires in_range { AreInRange body.now }
     requires room { HasRoom (count * (1 + size_of body.now)) here tick }
     ensures { IfOk result (λ w. Tells here.entry.task.now events.old.items w events.new.items
         (tell_passes 0 count (pass body.now here.entry) tick)) }
@@ -288,7 +288,7 @@ fn tell_pass<'a>(
     tick: u64,
     events: &mut Vec<Event>,
 ) -> Result<Told, AllocError>
-    requires modest { AreModest body.now }
+    requires in_range { AreInRange body.now }
     requires room { HasRoom (size_of body.now) here tick }
     ensures { IfOk result (λ w. Tells here.entry.task.now events.old.items w events.new.items (pass body.now here.entry number tick)) }
 {
@@ -312,9 +312,9 @@ fn tell_try<'a>(
     tick: u64,
     events: &mut Vec<Event>,
 ) -> Result<Told, AllocError>
-    requires modest { AreModest body.now }
-    requires modest_handler { IsModestHandler (handled_of handler.now) }
-    requires modest_cleanup { IsModestCleanup (cleaned_of cleanup.now) }
+    requires in_range { AreInRange body.now }
+    requires in_range_handler { IsInRangeHandler (handled_of handler.now) }
+    requires in_range_cleanup { IsInRangeCleanup (cleaned_of cleanup.now) }
     requires room { HasRoom (size_of body.now + handled_size (handled_of handler.now) + cleaned_size (cleaned_of cleanup.now)) here tick }
     ensures { IfOk result (λ w. Tells here.entry.task.now events.old.items w events.new.items
         (tell_cleanup (table_of here.entry) (cleaned_of cleanup.now) (scene_of here.entry) (scopes_of here.entry)
@@ -336,7 +336,7 @@ fn tell_handler<'a>(
     here: Here<'a, '_>,
     events: &mut Vec<Event>,
 ) -> Result<Told, AllocError>
-    requires modest { IsModestHandler (handled_of handler.now) }
+    requires in_range { IsInRangeHandler (handled_of handler.now) }
     requires room { HasRoom (handled_size (handled_of handler.now)) here told.end }
     ensures { IfOk result (λ w. (start : List HeldEvent) (a : Tale) → Tells here.entry.task.now start told events.old.items a
         → Tells here.entry.task.now start w events.new.items
@@ -373,7 +373,7 @@ fn tell_cleanup<'a>(
     here: Here<'a, '_>,
     events: &mut Vec<Event>,
 ) -> Result<Told, AllocError>
-    requires modest { IsModestCleanup (cleaned_of cleanup.now) }
+    requires in_range { IsInRangeCleanup (cleaned_of cleanup.now) }
     requires room { HasRoom (cleaned_size (cleaned_of cleanup.now)) here told.end }
     ensures { IfOk result (λ w. (start : List HeldEvent) (a : Tale) → Tells here.entry.task.now start told events.old.items a
         → Tells here.entry.task.now start w events.new.items

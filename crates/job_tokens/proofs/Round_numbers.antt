@@ -8,7 +8,7 @@ use Rattle.std.proofs.lemmas.List.{take_at, drop_at}
 use Rattle.std.proofs.lemmas.List.Folds.{list_all-append}
 use Rattle.job_tree.specs.Words.{is_letter, is_digit, is_word_byte}
 use Rattle.job_tokens.specs.declared.token.Shape.TheVariants as shape
-use Rattle.job_tree.specs.declared.limits.TheConstants.{GREATEST_NUMBER}
+use Rattle.job_tree.specs.declared.limits.TheConstants.{MAX_NUMBER}
 use Rattle.job_tokens.specs.Lexing.{number_at, number_of, value_after, has_leading_zero, goes_on}
 use Rattle.job_tokens.proofs.Round_bytes.{and_whole, prefix_len-run, stops_sooner, either_way}
 
@@ -59,11 +59,11 @@ canonical_digits : (n : ℕ) → n < 2 ^ 64 → has_leading_zero (decimal n) ≡
 canonical_digits zero lt = no_leading_zero (decimal 0) (inl (ap length (decimal_digit 0 (omega arith))))
 canonical_digits (suc n) lt = no_leading_zero (decimal (suc n)) (inr (first_decimal (suc n) (omega arith) lt))
 
-number_of-decimal : (n : ℕ) → n ≤ GREATEST_NUMBER → number_of (decimal n) ≡ Some n
+number_of-decimal : (n : ℕ) → n ≤ MAX_NUMBER → number_of (decimal n) ≡ Some n
 number_of-decimal n le =
     let lt : n < 2 ^ 64 = omega arith in
     let are = digits_of_number n lt in
-    let within : leb n GREATEST_NUMBER ≡ true = le-leb n GREATEST_NUMBER le in
+    let within : leb n MAX_NUMBER ≡ true = le-leb n MAX_NUMBER le in
     rw (canonical_digits n lt, are.value, within) refl
 
 -- ---- a number token
@@ -87,7 +87,7 @@ pub digit_in_word : (b : ℕ) → is_digit b ≡ true → is_word_byte b ≡ tru
 digit_in_word b is = or_first (is_letter b) (is_digit b) (eqb b 95) is
 
 -- the digits of a number, followed by no byte of a word, are read as that number
-pub number_at-again : (n : ℕ) (rest : List ℕ) → n ≤ GREATEST_NUMBER → prefix_len is_word_byte rest ≡ 0 →
+pub number_at-again : (n : ℕ) (rest : List ℕ) → n ≤ MAX_NUMBER → prefix_len is_word_byte rest ≡ 0 →
     number_at (decimal n ++ rest) ≡ Some (shape.Number (Some n), rest)
 number_at-again n rest le stops =
     let are = digits_of_number n (omega arith) in

@@ -12,7 +12,7 @@ use Rattle.job_tokens.specs.declared.token.Shape.{Shape}
 use Rattle.job_tokens.specs.declared.token.Shape.TheVariants as shape
 use Rattle.job_tokens.specs.declared.token.Token.{Token}
 use Rattle.job_tokens.specs.Shapes.{shapes_of}
-use Rattle.job_tree.specs.declared.limits.TheConstants.{GREATEST_NUMBER}
+use Rattle.job_tree.specs.declared.limits.TheConstants.{MAX_NUMBER}
 use Rattle.job_tokens.specs.Lexing.{is_blank, behind_blanks, token_at, word_at, number_at, Lexes}
 use Rattle.job_tokens.specs.Canon.{mark_byte, token, is_wordlike, gap, canon_behind}
 use Rattle.job_tokens.proofs.Round_bytes.{and_parts, either_way}
@@ -24,7 +24,7 @@ use Rattle.job_tokens.proofs.Round_strings.{AreBytes, string_again}
 abbrev pub IsWritable : Shape → Type 0
 IsWritable (shape.Word word) = is_word word ≡ true
 IsWritable (shape.Number None) = ⊥
-IsWritable (shape.Number (Some n)) = n ≤ GREATEST_NUMBER
+IsWritable (shape.Number (Some n)) = n ≤ MAX_NUMBER
 IsWritable (shape.Text text) = (is_text text ≡ true) × AreBytes text
 IsWritable (shape.Mark mark) = Unit {0}
 
@@ -130,7 +130,7 @@ number_begins b rest is =
     ap (λ (x : Bool). cond x (word_at (b ∷ rest)) (token_unless_word b rest)) (not_letter b is)
     ∙ cond-true (is_digit b) (number_at (b ∷ rest)) (token_unless_number b rest) is
 
-number_again : (n : ℕ) (rest : List ℕ) → n ≤ GREATEST_NUMBER → prefix_len is_word_byte rest ≡ 0 →
+number_again : (n : ℕ) (rest : List ℕ) → n ≤ MAX_NUMBER → prefix_len is_word_byte rest ≡ 0 →
     token_at (decimal n ++ rest) ≡ Some (shape.Number (Some n), rest)
 number_again n rest le stops =
     let are = digits_of_number n (omega arith) in

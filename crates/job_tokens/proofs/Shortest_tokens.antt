@@ -13,7 +13,7 @@ use Rattle.job_tokens.specs.declared.token.Shape.{Shape}
 use Rattle.job_tokens.specs.declared.token.Shape.TheVariants as shape
 use Rattle.job_tokens.specs.declared.token.Token.{Token}
 use Rattle.job_tokens.specs.Shapes.{shapes_of}
-use Rattle.job_tree.specs.declared.limits.TheConstants.{GREATEST_NUMBER}
+use Rattle.job_tree.specs.declared.limits.TheConstants.{MAX_NUMBER}
 use Rattle.job_tokens.specs.Lexing.{Read, Unit_read, Units_read, is_blank, behind_blanks, word_at, number_at, number_of, value_after, value_within, has_leading_zero, goes_on, unit_at, behind_quote, unless_ended, unit_then, with_unit, units, string_of, string_at, token_at, Lexes}
 use Rattle.job_tokens.specs.Canon.{unit, token, is_wordlike, gap, canon_behind}
 use Rattle.job_tokens.proofs.Round_bytes.{and_parts, chosen, taken_passes, left_stops}
@@ -101,14 +101,14 @@ value_after-lt n (d ∷ ds) all =
     let up = mul_up (10 * n + (d - 48) + 1) (10 * (n + 1)) (10 ^ length ds) (omega arith) in
     rw (pow-suc 10 (length ds)) (omega (arith, others, up))
 
-digits_shorter : (ds : List ℕ) (n : ℕ) → 0 < length ds → list_all is_digit ds ≡ true → number_of ds ≡ Some n → (n ≤ GREATEST_NUMBER)
+digits_shorter : (ds : List ℕ) (n : ℕ) → 0 < length ds → list_all is_digit ds ≡ true → number_of ds ≡ Some n → (n ≤ MAX_NUMBER)
     × (length (decimal n) ≤ length ds)
 digits_shorter ds n some all e = by_zero (chosen (has_leading_zero ds) None (value_within ds) (Some n) e)
   where
     none_some : (x : ℕ) → None ≡ Some x → ⊥
     none_some x e = cc
 
-    bounded : value_after 0 ds ≤ GREATEST_NUMBER → value_after 0 ds ≡ n → (n ≤ GREATEST_NUMBER) × (length (decimal n) ≤ length ds)
+    bounded : value_after 0 ds ≤ MAX_NUMBER → value_after 0 ds ≡ n → (n ≤ MAX_NUMBER) × (length (decimal n) ≤ length ds)
     bounded le is = (
       omega (arith, is),
       length-decimal-le (length ds) n some (omega (arith, is, value_after-lt 0 ds all))
@@ -118,15 +118,15 @@ digits_shorter ds n some all e = by_zero (chosen (has_leading_zero ds) None (val
     same_number : (a b : ℕ) → Some a ≡ Some b → a ≡ b
     same_number a b e = cc
 
-    by_range : (leb (value_after 0 ds) GREATEST_NUMBER ≡ true) × (Some (value_after 0 ds) ≡ Some n)
-        ⊎ (leb (value_after 0 ds) GREATEST_NUMBER ≡ false) × (None ≡ Some n) → (n ≤ GREATEST_NUMBER) × (length (decimal n) ≤ length ds)
-    by_range (inl (t, e)) = bounded (leb-true (value_after 0 ds) GREATEST_NUMBER t) (same_number (value_after 0 ds) n e)
+    by_range : (leb (value_after 0 ds) MAX_NUMBER ≡ true) × (Some (value_after 0 ds) ≡ Some n)
+        ⊎ (leb (value_after 0 ds) MAX_NUMBER ≡ false) × (None ≡ Some n) → (n ≤ MAX_NUMBER) × (length (decimal n) ≤ length ds)
+    by_range (inl (t, e)) = bounded (leb-true (value_after 0 ds) MAX_NUMBER t) (same_number (value_after 0 ds) n e)
     by_range (inr (f, e)) = absurd (none_some n e)
 
     by_zero : (has_leading_zero ds ≡ true) × (None ≡ Some n) ⊎ (has_leading_zero ds ≡ false) × (value_within ds ≡ Some n) →
-        (n ≤ GREATEST_NUMBER) × (length (decimal n) ≤ length ds)
+        (n ≤ MAX_NUMBER) × (length (decimal n) ≤ length ds)
     by_zero (inl (t, e)) = absurd (none_some n e)
-    by_zero (inr (f, e)) = by_range (chosen (leb (value_after 0 ds) GREATEST_NUMBER) (Some (value_after 0 ds)) None (Some n) e)
+    by_zero (inr (f, e)) = by_range (chosen (leb (value_after 0 ds) MAX_NUMBER) (Some (value_after 0 ds)) None (Some n) e)
 
 -- ---- any token
 
@@ -134,7 +134,7 @@ digits_shorter ds n some all e = by_zero (chosen (has_leading_zero ds) None (val
 abbrev pub IsSpelled : Shape → Type 0
 IsSpelled (shape.Word word) = is_word word ≡ true
 IsSpelled (shape.Number None) = Unit {0}
-IsSpelled (shape.Number (Some n)) = n ≤ GREATEST_NUMBER
+IsSpelled (shape.Number (Some n)) = n ≤ MAX_NUMBER
 IsSpelled (shape.Text text) = (is_text text ≡ true) × AreBytes text
 IsSpelled (shape.Mark mark) = Unit {0}
 

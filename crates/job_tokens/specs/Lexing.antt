@@ -1,7 +1,7 @@
 -- How the tokens of a text are read: from left to right, each as long as possible.
 use Rattle.std.specs.Prelude.{◌≡◌, ℕ, zero, suc, ◌+◌, ◌*◌, ◌-◌, ◌<◌, List, [], ◌∷◌, Bool, false, ◌&&◌, ◌||◌, ◌==◌, nat_le, nat_lt, length, take, drop, Option, Some, None, if◌then◌else◌}
 use Rattle.std.specs.List.{prefix_len}
-use Rattle.job_tree.specs.declared.limits.TheConstants.{GREATEST_NUMBER}
+use Rattle.job_tree.specs.declared.limits.TheConstants.{MAX_NUMBER}
 use Rattle.job_tree.specs.Words.{is_letter, is_digit, is_word_byte, is_word, is_text}
 use Rattle.job_tokens.specs.declared.token.Shape.{Shape}
 use Rattle.job_tokens.specs.declared.token.Shape.TheVariants.{Word, Number, Text, Mark}
@@ -49,7 +49,7 @@ has_leading_zero (d ∷ ds) = (d == 48) && nat_lt 0 (length ds)
 
 -- the value of these digits, or `None` if it is above the maximum
 abbrev pub value_within : List ℕ → Option ℕ
-value_within digits = if nat_le (value_after 0 digits) GREATEST_NUMBER then Some (value_after 0 digits) else None
+value_within digits = if nat_le (value_after 0 digits) MAX_NUMBER then Some (value_after 0 digits) else None
 
 -- the same, but `None` with a leading zero
 abbrev pub number_of : List ℕ → Option ℕ

@@ -3,7 +3,7 @@ ghost use Rattle.job_tokens.specs.Lexing.{number_at, number_of, value_within, ha
 
 use crate::run;
 use crate::token::Shape;
-use job_tree::{GREATEST_NUMBER, is_word_byte};
+use job_tree::{MAX_NUMBER, is_word_byte};
 
 /// Returns the number at the start of the bytes, and the bytes after it, or `None` if a letter or `_` follows the
 /// digits. The bytes must begin with a digit.
@@ -52,7 +52,7 @@ fn value_of(digits: &[u8]) -> Option<u64>
     let mut value: u64 = 0;
     for digit in digits {
         value = 10 * value + u64::from(digit.saturating_sub(b'0'));
-        if value > GREATEST_NUMBER {
+        if value > MAX_NUMBER {
             return None;
         }
     }

@@ -2,7 +2,7 @@
 use Rattle.std.proofs.Common.{◌≤◌, arith}
 use Rattle.job_tree.specs.declared.format.Format.{Format}
 use Rattle.job_tree.specs.declared.format.Format.TheVariants.{One, Two}
-use Rattle.job_tree.specs.Modest.{most_steps}
+use Rattle.job_tree.specs.InRange.{most_steps}
 
 -- a job of either format has at most a million step instances
 pub few_steps : (format : Format) → most_steps format ≤ 1000000

@@ -3,7 +3,7 @@ pub mod Names
 pub mod Starting
 pub mod Words
 pub mod TreeCode
-pub mod Modest
+pub mod InRange
 pub mod Weigh
 pub mod Blocks
 pub mod BodyFalls

@@ -1,7 +1,7 @@
 ghost use Rattle.std.specs.Prelude.{◌≡◌};
-ghost use Rattle.job_tree.specs.Modest.{most_steps, number_of};
+ghost use Rattle.job_tree.specs.InRange.{most_steps, number_of};
 
-use crate::limits::{MOST_STEPS, MOST_STEPS_OF_FORMAT_1};
+use crate::limits::{MAX_STEPS, MAX_STEPS_OF_FORMAT_1};
 
 /// The format of a job text, as its first line says. Each job of format 1 is also a job of format 2, with the same
 /// meaning.
@@ -29,8 +29,8 @@ impl Format {
         ensures { result ≡ most_steps self }
     {
         match self {
-            Format::One => MOST_STEPS_OF_FORMAT_1,
-            Format::Two => MOST_STEPS,
+            Format::One => MAX_STEPS_OF_FORMAT_1,
+            Format::Two => MAX_STEPS,
         }
     }
 }

@@ -15,9 +15,7 @@ mod word;
 
 pub use deadline::Deadline;
 pub use format::Format;
-pub use limits::{
-    GREATEST_NUMBER, GREATEST_PACE, MOST_COPIES, MOST_PASSES, MOST_STEPS, MOST_STEPS_OF_FORMAT_1,
-};
+pub use limits::{MAX_COPIES, MAX_NUMBER, MAX_PACE, MAX_PASSES, MAX_STEPS, MAX_STEPS_OF_FORMAT_1};
 pub use name::Name;
 pub use step::{Body, Handler, Step};
 pub use text::Text;

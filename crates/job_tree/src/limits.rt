@@ -1,18 +1,18 @@
 /// The maximum of each number in a job text. The numbers after `pace`, `over` and (in format 2) `repeat` have lower
 /// maximums.
-pub const GREATEST_NUMBER: u64 = 1_000_000_000;
+pub const MAX_NUMBER: u64 = 1_000_000_000;
 
 /// The maximum number of lines that a `pace` reads in one tick.
-pub const GREATEST_PACE: u64 = 1_000_000;
+pub const MAX_PACE: u64 = 1_000_000;
 
 /// The maximum number of passes of a `repeat`.
-pub const MOST_PASSES: u64 = 1_000;
+pub const MAX_PASSES: u64 = 1_000;
 
 /// The maximum number of step instances of a job.
-pub const MOST_STEPS: u64 = 1_000_000;
+pub const MAX_STEPS: u64 = 1_000_000;
 
 /// The maximum number of step instances of a job of format 1.
-pub const MOST_STEPS_OF_FORMAT_1: u64 = 100_000;
+pub const MAX_STEPS_OF_FORMAT_1: u64 = 100_000;
 
 /// The maximum number of copies of a `start .. over`.
-pub const MOST_COPIES: u64 = 64;
+pub const MAX_COPIES: u64 = 64;

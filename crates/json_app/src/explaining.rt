@@ -1,6 +1,6 @@
 ghost use Rattle.std.specs.Prelude.{◌≡◌, ◌<◌, ◌≤◌, length, IfOk, IfErr, OnOk};
 ghost use Rattle.std.specs.Option.{option_copied};
-ghost use Rattle.job_meaning.specs.declared.limits.TheConstants.{MOST_INPUT};
+ghost use Rattle.job_meaning.specs.declared.limits.TheConstants.{MAX_INPUT};
 ghost use Rattle.nursery_app.specs.Verdict.{CountsFailure};
 ghost use Rattle.json_app.specs.Explaining.{IsStoryVerdict, IsStory, IsStorySent, IsStoryFault};
 
@@ -20,7 +20,7 @@ use story_app::{StoryVerdict, told_until};
 /// event, in the order of the story. For a job that ends later than the limit it is the story up to the limit, with what each
 /// task that has not ended is doing. If a task is requested, by the text of its label, only what concerns it is written, as by
 /// `explain`; if no task has that label, nothing is written. If the job text is refused, the refusal is written. The verdict and
-/// its status are those of `explain`. The input has at most `MOST_INPUT` bytes.
+/// its status are those of `explain`. The input has at most `MAX_INPUT` bytes.
 ///
 /// The number of workers, the picker and the gate do not change any byte. All bytes are built before the first is sent, so after
 /// `NoMemory` nothing was sent. After `Send` the writer took the first `sent` bytes.
@@ -35,7 +35,7 @@ pub fn explain_json<R: Threads + Sync, P: Pick, G: Gate + Sync, W: Out>(
     gate: &G,
     out: &mut W,
 ) -> Result<StoryVerdict, ServeFault>
-    requires input { length input.now ≤ MOST_INPUT }
+    requires input { length input.now ≤ MAX_INPUT }
     requires countable { W.failed out.old < 18446744073709551615 }
 
     // The bytes written are the story of the meaning as JSON, or the refusal that it names.
@@ -63,7 +63,7 @@ fn answer<R: Threads + Sync, P: Pick, G: Gate + Sync>(
     picker: &mut P,
     gate: &G,
 ) -> Result<(StoryVerdict, Vec<u8>), AllocError>
-    requires { length input.now ≤ MOST_INPUT }
+    requires { length input.now ≤ MAX_INPUT }
     ensures { IfOk result (λ r. IsStory job_text.now input.now settings.limit (option_copied task.entry) r.0 r.1.items) }
 {
     match read_job(alloc, job_text) {
@@ -89,7 +89,7 @@ fn job_story<R: Threads + Sync, P: Pick, G: Gate + Sync>(
     picker: &mut P,
     gate: &G,
 ) -> Result<(StoryVerdict, Vec<u8>), AllocError>
-    requires { length input.now ≤ MOST_INPUT }
+    requires { length input.now ≤ MAX_INPUT }
     ensures { IfOk result (λ r. IsStoryVerdict job.now input.now settings.limit (option_copied task.entry) r.0 r.1.items) }
 {
     let meaning = meaning_of(rt, alloc, job, input, settings, picker, gate)?;

@@ -1,5 +1,5 @@
 ghost use Rattle.std.specs.Prelude.{◌≡◌, ◌<◌, ◌≤◌, length, IfOk, IfErr, OnOk};
-ghost use Rattle.job_meaning.specs.declared.limits.TheConstants.{MOST_INPUT};
+ghost use Rattle.job_meaning.specs.declared.limits.TheConstants.{MAX_INPUT};
 ghost use Rattle.nursery_app.specs.Verdict.{CountsFailure};
 ghost use Rattle.json_app.specs.Serving.{IsJobVerdict, IsVerdict, IsSent, IsJsonFault};
 
@@ -14,7 +14,7 @@ use std::thread::Threads;
 
 /// Runs a job text over an input, and writes the report of the job's one-thread meaning as one JSON document, or the refusal that
 /// the meaning names, or the limit by which it does not end. The verdict and its status are those of `serve`. The input has at
-/// most `MOST_INPUT` bytes.
+/// most `MAX_INPUT` bytes.
 ///
 /// The number of workers, the picker and the gate do not change any byte. All bytes are built before the first is sent, so after
 /// `NoMemory` nothing was sent. After `Send` the writer took the first `sent` bytes.
@@ -28,7 +28,7 @@ pub fn serve_json<R: Threads + Sync, P: Pick, G: Gate + Sync, W: Out>(
     gate: &G,
     out: &mut W,
 ) -> Result<Verdict, ServeFault>
-    requires input { length input.now ≤ MOST_INPUT }
+    requires input { length input.now ≤ MAX_INPUT }
     requires countable { W.failed out.old < 18446744073709551615 }
 
     // The bytes written are the report of the meaning as JSON, or the refusal that it names.
@@ -55,7 +55,7 @@ fn answer<R: Threads + Sync, P: Pick, G: Gate + Sync>(
     picker: &mut P,
     gate: &G,
 ) -> Result<(Verdict, Vec<u8>), AllocError>
-    requires { length input.now ≤ MOST_INPUT }
+    requires { length input.now ≤ MAX_INPUT }
     ensures { IfOk result (λ r. IsVerdict job_text.now input.now settings.limit r.0 r.1.items) }
 {
     match read_job(alloc, job_text) {
@@ -80,7 +80,7 @@ fn job_answer<R: Threads + Sync, P: Pick, G: Gate + Sync>(
     picker: &mut P,
     gate: &G,
 ) -> Result<(Verdict, Vec<u8>), AllocError>
-    requires { length input.now ≤ MOST_INPUT }
+    requires { length input.now ≤ MAX_INPUT }
     ensures { IfOk result (λ r. IsJobVerdict job.now input.now settings.limit r.0 r.1.items) }
 {
     match run(rt, alloc, job, input, settings, picker, gate) {

@@ -3,7 +3,7 @@ ghost use Rattle.serde_json.specs.View.{view};
 ghost use Rattle.buffer_parts.specs.Part.{span_of, line_text};
 ghost use Rattle.job_meaning.specs.Shown.{line_shown};
 ghost use Rattle.task_machine.specs.Noted.{entry_of};
-ghost use Rattle.task_roster.specs.Records.{ending_in, row_in};
+ghost use Rattle.task_table.specs.Records.{ending_in, row_in};
 ghost use Rattle.json_report.specs.Values.{entry_json, exception_json, outcome_json, row_json, word};
 
 use crate::exc::exc_value;

@@ -5,7 +5,7 @@ use Rattle.serde_json.specs.Data.{Data}
 use Rattle.serde_json.specs.View.{items_of}
 use Rattle.serde_json.specs.Written.{has_float, items_have_float}
 use Rattle.exc_groups.specs.Exceptions.{Label, Exc}
-use Rattle.fault_text.specs.Fates.{Fate, refused, stuck, ended}
+use Rattle.fault_text.specs.JobOutcomes.{JobOutcome, refused, stuck, ended}
 use Rattle.fault_text.specs.Table as faults
 use Rattle.sweep_text.specs.Groups as sweeps
 use Rattle.race_rows.specs.Differences.{Difference, otherwise, inside}
@@ -31,7 +31,7 @@ exc_has_none : (o : Option Exc) → has_float (exc_or_null o) ≡ false
 exc_has_none None = refl
 exc_has_none (Some e) = exc_without_float e
 
-result_has_none : (limit : ℕ) (fate : Fate) → has_float (result_json limit fate) ≡ false
+result_has_none : (limit : ℕ) (job_outcome : JobOutcome) → has_float (result_json limit job_outcome) ≡ false
 result_has_none limit refused = refl
 result_has_none limit (stuck sleeping) = rw (labels_have_none sleeping) refl
 result_has_none limit (ended end exc labels cut lost) = rw (labels_have_none labels, labels_have_none cut, exc_has_none exc) refl
@@ -39,13 +39,13 @@ result_has_none limit (ended end exc labels cut lost) = rw (labels_have_none lab
 -- ---- faults
 
 fault_line_has_none : (limit : ℕ) (l : faults.Line) → has_float (fault_line_json limit l) ≡ false
-fault_line_has_none limit l = rw (result_has_none limit l.fate) refl
+fault_line_has_none limit l = rw (result_has_none limit l.job_outcome) refl
 
 fault_lines_have_none : (limit : ℕ) (ls : List faults.Line) → items_have_float (items_of (map (fault_line_json limit) ls)) ≡ false
 fault_lines_have_none limit [] = refl
 fault_lines_have_none limit (l ∷ ls) = rw (fault_line_has_none limit l, fault_lines_have_none limit ls) refl
 
-pub faults_without_float : (value : Data) (limit : ℕ) (first : Fate) (ls : List faults.Line) → value ≡ faults_json limit first ls →
+pub faults_without_float : (value : Data) (limit : ℕ) (first : JobOutcome) (ls : List faults.Line) → value ≡ faults_json limit first ls →
     has_float value ≡ false
 faults_without_float value limit first ls is = rw (is, result_has_none limit first, fault_lines_have_none limit ls) refl
 
@@ -53,9 +53,9 @@ faults_without_float value limit first ls is = rw (is, result_has_none limit fir
 
 values_have_none : (limit : ℕ) (vs : List sweeps.Value) → items_have_float (items_of (map (value_json limit) vs)) ≡ false
 values_have_none limit [] = refl
-values_have_none limit (v ∷ vs) = rw (result_has_none limit v.fate, values_have_none limit vs) refl
+values_have_none limit (v ∷ vs) = rw (result_has_none limit v.job_outcome, values_have_none limit vs) refl
 
-pub sweep_without_float : (value : Data) (limit : ℕ) (first : Fate) (vs : List sweeps.Value) → value ≡ sweep_json limit first vs →
+pub sweep_without_float : (value : Data) (limit : ℕ) (first : JobOutcome) (vs : List sweeps.Value) → value ≡ sweep_json limit first vs →
     has_float value ≡ false
 sweep_without_float value limit first vs is = rw (is, result_has_none limit first, values_have_none limit vs) refl
 

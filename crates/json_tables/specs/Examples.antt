@@ -8,7 +8,7 @@ use Rattle.job_edits.specs.declared.waiting.Wait.TheVariants as wait
 use Rattle.job_edits.specs.declared.site.Moment.TheVariants.{Sleep}
 use Rattle.job_edits.specs.declared.shift.Hair.TheVariants.{Earlier, Later}
 use Rattle.job_lint.specs.declared.warning.Lint.TheVariants.{Unreachable, IdleScope}
-use Rattle.fault_text.specs.Fates.{refused, stuck, ended}
+use Rattle.fault_text.specs.JobOutcomes.{refused, stuck, ended}
 use Rattle.fault_text.specs.Examples.{task, told}
 use Rattle.sweep_text.specs.Examples.{told as value}
 use Rattle.race_rows.specs.Differences.{otherwise, inside}

@@ -2,7 +2,7 @@
 use Rattle.std.specs.Prelude.{ℕ, Option, Some, None, List, map, codes}
 use Rattle.serde_json.specs.Data.{Data, null, boolean, object, member, no_members}
 use Rattle.exc_groups.specs.Exceptions.{Exc, cancelled}
-use Rattle.fault_text.specs.Fates.{Fate, refused, stuck, ended}
+use Rattle.fault_text.specs.JobOutcomes.{JobOutcome, refused, stuck, ended}
 use Rattle.json_report.specs.Values.{integer, word, list_of, label_json, exc_json}
 
 -- how a job ends, in a word: well, with one `Cancelled` outside any group, or with another exception
@@ -17,7 +17,7 @@ exc_or_null (Some e) = exc_json e
 
 -- `{"outcome":"refused"}`, or `{"limit":T,"outcome":"stuck","sleeping":[LABEL..]}`, or
 -- `{"cancelled":[LABEL..],"cut":[LABEL..],"end":T,"exception":EXC,"lost":B,"outcome":WORD}`
-abbrev pub result_json : ℕ → Fate → Data
+abbrev pub result_json : ℕ → JobOutcome → Data
 result_json limit refused = object (member (codes "outcome") (word (codes "refused")) no_members)
 result_json limit (stuck sleeping) =
     object (member (codes "limit") (integer limit) (member (codes "outcome") (word (codes "stuck"))
@@ -28,5 +28,5 @@ result_json limit (ended end exc labels cut lost) =
     (member (codes "outcome") (word (end_word exc)) no_members))))))
 
 -- what becomes of the job as it is: `{"result":RESULT}`
-abbrev pub first_json : ℕ → Fate → Data
+abbrev pub first_json : ℕ → JobOutcome → Data
 first_json limit first = object (member (codes "result") (result_json limit first) no_members)

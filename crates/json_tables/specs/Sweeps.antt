@@ -1,7 +1,7 @@
 -- What becomes of a job for each value of a number, as a JSON value.
 use Rattle.std.specs.Prelude.{ℕ, List, length, map, codes}
 use Rattle.serde_json.specs.Data.{Data, object, member, no_members}
-use Rattle.fault_text.specs.Fates.{Fate, is_stuck, has_cut, is_refused}
+use Rattle.fault_text.specs.JobOutcomes.{JobOutcome, is_stuck, has_cut, is_refused}
 use Rattle.sweep_text.specs.Groups.{Value}
 use Rattle.sweep_text.specs.Sweeps.{count}
 use Rattle.json_report.specs.Values.{integer, list_of}
@@ -9,7 +9,7 @@ use Rattle.json_tables.specs.Results.{result_json, first_json}
 
 -- `{"result":RESULT,"value":N}`
 abbrev pub value_json : ℕ → Value → Data
-value_json limit v = object (member (codes "result") (result_json limit v.fate) (member (codes "value") (integer v.value) no_members))
+value_json limit v = object (member (codes "result") (result_json limit v.job_outcome) (member (codes "value") (integer v.value) no_members))
 
 -- how many values there are, and how many of each kind
 abbrev pub value_counts_json : List Value → Data
@@ -18,7 +18,7 @@ value_counts_json vs =
     (member (codes "stuck") (integer (count is_stuck vs)) (member (codes "values") (integer (length vs)) no_members))))
 
 -- the job as it is, the counts, and each value
-abbrev pub sweep_json : ℕ → Fate → List Value → Data
+abbrev pub sweep_json : ℕ → JobOutcome → List Value → Data
 sweep_json limit first vs =
     object (member (codes "as_it_is") (first_json limit first) (member (codes "counts") (value_counts_json vs)
     (member (codes "lines") (list_of (map (value_json limit) vs)) no_members)))

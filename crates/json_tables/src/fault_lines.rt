@@ -1,13 +1,13 @@
 ghost use Rattle.std.specs.Prelude.{◌≡◌, ◌++◌, [], ◌∷◌, IfOk, length, map, take, codes};
 ghost use Rattle.serde_json.specs.View.{view};
-ghost use Rattle.fault_text.specs.Fates.{is_stuck, has_cut, has_lost, is_refused};
+ghost use Rattle.fault_text.specs.JobOutcomes.{is_stuck, has_cut, has_lost, is_refused};
 ghost use Rattle.fault_text.specs.Table.{count, fault_text, is_unreached, step_text};
-ghost use Rattle.fault_text.specs.Views.{fate_held, line_held};
+ghost use Rattle.fault_text.specs.Views.{job_outcome_held, line_held};
 ghost use Rattle.json_report.specs.Values.{document, text_json};
 ghost use Rattle.json_tables.specs.Faults.{fault_line_json, fault_counts_json, faults_json};
 
 use crate::results::{first_value, result_value};
-use fault_text::{Fate, Line};
+use fault_text::{JobOutcome, Line};
 use job_edits::{Fault, push_wait};
 use json_report::{document, text_value};
 use serde_json::{Value, json};
@@ -19,10 +19,10 @@ use std::alloc::{AllocError, Global};
 pub fn faults_json(
     alloc: Global,
     limit: u64,
-    first: &Fate,
+    first: &JobOutcome,
     lines: &[Line],
 ) -> Result<Vec<u8>, AllocError>
-    ensures { IfOk result (λ bytes. bytes.items ≡ document (faults_json limit (fate_held first.now) (map line_held lines.now))) }
+    ensures { IfOk result (λ bytes. bytes.items ≡ document (faults_json limit (job_outcome_held first.now) (map line_held lines.now))) }
 {
     let value = faults_value(alloc, limit, first, lines)?;
     document(alloc, &value)
@@ -32,10 +32,10 @@ pub fn faults_json(
 fn faults_value(
     alloc: Global,
     limit: u64,
-    first: &Fate,
+    first: &JobOutcome,
     lines: &[Line],
 ) -> Result<Value, AllocError>
-    ensures { IfOk result (λ value. view value ≡ faults_json limit (fate_held first.now) (map line_held lines.now)) }
+    ensures { IfOk result (λ value. view value ≡ faults_json limit (job_outcome_held first.now) (map line_held lines.now)) }
 {
     let as_it_is = first_value(alloc, limit, first)?;
     let counts = counts_value(alloc, lines)?;
@@ -60,7 +60,7 @@ fn line_value(alloc: Global, limit: u64, line: &Line) -> Result<Value, AllocErro
     ensures { IfOk result (λ value. view value ≡ fault_line_json limit (line_held line.now)) }
 {
     let step = step_value(alloc, line)?;
-    let result = result_value(alloc, limit, &line.fate)?;
+    let result = result_value(alloc, limit, &line.job_outcome)?;
     json!(in alloc; {
         "line": line.line,
         "column": line.column,
@@ -116,23 +116,32 @@ fn count_of(lines: &[Line]) -> usize
 
 // How many jobs do not end by the limit.
 fn stuck_in(lines: &[Line]) -> usize
-    ensures { result ≡ count (λ l. is_stuck l.fate) (map line_held lines.now) }
+    ensures { result ≡ count (λ l. is_stuck l.job_outcome) (map line_held lines.now) }
 {
-    lines.iter().filter(|line| line.fate.is_stuck()).count()
+    lines
+        .iter()
+        .filter(|line| line.job_outcome.is_stuck())
+        .count()
 }
 
 // How many jobs cut a cleanup.
 fn cut_in(lines: &[Line]) -> usize
-    ensures { result ≡ count (λ l. has_cut l.fate) (map line_held lines.now) }
+    ensures { result ≡ count (λ l. has_cut l.job_outcome) (map line_held lines.now) }
 {
-    lines.iter().filter(|line| line.fate.has_cut()).count()
+    lines
+        .iter()
+        .filter(|line| line.job_outcome.has_cut())
+        .count()
 }
 
 // How many jobs lose the fault's exception.
 fn lost_in(lines: &[Line]) -> usize
-    ensures { result ≡ count (λ l. has_lost l.fate) (map line_held lines.now) }
+    ensures { result ≡ count (λ l. has_lost l.job_outcome) (map line_held lines.now) }
 {
-    lines.iter().filter(|line| line.fate.has_lost()).count()
+    lines
+        .iter()
+        .filter(|line| line.job_outcome.has_lost())
+        .count()
 }
 
 // How many faults are not reached.
@@ -144,7 +153,10 @@ fn unreached_in(lines: &[Line]) -> usize
 
 // How many texts are refused.
 fn refused_in(lines: &[Line]) -> usize
-    ensures { result ≡ count (λ l. is_refused l.fate) (map line_held lines.now) }
+    ensures { result ≡ count (λ l. is_refused l.job_outcome) (map line_held lines.now) }
 {
-    lines.iter().filter(|line| line.fate.is_refused()).count()
+    lines
+        .iter()
+        .filter(|line| line.job_outcome.is_refused())
+        .count()
 }

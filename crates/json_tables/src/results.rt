@@ -2,27 +2,31 @@ ghost use Rattle.std.specs.Prelude.{◌≡◌, ◌++◌, [], ◌∷◌, Some, If
 ghost use Rattle.std.specs.Option.{option_map};
 ghost use Rattle.serde_json.specs.View.{view};
 ghost use Rattle.exc_groups.specs.Held.{exc_of};
-ghost use Rattle.fault_text.specs.Views.{fate_held};
+ghost use Rattle.fault_text.specs.Views.{job_outcome_held};
 ghost use Rattle.json_report.specs.Values.{label_json};
 ghost use Rattle.json_tables.specs.Results.{end_word, exc_or_null, result_json, first_json};
 
 use exc_groups::{Exc, Label};
-use fault_text::Fate;
+use fault_text::JobOutcome;
 use json_report::{exc_value, label_value};
 use serde_json::{Value, json};
 use std::alloc::{AllocError, Global};
 
 /// What becomes of a job by a limit in ticks, as a JSON object. Want of memory is the only error.
-pub fn result_value(alloc: Global, limit: u64, fate: &Fate) -> Result<Value, AllocError>
-    ensures { IfOk result (λ value. view value ≡ result_json limit (fate_held fate.now)) }
+pub fn result_value(
+    alloc: Global,
+    limit: u64,
+    job_outcome: &JobOutcome,
+) -> Result<Value, AllocError>
+    ensures { IfOk result (λ value. view value ≡ result_json limit (job_outcome_held job_outcome.now)) }
 {
-    match fate {
-        Fate::Refused => json!(in alloc; {"outcome": "refused"}),
-        Fate::Stuck { sleeping } => {
+    match job_outcome {
+        JobOutcome::Refused => json!(in alloc; {"outcome": "refused"}),
+        JobOutcome::Stuck { sleeping } => {
             let tasks = label_values(alloc, sleeping.as_slice())?;
             json!(in alloc; {"outcome": "stuck", "limit": limit, "sleeping": tasks})
         }
-        Fate::Ended {
+        JobOutcome::Ended {
             end,
             exc,
             cancelled,
@@ -45,8 +49,12 @@ pub fn result_value(alloc: Global, limit: u64, fate: &Fate) -> Result<Value, All
 }
 
 // What becomes of the job as it is.
-pub(crate) fn first_value(alloc: Global, limit: u64, first: &Fate) -> Result<Value, AllocError>
-    ensures { IfOk result (λ value. view value ≡ first_json limit (fate_held first.now)) }
+pub(crate) fn first_value(
+    alloc: Global,
+    limit: u64,
+    first: &JobOutcome,
+) -> Result<Value, AllocError>
+    ensures { IfOk result (λ value. view value ≡ first_json limit (job_outcome_held first.now)) }
 {
     let result = result_value(alloc, limit, first)?;
     json!(in alloc; {"result": result})

@@ -1,14 +1,14 @@
 ghost use Rattle.std.specs.Prelude.{◌≡◌, ◌++◌, [], ◌∷◌, IfOk, length, map, take, codes};
 ghost use Rattle.serde_json.specs.View.{view};
-ghost use Rattle.fault_text.specs.Fates.{is_stuck, has_cut, is_refused};
-ghost use Rattle.fault_text.specs.Views.{fate_held};
+ghost use Rattle.fault_text.specs.JobOutcomes.{is_stuck, has_cut, is_refused};
+ghost use Rattle.fault_text.specs.Views.{job_outcome_held};
 ghost use Rattle.sweep_text.specs.Sweeps.{count};
 ghost use Rattle.sweep_text.specs.Views.{value_held};
 ghost use Rattle.json_report.specs.Values.{document};
 ghost use Rattle.json_tables.specs.Sweeps.{value_json, value_counts_json, sweep_json};
 
 use crate::results::{first_value, result_value};
-use fault_text::Fate;
+use fault_text::JobOutcome;
 use json_report::document;
 use serde_json::{Value, json};
 use std::alloc::{AllocError, Global};
@@ -20,10 +20,10 @@ use sweep_text::Value as Swept;
 pub fn sweep_json(
     alloc: Global,
     limit: u64,
-    first: &Fate,
+    first: &JobOutcome,
     values: &[Swept],
 ) -> Result<Vec<u8>, AllocError>
-    ensures { IfOk result (λ bytes. bytes.items ≡ document (sweep_json limit (fate_held first.now) (map value_held values.now))) }
+    ensures { IfOk result (λ bytes. bytes.items ≡ document (sweep_json limit (job_outcome_held first.now) (map value_held values.now))) }
 {
     let value = sweep_value(alloc, limit, first, values)?;
     document(alloc, &value)
@@ -33,10 +33,10 @@ pub fn sweep_json(
 fn sweep_value(
     alloc: Global,
     limit: u64,
-    first: &Fate,
+    first: &JobOutcome,
     values: &[Swept],
 ) -> Result<Value, AllocError>
-    ensures { IfOk result (λ value. view value ≡ sweep_json limit (fate_held first.now) (map value_held values.now)) }
+    ensures { IfOk result (λ value. view value ≡ sweep_json limit (job_outcome_held first.now) (map value_held values.now)) }
 {
     let as_it_is = first_value(alloc, limit, first)?;
     let counts = counts_value(alloc, values)?;
@@ -60,7 +60,7 @@ fn line_values(alloc: Global, limit: u64, values: &[Swept]) -> Result<Vec<Value>
 fn line_value(alloc: Global, limit: u64, value: &Swept) -> Result<Value, AllocError>
     ensures { IfOk result (λ line. view line ≡ value_json limit (value_held value.now)) }
 {
-    let result = result_value(alloc, limit, &value.fate)?;
+    let result = result_value(alloc, limit, &value.job_outcome)?;
     json!(in alloc; {"value": value.value, "result": result})
 }
 
@@ -87,19 +87,19 @@ fn count_of(values: &[Swept]) -> usize
 fn stuck_in(values: &[Swept]) -> usize
     ensures { result ≡ count is_stuck (map value_held values.now) }
 {
-    values.iter().filter(|v| v.fate.is_stuck()).count()
+    values.iter().filter(|v| v.job_outcome.is_stuck()).count()
 }
 
 // For how many values the job cuts a cleanup.
 fn cut_in(values: &[Swept]) -> usize
     ensures { result ≡ count has_cut (map value_held values.now) }
 {
-    values.iter().filter(|v| v.fate.has_cut()).count()
+    values.iter().filter(|v| v.job_outcome.has_cut()).count()
 }
 
 // For how many values the text is refused.
 fn refused_in(values: &[Swept]) -> usize
     ensures { result ≡ count is_refused (map value_held values.now) }
 {
-    values.iter().filter(|v| v.fate.is_refused()).count()
+    values.iter().filter(|v| v.job_outcome.is_refused()).count()
 }

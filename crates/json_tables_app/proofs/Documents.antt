@@ -6,7 +6,7 @@ use Rattle.job_grammar.specs.Refusals.{Spells}
 use Rattle.job_edits.specs.declared.number.Target.{Target}
 use Rattle.job_lint.specs.Linted.{AreWarnings}
 use Rattle.job_lint.specs.declared.warning.Warning.{Warning}
-use Rattle.fault_text.specs.Fates.{Fate}
+use Rattle.fault_text.specs.JobOutcomes.{JobOutcome}
 use Rattle.fault_text.specs.Table as faults
 use Rattle.fault_text.specs.Views as faults_held
 use Rattle.fault_text.specs.declared.deny.Deny.{Deny}
@@ -28,7 +28,7 @@ use Rattle.json_tables_app.specs.Sweeps as of_values_are
 use Rattle.json_tables_app.specs.Races.{IsDocumentOf}
 use Rattle.json_tables_app.specs.Lints.{IsDocument}
 
-pub of_faults : (text input : List ℕ) (limit l : ℕ) (name : List ℕ) (deny : Deny) (bytes denied : List ℕ) (job : Tree) (first : Fate)
+pub of_faults : (text input : List ℕ) (limit l : ℕ) (name : List ℕ) (deny : Deny) (bytes denied : List ℕ) (job : Tree) (first : JobOutcome)
     (lines ks ms : List faults_kept.Line) →
     Spells text job → AreFaultLines text input limit name job first (map faults_held.line_held lines) → l ≡ limit → ks ≡ lines →
     bytes ≡ document (faults_json l first (map faults_held.line_held ks)) → ms ≡ lines →
@@ -49,7 +49,7 @@ of_faults text input limit l name deny bytes denied job first lines ks ms spells
           ∙ ap (λ (n : ℕ). faults.denied_text n deny first (map faults_held.line_held lines)) at;
     }
 
-pub of_values : (text : List ℕ) (job : Tree) (input : List ℕ) (limit l : ℕ) (target : Target) (values bytes : List ℕ) (first : Fate)
+pub of_values : (text : List ℕ) (job : Tree) (input : List ℕ) (limit l : ℕ) (target : Target) (values bytes : List ℕ) (first : JobOutcome)
     (vs us : List Value) →
     AreSweepValues text job input limit target values first (map value_held vs) → l ≡ limit → us ≡ vs →
     bytes ≡ document (sweep_json l first (map value_held us)) →

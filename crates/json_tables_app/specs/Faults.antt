@@ -5,7 +5,7 @@ use Rattle.job_tree.specs.Tree.{Tree}
 use Rattle.job_grammar.specs.Refusals.{Spells, IsRefused}
 use Rattle.nursery_app.specs.declared.verdict.ServeFault.{ServeFault}
 use Rattle.nursery_app.specs.declared.verdict.ServeFault.TheVariants.{Send, NoMemory}
-use Rattle.fault_text.specs.Fates.{Fate}
+use Rattle.fault_text.specs.JobOutcomes.{JobOutcome}
 use Rattle.fault_text.specs.Table.{Line, denied_text}
 use Rattle.fault_text.specs.declared.deny.Deny.{Deny}
 use Rattle.fault_app.specs.Verdicts.{AreFaultLines}
@@ -19,7 +19,7 @@ use Rattle.json_tables.specs.Faults.{faults_json}
 pub record IsDocument (text input : List ℕ) (limit : ℕ) (name : List ℕ) (deny : Deny) (bytes denied : List ℕ) : Type 0 where
   pub job : Tree
   pub spells : Spells text job
-  pub first : Fate
+  pub first : JobOutcome
   pub lines : List Line
   pub lines_are : AreFaultLines text input limit name job first lines
   pub document_is : bytes ≡ document (faults_json limit first lines)

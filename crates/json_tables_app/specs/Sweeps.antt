@@ -6,7 +6,7 @@ use Rattle.job_grammar.specs.Refusals.{Spells, IsRefused}
 use Rattle.nursery_app.specs.declared.verdict.ServeFault.{ServeFault}
 use Rattle.nursery_app.specs.declared.verdict.ServeFault.TheVariants.{Send, NoMemory}
 use Rattle.job_edits.specs.declared.number.Target.{Target}
-use Rattle.fault_text.specs.Fates.{Fate}
+use Rattle.fault_text.specs.JobOutcomes.{JobOutcome}
 use Rattle.sweep_text.specs.Groups.{Value}
 use Rattle.sweep_app.specs.Answers.{AreSweepValues, IsWithoutTarget}
 use Rattle.sweep_app.specs.declared.verdict.SweepVerdict.{SweepVerdict}
@@ -17,7 +17,7 @@ use Rattle.json_tables.specs.Sweeps.{sweep_json}
 
 -- these bytes tell what becomes of the job as it is, and for each value of the number that is meant
 pub record IsDocument (text : List ℕ) (job : Tree) (input : List ℕ) (limit : ℕ) (target : Target) (values bytes : List ℕ) : Type 0 where
-  pub first : Fate
+  pub first : JobOutcome
   pub vs : List Value
   pub vs_are : AreSweepValues text job input limit target values first vs
   pub document_is : bytes ≡ document (sweep_json limit first vs)

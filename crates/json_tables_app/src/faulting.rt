@@ -1,5 +1,5 @@
 ghost use Rattle.std.specs.Prelude.{◌≡◌, ◌<◌, ◌≤◌, length, IfOk, IfErr, OnOk};
-ghost use Rattle.job_meaning.specs.declared.limits.TheConstants.{MOST_INPUT};
+ghost use Rattle.job_meaning.specs.declared.limits.TheConstants.{MAX_INPUT};
 ghost use Rattle.job_grammar.specs.Refusals.{Spells};
 ghost use Rattle.nursery_app.specs.Verdict.{CountsFailure};
 ghost use Rattle.json_tables_app.specs.Faults.{IsDocument, IsVerdict, IsSent, IsFaultsFault};
@@ -34,7 +34,7 @@ pub fn faults_json<R: Threads + Sync, G: Gate + Sync, W: Out>(
     gate: &G,
     out: &mut W,
 ) -> Result<FaultsVerdict, ServeFault>
-    requires input { length input.now ≤ MOST_INPUT }
+    requires input { length input.now ≤ MAX_INPUT }
     requires countable { W.failed out.old < 18446744073709551615 }
 
     // The bytes written tell of each fault, or are the refusal of the text.
@@ -61,7 +61,7 @@ fn answer<R: Threads + Sync, G: Gate + Sync>(
     deny: Deny,
     gate: &G,
 ) -> Result<(FaultsVerdict, Vec<u8>), AllocError>
-    requires { length input.now ≤ MOST_INPUT }
+    requires { length input.now ≤ MAX_INPUT }
     ensures { IfOk result (λ r. IsVerdict job_text.now input.now settings.limit name deny r.0 r.1.items) }
 {
     match read_job(alloc, job_text) {
@@ -91,7 +91,7 @@ fn document_and_denied<R: Threads + Sync, G: Gate + Sync>(
     deny: Deny,
     gate: &G,
 ) -> Result<(Vec<u8>, Vec<u8>), AllocError>
-    requires input { length input.now ≤ MOST_INPUT }
+    requires input { length input.now ≤ MAX_INPUT }
     requires spells { Spells job_text.now job.now }
     ensures { IfOk result (λ r. IsDocument job_text.now input.now settings.limit name deny r.1.items r.0.items) }
 {

@@ -1,5 +1,5 @@
 ghost use Rattle.std.specs.Prelude.{◌≡◌, ◌<◌, ◌≤◌, length, IfOk, IfErr, OnOk};
-ghost use Rattle.job_meaning.specs.declared.limits.TheConstants.{MOST_INPUT};
+ghost use Rattle.job_meaning.specs.declared.limits.TheConstants.{MAX_INPUT};
 ghost use Rattle.job_grammar.specs.Refusals.{Spells};
 ghost use Rattle.nursery_app.specs.Verdict.{CountsFailure};
 ghost use Rattle.json_tables_app.specs.Sweeps.{IsVerdict, IsJobVerdict, IsSent, IsSweepFault};
@@ -34,7 +34,7 @@ pub fn sweep_json<R: Threads + Sync, G: Gate + Sync, W: Out>(
     gate: &G,
     out: &mut W,
 ) -> Result<SweepVerdict, ServeFault>
-    requires input { length input.now ≤ MOST_INPUT }
+    requires input { length input.now ≤ MAX_INPUT }
     requires countable { W.failed out.old < 18446744073709551615 }
 
     // The bytes written tell of each value, or are the refusal of the text, or are none.
@@ -61,7 +61,7 @@ fn answer<R: Threads + Sync, G: Gate + Sync>(
     values: &[u64],
     gate: &G,
 ) -> Result<(SweepVerdict, Vec<u8>), AllocError>
-    requires { length input.now ≤ MOST_INPUT }
+    requires { length input.now ≤ MAX_INPUT }
     ensures { IfOk result (λ r. IsVerdict job_text.now input.now settings.limit target values.now r.0 r.1.items) }
 {
     match read_job(alloc, job_text) {
@@ -91,7 +91,7 @@ fn answer_for_job<R: Threads + Sync, G: Gate + Sync>(
     values: &[u64],
     gate: &G,
 ) -> Result<(SweepVerdict, Vec<u8>), AllocError>
-    requires input { length input.now ≤ MOST_INPUT }
+    requires input { length input.now ≤ MAX_INPUT }
     requires spells { Spells job_text.now job.now }
     ensures { IfOk result (λ r. IsJobVerdict job_text.now job.now input.now settings.limit target values.now r.0 r.1.items) }
 {

@@ -9,19 +9,19 @@ use Rattle.buffer_parts.specs.Part.{buffer_of, range_of}
 use Rattle.buffer_parts.specs.declared.part.Part.{Part}
 use Rattle.cancel_scopes.specs.Tree.{Stack, stack_of, outer_of, IsOpen}
 use Rattle.job_tree.specs.Tree.{Tree as Job}
-use Rattle.job_tree.specs.Modest.{AreModest}
+use Rattle.job_tree.specs.InRange.{AreInRange}
 use Rattle.job_tree.specs.Names.{GivesNamesOnce}
 use Rattle.job_tree.specs.Starting.{StartsInNurseries}
 use Rattle.job_meaning.specs.Log.{Table}
 use Rattle.job_meaning.specs.Rest as rest
-use Rattle.job_meaning.specs.declared.limits.TheConstants.{MOST_INPUT}
+use Rattle.job_meaning.specs.declared.limits.TheConstants.{MAX_INPUT}
 use Rattle.nursery_book.specs.declared.book.NurseryBook.{NurseryBook}
-use Rattle.task_turns.specs.Midway.{Move}
-use Rattle.task_turns.specs.Names.{NewIn}
-use Rattle.task_turns.specs.Placed.{Placed}
-use Rattle.task_turns.proofs.Names.{new_job}
-use Rattle.task_machine.specs.declared.stop.Halt.{Halt}
-use Rattle.task_machine.specs.declared.stop.Halt.TheVariants.{ToBegin, Asked, Asleep, Awaits, Over}
+use Rattle.turn_semantics.specs.Midway.{Move}
+use Rattle.turn_semantics.specs.Names.{NewIn}
+use Rattle.turn_semantics.specs.Placed.{Placed}
+use Rattle.turn_semantics.proofs.Names.{new_job}
+use Rattle.task_machine.specs.declared.stop.TaskState.{TaskState}
+use Rattle.task_machine.specs.declared.stop.TaskState.TheVariants.{ToBegin, Asked, Asleep, Awaits, Over}
 use Rattle.task_machine.specs.declared.stop.Stop.{Stop}
 use Rattle.task_machine.specs.declared.stop.Stop.TheVariants.{Sleep}
 use Rattle.task_machine.specs.declared.stop.Wake.TheVariants.{Begin, Due}
@@ -29,12 +29,12 @@ use Rattle.task_machine.specs.declared.task.Home.{Home}
 use Rattle.task_machine.specs.declared.task.Own.{Own}
 use Rattle.task_machine.specs.declared.task.Task.{Task}
 use Rattle.task_machine.specs.declared.world.World.{World}
-use Rattle.task_machine.specs.Fitting.{Block, blocks_of, AreModestFrames, StartsFit, Opened, Fits, waits_of}
+use Rattle.task_machine.specs.Fitting.{Block, blocks_of, AreInRangeFrames, StartsFit, Opened, Fits, waits_of}
 use Rattle.task_machine.specs.Frames.{frames_of}
 use Rattle.task_machine.specs.Left.{OwnFirst}
 use Rattle.task_machine.specs.Stacked.{AreAt}
 use Rattle.task_machine.specs.Standing.{HasBlock, Stands, TookTo, TurnsAs}
-use Rattle.task_machine.specs.Stops.{Numbers, IsHalt, StopsAs}
+use Rattle.task_machine.specs.Stops.{Numbers, IsTaskState, StopsAs}
 use Rattle.task_machine.specs.Tasks.{home_scope, scope_of}
 use Rattle.task_machine.specs.Waking.{WakesFrom}
 use Rattle.task_machine.specs.Worlds.{label_at}
@@ -46,7 +46,7 @@ no_numbers id = []
 abbrev no_froms : Table
 no_froms l = None
 
-module _ (job : Job) (root : Task) (home : root.home ≡ None) (own : root.own.items ≡ []) (halt : root.halt ≡ ToBegin)
+module _ (job : Job) (root : Task) (home : root.home ≡ None) (own : root.own.items ≡ []) (task_state : root.task_state ≡ ToBegin)
     (frames : (numbers : ℕ → List ℕ) → frames_of numbers root.frames.items ≡ rest.steps_left job.steps ∷ []) where
   blocks : blocks_of root.frames.items ≡ []
   blocks = no_blocks_begun no_numbers root.frames.items job.steps (frames no_numbers)
@@ -62,12 +62,12 @@ module _ (job : Job) (root : Task) (home : root.home ≡ None) (own : root.own.i
   no_scope = ap (λ (os : List Own). last_or (home_scope root) (map (λ (o : Own). o.id) os)) own ∙ no_home
 
   -- a root that has not begun fits a world in which no scope is open
-  pub root_fits : (world : World) → AreModest job.steps → StartsInNurseries job →
-      length (bytes_of (buffer_of root.part) (range_of root.part)) ≤ MOST_INPUT →
-      ((key : ℕ) → stack_of world.scopes key ≡ None) → Fits root.frames.items root world (waits_of root.halt)
-  root_fits world modest starting small none =
+  pub root_fits : (world : World) → AreInRange job.steps → StartsInNurseries job →
+      length (bytes_of (buffer_of root.part) (range_of root.part)) ≤ MAX_INPUT →
+      ((key : ℕ) → stack_of world.scopes key ≡ None) → Fits root.frames.items root world (waits_of root.task_state)
+  root_fits world in_range starting small none =
       record {
-        modest = subst AreModestFrames (sym (frames no_numbers)) (modest, tt);
+        in_range = subst AreInRangeFrames (sym (frames no_numbers)) (in_range, tt);
         starts = subst StartsFit (sym (frames no_numbers)) (starting, tt);
         small = small;
         home = subst (λ (o : Option ℕ). ForSome o (IsOpen world.scopes)) (sym no_home) (λ x e. absurd (let f : None ≡ Some x = e in cc));
@@ -75,9 +75,9 @@ module _ (job : Job) (root : Task) (home : root.home ≡ None) (own : root.own.i
         first = subst (OwnFirst world.scopes (home_scope root)) (sym own) refl;
         froms = subst (λ (os : List Own). All (λ (o : Own). o.at < length root.froms.items) os) (sym own)
             (All-nil (λ (o : Own). o.at < length root.froms.items));
-        opened = subst (λ (bs : List Block). Opened (label_at world) world.book bs root.own.items (waits_of root.halt)) (sym blocks)
-            (subst (λ (os : List Own). Opened (label_at world) world.book [] os (waits_of root.halt)) (sym own)
-            (subst (λ (w : Option ℕ). Opened (label_at world) world.book [] [] w) (sym (ap waits_of halt)) tt));
+        opened = subst (λ (bs : List Block). Opened (label_at world) world.book bs root.own.items (waits_of root.task_state)) (sym blocks)
+            (subst (λ (os : List Own). Opened (label_at world) world.book [] os (waits_of root.task_state)) (sym own)
+            (subst (λ (w : Option ℕ). Opened (label_at world) world.book [] [] w) (sym (ap waits_of task_state)) tt));
         others = λ key st found apart i o at inside. absurd (let f : None ≡ Some st = sym (none key) ∙ found in cc);
       }
 
@@ -95,21 +95,21 @@ module _ (job : Job) (root : Task) (home : root.home ≡ None) (own : root.own.i
 
   -- so it continues when it is due, if its first turn said that it sleeps
   pub root_sleeps : (world now : World) (after : Task) (stop : Stop) → StartsInNurseries job → GivesNamesOnce job →
-      TurnsAs root after world now Begin stop → (due : ℕ) → stop ≡ Sleep due → (part : Part) → WakesFrom after.halt part now.book Due
+      TurnsAs root after world now Begin stop → (due : ℕ) → stop ≡ Sleep due → (part : Part) → WakesFrom after.task_state part now.book Due
   root_sleeps world now after stop starting names turn due is part =
       by_took _ (turn no_froms no_numbers [] 0 rest.to_begin
-      (subst (λ (h : Halt). IsHalt no_numbers world.book h rest.to_begin) (sym halt) tt) (root_stands world starting names)).took
+      (subst (λ (h : TaskState). IsTaskState no_numbers world.book h rest.to_begin) (sym task_state) tt) (root_stands world starting names)).took
     where
-      by_halt : (numbers : Numbers) (o : Option rest.Stopped) (h : Halt) → StopsAs numbers now.book root.part (Sleep due) h o →
+      by_task_state : (numbers : Numbers) (o : Option rest.Stopped) (h : TaskState) → StopsAs numbers now.book root.part (Sleep due) h o →
           WakesFrom h part now.book Due
-      by_halt numbers None h says = absurd says
-      by_halt numbers (Some s) ToBegin says = absurd says.1
-      by_halt numbers (Some s) (Asked kernel purpose) says = absurd says.1
-      by_halt numbers (Some s) (Asleep ticks since) says = tt
-      by_halt numbers (Some s) (Awaits id since) says = absurd says.1
-      by_halt numbers (Some s) Over says = absurd says.1
+      by_task_state numbers None h says = absurd says
+      by_task_state numbers (Some s) ToBegin says = absurd says.1
+      by_task_state numbers (Some s) (Asked kernel purpose) says = absurd says.1
+      by_task_state numbers (Some s) (Asleep ticks since) says = tt
+      by_task_state numbers (Some s) (Awaits id since) says = absurd says.1
+      by_task_state numbers (Some s) Over says = absurd says.1
 
-      by_took : (o : Move) → TookTo root after world now stop no_froms no_numbers o → WakesFrom after.halt part now.book Due
+      by_took : (o : Move) → TookTo root after world now stop no_froms no_numbers o → WakesFrom after.task_state part now.book Due
       by_took o took =
-          by_halt took.numbers_after o.stopped after.halt
-          (subst (λ (s : Stop). StopsAs took.numbers_after now.book root.part s after.halt o.stopped) is took.moves.1)
+          by_task_state took.numbers_after o.stopped after.task_state
+          (subst (λ (s : Stop). StopsAs took.numbers_after now.book root.part s after.task_state o.stopped) is took.moves.1)

@@ -3,7 +3,7 @@
 use buffer_parts::Part;
 use exc_groups::{Exc, Label, Whose};
 use job_grammar::{Job, read_job};
-use job_meaning::MOST_INPUT;
+use job_meaning::MAX_INPUT;
 use job_tree::Name;
 use std::alloc::{AllocError, Global};
 use std::test::Fail;
@@ -33,7 +33,7 @@ pub(crate) fn job(alloc: Global, text: &[u8]) -> Result<Job, Fail> {
 /// The root of a job on two lines, about which nothing else is known here.
 pub(crate) fn root<'a>(alloc: Global, job: &'a Job) -> Result<Task<'a>, Fail> {
     let part = Part::whole(b"one\ntwo\n");
-    if part.text().len() > MOST_INPUT {
+    if part.text().len() > MAX_INPUT {
         return Err("the part is too long")?;
     }
     Ok(Task::root(alloc, job, part)?)

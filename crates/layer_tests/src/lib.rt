@@ -29,13 +29,13 @@ mod parts;
 #[cfg(test)]
 mod queues;
 #[cfg(test)]
-mod rosters;
-#[cfg(test)]
 mod scopes;
 #[cfg(test)]
 mod sights;
 #[cfg(test)]
 mod syntax;
+#[cfg(test)]
+mod task_tables;
 #[cfg(test)]
 mod tasks;
 #[cfg(test)]

@@ -1,8 +1,8 @@
-//! `sleeper_sights`: sleepers are found by the tick from which their scopes see a cancellation.
+//! `sleepers`: sleepers are found by the tick from which their scopes see a cancellation.
 
 use autojump_clock::TaskId;
 use cancel_scopes::{ScopeId, ScopeTree};
-use sleeper_sights::Sleepers;
+use sleepers::Sleepers;
 use std::alloc::{AllocError, Global};
 use std::test::Fail;
 

@@ -12,10 +12,10 @@ use std::test::Fail;
 fn is_followed(alloc: Global, text: &[u8]) -> Result<bool, Fail> {
     let lexed = lex(alloc, text, text.len())?;
     let tokens = lexed.tokens.as_slice();
-    let course = follow(alloc, Format::One, tokens, text.len())?;
+    let interleaving = follow(alloc, Format::One, tokens, text.len())?;
     Ok(
-        course.fault == None
-            && course.roles.len() == tokens.len()
+        interleaving.fault == None
+            && interleaving.roles.len() == tokens.len()
             && number_fault(Format::One, tokens) == None
             && depth_fault(tokens) == None,
     )
@@ -47,8 +47,8 @@ const FAULTS: &[(&'static [u8], Option<usize>)] = &[
 /// Where the tokens of a text leave the grammar.
 fn fault(alloc: Global, text: &[u8]) -> Result<Option<usize>, Fail> {
     let lexed = lex(alloc, text, text.len())?;
-    let course = follow(alloc, Format::One, lexed.tokens.as_slice(), text.len())?;
-    Ok(course.fault)
+    let interleaving = follow(alloc, Format::One, lexed.tokens.as_slice(), text.len())?;
+    Ok(interleaving.fault)
 }
 
 /// Fails at the first row whose tokens leave the grammar elsewhere.

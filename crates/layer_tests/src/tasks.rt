@@ -2,7 +2,7 @@
 
 ghost use Rattle.std.specs.Prelude.{◌≡◌, ℕ, ◌≤◌, ◌^◌, IfOk};
 ghost use Rattle.task_machine.specs.Fitting.{Fits, waits_of};
-ghost use Rattle.task_machine.specs.Waking.{IsModestHalt, WakesFrom};
+ghost use Rattle.task_machine.specs.Waking.{IsInRangeTaskState, WakesFrom};
 ghost use Rattle.task_machine.specs.declared.stop.Stop.TheVariants as stops;
 ghost use Rattle.task_machine.specs.declared.stop.Wake.TheVariants as wakes;
 
@@ -12,7 +12,7 @@ use buffer_parts::Part;
 use cancel_scopes::ScopeId;
 use exc_groups::Label;
 use job_grammar::{Job, spelled_jobs_are_sound};
-use job_meaning::MOST_INPUT;
+use job_meaning::MAX_INPUT;
 use std::alloc::{AllocError, Global};
 use std::test::Fail;
 use task_machine::{Entry, ScopeFrom, Stop, Task, Wake, World};
@@ -29,13 +29,13 @@ struct Turned<'a> {
 fn first_turn<'a>(alloc: Global, job: &'a Job, tick: u64) -> Result<Turned<'a>, Fail>
     requires { tick ≤ 2 ^ 62 }
     ensures tick { IfOk result (λ t. t.world.tick ≡ tick) }
-    ensures modest { IfOk result (λ t. IsModestHalt t.task.halt) }
-    ensures fits { IfOk result (λ t. Fits t.task.frames.items t.task t.world (waits_of t.task.halt)) }
+    ensures in_range { IfOk result (λ t. IsInRangeTaskState t.task.task_state) }
+    ensures fits { IfOk result (λ t. Fits t.task.frames.items t.task t.world (waits_of t.task.task_state)) }
     ensures asleep { IfOk result (λ t. (due : ℕ) → t.stop ≡ stops.Sleep due →
-        WakesFrom t.task.halt t.task.part t.world.book wakes.Due) }
+        WakesFrom t.task.task_state t.task.part t.world.book wakes.Due) }
 {
     let part = Part::whole(b"one\ntwo\n");
-    if part.text().len() > MOST_INPUT {
+    if part.text().len() > MAX_INPUT {
         return Err("the part is too long")?;
     }
     let mut task = Task::root(alloc, job, part)?;
@@ -267,9 +267,9 @@ fn stop_when_due<'a>(
     world: &mut World<'a>,
     due: u64,
 ) -> Result<Stop<'a>, AllocError>
-    requires fits { Fits task.old.frames.items task.old world.old (waits_of task.old.halt) }
-    requires modest { IsModestHalt task.old.halt }
-    requires asleep { WakesFrom task.old.halt task.old.part world.old.book wakes.Due }
+    requires fits { Fits task.old.frames.items task.old world.old (waits_of task.old.task_state) }
+    requires in_range { IsInRangeTaskState task.old.task_state }
+    requires asleep { WakesFrom task.old.task_state task.old.part world.old.book wakes.Due }
     requires later { world.old.tick ≤ due }
     requires bounded { due ≤ 2 ^ 62 }
 {

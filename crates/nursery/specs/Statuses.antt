@@ -25,7 +25,7 @@ use Rattle.json_app.specs.Serving as documents
 use Rattle.json_app.specs.Explaining as told
 use Rattle.fault_text.specs.declared.deny.Deny.{Deny}
 use Rattle.fault_app.specs.declared.verdict.FaultsVerdict.{FaultsVerdict}
-use Rattle.fault_app.specs.Verdicts as fates
+use Rattle.fault_app.specs.Verdicts as job_outcomes
 use Rattle.fault_app.specs.Statuses.{faults_status_of}
 use Rattle.race_app.specs.declared.verdict.RacesVerdict.{RacesVerdict}
 use Rattle.race_app.specs.Verdicts as races
@@ -35,7 +35,7 @@ use Rattle.sweep_app.specs.declared.verdict.SweepVerdict.{SweepVerdict}
 use Rattle.sweep_app.specs.Verdicts as sweeps
 use Rattle.sweep_app.specs.Statuses.{sweep_status_of}
 use Rattle.json_tables_app.specs.declared.verdict.LintsVerdict.{LintsVerdict}
-use Rattle.json_tables_app.specs.Faults as json_fates
+use Rattle.json_tables_app.specs.Faults as json_job_outcomes
 use Rattle.json_tables_app.specs.Races as json_races
 use Rattle.json_tables_app.specs.Sweeps as json_sweeps
 use Rattle.json_tables_app.specs.Lints as json_lints
@@ -84,7 +84,7 @@ TellsChart form text input limit status =
 -- the status is that of the verdict on the job with each fault
 abbrev pub TellsFaults : List ℕ → List ℕ → ℕ → List ℕ → Deny → ℕ → Type 0
 TellsFaults text input limit name deny status =
-    (verdict : FaultsVerdict) × (bytes : List ℕ) × fates.IsVerdict text input limit name deny verdict bytes
+    (verdict : FaultsVerdict) × (bytes : List ℕ) × job_outcomes.IsVerdict text input limit name deny verdict bytes
     × (status ≡ faults_status_of verdict)
 
 -- the status is that of the verdict on the job with each of its places moved by a hair
@@ -138,7 +138,7 @@ TellsLints text status =
 -- the status is that of the verdict on the job with each fault
 abbrev pub TellsJsonFaults : List ℕ → List ℕ → ℕ → List ℕ → Deny → ℕ → Type 0
 TellsJsonFaults text input limit name deny status =
-    (verdict : FaultsVerdict) × (bytes : List ℕ) × json_fates.IsVerdict text input limit name deny verdict bytes
+    (verdict : FaultsVerdict) × (bytes : List ℕ) × json_job_outcomes.IsVerdict text input limit name deny verdict bytes
     × (status ≡ faults_status_of verdict)
 
 -- the status is that of the verdict on the job with each of its places moved by a hair

@@ -1,6 +1,6 @@
 ghost use Rattle.std.specs.Prelude.{◌≡◌, ◌≤◌, length, vec_len, IfOk};
 ghost use Rattle.std.specs.Option.{option_copied};
-ghost use Rattle.job_meaning.specs.declared.limits.TheConstants.{MOST_INPUT};
+ghost use Rattle.job_meaning.specs.declared.limits.TheConstants.{MAX_INPUT};
 ghost use Rattle.job_meaning.specs.Laws.{in_format_2};
 ghost use Rattle.nursery_app.specs.Checking.{as_it_is};
 ghost use Rattle.nursery.specs.Statuses.{TellsVerdict, TellsStory, TellsAnswer};
@@ -11,7 +11,7 @@ use crate::stop::Stop;
 use job_files::shown_name;
 use job_grammar::JobFault;
 use nursery_app::{
-    CheckVerdict, Forward, MOST_INPUT, NoGate, Pick, Reverse, Settings, Turn, Verdict, WriteOut,
+    CheckVerdict, Forward, MAX_INPUT, NoGate, Pick, Reverse, Settings, Turn, Verdict, WriteOut,
     check, send, serve, split_feed, upgrade,
 };
 use nursery_cli::{DEFAULT_LIMIT, Order};
@@ -39,7 +39,7 @@ where
     }
     let feed = read_feed(rt)?;
     let (text, input) = split_feed(feed.as_slice());
-    if input.len() > MOST_INPUT {
+    if input.len() > MAX_INPUT {
         return Err(Stop::TooLong);
     }
     let Some(settings) = Settings::new(1, DEFAULT_LIMIT) else {
@@ -62,7 +62,7 @@ pub(crate) fn read_both<R: Files + Input + AllocGlobal>(
     job: &str,
     input: Option<&str>,
 ) -> Result<Given, Stop>
-    ensures { IfOk result (λ given. vec_len given.input ≤ MOST_INPUT) }
+    ensures { IfOk result (λ given. vec_len given.input ≤ MAX_INPUT) }
 {
     let text = read_job_text(rt, job);
     let input = match input {
@@ -131,7 +131,7 @@ fn explain_text<R: Print + Eprint + Threads + Sync + AllocGlobal, P: Pick>(
     settings: Settings,
     picker: &mut P,
 ) -> Result<u8, Stop>
-    requires { length input.now ≤ MOST_INPUT }
+    requires { length input.now ≤ MAX_INPUT }
     ensures { IfOk result (TellsStory text.now input.now settings.limit (option_copied task.entry)) }
 {
     let mut out = WriteOut::new(io::writer(rt));
@@ -189,7 +189,7 @@ fn run_text<R: Print + Eprint + Threads + Sync + AllocGlobal, P: Pick>(
     settings: Settings,
     picker: &mut P,
 ) -> Result<u8, Stop>
-    requires { length input.now ≤ MOST_INPUT }
+    requires { length input.now ≤ MAX_INPUT }
     ensures { IfOk result (TellsVerdict text.now input.now settings.limit) }
 {
     let mut out = WriteOut::new(io::writer(rt));
@@ -263,7 +263,7 @@ pub(crate) fn tell_running<R: Eprint + Threads + Sync + AllocGlobal, P: Pick>(
     settings: Settings,
     picker: &mut P,
 )
-    requires { length input.now ≤ MOST_INPUT }
+    requires { length input.now ≤ MAX_INPUT }
 {
     let Ok(lines) = running_at_limit(rt, rt.alloc(), text, input, settings, picker, &NoGate) else {
         return;

@@ -1,12 +1,12 @@
 ghost use Rattle.std.specs.Prelude.{◌≤◌, length, IfOk};
-ghost use Rattle.job_meaning.specs.declared.limits.TheConstants.{MOST_INPUT};
+ghost use Rattle.job_meaning.specs.declared.limits.TheConstants.{MAX_INPUT};
 ghost use Rattle.nursery.specs.Statuses.{TellsChart};
 
 use crate::answers::{read_both, tell_refusal, tell_running};
 use crate::stop::Stop;
 use chart_app::{Form, chart};
 use nursery_app::{Forward, NoGate, Settings, Verdict, WriteOut};
-use nursery_cli::{LEAST_WIDTH, MOST_WIDTH};
+use nursery_cli::{LEAST_WIDTH, MAX_WIDTH};
 use std::rt::{Env, Files};
 use std::thread::Threads;
 use std::{env, io};
@@ -53,7 +53,7 @@ fn terminal_width<R: Env + AllocGlobal>(rt: &R) -> usize {
         return USUAL_WIDTH;
     };
     match columns.as_str().parse::<usize>() {
-        Ok(width) => width.clamp(LEAST_WIDTH, MOST_WIDTH),
+        Ok(width) => width.clamp(LEAST_WIDTH, MAX_WIDTH),
         Err(_) => USUAL_WIDTH,
     }
 }
@@ -67,7 +67,7 @@ fn chart_text<R: Print + Eprint + Threads + Sync + AllocGlobal>(
     form: Form,
     settings: Settings,
 ) -> Result<u8, Stop>
-    requires { length input.now ≤ MOST_INPUT }
+    requires { length input.now ≤ MAX_INPUT }
     ensures { IfOk result (TellsChart form text.now input.now settings.limit) }
 {
     let mut out = WriteOut::new(io::writer(rt));

@@ -1,12 +1,12 @@
 ghost use Rattle.std.specs.Prelude.{◌≤◌, length, IfOk};
 ghost use Rattle.std.specs.Option.{option_copied};
-ghost use Rattle.job_meaning.specs.declared.limits.TheConstants.{MOST_INPUT};
+ghost use Rattle.job_meaning.specs.declared.limits.TheConstants.{MAX_INPUT};
 ghost use Rattle.nursery.specs.Statuses.{TellsJson, TellsJsonStory};
 
 use crate::answers::{Given, bytes_of, tell_no_task, tell_refusal, tell_running};
 use crate::stop::Stop;
 use json_app::{explain_json, serve_json};
-use nursery_app::{Forward, MOST_INPUT, NoGate, Pick, Reverse, Settings, Turn, Verdict, WriteOut};
+use nursery_app::{Forward, MAX_INPUT, NoGate, Pick, Reverse, Settings, Turn, Verdict, WriteOut};
 use nursery_cli::Order;
 use std::io;
 use std::thread::Threads;
@@ -20,7 +20,7 @@ pub(crate) fn run_as_json<R: Print + Eprint + Threads + Sync + AllocGlobal>(
     settings: Settings,
     order: Order,
 ) -> Result<u8, Stop>
-    requires { length given.now.input.items ≤ MOST_INPUT }
+    requires { length given.now.input.items ≤ MAX_INPUT }
 {
     let (text, input) = (given.text.as_slice(), given.input.as_slice());
     match order {
@@ -39,7 +39,7 @@ fn run_text<R: Print + Eprint + Threads + Sync + AllocGlobal, P: Pick>(
     settings: Settings,
     picker: &mut P,
 ) -> Result<u8, Stop>
-    requires { length input.now ≤ MOST_INPUT }
+    requires { length input.now ≤ MAX_INPUT }
     ensures { IfOk result (TellsJson text.now input.now settings.limit) }
 {
     let mut out = WriteOut::new(io::writer(rt));
@@ -70,7 +70,7 @@ pub(crate) fn explain_as_json<R: Print + Eprint + Threads + Sync + AllocGlobal>(
     settings: Settings,
     order: Order,
 ) -> Result<u8, Stop>
-    requires { length given.now.input.items ≤ MOST_INPUT }
+    requires { length given.now.input.items ≤ MAX_INPUT }
 {
     let (text, input) = (given.text.as_slice(), given.input.as_slice());
     match order {
@@ -90,7 +90,7 @@ fn explain_text<R: Print + Eprint + Threads + Sync + AllocGlobal, P: Pick>(
     settings: Settings,
     picker: &mut P,
 ) -> Result<u8, Stop>
-    requires { length input.now ≤ MOST_INPUT }
+    requires { length input.now ≤ MAX_INPUT }
     ensures { IfOk result (TellsJsonStory text.now input.now settings.limit (option_copied task.entry)) }
 {
     let mut out = WriteOut::new(io::writer(rt));

@@ -1,5 +1,5 @@
 ghost use Rattle.std.specs.Prelude.{◌≤◌, length, IfOk};
-ghost use Rattle.job_meaning.specs.declared.limits.TheConstants.{MOST_INPUT};
+ghost use Rattle.job_meaning.specs.declared.limits.TheConstants.{MAX_INPUT};
 ghost use Rattle.nursery.specs.Statuses.{TellsFaults};
 
 use crate::answers::{read_both, tell_refusal};
@@ -46,7 +46,7 @@ fn faults_text<R: Print + Eprint + Clock + Threads + Sync + AllocGlobal>(
     deny: Deny,
     progress: &Progress<'_, R>,
 ) -> Result<u8, Stop>
-    requires { length input.now ≤ MOST_INPUT }
+    requires { length input.now ≤ MAX_INPUT }
     ensures { IfOk result (TellsFaults text.now input.now settings.limit name deny) }
 {
     let mut out = WriteOut::new(io::writer(rt));

@@ -1,5 +1,5 @@
 ghost use Rattle.std.specs.Prelude.{◌≤◌, length, IfOk};
-ghost use Rattle.job_meaning.specs.declared.limits.TheConstants.{MOST_INPUT};
+ghost use Rattle.job_meaning.specs.declared.limits.TheConstants.{MAX_INPUT};
 ghost use Rattle.nursery.specs.Statuses.{TellsRaces};
 
 use crate::answers::{read_both, tell_refusal, tell_running};
@@ -48,7 +48,7 @@ fn races_text<R: Print + Eprint + Clock + Threads + Sync + AllocGlobal>(
     settings: Settings,
     progress: &Progress<'_, R>,
 ) -> Result<u8, Stop>
-    requires { length input.now ≤ MOST_INPUT }
+    requires { length input.now ≤ MAX_INPUT }
     ensures { IfOk result (TellsRaces text.now input.now settings.limit deny) }
 {
     let mut out = WriteOut::new(io::writer(rt));
@@ -79,7 +79,7 @@ pub(crate) fn conclude_races<R: Eprint + Threads + Sync + AllocGlobal>(
     settings: Settings,
     verdict: RacesVerdict,
 )
-    requires { length input.now ≤ MOST_INPUT }
+    requires { length input.now ≤ MAX_INPUT }
 {
     match verdict {
         RacesVerdict::JobRefused(fault) => tell_refusal(rt, job, text, fault),

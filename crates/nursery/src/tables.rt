@@ -1,5 +1,5 @@
 ghost use Rattle.std.specs.Prelude.{◌≤◌, length, IfOk};
-ghost use Rattle.job_meaning.specs.declared.limits.TheConstants.{MOST_INPUT};
+ghost use Rattle.job_meaning.specs.declared.limits.TheConstants.{MAX_INPUT};
 ghost use Rattle.nursery.specs.Statuses.{TellsJsonFaults, TellsJsonRaces, TellsJsonSweep, TellsJsonLints};
 
 use crate::answers::tell_refusal;
@@ -28,7 +28,7 @@ pub(crate) fn faults_as_json<R: Print + Eprint + Clock + Threads + Sync + AllocG
     deny: Deny,
     progress: &Progress<'_, R>,
 ) -> Result<u8, Stop>
-    requires { length input.now ≤ MOST_INPUT }
+    requires { length input.now ≤ MAX_INPUT }
     ensures { IfOk result (TellsJsonFaults text.now input.now settings.limit name deny) }
 {
     let mut out = WriteOut::new(io::writer(rt));
@@ -61,7 +61,7 @@ pub(crate) fn races_as_json<R: Print + Eprint + Clock + Threads + Sync + AllocGl
     settings: Settings,
     progress: &Progress<'_, R>,
 ) -> Result<u8, Stop>
-    requires { length input.now ≤ MOST_INPUT }
+    requires { length input.now ≤ MAX_INPUT }
     ensures { IfOk result (TellsJsonRaces text.now input.now settings.limit deny) }
 {
     let mut out = WriteOut::new(io::writer(rt));
@@ -94,7 +94,7 @@ pub(crate) fn sweep_as_json<R: Print + Eprint + Clock + Threads + Sync + AllocGl
     values: &[u64],
     progress: &Progress<'_, R>,
 ) -> Result<u8, Stop>
-    requires { length input.now ≤ MOST_INPUT }
+    requires { length input.now ≤ MAX_INPUT }
     ensures { IfOk result (TellsJsonSweep text.now input.now settings.limit target values.now) }
 {
     let mut out = WriteOut::new(io::writer(rt));

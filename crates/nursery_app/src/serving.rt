@@ -1,5 +1,5 @@
 ghost use Rattle.std.specs.Prelude.{◌≡◌, ◌<◌, ◌≤◌, length, IfOk, IfErr, OnOk};
-ghost use Rattle.job_meaning.specs.declared.limits.TheConstants.{MOST_INPUT};
+ghost use Rattle.job_meaning.specs.declared.limits.TheConstants.{MAX_INPUT};
 ghost use Rattle.nursery_app.specs.Verdict.{IsVerdict, IsSent, IsServeFault, CountsFailure, IsRunVerdict};
 
 use crate::lines::{past_limit, refusal};
@@ -11,7 +11,7 @@ use std::alloc::{AllocError, Global};
 use std::thread::Threads;
 
 /// Runs a job text over an input, and writes the report of the job's one-thread meaning, or the refusal that the meaning names,
-/// or the line for a job that ends later than the limit, and returns which. The input has at most `MOST_INPUT` bytes. The number
+/// or the line for a job that ends later than the limit, and returns which. The input has at most `MAX_INPUT` bytes. The number
 /// of workers, the picker and the gate do not change any byte of it. All bytes are built before the first is sent, so after
 /// `NoMemory` nothing was sent. After `Send` the writer took the first `sent` bytes. The picker is asked for each turn of a batch
 /// of tasks that are ready, and the gate is called before and after each request that a worker computes.
@@ -25,7 +25,7 @@ pub fn serve<R: Threads + Sync, P: Pick, G: Gate + Sync, W: Out>(
     gate: &G,
     out: &mut W,
 ) -> Result<Verdict, ServeFault>
-    requires input { length input.now ≤ MOST_INPUT }
+    requires input { length input.now ≤ MAX_INPUT }
     requires countable { W.failed out.old < 18446744073709551615 }
 
     // The bytes written are the report of the meaning, or the refusal that it names.
@@ -51,7 +51,7 @@ fn answer<R: Threads + Sync, P: Pick, G: Gate + Sync>(
     picker: &mut P,
     gate: &G,
 ) -> Result<(Verdict, Vec<u8>), AllocError>
-    requires { length input.now ≤ MOST_INPUT }
+    requires { length input.now ≤ MAX_INPUT }
     ensures { IfOk result (λ r. IsVerdict job_text.now input.now settings.limit r.0 r.1.items) }
 {
     match read_job(alloc, job_text) {
@@ -73,7 +73,7 @@ fn run_answer<R: Threads + Sync, P: Pick, G: Gate + Sync>(
     picker: &mut P,
     gate: &G,
 ) -> Result<(Verdict, Vec<u8>), AllocError>
-    requires { length input.now ≤ MOST_INPUT }
+    requires { length input.now ≤ MAX_INPUT }
     ensures { IfOk result (λ r. IsRunVerdict job.now input.now settings.limit r.0 r.1.items) }
 {
     match run(rt, alloc, job, input, settings, picker, gate) {

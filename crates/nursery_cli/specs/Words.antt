@@ -8,7 +8,7 @@ use Rattle.std.specs.String.{string_bytes}
 use Rattle.nursery_cli.specs.declared.command.FormatMode.{FormatMode}
 use Rattle.nursery_cli.specs.declared.command.FormatMode.TheVariants as modes
 use Rattle.nursery_cli.specs.Values.{values_from}
-use Rattle.nursery_cli.specs.declared.parser.TheConstants.{LEAST_WIDTH, MOST_WIDTH}
+use Rattle.nursery_cli.specs.declared.parser.TheConstants.{LEAST_WIDTH, MAX_WIDTH}
 
 -- a name that a step may raise: not a keyword, and neither `Cancelled` nor `TooSlow`
 abbrev pub may_be_raised : List ℕ → Bool
@@ -22,7 +22,7 @@ AreValues values =
 -- a width that a chart may have, or none
 abbrev pub IsWidth : Option ℕ → Type 0
 IsWidth None = Unit {0}
-IsWidth (Some width) = (LEAST_WIDTH ≤ width) × (width ≤ MOST_WIDTH)
+IsWidth (Some width) = (LEAST_WIDTH ≤ width) × (width ≤ MAX_WIDTH)
 
 -- a file that is written is not standard input
 abbrev pub IsWritten : List ℕ → FormatMode → Type 0

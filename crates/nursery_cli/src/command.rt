@@ -81,7 +81,7 @@ pub enum Command {
         job: String,
         /// The input file, or `-` for standard input. `None` is an empty input.
         input: Option<String>,
-        /// The maximum width of the chart, in columns of text, from `LEAST_WIDTH` to `MOST_WIDTH`. `None` is the
+        /// The maximum width of the chart, in columns of text, from `LEAST_WIDTH` to `MAX_WIDTH`. `None` is the
         /// default.
         width: Option<usize>,
         /// Whether the output is an SVG document instead of a text.

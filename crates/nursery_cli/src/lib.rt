@@ -13,5 +13,5 @@ mod reading;
 mod sweeping;
 
 pub use command::{Command, CommandFault, FormatMode, Order, Shell};
-pub use parser::{DEFAULT_LIMIT, LEAST_WIDTH, MOST_WIDTH, command_line};
+pub use parser::{DEFAULT_LIMIT, LEAST_WIDTH, MAX_WIDTH, command_line};
 pub use reading::{help_text, read_command};

@@ -4,7 +4,7 @@ use crate::examples::{
     TEST_EXAMPLE, TRIO_EXAMPLE, UPGRADE_EXAMPLE,
 };
 use clap::{Arg, ArgAction, ArgGroup, Command, value_parser};
-use job_runner::{GREATEST_LIMIT, MOST_WORKERS};
+use job_runner::{MAX_LIMIT, MAX_WORKERS};
 use std::alloc::{AllocError, Global};
 
 /// The limit if none is given, in ticks.
@@ -17,7 +17,7 @@ const SHOWN_LIMIT: &str = "1000000";
 pub const LEAST_WIDTH: usize = 20;
 
 /// The maximum width of a chart, in columns of text.
-pub const MOST_WIDTH: usize = 1_000;
+pub const MAX_WIDTH: usize = 1_000;
 
 /// The name of the exception that a faulty step raises if none is given.
 pub(crate) const DEFAULT_FAULT: &str = "Fault";
@@ -99,7 +99,7 @@ fn chart_parser<'a>(alloc: Global) -> Result<Command<'a>, AllocError> {
         .help(
             "How wide the chart is at most, 20 to 1000 columns: what COLUMNS says, or else 80, and 400 for an SVG document",
         )
-        .value_parser(value_parser!(usize).range(LEAST_WIDTH as i64..=MOST_WIDTH as i64));
+        .value_parser(value_parser!(usize).range(LEAST_WIDTH as i64..=MAX_WIDTH as i64));
     let svg = Arg::new(alloc, "svg")
         .long("svg")
         .help("Writes an SVG document, which a browser shows")
@@ -308,7 +308,7 @@ fn workers_option<'a>(alloc: Global) -> Arg<'a> {
         .long("workers")
         .value_name("N")
         .help("The number of workers, 1 to 64; the report is the same for all")
-        .value_parser(value_parser!(usize).range(1..=MOST_WORKERS as i64))
+        .value_parser(value_parser!(usize).range(1..=MAX_WORKERS as i64))
         .default_value("1")
 }
 
@@ -333,6 +333,6 @@ fn limit_option<'a>(alloc: Global) -> Arg<'a> {
         .long("limit")
         .value_name("T")
         .help("The last tick of the run, at most 4294967295; a job that ends later is not reported")
-        .value_parser(value_parser!(u64).range(0..=GREATEST_LIMIT as i64))
+        .value_parser(value_parser!(u64).range(0..=MAX_LIMIT as i64))
         .default_value(SHOWN_LIMIT)
 }

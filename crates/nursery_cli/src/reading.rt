@@ -5,7 +5,7 @@ ghost use Rattle.nursery_cli.specs.Words.{IsFit, IsAsked, IsWidth, may_be_raised
 
 use crate::command::{Command, CommandFault, FormatMode, Order, Shell};
 use crate::common::{OUT_OF_RANGE, owned, refusal, settings_of};
-use crate::parser::{DEFAULT_FAULT, LEAST_WIDTH, MOST_WIDTH, command_line};
+use crate::parser::{DEFAULT_FAULT, LEAST_WIDTH, MAX_WIDTH, command_line};
 use crate::sweeping::{target_of, values_of};
 use clap::ArgMatches;
 use clap::error::ErrorKind;
@@ -224,7 +224,7 @@ fn is_width(width: Option<usize>) -> bool
     ensures { IsTrue result → IsWidth width }
 {
     match width {
-        Some(width) => LEAST_WIDTH <= width && width <= MOST_WIDTH,
+        Some(width) => LEAST_WIDTH <= width && width <= MAX_WIDTH,
         None => true,
     }
 }

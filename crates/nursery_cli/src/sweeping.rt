@@ -9,7 +9,7 @@ use job_tree::Name;
 use std::alloc::{AllocError, Global};
 
 // The maximum number of values of a sweep.
-const MOST_VALUES: u32 = 100_000;
+const MAX_VALUES: u32 = 100_000;
 
 /// Returns the number that a sweep varies, given the name of a scope or nursery, or a place.
 pub(crate) fn target_of(
@@ -68,8 +68,8 @@ pub(crate) fn values_of(alloc: Global, text: &str) -> Result<Vec<u64>, CommandFa
     if span.step == 0 || span.last < span.first {
         return Err(refused_span(alloc, text));
     }
-    if (span.last - span.first) / span.step >= MOST_VALUES {
-        let text = format!(in alloc; "error: `{text}` has more than {MOST_VALUES} values\n")?;
+    if (span.last - span.first) / span.step >= MAX_VALUES {
+        let text = format!(in alloc; "error: `{text}` has more than {MAX_VALUES} values\n")?;
         return Err(CommandFault::Refused { text });
     }
     Ok(values_in(alloc, span)?)

@@ -8,7 +8,7 @@ ghost use Rattle.job_runner.specs.Shelves.{IsUnderway};
 
 use crate::fixtures::{LIMIT, TWO_LINES};
 use job_grammar::{Job, read_job};
-use job_runner::{Entry, Forward, MOST_INPUT, NoGate, Phase, Run, RunFault, Runner};
+use job_runner::{Entry, Forward, MAX_INPUT, NoGate, Phase, Run, RunFault, Runner};
 use line_kernels::{Kernel, Request};
 use scoped_workers::work;
 use std::alloc::{AllocError, Global};
@@ -19,7 +19,7 @@ use std::thread::Threads;
 fn opened<'a>(alloc: Global, job: &'a Job, input: &'a [u8]) -> Result<Runner<'a>, Fail>
     ensures { IfOk result IsUnderway }
 {
-    if input.len() > MOST_INPUT {
+    if input.len() > MAX_INPUT {
         return Err("the input is too long")?;
     }
     let runner = Runner::open(alloc, job, input, LIMIT)?;

@@ -2,7 +2,7 @@
 
 use job_grammar::Job;
 use job_report::{MemOut, Out};
-use job_runner::{Forward, Gate, MOST_INPUT, NoGate, Pick, Reverse, Run, Settings, Turn, run};
+use job_runner::{Forward, Gate, MAX_INPUT, NoGate, Pick, Reverse, Run, Settings, Turn, run};
 use nursery_app::{CheckVerdict, ServeFault, Verdict, check, serve, upgrade};
 use std::alloc::{AllocError, Global};
 use std::process::Abort;
@@ -54,7 +54,7 @@ pub(crate) fn run_of<'a, R: Abort + Threads + Sync + AllocGlobal, P: Pick, G: Ga
     picker: &mut P,
     gate: &G,
 ) -> Result<Run<'a>, Fail> {
-    assert!(rt; input.len() <= MOST_INPUT);
+    assert!(rt; input.len() <= MAX_INPUT);
     let settings = Settings::new(workers, LIMIT).ok_or("settings")?;
     let done = run(rt, rt.alloc(), job, input, settings, picker, gate)?;
     Ok(done)
@@ -70,7 +70,7 @@ pub(crate) fn serve_into<R: Abort + Threads + Sync + AllocGlobal, P: Pick, G: Ga
     gate: &G,
     out: &mut W,
 ) -> Result<Verdict, ServeFault> {
-    assert!(rt; input.len() <= MOST_INPUT);
+    assert!(rt; input.len() <= MAX_INPUT);
     assert!(rt; out.failures() == 0);
     serve(rt, rt.alloc(), text, input, settings, picker, gate, out)
 }

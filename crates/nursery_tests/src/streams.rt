@@ -3,7 +3,7 @@
 
 use crate::fixtures::{FORMAT_1, LIMIT, TWO_LINES, job_text, serve_again};
 use job_report::{MemOut, Out, PutFault, SendFault, WriteOut, send};
-use job_runner::{Forward, MOST_INPUT, Settings};
+use job_runner::{Forward, MAX_INPUT, Settings};
 use nursery_app::{ReadFault, ServeFault, read_whole, split_feed};
 use std::alloc::{AllocError, Global};
 use std::io::{self, ErrorKind, Read, Write};
@@ -214,7 +214,7 @@ fn a_slice_is_read_whole(rt: HostRuntime) -> Result<(), Fail> {
     let one_too_many = vec![in rt.alloc(); b'x'; 16_777_217]?;
     let mut all = one_too_many.as_slice();
     assert_eq!(rt;
-        length_of(rt.alloc(), &mut all, MOST_INPUT)?,
+        length_of(rt.alloc(), &mut all, MAX_INPUT)?,
         Err(ReadFault::TooLong)
     );
     Ok(())

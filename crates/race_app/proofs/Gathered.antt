@@ -13,7 +13,7 @@ use Rattle.job_edits.specs.declared.change.Change.{Change}
 use Rattle.job_edits.specs.declared.copied.CopiedStart.{CopiedStart}
 use Rattle.job_edits.specs.declared.finer.Finer.{Finer}
 use Rattle.job_edits.specs.declared.shift.Shift.{Shift}
-use Rattle.fault_text.specs.Fates.{walked}
+use Rattle.fault_text.specs.JobOutcomes.{walked}
 use Rattle.slot_work.specs.Answers.{AreAnswers}
 use Rattle.slot_work.proofs.Answered.{seen_as}
 use Rattle.race_text.specs.Lines as told

@@ -6,7 +6,7 @@ use Rattle.job_grammar.specs.Refusals.{Spells, IsRefused}
 use Rattle.job_meaning.specs.Meaning.{meaning_end}
 use Rattle.job_meaning.specs.Shown.{Row, meaning_rows}
 use Rattle.job_story.specs.Events.{Event}
-use Rattle.fault_text.specs.Fates.{walked}
+use Rattle.fault_text.specs.JobOutcomes.{walked}
 use Rattle.race_rows.specs.Runs.{of_runs}
 use Rattle.race_text.specs.Lines as told
 use Rattle.race_text.specs.Lines.{Found}

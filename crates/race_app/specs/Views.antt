@@ -2,9 +2,9 @@
 use Rattle.std.specs.Prelude.{◌≡◌, ◌≤◌, ℕ, nat_le, Option, Some, None, List, ◌∷◌, ◌++◌, length, map}
 use Rattle.std.specs.Borrow.{Bor}
 use Rattle.job_tree.specs.Tree.{Tree}
-use Rattle.job_meaning.specs.declared.limits.TheConstants.{MOST_INPUT}
-use Rattle.task_roster.specs.Records.{row_in}
-use Rattle.fault_text.specs.Fates.{walked}
+use Rattle.job_meaning.specs.declared.limits.TheConstants.{MAX_INPUT}
+use Rattle.task_table.specs.Records.{row_in}
+use Rattle.fault_text.specs.JobOutcomes.{walked}
 use Rattle.job_edits.specs.Finer.{shifts_of}
 use Rattle.job_edits.specs.declared.shift.Shift.{Shift}
 use Rattle.slot_work.specs.Answers.{AreAnswers}
@@ -33,7 +33,7 @@ ran_by limit run = ran (nat_le (root_end (rows_of run)) limit) (rows_of run)
 
 -- the input is not longer than the maximum
 abbrev pub HasRoom : Moves → Type 0
-HasRoom moves = length moves.input.now ≤ MOST_INPUT
+HasRoom moves = length moves.input.now ≤ MAX_INPUT
 
 -- the line of a place that is moved by a hair is right
 abbrev pub IsMovedBy : Author → List ℕ → Ran → Shift → told.Line → Type 0

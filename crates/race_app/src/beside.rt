@@ -1,5 +1,5 @@
 ghost use Rattle.std.specs.Prelude.{◌≡◌, ◌≤◌, length, IfOk};
-ghost use Rattle.job_meaning.specs.declared.limits.TheConstants.{MOST_INPUT};
+ghost use Rattle.job_meaning.specs.declared.limits.TheConstants.{MAX_INPUT};
 ghost use Rattle.race_text.specs.Views.{found_held};
 ghost use Rattle.race_app.specs.Ran.{ran_of, compared, IsBeside};
 ghost use Rattle.race_app.specs.Views.{ran_by, ran_held, ran_seen};
@@ -21,7 +21,7 @@ pub(crate) fn found_in_text<R: Threads + Sync>(
     input: &[u8],
     limit: u64,
 ) -> Result<Found, AllocError>
-    requires { length input.now ≤ MOST_INPUT }
+    requires { length input.now ≤ MAX_INPUT }
     ensures { IfOk result (λ found. IsBeside text.now input.now limit (ran_held before.entry) (found_held found)) }
 {
     match read_job(alloc, text) {
@@ -46,7 +46,7 @@ fn found_in_job<R: Threads + Sync>(
     input: &[u8],
     limit: u64,
 ) -> Result<Found, AllocError>
-    requires { length input.now ≤ MOST_INPUT }
+    requires { length input.now ≤ MAX_INPUT }
     ensures { IfOk result (λ found. found_held found ≡ compared (ran_held before.entry) (ran_of limit job.now input.now)) }
 {
     let Some(before) = before else {

@@ -1,7 +1,7 @@
 ghost use Rattle.std.specs.Prelude.{◌≡◌, ◌<◌, ◌≤◌, true, ◌∷◌, ◌++◌, length, IfOk, OnOk, map};
-ghost use Rattle.job_meaning.specs.declared.limits.TheConstants.{MOST_INPUT};
+ghost use Rattle.job_meaning.specs.declared.limits.TheConstants.{MAX_INPUT};
 ghost use Rattle.job_runner.specs.Runs.{rows_of};
-ghost use Rattle.fault_text.specs.Fates.{walked};
+ghost use Rattle.fault_text.specs.JobOutcomes.{walked};
 ghost use Rattle.job_edits.specs.Finer.{shifts_of};
 ghost use Rattle.slot_work.specs.Answers.{AreAnswers};
 ghost use Rattle.race_text.specs.Lines as told;
@@ -37,7 +37,7 @@ pub(crate) fn lines_for<R: Threads + Sync, G: Gate + Sync>(
     workers: usize,
     gate: &G,
 ) -> Result<Vec<Line>, AllocError>
-    requires input { length input.now ≤ MOST_INPUT }
+    requires input { length input.now ≤ MAX_INPUT }
     requires ticks { 0 < author.now.finer.factor }
     requires some_workers { 1 ≤ workers }
     ensures { IfOk result (λ lines. AreLinesOf author.now input.now (ran true (rows_of own.now)) (map line_held lines.items)) }
@@ -69,7 +69,7 @@ fn lines_of_refused<R: Threads + Sync, G: Gate + Sync>(
     workers: usize,
     gate: &G,
 ) -> Result<Vec<Line>, AllocError>
-    requires input { length input.now ≤ MOST_INPUT }
+    requires input { length input.now ≤ MAX_INPUT }
     requires some_workers { 1 ≤ workers }
     ensures { IfOk result (λ lines. AreLinesOfRefused author.now input.now (map line_held lines.items)) }
 {
@@ -88,7 +88,7 @@ fn lines_of_job<R: Threads + Sync, G: Gate + Sync>(
     workers: usize,
     gate: &G,
 ) -> Result<Vec<Line>, AllocError>
-    requires input { length input.now ≤ MOST_INPUT }
+    requires input { length input.now ≤ MAX_INPUT }
     requires ticks { 0 < author.now.finer.factor }
     requires some_workers { 1 ≤ workers }
     ensures { IfOk result (λ lines. AreLinesFor author.now input.now (ran_seen first.now) job.now (map line_held lines.items)) }
@@ -110,7 +110,7 @@ fn lines_of_run<R: Threads + Sync, G: Gate + Sync>(
     workers: usize,
     gate: &G,
 ) -> Result<Vec<Line>, AllocError>
-    requires input { length input.now ≤ MOST_INPUT }
+    requires input { length input.now ≤ MAX_INPUT }
     requires some_workers { 1 ≤ workers }
     ensures { IfOk result (λ lines. AreLinesBeside author.now input.now (ran_seen first.now) (ran_by author.now.limit run.now)
         (map line_held lines.items)) }
@@ -134,7 +134,7 @@ fn moves_for<R: Threads + Sync, G: Gate + Sync>(
     workers: usize,
     gate: &G,
 ) -> Result<Vec<Line>, AllocError>
-    requires input { length input.now ≤ MOST_INPUT }
+    requires input { length input.now ≤ MAX_INPUT }
     requires some_workers { 1 ≤ workers }
     ensures { IfOk result (λ lines. AreAnswers (IsMovedBy author.now input.now (ran_held before.entry)) (shifts_of author.now.sites.now)
         (map line_held lines.items)) }
@@ -168,7 +168,7 @@ fn push_copies_of<R: Threads + Sync>(
     input: &[u8],
     job: &Job,
 ) -> Result<(), AllocError>
-    requires input { length input.now ≤ MOST_INPUT }
+    requires input { length input.now ≤ MAX_INPUT }
     requires ticks { 0 < author.now.finer.factor }
     ensures { OnOk result (map line_held lines.new.items ≡ map line_held lines.old.items ++ copies_lines author.now.text.now
         author.now.limit author.now.finer (walked job.now input.now) author.now.starts.now) }

@@ -1,5 +1,5 @@
 ghost use Rattle.std.specs.Prelude.{◌≡◌, ◌≤◌, length, IfOk};
-ghost use Rattle.job_meaning.specs.declared.limits.TheConstants.{MOST_INPUT};
+ghost use Rattle.job_meaning.specs.declared.limits.TheConstants.{MAX_INPUT};
 ghost use Rattle.job_edits.specs.Changes.{changed};
 ghost use Rattle.job_edits.specs.Finer.{shifted_changes};
 ghost use Rattle.race_text.specs.Views.{found_held};
@@ -55,7 +55,7 @@ fn line_with<R: Threads + Sync>(
     moves: &Moves<'_>,
     shift: &Shift,
 ) -> Result<Line, AllocError>
-    requires { length moves.now.input.now ≤ MOST_INPUT }
+    requires { length moves.now.input.now ≤ MAX_INPUT }
     ensures { IfOk result (IsMovedOf moves.now shift.now) }
 {
     let found = found_with(rt, alloc, moves, shift)?;
@@ -79,7 +79,7 @@ fn found_with<R: Threads + Sync>(
     moves: &Moves<'_>,
     shift: &Shift,
 ) -> Result<Found, AllocError>
-    requires { length moves.now.input.now ≤ MOST_INPUT }
+    requires { length moves.now.input.now ≤ MAX_INPUT }
     ensures { IfOk result (λ found. IsBeside (changed moves.now.author.text.now (shifted_changes moves.now.author.finer shift.now
         moves.now.author.sites.now)) moves.now.input.now moves.now.author.limit (ran_held moves.now.before) (found_held found)) }
 {

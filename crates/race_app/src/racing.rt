@@ -1,5 +1,5 @@
 ghost use Rattle.std.specs.Prelude.{◌≡◌, ◌<◌, ◌≤◌, [], length, if◌then◌else◌, IfOk, IfErr, OnOk, map};
-ghost use Rattle.job_meaning.specs.declared.limits.TheConstants.{MOST_INPUT};
+ghost use Rattle.job_meaning.specs.declared.limits.TheConstants.{MAX_INPUT};
 ghost use Rattle.job_grammar.specs.Refusals.{Spells};
 ghost use Rattle.nursery_app.specs.Verdict.{CountsFailure};
 ghost use Rattle.race_text.specs.Table.{denied_text};
@@ -38,7 +38,7 @@ pub fn races<R: Threads + Sync, G: Gate + Sync, W: Out>(
     gate: &G,
     out: &mut W,
 ) -> Result<RacesVerdict, ServeFault>
-    requires input { length input.now ≤ MOST_INPUT }
+    requires input { length input.now ≤ MAX_INPUT }
     requires countable { W.failed out.old < 18446744073709551615 }
 
     // The bytes written are the table of all hairs, or the refusal of the text, or the line of the limit, or there are none.
@@ -64,7 +64,7 @@ fn answer<R: Threads + Sync, G: Gate + Sync>(
     deny: bool,
     gate: &G,
 ) -> Result<(RacesVerdict, Vec<u8>), AllocError>
-    requires { length input.now ≤ MOST_INPUT }
+    requires { length input.now ≤ MAX_INPUT }
     ensures { IfOk result (λ r. IsVerdict job_text.now input.now settings.limit deny r.0 r.1.items) }
 {
     match read_job(alloc, job_text) {
@@ -87,7 +87,7 @@ fn answer_for_job<R: Threads + Sync, G: Gate + Sync>(
     deny: bool,
     gate: &G,
 ) -> Result<(RacesVerdict, Vec<u8>), AllocError>
-    requires input { length input.now ≤ MOST_INPUT }
+    requires input { length input.now ≤ MAX_INPUT }
     requires spells { Spells job_text.now job.now }
     ensures { IfOk result (λ r. IsJobVerdict job_text.now job.now input.now settings.limit deny r.0 r.1.items) }
 {

@@ -1,5 +1,5 @@
 ghost use Rattle.std.specs.Prelude.{◌≡◌, ◌<◌, ◌≤◌, length, IfOk};
-ghost use Rattle.job_meaning.specs.declared.limits.TheConstants.{MOST_INPUT};
+ghost use Rattle.job_meaning.specs.declared.limits.TheConstants.{MAX_INPUT};
 ghost use Rattle.job_grammar.specs.Refusals.{Spells};
 ghost use Rattle.job_edits.specs.Finer.{shifts_of};
 ghost use Rattle.race_app.specs.Answers.{IsRaceAnswer};
@@ -54,7 +54,7 @@ pub fn race_lines<R: Threads + Sync, G: Gate + Sync>(
     settings: Settings,
     gate: &G,
 ) -> Result<RaceAnswer, AllocError>
-    requires input { length input.now ≤ MOST_INPUT }
+    requires input { length input.now ≤ MAX_INPUT }
     requires spells { Spells job_text.now job.now }
     ensures { IfOk result (IsRaceAnswer job_text.now job.now input.now settings.limit) }
 {

@@ -1,10 +1,10 @@
 ghost use Rattle.std.specs.Prelude.{◌≡◌, ◌++◌, IfOk, OnOk};
-ghost use Rattle.task_roster.specs.Records.{ending_in};
+ghost use Rattle.task_table.specs.Records.{ending_in};
 ghost use Rattle.race_rows.specs.Same.{outcome_text};
 
 use std::alloc::{AllocError, Global};
 use sweep_text::push_sans;
-use task_roster::Outcome;
+use task_table::Outcome;
 
 /// Appends how a task ended, without the ticks in exceptions: `done`, `cancelled`, or `raised` and the exception. The only error
 /// is that memory was refused.

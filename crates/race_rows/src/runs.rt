@@ -1,12 +1,12 @@
 ghost use Rattle.std.specs.Prelude.{◌≡◌, IfOk, map};
-ghost use Rattle.task_roster.specs.Records.{row_in};
+ghost use Rattle.task_table.specs.Records.{row_in};
 ghost use Rattle.race_rows.specs.Runs.{root_text, of_roots, of_runs};
 ghost use Rattle.race_rows.specs.Views.{difference_held};
 
 use crate::outcome::outcome_of;
 use crate::tasks::{Difference, differences, push_otherwise};
 use std::alloc::{AllocError, Global};
-use task_roster::Record;
+use task_table::Record;
 
 /// A run of a job, to be compared with another one.
 #[derive(Clone, Copy)]

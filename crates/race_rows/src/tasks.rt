@@ -1,6 +1,6 @@
 ghost use Rattle.std.specs.Prelude.{◌≡◌, ◌++◌, ◌∷◌, [], None, IfOk, OnOk, map};
 ghost use Rattle.std.specs.Option.{option_map};
-ghost use Rattle.task_roster.specs.Records.{row_in};
+ghost use Rattle.task_table.specs.Records.{row_in};
 ghost use Rattle.race_rows.specs.Differences.{row_of, of_row, of_new, of_rows, of_new_rows, otherwise, differences};
 ghost use Rattle.race_rows.specs.Views.{difference_held};
 
@@ -8,7 +8,7 @@ use crate::outcome::outcome_of;
 use crate::same::are_same_entries;
 use exc_groups::Label;
 use std::alloc::{AllocError, Global};
-use task_roster::Record;
+use task_table::Record;
 
 /// A difference between two runs for one task.
 #[derive(Drop)]

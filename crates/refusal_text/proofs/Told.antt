@@ -10,7 +10,7 @@ use Rattle.job_tokens.specs.Lexing.{Lexes}
 use Rattle.job_tokens.specs.declared.token.Shape.{Shape}
 use Rattle.job_syntax.specs.declared.role.Role.{Role}
 use Rattle.job_syntax.specs.Syntax.{fault_at, roles_at, whole_job}
-use Rattle.job_syntax.specs.declared.symbol.Symbol.{Symbol}
+use Rattle.job_syntax.specs.declared.nonterminal.Nonterminal.{Nonterminal}
 use Rattle.job_grammar.specs.Refusals.{HasTokens, format_of}
 use Rattle.nursery_app.specs.Places.{column_of}
 use Rattle.refusal_text.specs.declared.advice.Advice.{Advice}
@@ -22,9 +22,9 @@ use Rattle.refusal_text.specs.Explaining.{headed, shown_byte, is_newline, last_o
 
 -- what the grammar expects after the tokens is what it expects in the text
 pub expects : (format : Format) (text body : List ℕ) (tokens given : List Token) (fault : Option ℕ)
-    (r : Result (Option Symbol) AllocError) →
+    (r : Result (Option Nonterminal) AllocError) →
     format ≡ format_of text → body ≡ drop 11 text → Lexes (length text) body tokens fault → given ≡ tokens
-    → IfOk r (λ symbol. symbol ≡ expected_in format whole_job given) → IfOk r (IsExpected text)
+    → IfOk r (λ nonterminal. nonterminal ≡ expected_in format whole_job given) → IfOk r (IsExpected text)
 expects format text body tokens given fault (Ok s) of is lexes same found = (
   tokens,
   fault,

@@ -1,7 +1,7 @@
 -- How a refusal is explained to the user: its place, a sentence, the line of the job text, and a caret under the place.
 use Rattle.std.specs.Prelude.{◌≡◌, ℕ, ◌-◌, ◌==◌, ◌&&◌, ◌||◌, Bool, min, nat_le, if◌then◌else◌, List, [], ◌∷◌, ◌++◌, length, take, drop, map, replicate, Option, Some, None, codes, decimal, slice_get}
 use Rattle.std.specs.List.{before_first}
-use Rattle.job_syntax.specs.declared.symbol.Symbol.{Symbol}
+use Rattle.job_syntax.specs.declared.nonterminal.Nonterminal.{Nonterminal}
 use Rattle.job_grammar.specs.declared.fault.JobFault.{JobFault}
 use Rattle.nursery_app.specs.Places.{line_of, column_of}
 use Rattle.job_syntax.specs.Keywords.{spelling}
@@ -100,7 +100,7 @@ names_of (Some names) = names_line names
 -- grammar expects. A hint follows, and a list of what could be cancelled.
 abbrev pub Tells : List ℕ → List ℕ → JobFault → List ℕ → Type 0
 Tells job text fault message =
-    (symbol : Option Symbol) × (help : Option Hint) × (names : Option (List (List ℕ)))
-    × IsAsked fault.kind text symbol × IsHint fault.kind text fault.at help × IsListed fault.kind text names
-    × (message ≡ (pointed_message job text fault.at (sentence_of fault.kind (slice_get text fault.at) symbol) ++ hint_of job text help)
+    (nonterminal : Option Nonterminal) × (help : Option Hint) × (names : Option (List (List ℕ)))
+    × IsAsked fault.kind text nonterminal × IsHint fault.kind text fault.at help × IsListed fault.kind text names
+    × (message ≡ (pointed_message job text fault.at (sentence_of fault.kind (slice_get text fault.at) nonterminal) ++ hint_of job text help)
     ++ names_of names)

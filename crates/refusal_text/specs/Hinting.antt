@@ -9,12 +9,12 @@ use Rattle.job_tokens.specs.declared.token.Token.{Token}
 use Rattle.job_tokens.specs.Shapes.{word_in, shapes_of}
 use Rattle.job_syntax.specs.declared.keyword.Keyword.{Keyword}
 use Rattle.job_syntax.specs.declared.keyword.Keyword.TheVariants as word
-use Rattle.job_syntax.specs.declared.symbol.Symbol.{Symbol}
-use Rattle.job_syntax.specs.declared.symbol.Symbol.TheVariants as symbol
+use Rattle.job_syntax.specs.declared.nonterminal.Nonterminal.{Nonterminal}
+use Rattle.job_syntax.specs.declared.nonterminal.Nonterminal.TheVariants as nonterminal
 use Rattle.job_syntax.specs.declared.role.Role.{Role}
 use Rattle.job_syntax.specs.Keywords.{keyword_of}
 use Rattle.job_syntax.specs.Reading.{job_at}
-use Rattle.job_syntax.specs.Symbols.{◌>>=◌, Rest, next}
+use Rattle.job_syntax.specs.Nonterminals.{◌>>=◌, Rest, next}
 use Rattle.job_syntax.specs.Syntax.{fault_at, roles_at, whole_job}
 use Rattle.job_grammar.specs.declared.fault.JobKind.{JobKind}
 use Rattle.job_grammar.specs.declared.fault.JobKind.TheVariants as kind
@@ -97,8 +97,8 @@ is_newer One rest = is_some rest
 is_newer Two rest = false
 
 -- the keyword that a token nearly is, among those that may be read for the nonterminal
-abbrev pub nearly : Format → Symbol → Shape → Option Hint
-nearly format symbol shape = word_in shape >>= λ bytes. first_near (words_for format symbol) bytes >>= λ k. Some (hint.Meant k)
+abbrev pub nearly : Format → Nonterminal → Shape → Option Hint
+nearly format nonterminal shape = word_in shape >>= λ bytes. first_near (words_for format nonterminal) bytes >>= λ k. Some (hint.Meant k)
 
 -- after a name that is a word of a head, the name is missing
 abbrev pub unnamed_after : Option Shape → Option Advice
@@ -109,31 +109,31 @@ abbrev pub order_advice : Shape → Option Advice
 order_advice shape = if is_head_word (Some shape) then Some advice.HeadOrder else None
 
 -- the sentence for a token that cannot be read for the nonterminal, after another token
-abbrev pub symbol_advice : Symbol → Option Shape → Shape → Option Advice
-symbol_advice symbol.Given before shape = Some advice.Unnamed
-symbol_advice symbol.Scope before shape = unnamed_after before
-symbol_advice symbol.Nursery before shape = unnamed_after before
-symbol_advice symbol.Over before shape = unnamed_after before
-symbol_advice symbol.Shield before shape = order_advice shape
-symbol_advice symbol.Fail before shape = order_advice shape
-symbol_advice symbol.NurseryShield before shape = order_advice shape
-symbol_advice symbol.Open before shape = order_advice shape
-symbol_advice symbol.Steps before shape = word_advice (Some shape)
-symbol_advice symbol.Items before shape = word_advice (Some shape)
-symbol_advice symbol.StepsCleanup before shape = word_advice (Some shape)
-symbol_advice symbol.ItemsCleanup before shape = word_advice (Some shape)
-symbol_advice _ before shape = None
+abbrev pub nonterminal_advice : Nonterminal → Option Shape → Shape → Option Advice
+nonterminal_advice nonterminal.Given before shape = Some advice.Unnamed
+nonterminal_advice nonterminal.Scope before shape = unnamed_after before
+nonterminal_advice nonterminal.Nursery before shape = unnamed_after before
+nonterminal_advice nonterminal.Over before shape = unnamed_after before
+nonterminal_advice nonterminal.Shield before shape = order_advice shape
+nonterminal_advice nonterminal.Fail before shape = order_advice shape
+nonterminal_advice nonterminal.NurseryShield before shape = order_advice shape
+nonterminal_advice nonterminal.Open before shape = order_advice shape
+nonterminal_advice nonterminal.Steps before shape = word_advice (Some shape)
+nonterminal_advice nonterminal.Items before shape = word_advice (Some shape)
+nonterminal_advice nonterminal.StepsCleanup before shape = word_advice (Some shape)
+nonterminal_advice nonterminal.ItemsCleanup before shape = word_advice (Some shape)
+nonterminal_advice _ before shape = None
 
-abbrev pub or_nearly : Option Advice → Format → Symbol → Shape → Option Hint
-or_nearly None format symbol shape = nearly format symbol shape
-or_nearly (Some a) format symbol shape = Some (hint.Advice a)
+abbrev pub or_nearly : Option Advice → Format → Nonterminal → Shape → Option Hint
+or_nearly None format nonterminal shape = nearly format nonterminal shape
+or_nearly (Some a) format nonterminal shape = Some (hint.Advice a)
 
 -- the hint that a token is allowed in format 2, or a sentence, or the keyword that the token nearly is, among those that may be
 -- read for the nonterminal
-abbrev pub meant_by : Format → Option Symbol → Option Shape → Shape → Option Hint
-meant_by format symbol before shape = symbol >>= λ s.
+abbrev pub meant_by : Format → Option Nonterminal → Option Shape → Shape → Option Hint
+meant_by format nonterminal before shape = nonterminal >>= λ s.
     if is_newer format (next Two s shape) then Some (hint.Advice advice.NewerFormat)
-    else or_nearly (symbol_advice s before shape) format s shape
+    else or_nearly (nonterminal_advice s before shape) format s shape
 
 -- the hint where tokens leave the grammar: for a token at that place, what was meant; at the end of the text, the block that is
 -- open

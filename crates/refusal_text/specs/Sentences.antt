@@ -1,8 +1,8 @@
 -- What is wrong with a job text, in a sentence.
 use Rattle.std.specs.Prelude.{ℕ, ◌==◌, if◌then◌else◌, List, Option, Some, None, codes}
 use Rattle.job_tree.specs.Words.{is_digit, is_letter}
-use Rattle.job_syntax.specs.declared.symbol.Symbol.{Symbol}
-use Rattle.job_syntax.specs.declared.symbol.Symbol.TheVariants as symbol
+use Rattle.job_syntax.specs.declared.nonterminal.Nonterminal.{Nonterminal}
+use Rattle.job_syntax.specs.declared.nonterminal.Nonterminal.TheVariants as nonterminal
 use Rattle.job_grammar.specs.declared.fault.JobKind.{JobKind}
 use Rattle.job_grammar.specs.declared.fault.JobKind.TheVariants.{TooLong, NotAscii, Version, Token, Number, Syntax, Depth, Twice, NotEnclosing, Reserved, TooLarge, NoMemory}
 
@@ -16,32 +16,32 @@ token_sentence (Some b) =
     else codes "a word, a number, a string or one of `{`, `}` and `;` was expected"
 
 -- what the grammar expects at a place; `None` is the end of the text
-abbrev pub expected_sentence : Option Symbol → List ℕ
-expected_sentence None = codes "expected the text's end: nothing may follow the job's `}`"
-expected_sentence (Some symbol.Job) = codes "expected `job NAME { .. }`"
-expected_sentence (Some symbol.Steps) = codes "expected a step, as `sleep 1;`, or `}` (a `start` is allowed only directly inside a nursery)"
-expected_sentence (Some symbol.Items) = codes "expected a step, as `sleep 1;`, a `start NAME { .. }` or `}`"
-expected_sentence (Some symbol.StepsTail) = codes "expected `except NAME { .. }` or `finally { .. }`"
-expected_sentence (Some symbol.ItemsTail) = codes "expected `except NAME { .. }` or `finally { .. }`"
-expected_sentence (Some symbol.StepsCleanup) = codes "expected `finally { .. }`, a step or `}`"
-expected_sentence (Some symbol.ItemsCleanup) = codes "expected `finally { .. }`, a step, a `start` or `}`"
-expected_sentence (Some symbol.Scope) = codes "expected `after N`, `at N`, `shield`, `fail` or `{`"
-expected_sentence (Some symbol.Shield) = codes "expected `shield`, `fail` or `{`"
-expected_sentence (Some symbol.Fail) = codes "expected `fail` or `{`"
-expected_sentence (Some symbol.Nursery) = codes "expected `{`, or in format 2 `after N` or `shield`"
-expected_sentence (Some symbol.NurseryShield) = codes "expected `shield` or `{`"
-expected_sentence (Some symbol.Over) = codes "expected `over N` or `{`"
-expected_sentence (Some symbol.Given) = codes "expected a name"
-expected_sentence (Some symbol.Raised) = codes "expected the name of an exception"
-expected_sentence (Some symbol.Handled) = codes "expected the name of an exception"
-expected_sentence (Some symbol.Target) = codes "expected the name of an enclosing scope or nursery"
-expected_sentence (Some symbol.Number) = codes "expected a number"
-expected_sentence (Some symbol.Text) = codes "expected a string, as `\"error\"`"
-expected_sentence (Some symbol.Open) = codes "expected `{`"
-expected_sentence (Some symbol.Semicolon) = codes "expected `;`"
+abbrev pub expected_sentence : Option Nonterminal → List ℕ
+expected_sentence None = codes "expected the text's end: nothing may check_grammar the job's `}`"
+expected_sentence (Some nonterminal.Job) = codes "expected `job NAME { .. }`"
+expected_sentence (Some nonterminal.Steps) = codes "expected a step, as `sleep 1;`, or `}` (a `start` is allowed only directly inside a nursery)"
+expected_sentence (Some nonterminal.Items) = codes "expected a step, as `sleep 1;`, a `start NAME { .. }` or `}`"
+expected_sentence (Some nonterminal.StepsTail) = codes "expected `except NAME { .. }` or `finally { .. }`"
+expected_sentence (Some nonterminal.ItemsTail) = codes "expected `except NAME { .. }` or `finally { .. }`"
+expected_sentence (Some nonterminal.StepsCleanup) = codes "expected `finally { .. }`, a step or `}`"
+expected_sentence (Some nonterminal.ItemsCleanup) = codes "expected `finally { .. }`, a step, a `start` or `}`"
+expected_sentence (Some nonterminal.Scope) = codes "expected `after N`, `at N`, `shield`, `fail` or `{`"
+expected_sentence (Some nonterminal.Shield) = codes "expected `shield`, `fail` or `{`"
+expected_sentence (Some nonterminal.Fail) = codes "expected `fail` or `{`"
+expected_sentence (Some nonterminal.Nursery) = codes "expected `{`, or in format 2 `after N` or `shield`"
+expected_sentence (Some nonterminal.NurseryShield) = codes "expected `shield` or `{`"
+expected_sentence (Some nonterminal.Over) = codes "expected `over N` or `{`"
+expected_sentence (Some nonterminal.Given) = codes "expected a name"
+expected_sentence (Some nonterminal.Raised) = codes "expected the name of an exception"
+expected_sentence (Some nonterminal.Handled) = codes "expected the name of an exception"
+expected_sentence (Some nonterminal.Target) = codes "expected the name of an enclosing scope or nursery"
+expected_sentence (Some nonterminal.Number) = codes "expected a number"
+expected_sentence (Some nonterminal.Text) = codes "expected a string, as `\"error\"`"
+expected_sentence (Some nonterminal.Open) = codes "expected `{`"
+expected_sentence (Some nonterminal.Semicolon) = codes "expected `;`"
 
 -- what is wrong at a place with this byte (`None` is the end of the text), where the grammar expects this
-abbrev pub sentence_of : JobKind → Option ℕ → Option Symbol → List ℕ
+abbrev pub sentence_of : JobKind → Option ℕ → Option Nonterminal → List ℕ
 sentence_of TooLong byte asked = codes "the job text has more than 65536 bytes"
 sentence_of NotAscii byte asked = codes "this byte is not ASCII"
 sentence_of Version byte asked = codes "a job text begins with the line `trio-job 1` or `trio-job 2`, ended by a newline alone"

@@ -79,7 +79,8 @@ impl Advice {
             Advice::NoDots => {
                 "Trio's names are written here without `trio.`: `sleep 1;`, `scope NAME after 5 { .. }`, `nursery NAME { .. }`\n"
             }
-            Advice::DoubleQuotes => "a string is written in double quotes, as in `find \"error\";`\n",
+            Advice::DoubleQuotes =>
+                "a string is written in double quotes, as in `find \"error\";`\n",
             Advice::NoHyphens => {
                 "a name has letters, digits and `_`: `my_job`, and not `my-job`\n"
             }

@@ -3,13 +3,17 @@ ghost use Rattle.job_syntax.specs.Syntax.{whole_job};
 ghost use Rattle.refusal_text.specs.Expecting.{expected_in, IsExpected, IsAsked};
 
 use job_grammar::{FIRST_LINE_LENGTH, Format, JobKind, format_of};
-use job_syntax::Symbol;
+use job_syntax::Nonterminal;
 use job_tokens::{Token, lex};
 use std::alloc::{AllocError, Global};
 
 // Returns what the sentence of a refusal says is expected. The tokens of the text are read again only for a refusal
 // of the kind `Syntax`.
-pub(crate) fn asked(alloc: Global, text: &[u8], kind: JobKind) -> Result<Option<Symbol>, AllocError>
+pub(crate) fn asked(
+    alloc: Global,
+    text: &[u8],
+    kind: JobKind,
+) -> Result<Option<Nonterminal>, AllocError>
     ensures { IfOk result (IsAsked kind text.now) }
 {
     match kind {
@@ -30,7 +34,7 @@ pub(crate) fn asked(alloc: Global, text: &[u8], kind: JobKind) -> Result<Option<
 
 // Returns what the grammar expects at the place where the tokens of a text leave it, or `None` if it expects the
 // end of the text.
-fn expected(alloc: Global, text: &[u8]) -> Result<Option<Symbol>, AllocError>
+fn expected(alloc: Global, text: &[u8]) -> Result<Option<Nonterminal>, AllocError>
     ensures { IfOk result (IsExpected text.now) }
 {
     let (_, body) = text.split_at(FIRST_LINE_LENGTH.min(text.len()));
@@ -43,17 +47,17 @@ pub(crate) fn expected_at(
     alloc: Global,
     format: Format,
     tokens: &[Token],
-) -> Result<Option<Symbol>, AllocError>
-    ensures { IfOk result (λ symbol. symbol ≡ expected_in format whole_job tokens.now) }
+) -> Result<Option<Nonterminal>, AllocError>
+    ensures { IfOk result (λ nonterminal. nonterminal ≡ expected_in format whole_job tokens.now) }
 {
     let mut stack = Vec::new(alloc);
-    stack.push(Symbol::Job)?;
+    stack.push(Nonterminal::Job)?;
     for token in tokens {
-        let Some(symbol) = stack.pop() else {
+        let Some(nonterminal) = stack.pop() else {
             return Ok(None);
         };
-        let Some(rest) = symbol.next(format, token.shape) else {
-            return Ok(Some(symbol));
+        let Some(rest) = nonterminal.next(format, token.shape) else {
+            return Ok(Some(nonterminal));
         };
         stack.extend_from_slice(rest)?;
     }

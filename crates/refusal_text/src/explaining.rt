@@ -18,9 +18,9 @@ use nursery_app::{column_of, line_of};
 use std::alloc::{AllocError, Global};
 
 // The maximum number of bytes of a line that are shown before a place, and from that place on.
-const MOST_BEFORE: usize = 60;
+const MAX_BEFORE: usize = 60;
 
-const MOST_AFTER: usize = 40;
+const MAX_AFTER: usize = 40;
 
 /// Returns the message that explains a refusal to the user: that of `pointed_message`, with a sentence for the kind of the
 /// refusal. If there is a hint, one more line has it: such as a keyword that is nearly spelled, a block that is not closed,
@@ -60,7 +60,7 @@ pub fn pointed_message(
     let column = column_of(text, at);
     let (front, rest) = text.split_at(at.min(text.len()));
     let mut message = headed(alloc, job, line, column, sentence)?;
-    let shown = (column - 1).min(MOST_BEFORE);
+    let shown = (column - 1).min(MAX_BEFORE);
     push_shown(&mut message, last_bytes(front, shown))?;
     push_shown(&mut message, first_line(first_bytes(rest)))?;
     message.push_str("\n")?;
@@ -110,7 +110,7 @@ fn last_bytes(bytes: &[u8], count: usize) -> &[u8]
 fn first_bytes(bytes: &[u8]) -> &[u8]
     ensures { result.now ≡ take most_after bytes.now }
 {
-    let (first, _) = bytes.split_at(MOST_AFTER.min(bytes.len()));
+    let (first, _) = bytes.split_at(MAX_AFTER.min(bytes.len()));
     first
 }
 

@@ -1,7 +1,7 @@
 ghost use Rattle.std.specs.Prelude.{◌≡◌, ◌-◌, IfOk, slice_get};
-ghost use Rattle.refusal_text.specs.Hinting.{IsHint, IsTokenHint, IsSyntaxHint, IsTwiceHint, IsReservedHint, IsSizeHint, advised, token_advice, called_or_byte, nearly, meant_by, is_newer, or_nearly, symbol_advice, unnamed_after, order_advice, word_advice, keyword_in, is_head_word, is_head, is_named, gives_name, reserved_advice, syntax_hint, twice_hint};
+ghost use Rattle.refusal_text.specs.Hinting.{IsHint, IsTokenHint, IsSyntaxHint, IsTwiceHint, IsReservedHint, IsSizeHint, advised, token_advice, called_or_byte, nearly, meant_by, is_newer, or_nearly, nonterminal_advice, unnamed_after, order_advice, word_advice, keyword_in, is_head_word, is_head, is_named, gives_name, reserved_advice, syntax_hint, twice_hint};
 ghost use Rattle.job_tree.specs.declared.format.Format.TheVariants.{Two};
-ghost use Rattle.job_syntax.specs.Symbols.{next};
+ghost use Rattle.job_syntax.specs.Nonterminals.{next};
 
 use crate::advice::{Advice, trio_advice};
 use crate::by_bytes::{ascii_advice, byte_advice, feed_advice, version_advice};
@@ -10,7 +10,7 @@ use crate::nearness::meant;
 use crate::scanning::{first_given, innermost_open, last_before, shape_at};
 use crate::size::size_hint;
 use job_grammar::{FIRST_LINE_LENGTH, Format, JobFault, JobKind, format_of};
-use job_syntax::{Keyword, Role, Symbol, follow};
+use job_syntax::{Keyword, Nonterminal, Role, check_grammar};
 use job_tokens::{Shape, Token, lex};
 use std::alloc::{AllocError, Global};
 
@@ -132,8 +132,8 @@ fn hint_at(
 {
     match shape {
         Some(shape) => {
-            let symbol = expected_at(alloc, format, tokens)?;
-            Ok(meant_by(format, symbol, before, &shape))
+            let nonterminal = expected_at(alloc, format, tokens)?;
+            Ok(meant_by(format, nonterminal, before, &shape))
         }
         None => Ok(innermost_open(alloc, tokens)?.map(Hint::OpenSince)),
     }
@@ -142,68 +142,84 @@ fn hint_at(
 // Returns the hint for a token that cannot be read for the nonterminal.
 fn meant_by(
     format: Format,
-    symbol: Option<Symbol>,
+    nonterminal: Option<Nonterminal>,
     before: Option<Shape>,
     shape: &Shape,
 ) -> Option<Hint>
-    ensures { result ≡ meant_by format symbol before shape.now }
+    ensures { result ≡ meant_by format nonterminal before shape.now }
 {
-    let symbol = symbol?;
-    if is_newer(format, symbol, shape) {
+    let nonterminal = nonterminal?;
+    if is_newer(format, nonterminal, shape) {
         return Some(Hint::Advice(Advice::NewerFormat));
     }
-    or_nearly(symbol_advice(symbol, before, shape), format, symbol, shape)
+    or_nearly(
+        nonterminal_advice(nonterminal, before, shape),
+        format,
+        nonterminal,
+        shape,
+    )
 }
 
 // Returns a sentence, or otherwise the keyword that a token nearly is.
-fn or_nearly(advice: Option<Advice>, format: Format, symbol: Symbol, shape: &Shape) -> Option<Hint>
-    ensures { result ≡ or_nearly advice format symbol shape.now }
+fn or_nearly(
+    advice: Option<Advice>,
+    format: Format,
+    nonterminal: Nonterminal,
+    shape: &Shape,
+) -> Option<Hint>
+    ensures { result ≡ or_nearly advice format nonterminal shape.now }
 {
     match advice {
         Some(advice) => Some(Hint::Advice(advice)),
-        None => nearly(format, symbol, shape),
+        None => nearly(format, nonterminal, shape),
     }
 }
 
 // Returns whether the text has format 1 and the token would be allowed there in format 2.
-fn is_newer(format: Format, symbol: Symbol, shape: &Shape) -> bool
-    ensures { result ≡ is_newer format (next Two symbol shape.now) }
+fn is_newer(format: Format, nonterminal: Nonterminal, shape: &Shape) -> bool
+    ensures { result ≡ is_newer format (next Two nonterminal shape.now) }
 {
     match format {
-        Format::One => symbol.next(Format::Two, *shape).is_some(),
+        Format::One => nonterminal.next(Format::Two, *shape).is_some(),
         Format::Two => false,
     }
 }
 
 // Returns the keyword that a token nearly is, among those that may be read for the nonterminal.
-fn nearly(format: Format, symbol: Symbol, shape: &Shape) -> Option<Hint>
-    ensures { result ≡ nearly format symbol shape.now }
+fn nearly(format: Format, nonterminal: Nonterminal, shape: &Shape) -> Option<Hint>
+    ensures { result ≡ nearly format nonterminal shape.now }
 {
     let word = shape.word()?;
-    let keyword = meant(format, symbol, word.bytes())?;
+    let keyword = meant(format, nonterminal, word.bytes())?;
     Some(Hint::Meant(keyword))
 }
 
 // Returns the sentence for a token that cannot be read for the nonterminal, after another token.
-fn symbol_advice(symbol: Symbol, before: Option<Shape>, shape: &Shape) -> Option<Advice>
-    ensures { result ≡ symbol_advice symbol before shape.now }
+fn nonterminal_advice(
+    nonterminal: Nonterminal,
+    before: Option<Shape>,
+    shape: &Shape,
+) -> Option<Advice>
+    ensures { result ≡ nonterminal_advice nonterminal before shape.now }
 {
-    match symbol {
-        Symbol::Given => Some(Advice::Unnamed),
-        Symbol::Scope | Symbol::Nursery | Symbol::Over => unnamed_after(before),
-        Symbol::Shield | Symbol::Fail | Symbol::NurseryShield | Symbol::Open => order_advice(shape),
-        Symbol::Steps | Symbol::Items | Symbol::StepsCleanup | Symbol::ItemsCleanup => {
-            word_advice(Some(*shape))
-        }
-        Symbol::Job
-        | Symbol::StepsTail
-        | Symbol::ItemsTail
-        | Symbol::Raised
-        | Symbol::Handled
-        | Symbol::Target
-        | Symbol::Number
-        | Symbol::Text
-        | Symbol::Semicolon => None,
+    match nonterminal {
+        Nonterminal::Given => Some(Advice::Unnamed),
+        Nonterminal::Scope | Nonterminal::Nursery | Nonterminal::Over => unnamed_after(before),
+        Nonterminal::Shield | Nonterminal::Fail | Nonterminal::NurseryShield | Nonterminal::Open =>
+            order_advice(shape),
+        Nonterminal::Steps
+        | Nonterminal::Items
+        | Nonterminal::StepsCleanup
+        | Nonterminal::ItemsCleanup => { word_advice(Some(*shape)) }
+        Nonterminal::Job
+        | Nonterminal::StepsTail
+        | Nonterminal::ItemsTail
+        | Nonterminal::Raised
+        | Nonterminal::Handled
+        | Nonterminal::Target
+        | Nonterminal::Number
+        | Nonterminal::Text
+        | Nonterminal::Semicolon => None,
     }
 }
 
@@ -300,8 +316,8 @@ fn twice_hint(alloc: Global, text: &[u8], at: usize) -> Result<Option<Hint>, All
     let (_, body) = text.split_at(FIRST_LINE_LENGTH.min(text.len()));
     let lexed = lex(alloc, body, text.len())?;
     let tokens = lexed.tokens.as_slice();
-    let course = follow(alloc, format_of(text), tokens, text.len())?;
-    Ok(given_first(tokens, course.roles.as_slice(), shape_at(tokens, at)))
+    let checked = check_grammar(alloc, format_of(text), tokens, text.len())?;
+    Ok(given_first(tokens, checked.roles.as_slice(), shape_at(tokens, at)))
 }
 
 fn given_first(tokens: &[Token], roles: &[Role], shape: Option<Shape>) -> Option<Hint>

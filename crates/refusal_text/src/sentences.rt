@@ -2,11 +2,15 @@ ghost use Rattle.std.specs.Prelude.{◌≡◌};
 ghost use Rattle.refusal_text.specs.Sentences.{sentence_of, token_sentence, expected_sentence};
 
 use job_grammar::JobKind;
-use job_syntax::Symbol;
+use job_syntax::Nonterminal;
 
 // Returns the sentence for a refusal of this kind at a place with this byte (`None` at the end of the text), where
 // the grammar expects this nonterminal.
-pub(crate) fn sentence_of(kind: JobKind, byte: Option<u8>, asked: Option<Symbol>) -> &'static str
+pub(crate) fn sentence_of(
+    kind: JobKind,
+    byte: Option<u8>,
+    asked: Option<Nonterminal>,
+) -> &'static str
     ensures { result.now ≡ sentence_of kind byte asked }
 {
     match kind {
@@ -46,33 +50,33 @@ fn token_sentence(byte: Option<u8>) -> &'static str
 }
 
 // Returns what the grammar expects at a place; `None` is the end of the text.
-fn expected_sentence(symbol: Option<Symbol>) -> &'static str
-    ensures { result.now ≡ expected_sentence symbol }
+fn expected_sentence(nonterminal: Option<Nonterminal>) -> &'static str
+    ensures { result.now ≡ expected_sentence nonterminal }
 {
-    match symbol {
-        None => "expected the text's end: nothing may follow the job's `}`",
-        Some(Symbol::Job) => "expected `job NAME { .. }`",
-        Some(Symbol::Steps) => {
+    match nonterminal {
+        None => "expected the text's end: nothing may check_grammar the job's `}`",
+        Some(Nonterminal::Job) => "expected `job NAME { .. }`",
+        Some(Nonterminal::Steps) => {
             "expected a step, as `sleep 1;`, or `}` (a `start` is allowed only directly inside a nursery)"
         }
-        Some(Symbol::Items) => "expected a step, as `sleep 1;`, a `start NAME { .. }` or `}`",
-        Some(Symbol::StepsTail | Symbol::ItemsTail) => {
+        Some(Nonterminal::Items) => "expected a step, as `sleep 1;`, a `start NAME { .. }` or `}`",
+        Some(Nonterminal::StepsTail | Nonterminal::ItemsTail) => {
             "expected `except NAME { .. }` or `finally { .. }`"
         }
-        Some(Symbol::StepsCleanup) => "expected `finally { .. }`, a step or `}`",
-        Some(Symbol::ItemsCleanup) => "expected `finally { .. }`, a step, a `start` or `}`",
-        Some(Symbol::Scope) => "expected `after N`, `at N`, `shield`, `fail` or `{`",
-        Some(Symbol::Shield) => "expected `shield`, `fail` or `{`",
-        Some(Symbol::Fail) => "expected `fail` or `{`",
-        Some(Symbol::Nursery) => "expected `{`, or in format 2 `after N` or `shield`",
-        Some(Symbol::NurseryShield) => "expected `shield` or `{`",
-        Some(Symbol::Over) => "expected `over N` or `{`",
-        Some(Symbol::Given) => "expected a name",
-        Some(Symbol::Raised | Symbol::Handled) => "expected the name of an exception",
-        Some(Symbol::Target) => "expected the name of an enclosing scope or nursery",
-        Some(Symbol::Number) => "expected a number",
-        Some(Symbol::Text) => "expected a string, as `\"error\"`",
-        Some(Symbol::Open) => "expected `{`",
-        Some(Symbol::Semicolon) => "expected `;`",
+        Some(Nonterminal::StepsCleanup) => "expected `finally { .. }`, a step or `}`",
+        Some(Nonterminal::ItemsCleanup) => "expected `finally { .. }`, a step, a `start` or `}`",
+        Some(Nonterminal::Scope) => "expected `after N`, `at N`, `shield`, `fail` or `{`",
+        Some(Nonterminal::Shield) => "expected `shield`, `fail` or `{`",
+        Some(Nonterminal::Fail) => "expected `fail` or `{`",
+        Some(Nonterminal::Nursery) => "expected `{`, or in format 2 `after N` or `shield`",
+        Some(Nonterminal::NurseryShield) => "expected `shield` or `{`",
+        Some(Nonterminal::Over) => "expected `over N` or `{`",
+        Some(Nonterminal::Given) => "expected a name",
+        Some(Nonterminal::Raised | Nonterminal::Handled) => "expected the name of an exception",
+        Some(Nonterminal::Target) => "expected the name of an enclosing scope or nursery",
+        Some(Nonterminal::Number) => "expected a number",
+        Some(Nonterminal::Text) => "expected a string, as `\"error\"`",
+        Some(Nonterminal::Open) => "expected `{`",
+        Some(Nonterminal::Semicolon) => "expected `;`",
     }
 }

@@ -1,2 +1,2 @@
 pub mod SlotLemmas
-pub mod StationLemmas
+pub mod WorkerStateLemmas

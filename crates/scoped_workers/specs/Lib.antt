@@ -1,3 +1,3 @@
 pub mod Slots
 pub mod Bench
-pub mod Stations
+pub mod WorkerStates

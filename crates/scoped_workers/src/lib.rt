@@ -8,7 +8,7 @@
 mod bench;
 mod gate;
 mod slot;
-mod station;
+mod worker_state;
 mod working;
 
 pub use bench::Bench;

@@ -1,11 +1,11 @@
 ghost use Rattle.std.specs.Prelude.{◌≡◌, ◌≤◌, ◌<◌, List, [], ◌∷◌, ◌++◌, true, false, length, vec_len, map, replicate, slice_set, All, IfOk};
 ghost use Rattle.claim_word.specs.Claims.{IsPassOf, requests_of, drawn_by, was_told};
 ghost use Rattle.scoped_workers.specs.Slots.{AreAnswers, AreComputed, IsFilled, empty, done};
-ghost use Rattle.scoped_workers.specs.Stations.{IsFresh, IsFinished, AreGathered, HaveAnswers};
+ghost use Rattle.scoped_workers.specs.WorkerStates.{IsFresh, IsFinished, AreGathered, HaveAnswers};
 
 use crate::gate::Gate;
 use crate::slot::{Content, Slot};
-use crate::station::{Numbered, Station};
+use crate::worker_state::{Numbered, WorkerState};
 use claim_word::{Claims, Pass};
 use line_kernels::{Answer, Request};
 use std::alloc::{AllocError, Global};
@@ -57,9 +57,9 @@ fn draw_all<'a, R: Threads + Sync, G: Gate + Sync>(
     ensures { IfOk result (λ answered. HaveAnswers requests.now answered.items) }
 {
     let (claims, passes) = Claims::new(alloc, requests.len(), workers)?;
-    let stations = stations_of(alloc, &claims, passes)?;
-    let stations = run_all(rt, alloc, requests, &claims, gate, stations);
-    let gathered = gather(alloc, requests, &claims, stations)?;
+    let worker_states = worker_states_of(alloc, &claims, passes)?;
+    let worker_states = run_all(rt, alloc, requests, &claims, gate, worker_states);
+    let gathered = gather(alloc, requests, &claims, worker_states)?;
     let Gathered {
         passes,
         answered,
@@ -73,20 +73,20 @@ fn draw_all<'a, R: Threads + Sync, G: Gate + Sync>(
 }
 
 // Creates a worker for each ticket.
-fn stations_of<'a>(
+fn worker_states_of<'a>(
     alloc: Global,
     claims: &Claims,
     passes: Vec<Pass>,
-) -> Result<Vec<Station<'a>>, AllocError>
+) -> Result<Vec<WorkerState<'a>>, AllocError>
     requires { All (λ pass. IsPassOf claims.now pass × (drawn_by pass ≡ []) × (was_told pass ≡ false)) passes.items }
-    ensures count { IfOk result (λ stations. vec_len stations ≡ vec_len passes) }
-    ensures fresh { IfOk result (λ stations. All (IsFresh claims.now) stations.items) }
+    ensures count { IfOk result (λ worker_states. vec_len worker_states ≡ vec_len passes) }
+    ensures fresh { IfOk result (λ worker_states. All (IsFresh claims.now) worker_states.items) }
 {
-    let mut stations = Vec::with_capacity(alloc, passes.len())?;
+    let mut worker_states = Vec::with_capacity(alloc, passes.len())?;
     for pass in passes {
-        stations.push(Station::new(alloc, pass))?;
+        worker_states.push(WorkerState::new(alloc, pass))?;
     }
-    Ok(stations)
+    Ok(worker_states)
 }
 
 // Runs the workers until they have drawn all requests, and returns them.
@@ -96,16 +96,23 @@ fn run_all<'a, R: Threads + Sync, G: Gate + Sync>(
     requests: &[Request<'a>],
     claims: &Claims,
     gate: &G,
-    mut stations: Vec<Station<'a>>,
-) -> Vec<Station<'a>>
+    mut worker_states: Vec<WorkerState<'a>>,
+) -> Vec<WorkerState<'a>>
     requires count { requests_of claims.now ≡ length requests.now }
-    requires some { 0 < vec_len stations }
-    requires fresh { All (IsFresh claims.now) stations.items }
-    ensures count { vec_len result ≡ vec_len stations.entry }
+    requires some { 0 < vec_len worker_states }
+    requires fresh { All (IsFresh claims.now) worker_states.items }
+    ensures count { vec_len result ≡ vec_len worker_states.entry }
     ensures finished { All (IsFinished requests.entry.now claims.now) result.items }
 {
-    run_each(rt, alloc, requests, claims, gate, stations.as_mut_slice());
-    stations
+    run_each(
+        rt,
+        alloc,
+        requests,
+        claims,
+        gate,
+        worker_states.as_mut_slice(),
+    );
+    worker_states
 }
 
 // Runs each worker, in a thread of its own if there are several.
@@ -115,27 +122,27 @@ fn run_each<'a, R: Threads + Sync, G: Gate + Sync>(
     requests: &[Request<'a>],
     claims: &Claims,
     gate: &G,
-    stations: &mut [Station<'a>],
+    worker_states: &mut [WorkerState<'a>],
 )
     requires count { requests_of claims.now ≡ length requests.now }
-    requires some { 0 < length stations.old }
-    requires fresh { All (IsFresh claims.now) stations.old }
-    ensures count { length stations.new ≡ length stations.old }
-    ensures finished { All (IsFinished requests.entry.now claims.now) stations.new }
+    requires some { 0 < length worker_states.old }
+    requires fresh { All (IsFresh claims.now) worker_states.old }
+    ensures count { length worker_states.new ≡ length worker_states.old }
+    ensures finished { All (IsFinished requests.entry.now claims.now) worker_states.new }
 {
-    let count = stations.len();
+    let count = worker_states.len();
     if count == 1 {
-        stations[0].run(alloc, requests, claims, gate);
+        worker_states[0].run(alloc, requests, claims, gate);
         return;
     }
     thread::for_each_mut(
         rt,
-        stations,
+        worker_states,
         count,
-        &|_: usize, station: &mut Station|
-            requires { (requests_of claims.now ≡ length requests.now) × IsFresh claims.now station.old }
-            ensures { IsFinished requests.entry.now claims.entry.now station.new }
-        { station.run(alloc, requests, claims, gate) },
+        &|_: usize, worker_state: &mut WorkerState|
+            requires { (requests_of claims.now ≡ length requests.now) × IsFresh claims.now worker_state.old }
+            ensures { IsFinished requests.entry.now claims.entry.now worker_state.new }
+        { worker_state.run(alloc, requests, claims, gate) },
     );
 }
 
@@ -149,16 +156,16 @@ struct Gathered<'a> {
 
 impl<'a> Gathered<'a> {
     // Adds the ticket and the answers of one worker.
-    fn take(&mut self, station: Station<'a>) -> Result<(), AllocError>
-        ensures passes { IfOk result (λ _. self.new.passes.items ≡ self.old.passes.items ++ station.entry.pass ∷ []) }
-        ensures answered { IfOk result (λ _. self.new.answered.items ≡ self.old.answered.items ++ station.entry.answered.items) }
-        ensures refused { IfOk result (λ _. self.new.refused ≡ false → (self.old.refused ≡ false) × (station.entry.refused ≡ false)) }
+    fn take(&mut self, worker_state: WorkerState<'a>) -> Result<(), AllocError>
+        ensures passes { IfOk result (λ _. self.new.passes.items ≡ self.old.passes.items ++ worker_state.entry.pass ∷ []) }
+        ensures answered { IfOk result (λ _. self.new.answered.items ≡ self.old.answered.items ++ worker_state.entry.answered.items) }
+        ensures refused { IfOk result (λ _. self.new.refused ≡ false → (self.old.refused ≡ false) × (worker_state.entry.refused ≡ false)) }
     {
-        let Station {
+        let WorkerState {
             pass,
             mut answered,
             refused,
-        } = station;
+        } = worker_state;
         self.passes.push(pass)?;
         self.answered.append(&mut answered)?;
         self.refused = self.refused || refused;
@@ -171,21 +178,21 @@ fn gather<'a>(
     alloc: Global,
     requests: &[Request<'a>],
     claims: &Claims,
-    stations: Vec<Station<'a>>,
+    worker_states: Vec<WorkerState<'a>>,
 ) -> Result<Gathered<'a>, AllocError>
-    requires { All (IsFinished requests.now claims.now) stations.items }
-    ensures count { IfOk result (λ gathered. vec_len gathered.passes ≡ vec_len stations.entry) }
+    requires { All (IsFinished requests.now claims.now) worker_states.items }
+    ensures count { IfOk result (λ gathered. vec_len gathered.passes ≡ vec_len worker_states.entry) }
     ensures passes { IfOk result (λ gathered. All (λ pass. IsPassOf claims.now pass × (was_told pass ≡ true)) gathered.passes.items) }
     ensures answered { IfOk result (λ gathered. gathered.refused ≡ false →
         AreGathered requests.entry.now gathered.passes.items gathered.answered.items) }
 {
     let mut gathered = Gathered {
-        passes: Vec::with_capacity(alloc, stations.len())?,
+        passes: Vec::with_capacity(alloc, worker_states.len())?,
         answered: Vec::new(alloc),
         refused: false,
     };
-    for station in stations {
-        gathered.take(station)?;
+    for worker_state in worker_states {
+        gathered.take(worker_state)?;
     }
     Ok(gathered)
 }

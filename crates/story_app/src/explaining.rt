@@ -1,6 +1,6 @@
 ghost use Rattle.std.specs.Prelude.{◌≡◌, ◌<◌, ◌≤◌, length, IfOk, IfErr, OnOk};
 ghost use Rattle.std.specs.Option.{option_copied};
-ghost use Rattle.job_meaning.specs.declared.limits.TheConstants.{MOST_INPUT};
+ghost use Rattle.job_meaning.specs.declared.limits.TheConstants.{MAX_INPUT};
 ghost use Rattle.nursery_app.specs.Verdict.{CountsFailure};
 ghost use Rattle.story_app.specs.Stories.{IsVerdict, IsSent, IsStoryFault};
 
@@ -20,7 +20,7 @@ use std::thread::Threads;
 /// Returns which of these it wrote.
 ///
 /// The number of workers, the picker and the gate change no byte. The caller must ensure that the input has at most 16,777,216
-/// bytes (`MOST_INPUT`).
+/// bytes (`MAX_INPUT`).
 ///
 /// Returns a `ServeFault` if the writer failed, which then took the first of these bytes, or if memory was refused. All bytes are
 /// built before the first is sent, so after `NoMemory` nothing was sent.
@@ -35,7 +35,7 @@ pub fn explain<R: Threads + Sync, P: Pick, G: Gate + Sync, W: Out>(
     gate: &G,
     out: &mut W,
 ) -> Result<StoryVerdict, ServeFault>
-    requires input { length input.now ≤ MOST_INPUT }
+    requires input { length input.now ≤ MAX_INPUT }
     requires countable { W.failed out.old < 18446744073709551615 }
 
     // The bytes written are the story of the meaning, or the refusal that the meaning names.
@@ -62,7 +62,7 @@ fn answer<R: Threads + Sync, P: Pick, G: Gate + Sync>(
     picker: &mut P,
     gate: &G,
 ) -> Result<(StoryVerdict, Vec<u8>), AllocError>
-    requires { length input.now ≤ MOST_INPUT }
+    requires { length input.now ≤ MAX_INPUT }
     ensures { IfOk result (λ r. IsVerdict job_text.now input.now settings.limit (option_copied task.entry) r.0 r.1.items) }
 {
     match read_job(alloc, job_text) {

@@ -1,5 +1,5 @@
 ghost use Rattle.std.specs.Prelude.{◌≤◌, length, IfOk};
-ghost use Rattle.job_meaning.specs.declared.limits.TheConstants.{MOST_INPUT};
+ghost use Rattle.job_meaning.specs.declared.limits.TheConstants.{MAX_INPUT};
 ghost use Rattle.story_app.specs.Running.{AreRunning, IsJobRunning};
 
 use crate::telling::{Ending, meaning_of, told_until};
@@ -12,7 +12,7 @@ use story_text::{in_order, still_running};
 
 /// Returns a line for each task of a job that has not ended by the limit, with what it is doing: the last lines of the story that
 /// `explain` writes of such a job. Returns nothing if the job ends by the limit or its text is refused. The picker, the number of
-/// workers and the gate change no byte. The caller must ensure that the input has at most 16,777,216 bytes (`MOST_INPUT`).
+/// workers and the gate change no byte. The caller must ensure that the input has at most 16,777,216 bytes (`MAX_INPUT`).
 /// Returns `AllocError` if memory is refused.
 pub fn running_at_limit<R: Threads + Sync, P: Pick, G: Gate + Sync>(
     rt: &R,
@@ -23,7 +23,7 @@ pub fn running_at_limit<R: Threads + Sync, P: Pick, G: Gate + Sync>(
     picker: &mut P,
     gate: &G,
 ) -> Result<Vec<u8>, AllocError>
-    requires { length input.now ≤ MOST_INPUT }
+    requires { length input.now ≤ MAX_INPUT }
     ensures { IfOk result (λ lines. AreRunning job_text.now input.now settings.limit lines.items) }
 {
     match read_job(alloc, job_text) {
@@ -48,7 +48,7 @@ fn running_of<R: Threads + Sync, P: Pick, G: Gate + Sync>(
     picker: &mut P,
     gate: &G,
 ) -> Result<Vec<u8>, AllocError>
-    requires { length input.now ≤ MOST_INPUT }
+    requires { length input.now ≤ MAX_INPUT }
     ensures { IfOk result (λ lines. IsJobRunning job.now input.now settings.limit lines.items) }
 {
     let meaning = meaning_of(rt, alloc, job, input, settings, picker, gate)?;

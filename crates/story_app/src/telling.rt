@@ -1,6 +1,6 @@
 ghost use Rattle.std.specs.Prelude.{◌≡◌, ◌≤◌, length, map, IfOk};
 ghost use Rattle.std.specs.Option.{option_copied};
-ghost use Rattle.job_meaning.specs.declared.limits.TheConstants.{MOST_INPUT};
+ghost use Rattle.job_meaning.specs.declared.limits.TheConstants.{MAX_INPUT};
 ghost use Rattle.job_meaning.specs.Meaning.{meaning_table};
 ghost use Rattle.job_runner.specs.Runs.{rows_of};
 ghost use Rattle.job_story.specs.Froms.{table_in};
@@ -74,7 +74,7 @@ pub(crate) fn job_verdict<R: Threads + Sync, P: Pick, G: Gate + Sync>(
     picker: &mut P,
     gate: &G,
 ) -> Result<(StoryVerdict, Vec<u8>), AllocError>
-    requires { length input.now ≤ MOST_INPUT }
+    requires { length input.now ≤ MAX_INPUT }
     ensures { IfOk result (λ r. IsJobVerdict job.now input.now settings.limit (option_copied task.entry) r.0 r.1.items) }
 {
     let meaning = meaning_of(rt, alloc, job, input, settings, picker, gate)?;
@@ -121,7 +121,7 @@ pub(crate) fn meaning_of<R: Threads + Sync, P: Pick, G: Gate + Sync>(
     picker: &mut P,
     gate: &G,
 ) -> Result<Meaning, AllocError>
-    requires { length input.now ≤ MOST_INPUT }
+    requires { length input.now ≤ MAX_INPUT }
     ensures ending { IfOk result (λ meaning. IsEnding job.now input.now settings.limit meaning.ending) }
     ensures table { IfOk result (λ meaning. table_in meaning.table ≡ meaning_table job.now input.now) }
 {

@@ -5,8 +5,8 @@ use Rattle.job_tokens.specs.declared.token.Token.{Token}
 use Rattle.job_grammar.specs.Refusals.{HasTokens}
 use Rattle.job_edits.specs.declared.number.Number.{Number}
 use Rattle.job_edits.specs.declared.number.Target.{Target}
-use Rattle.fault_text.specs.Fates.{Fate}
-use Rattle.fault_text.specs.Fates as fates
+use Rattle.fault_text.specs.JobOutcomes.{JobOutcome}
+use Rattle.fault_text.specs.JobOutcomes as job_outcomes
 use Rattle.sweep_text.specs.Groups as told
 use Rattle.sweep_text.specs.Sweeps.{sweep_text}
 use Rattle.sweep_text.specs.Views.{value_held}
@@ -20,8 +20,8 @@ use Rattle.sweep_app.specs.Verdicts.{IsSweep}
 use Rattle.sweep_app.specs.declared.verdict.Missing.{Missing}
 
 -- the values as they were found
-pub are_seen : (text input : List ℕ) (limit : ℕ) (number : Number) (job : Tree) (values : List ℕ) (first : Fate) (vs : List Value) →
-    first ≡ fates.fate_of limit None job input →
+pub are_seen : (text input : List ℕ) (limit : ℕ) (number : Number) (job : Tree) (values : List ℕ) (first : JobOutcome) (vs : List Value) →
+    first ≡ job_outcomes.job_outcome_of limit None job input →
     AreAnswers (λ (n : ℕ) (v : Value). IsValue text input limit number n (value_held v)) values vs →
     AreValues text input limit number job values first (map value_held vs)
 are_seen text input limit number job values first vs f are =
@@ -32,7 +32,7 @@ are_seen text input limit number job values first vs f are =
 
 -- given the tokens and the limit, as they were passed on
 pub are_values : (text : List ℕ) (job : Tree) (input : List ℕ) (limit l : ℕ) (target : Target) (values : List ℕ) (tokens ts : List Token)
-    (number : Number) (first : Fate) (vs : List told.Value) →
+    (number : Number) (first : JobOutcome) (vs : List told.Value) →
     HasTokens text tokens None → ts ≡ tokens → IsNumber text ts target number → l ≡ limit →
     AreValues text input l number job values first vs → AreSweepValues text job input limit target values first vs
 are_values text job input limit l target values tokens ts number first vs has same is at told =
@@ -54,7 +54,7 @@ is_without_target text target missing tokens ts has same is =
     }
 
 -- given the limit and the values, as they were passed on
-pub is_sweep : (text : List ℕ) (job : Tree) (input : List ℕ) (limit l : ℕ) (target : Target) (values bytes : List ℕ) (first : Fate)
+pub is_sweep : (text : List ℕ) (job : Tree) (input : List ℕ) (limit l : ℕ) (target : Target) (values bytes : List ℕ) (first : JobOutcome)
     (vs us : List Value) →
     AreSweepValues text job input limit target values first (map value_held vs) → l ≡ limit → us ≡ vs →
     bytes ≡ sweep_text l first (map value_held us) → IsSweep text job input limit target values bytes

@@ -5,8 +5,8 @@ use Rattle.job_tokens.specs.declared.token.Token.{Token}
 use Rattle.job_grammar.specs.Refusals.{HasTokens}
 use Rattle.job_edits.specs.declared.number.Number.{Number}
 use Rattle.job_edits.specs.declared.number.Target.{Target}
-use Rattle.fault_text.specs.Fates.{Fate, fate_of}
-use Rattle.fault_text.specs.Views.{fate_held}
+use Rattle.fault_text.specs.JobOutcomes.{JobOutcome, job_outcome_of}
+use Rattle.fault_text.specs.Views.{job_outcome_held}
 use Rattle.slot_work.specs.Answers.{AreAnswers}
 use Rattle.sweep_text.specs.Groups.{Value}
 use Rattle.sweep_text.specs.Views.{value_held}
@@ -19,12 +19,12 @@ use Rattle.sweep_app.specs.declared.told.SweepAnswer.{SweepAnswer}
 use Rattle.sweep_app.specs.declared.told.SweepAnswer.TheVariants.{Values, NoTarget}
 
 -- the outcome of a job with its own value, and in turn of its text with each value in place of a number
-pub record AreValues (text input : List ℕ) (limit : ℕ) (number : Number) (job : Tree) (values : List ℕ) (first : Fate) (vs : List Value) : Type 0 where
-  pub first_is : first ≡ fate_of limit None job input
+pub record AreValues (text input : List ℕ) (limit : ℕ) (number : Number) (job : Tree) (values : List ℕ) (first : JobOutcome) (vs : List Value) : Type 0 where
+  pub first_is : first ≡ job_outcome_of limit None job input
   pub vs_are : AreAnswers (IsValue text input limit number) values vs
 
 -- the same for the number of the text that is meant
-pub record AreSweepValues (text : List ℕ) (job : Tree) (input : List ℕ) (limit : ℕ) (target : Target) (values : List ℕ) (first : Fate) (vs : List Value) : Type 0 where
+pub record AreSweepValues (text : List ℕ) (job : Tree) (input : List ℕ) (limit : ℕ) (target : Target) (values : List ℕ) (first : JobOutcome) (vs : List Value) : Type 0 where
   pub tokens : List Token
   pub tokens_are : HasTokens text tokens None
   pub number : Number
@@ -41,9 +41,9 @@ pub record IsWithoutTarget (text : List ℕ) (target : Target) (missing : Missin
 
 abbrev pub AreValuesOf : Tree → Swept → List ℕ → SweepValues → Type 0
 AreValuesOf job swept values told =
-    AreValues swept.text.now swept.input.now swept.limit swept.number job values (fate_held told.first) (map value_held told.values.items)
+    AreValues swept.text.now swept.input.now swept.limit swept.number job values (job_outcome_held told.first) (map value_held told.values.items)
 
 abbrev pub IsSweepAnswer : List ℕ → Tree → List ℕ → ℕ → Target → List ℕ → SweepAnswer → Type 0
 IsSweepAnswer text job input limit target values (Values told) =
-    AreSweepValues text job input limit target values (fate_held told.first) (map value_held told.values.items)
+    AreSweepValues text job input limit target values (job_outcome_held told.first) (map value_held told.values.items)
 IsSweepAnswer text job input limit target values (NoTarget missing) = IsWithoutTarget text target missing

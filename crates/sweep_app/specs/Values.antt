@@ -1,10 +1,10 @@
 -- The outcome of a job for each value of a number.
 use Rattle.std.specs.Prelude.{◌≡◌, ◌≤◌, ℕ, None, List, [], ◌∷◌, length}
-use Rattle.job_meaning.specs.declared.limits.TheConstants.{MOST_INPUT}
+use Rattle.job_meaning.specs.declared.limits.TheConstants.{MAX_INPUT}
 use Rattle.job_edits.specs.Changes.{changed}
 use Rattle.job_edits.specs.Numbers.{set_to}
 use Rattle.job_edits.specs.declared.number.Number.{Number}
-use Rattle.fault_app.specs.Fates.{IsFate}
+use Rattle.fault_app.specs.JobOutcomes.{IsJobOutcome}
 use Rattle.sweep_text.specs.Groups as told
 use Rattle.sweep_text.specs.Views.{value_held}
 use Rattle.sweep_text.specs.declared.value.Value.{Value}
@@ -13,13 +13,13 @@ use Rattle.sweep_app.specs.declared.values.Swept.{Swept}
 -- the outcome of the text with this value in place of the number
 pub record IsValue (text input : List ℕ) (limit : ℕ) (number : Number) (n : ℕ) (v : told.Value) : Type 0 where
   pub value : v.value ≡ n
-  pub fate : IsFate (changed text (set_to number n ∷ [])) input limit None v.fate
+  pub job_outcome : IsJobOutcome (changed text (set_to number n ∷ [])) input limit None v.job_outcome
 
 -- ---- the values of the code
 
 -- the input is not longer than the maximum
 abbrev pub HasRoom : Swept → Type 0
-HasRoom swept = length swept.input.now ≤ MOST_INPUT
+HasRoom swept = length swept.input.now ≤ MAX_INPUT
 
 abbrev pub IsValueOf : Swept → ℕ → Value → Type 0
 IsValueOf swept n v = IsValue swept.text.now swept.input.now swept.limit swept.number n (value_held v)

@@ -8,7 +8,7 @@ use Rattle.nursery_app.specs.Verdict.{refusal_line}
 use Rattle.nursery_app.specs.declared.verdict.ServeFault.{ServeFault}
 use Rattle.nursery_app.specs.declared.verdict.ServeFault.TheVariants.{Send, NoMemory}
 use Rattle.job_edits.specs.declared.number.Target.{Target}
-use Rattle.fault_text.specs.Fates.{Fate}
+use Rattle.fault_text.specs.JobOutcomes.{JobOutcome}
 use Rattle.sweep_text.specs.Groups.{Value}
 use Rattle.sweep_text.specs.Sweeps.{sweep_text}
 use Rattle.sweep_app.specs.Answers.{AreSweepValues, IsWithoutTarget}
@@ -17,7 +17,7 @@ use Rattle.sweep_app.specs.declared.verdict.SweepVerdict.TheVariants.{Told, JobR
 
 -- these bytes are the text of the outcomes of the job with its own value, and with each value of the number that is meant
 pub record IsSweep (text : List ℕ) (job : Tree) (input : List ℕ) (limit : ℕ) (target : Target) (values bytes : List ℕ) : Type 0 where
-  pub first : Fate
+  pub first : JobOutcome
   pub vs : List Value
   pub told : AreSweepValues text job input limit target values first vs
   pub text_is : bytes ≡ sweep_text limit first vs

@@ -1,13 +1,13 @@
 ghost use Rattle.std.specs.Prelude.{◌≡◌, ◌≤◌, length, IfOk};
-ghost use Rattle.job_meaning.specs.declared.limits.TheConstants.{MOST_INPUT};
+ghost use Rattle.job_meaning.specs.declared.limits.TheConstants.{MAX_INPUT};
 ghost use Rattle.job_grammar.specs.Refusals.{Spells};
 ghost use Rattle.sweep_app.specs.Answers.{AreValuesOf, IsSweepAnswer};
 
 use crate::number::{Found, number_for};
 use crate::values::Swept;
 use crate::verdict::Missing;
-use fault_app::{fate_of_job, tokens_of};
-use fault_text::Fate;
+use fault_app::{outcome_of_job, tokens_of};
+use fault_text::JobOutcome;
 use job_edits::Target;
 use job_grammar::Job;
 use job_runner::Settings;
@@ -21,7 +21,7 @@ use sweep_text::Value;
 #[derive(Drop)]
 pub struct SweepValues {
     /// The outcome of the job with its own value.
-    pub first: Fate,
+    pub first: JobOutcome,
     /// The outcome of the job with each value, in the order of the values.
     pub values: Vec<Value>,
 }
@@ -54,7 +54,7 @@ pub fn sweep_values<R: Threads + Sync, G: Gate + Sync>(
     values: &[u64],
     gate: &G,
 ) -> Result<SweepAnswer, AllocError>
-    requires input { length input.now ≤ MOST_INPUT }
+    requires input { length input.now ≤ MAX_INPUT }
     requires spells { Spells job_text.now job.now }
     ensures { IfOk result (IsSweepAnswer job_text.now job.now input.now settings.limit target values.now) }
 {
@@ -84,11 +84,11 @@ fn values_of<R: Threads + Sync, G: Gate + Sync>(
     workers: usize,
     gate: &G,
 ) -> Result<SweepValues, AllocError>
-    requires input { length swept.now.input.now ≤ MOST_INPUT }
+    requires input { length swept.now.input.now ≤ MAX_INPUT }
     requires some_workers { 1 ≤ workers }
     ensures { IfOk result (AreValuesOf job.now swept.now values.now) }
 {
-    let first = fate_of_job(rt, alloc, job, swept.input, swept.limit, None)?;
+    let first = outcome_of_job(rt, alloc, job, swept.input, swept.limit, None)?;
     let told = answers_for(rt, alloc, swept, values, workers, gate)?;
     Ok(SweepValues {
         first,

@@ -1,8 +1,8 @@
 ghost use Rattle.std.specs.Prelude.{◌≤◌, length, IfOk};
-ghost use Rattle.job_meaning.specs.declared.limits.TheConstants.{MOST_INPUT};
+ghost use Rattle.job_meaning.specs.declared.limits.TheConstants.{MAX_INPUT};
 ghost use Rattle.sweep_app.specs.Values.{IsValueOf};
 
-use fault_app::fate_of_text;
+use fault_app::job_outcome_of_text;
 use job_edits::{Number, changed_text};
 use slot_work::Work;
 use std::alloc::{AllocError, Global};
@@ -50,10 +50,17 @@ fn value_with<R: Threads + Sync>(
     swept: &Swept<'_>,
     value: u64,
 ) -> Result<Value, AllocError>
-    requires { length swept.now.input.now ≤ MOST_INPUT }
+    requires { length swept.now.input.now ≤ MAX_INPUT }
     ensures { IfOk result (IsValueOf swept.now value) }
 {
     let text = changed_text(alloc, swept.text, &[swept.number.set_to(value)])?;
-    let fate = fate_of_text(rt, alloc, text.as_slice(), swept.input, swept.limit, None)?;
-    Ok(Value { value, fate })
+    let job_outcome = job_outcome_of_text(
+        rt,
+        alloc,
+        text.as_slice(),
+        swept.input,
+        swept.limit,
+        None,
+    )?;
+    Ok(Value { value, job_outcome })
 }

@@ -2,8 +2,8 @@
 use Rattle.std.proofs.Common.{◌≡◌, ℕ, List, ◌+◌, arith, refl, cond}
 use Rattle.std.proofs.lemmas.List.Recursion.{is_count_by}
 use Rattle.std.specs.Prelude.{Bool, true, false, count_by, map, if◌then◌else◌}
-use Rattle.fault_text.specs.Fates.{Fate}
-use Rattle.fault_text.specs.Views.{fate_held}
+use Rattle.fault_text.specs.JobOutcomes.{JobOutcome}
+use Rattle.fault_text.specs.Views.{job_outcome_held}
 use Rattle.sweep_text.specs.Sweeps as told
 use Rattle.sweep_text.specs.Views.{value_held}
 use Rattle.sweep_text.specs.declared.value.Value.{Value}
@@ -12,7 +12,7 @@ one_more : (b : Bool) (n : ℕ) → (if b then 1 else 0) + n ≡ cond b (1 + n) 
 one_more true n = refl
 one_more false n = omega arith
 
-pub counted : (test : Fate → Bool) (vs : List Value) → told.count test (map value_held vs) ≡ count_by (λ v. test (fate_held v.fate)) vs
+pub counted : (test : JobOutcome → Bool) (vs : List Value) → told.count test (map value_held vs) ≡ count_by (λ v. test (job_outcome_held v.job_outcome)) vs
 counted test vs =
-    is_count_by (λ xs. told.count test (map value_held xs)) (λ v. test (fate_held v.fate)) refl
-    (λ x xs. one_more (test (fate_held x.fate)) (told.count test (map value_held xs))) vs
+    is_count_by (λ xs. told.count test (map value_held xs)) (λ v. test (job_outcome_held v.job_outcome)) refl
+    (λ x xs. one_more (test (job_outcome_held x.job_outcome)) (told.count test (map value_held xs))) vs

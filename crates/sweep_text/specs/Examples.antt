@@ -2,7 +2,7 @@
 use Rattle.std.specs.Prelude.{◌≡◌, ℕ, false, Some, None, List, [], ◌∷◌, ◌++◌, codes, refl}
 use Rattle.std.specs.Fmt.{digits}
 use Rattle.exc_groups.specs.Exceptions.{Label, by_nursery, by_handler, cancelled, raised, too_slow, group, no_parts, part}
-use Rattle.fault_text.specs.Fates.{Fate, refused, stuck, ended}
+use Rattle.fault_text.specs.JobOutcomes.{JobOutcome, refused, stuck, ended}
 use Rattle.sweep_text.specs.Groups.{Value}
 use Rattle.sweep_text.specs.Sweeps.{sweep_text}
 
@@ -10,15 +10,15 @@ abbrev pub task : List ℕ → Label
 task name = record { name = name; indices = [] }
 
 -- the outcome of a job for a value
-abbrev pub told : ℕ → Fate → Value
-told value fate = record { value = value; fate = fate }
+abbrev pub told : ℕ → JobOutcome → Value
+told value job_outcome = record { value = value; job_outcome = job_outcome }
 
 -- a job that ends at a tick with a cleanup that is cancelled
-abbrev pub cut_at : ℕ → Fate
+abbrev pub cut_at : ℕ → JobOutcome
 cut_at end = ended end None [] (task (codes "cache") ∷ []) false
 
 -- a job that ends at a tick with an exception that a task raised at another tick
-abbrev pub failed_at : ℕ → ℕ → Fate
+abbrev pub failed_at : ℕ → ℕ → JobOutcome
 failed_at tick end =
     ended end (Some (group (by_nursery (task (codes "writers"))) (part (raised (codes "Fault") (task (codes "journal")) tick) no_parts))) [] [] false
 
@@ -51,7 +51,7 @@ unfolding digits
 cleanup_is_told = refl
 
 -- a group of several exceptions, and a range that is longer than `as it is`
-abbrev pub late_at : ℕ → Fate
+abbrev pub late_at : ℕ → JobOutcome
 late_at tick =
     ended tick
     (Some (group by_handler (part (too_slow (record { name = codes "s"; indices = 1 ∷ [] }) tick) (part (raised (codes "E") (task (codes "a")) tick) (part cancelled no_parts)))))

@@ -3,7 +3,7 @@ use Rattle.std.specs.Prelude.{ℕ, Bool, ◌&&◌, min, max, if◌then◌else◌
 use Rattle.std.specs.Str.{bytes_eq}
 use Rattle.exc_groups.specs.Exceptions.{Exc, cancelled, raised, too_slow, group, Excs, no_parts, part}
 use Rattle.job_story.specs.Sentences.{label_text, whose_text}
-use Rattle.fault_text.specs.Fates.{Fate, refused, stuck, ended, names_note}
+use Rattle.fault_text.specs.JobOutcomes.{JobOutcome, refused, stuck, ended, names_note}
 
 -- ---- the outcome of a job, without ticks
 
@@ -28,12 +28,12 @@ end_sans None = codes "done"
 end_sans (Some cancelled) = codes "cancelled"
 end_sans (Some e) = codes "raised " ++ sans_text e
 
-abbrev pub head_text : ℕ → Fate → List ℕ
+abbrev pub head_text : ℕ → JobOutcome → List ℕ
 head_text limit refused = codes "refused"
 head_text limit (stuck sleeping) = codes "stuck at " ++ decimal limit
 head_text limit (ended end exc labels cut lost) = end_sans exc
 
-abbrev pub notes_text : Fate → List ℕ
+abbrev pub notes_text : JobOutcome → List ℕ
 notes_text refused = []
 notes_text (stuck sleeping) = names_note (codes "sleeping forever: ") sleeping
 notes_text (ended end exc labels cut lost) = names_note (codes "cancelled: ") labels ++ names_note (codes "cleanup cut: ") cut
@@ -53,7 +53,7 @@ pub record Group : Type 0 where
   pub notes : List ℕ
   pub ends : Option Ends
 
-abbrev pub ends_of : Fate → Option Ends
+abbrev pub ends_of : JobOutcome → Option Ends
 ends_of refused = None
 ends_of (stuck sleeping) = None
 ends_of (ended end exc labels cut lost) = Some (record { least = end; greatest = end })
@@ -63,9 +63,9 @@ with_ends None b = b
 with_ends (Some a) None = Some a
 with_ends (Some a) (Some b) = Some (record { least = min a.least b.least; greatest = max a.greatest b.greatest })
 
-abbrev pub alone : ℕ → ℕ → Fate → Group
-alone limit value fate =
-    record { first = value; last = value; head = head_text limit fate; notes = notes_text fate; ends = ends_of fate }
+abbrev pub alone : ℕ → ℕ → JobOutcome → Group
+alone limit value job_outcome =
+    record { first = value; last = value; head = head_text limit job_outcome; notes = notes_text job_outcome; ends = ends_of job_outcome }
 
 -- both groups have the same text
 abbrev pub shares : Group → Group → Bool
@@ -82,8 +82,8 @@ before_groups a (g ∷ gs) = if shares a g then joined a g ∷ gs else a ∷ g �
 -- the outcome of a job for a value
 pub record Value : Type 0 where
   pub value : ℕ
-  pub fate : Fate
+  pub job_outcome : JobOutcome
 
 abbrev pub groups_of : ℕ → List Value → List Group
 groups_of limit [] = []
-groups_of limit (v ∷ vs) = before_groups (alone limit v.value v.fate) (groups_of limit vs)
+groups_of limit (v ∷ vs) = before_groups (alone limit v.value v.job_outcome) (groups_of limit vs)

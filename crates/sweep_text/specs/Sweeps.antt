@@ -1,6 +1,6 @@
 -- The text of a sweep: the outcome of a job for each value of a number.
 use Rattle.std.specs.Prelude.{ℕ, ◌+◌, ◌==◌, Bool, max, if◌then◌else◌, Option, Some, None, List, [], ◌∷◌, ◌++◌, length, codes, decimal}
-use Rattle.fault_text.specs.Fates.{Fate, is_stuck, has_cut, is_refused}
+use Rattle.fault_text.specs.JobOutcomes.{JobOutcome, is_stuck, has_cut, is_refused}
 use Rattle.fault_text.specs.Table.{left_text, refused_text}
 use Rattle.sweep_text.specs.Groups.{Ends, Group, Value, alone, groups_of}
 
@@ -34,9 +34,9 @@ groups_text width (g ∷ gs) = group_text width g ++ groups_text width gs
 
 -- ---- counts
 
-abbrev pub count : (Fate → Bool) → List Value → ℕ
+abbrev pub count : (JobOutcome → Bool) → List Value → ℕ
 count test [] = 0
-count test (v ∷ vs) = (if test v.fate then 1 else 0) + count test vs
+count test (v ∷ vs) = (if test v.job_outcome then 1 else 0) + count test vs
 
 abbrev pub values_text : ℕ → List ℕ
 values_text n = decimal n ++ (if n == 1 then codes " value: " else codes " values: ")
@@ -49,7 +49,7 @@ counts_text vs =
 -- ---- the text
 
 -- the job with its own value, a line for each group of values, and how many values there are of each kind
-abbrev pub sweep_text : ℕ → Fate → List Value → List ℕ
+abbrev pub sweep_text : ℕ → JobOutcome → List Value → List ℕ
 sweep_text limit first vs =
     let gs = groups_of limit vs in
     left_text (width_of gs) (codes "as it is") ++ codes "  " ++ told_text (alone limit 0 first)

@@ -1,6 +1,6 @@
 -- The values and groups of the code, as the definitions see them.
 use Rattle.std.specs.Option.{option_map}
-use Rattle.fault_text.specs.Views.{fate_held}
+use Rattle.fault_text.specs.Views.{job_outcome_held}
 use Rattle.sweep_text.specs.Groups as told
 use Rattle.sweep_text.specs.declared.group.Ends.{Ends}
 use Rattle.sweep_text.specs.declared.group.Group.{Group}
@@ -14,4 +14,4 @@ group_held g =
     record { first = g.first; last = g.last; head = g.head.items; notes = g.notes.items; ends = option_map ends_held g.ends }
 
 abbrev pub value_held : Value → told.Value
-value_held v = record { value = v.value; fate = fate_held v.fate }
+value_held v = record { value = v.value; job_outcome = job_outcome_held v.job_outcome }

@@ -1,5 +1,5 @@
 ghost use Rattle.std.specs.Prelude.{◌≡◌, ◌++◌, OnOk, map};
-ghost use Rattle.fault_text.specs.Fates.{is_stuck, has_cut, is_refused};
+ghost use Rattle.fault_text.specs.JobOutcomes.{is_stuck, has_cut, is_refused};
 ghost use Rattle.sweep_text.specs.Sweeps.{count, values_text, counts_text};
 ghost use Rattle.sweep_text.specs.Views.{value_held};
 
@@ -22,14 +22,20 @@ pub(crate) fn push_counts(out: &mut Vec<u8>, values: &[Value]) -> Result<(), All
 fn stuck_in(values: &[Value]) -> usize
     ensures { result ≡ count is_stuck (map value_held values.now) }
 {
-    values.iter().filter(|value| value.fate.is_stuck()).count()
+    values
+        .iter()
+        .filter(|value| value.job_outcome.is_stuck())
+        .count()
 }
 
 // Returns for how many values the job cuts a cleanup.
 fn cut_in(values: &[Value]) -> usize
     ensures { result ≡ count has_cut (map value_held values.now) }
 {
-    values.iter().filter(|value| value.fate.has_cut()).count()
+    values
+        .iter()
+        .filter(|value| value.job_outcome.has_cut())
+        .count()
 }
 
 // Returns for how many values the text is refused.
@@ -38,7 +44,7 @@ fn refused_in(values: &[Value]) -> usize
 {
     values
         .iter()
-        .filter(|value| value.fate.is_refused())
+        .filter(|value| value.job_outcome.is_refused())
         .count()
 }
 

@@ -1,11 +1,11 @@
 ghost use Rattle.std.specs.Prelude.{◌≡◌, IfOk};
 ghost use Rattle.std.specs.Option.{option_map};
-ghost use Rattle.fault_text.specs.Views.{fate_held};
+ghost use Rattle.fault_text.specs.Views.{job_outcome_held};
 ghost use Rattle.sweep_text.specs.Groups.{alone, shares, joined, ends_of, with_ends};
 ghost use Rattle.sweep_text.specs.Views.{ends_held, group_held};
 
 use crate::told::{push_head, push_notes};
-use fault_text::Fate;
+use fault_text::JobOutcome;
 use std::alloc::{AllocError, Global};
 
 // The earliest and the latest of some ends, in ticks.
@@ -31,20 +31,20 @@ impl Group {
         alloc: Global,
         limit: u64,
         value: u64,
-        fate: &Fate,
+        job_outcome: &JobOutcome,
     ) -> Result<Group, AllocError>
-        ensures { IfOk result (λ group. group_held group ≡ alone limit value (fate_held fate.now)) }
+        ensures { IfOk result (λ group. group_held group ≡ alone limit value (job_outcome_held job_outcome.now)) }
     {
         let mut head = Vec::new(alloc);
-        push_head(&mut head, limit, fate)?;
+        push_head(&mut head, limit, job_outcome)?;
         let mut notes = Vec::new(alloc);
-        push_notes(&mut notes, fate)?;
+        push_notes(&mut notes, job_outcome)?;
         Ok(Group {
             first: value,
             last: value,
             head,
             notes,
-            ends: ends_of(fate),
+            ends: ends_of(job_outcome),
         })
     }
 
@@ -66,12 +66,12 @@ impl Group {
 }
 
 // Returns when a job ends, or `None` if it does not end.
-fn ends_of(fate: &Fate) -> Option<Ends>
-    ensures { option_map ends_held result ≡ ends_of (fate_held fate.now) }
+fn ends_of(job_outcome: &JobOutcome) -> Option<Ends>
+    ensures { option_map ends_held result ≡ ends_of (job_outcome_held job_outcome.now) }
 {
-    match fate {
-        Fate::Refused | Fate::Stuck { .. } => None,
-        Fate::Ended { end, .. } => Some(Ends {
+    match job_outcome {
+        JobOutcome::Refused | JobOutcome::Stuck { .. } => None,
+        JobOutcome::Ended { end, .. } => Some(Ends {
             least: *end,
             greatest: *end,
         }),

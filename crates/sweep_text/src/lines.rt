@@ -1,7 +1,7 @@
 ghost use Rattle.std.specs.Prelude.{◌≡◌, ◌++◌, IfOk, OnOk, codes, map};
 ghost use Rattle.std.specs.Option.{option_map};
 ghost use Rattle.fault_text.specs.Table.{left_text};
-ghost use Rattle.fault_text.specs.Views.{fate_held};
+ghost use Rattle.fault_text.specs.Views.{job_outcome_held};
 ghost use Rattle.sweep_text.specs.Groups.{alone};
 ghost use Rattle.sweep_text.specs.Sweeps.{span_text, range_text, ends_text, told_text, width_of, group_text, groups_text, sweep_text};
 ghost use Rattle.sweep_text.specs.Views.{ends_held, group_held, value_held};
@@ -10,7 +10,7 @@ use crate::counts::push_counts;
 use crate::group::{Ends, Group};
 use crate::groups::groups_of;
 use crate::value::Value;
-use fault_text::{Fate, push_left};
+use fault_text::{JobOutcome, push_left};
 use std::alloc::{AllocError, Global};
 use story_text::push_number;
 
@@ -20,10 +20,10 @@ use story_text::push_number;
 pub fn sweep_table(
     alloc: Global,
     limit: u64,
-    first: &Fate,
+    first: &JobOutcome,
     values: &[Value],
 ) -> Result<Vec<u8>, AllocError>
-    ensures { IfOk result (λ text. text.items ≡ sweep_text limit (fate_held first.now) (map value_held values.now)) }
+    ensures { IfOk result (λ text. text.items ≡ sweep_text limit (job_outcome_held first.now) (map value_held values.now)) }
 {
     let groups = groups_of(alloc, limit, values)?;
     let width = width_of(alloc, groups.as_slice())?;

@@ -1,26 +1,30 @@
 ghost use Rattle.std.specs.Prelude.{◌≡◌, ◌++◌, Some, OnOk};
 ghost use Rattle.std.specs.Option.{option_map};
 ghost use Rattle.exc_groups.specs.Held.{exc_of};
-ghost use Rattle.fault_text.specs.Views.{fate_held};
+ghost use Rattle.fault_text.specs.Views.{job_outcome_held};
 ghost use Rattle.sweep_text.specs.Groups.{end_sans, head_text, notes_text};
 
 use crate::exc::push_sans;
 use exc_groups::Exc;
-use fault_text::{Fate, push_names_note};
+use fault_text::{JobOutcome, push_names_note};
 use std::alloc::AllocError;
 use story_text::push_number;
 
 // Appends the outcome of a job up to the limit, without ticks.
-pub(crate) fn push_head(out: &mut Vec<u8>, limit: u64, fate: &Fate) -> Result<(), AllocError>
-    ensures { OnOk result (out.new.items ≡ out.old.items ++ head_text limit (fate_held fate.now)) }
+pub(crate) fn push_head(
+    out: &mut Vec<u8>,
+    limit: u64,
+    job_outcome: &JobOutcome,
+) -> Result<(), AllocError>
+    ensures { OnOk result (out.new.items ≡ out.old.items ++ head_text limit (job_outcome_held job_outcome.now)) }
 {
-    match fate {
-        Fate::Refused => out.extend_from_slice(b"refused"),
-        Fate::Stuck { .. } => {
+    match job_outcome {
+        JobOutcome::Refused => out.extend_from_slice(b"refused"),
+        JobOutcome::Stuck { .. } => {
             out.extend_from_slice(b"stuck at ")?;
             push_number(out, limit)
         }
-        Fate::Ended { exc, .. } => push_end(out, exc),
+        JobOutcome::Ended { exc, .. } => push_end(out, exc),
     }
 }
 
@@ -48,15 +52,15 @@ fn push_end_exc(out: &mut Vec<u8>, exc: &Exc) -> Result<(), AllocError>
 }
 
 // Appends the notes on the outcome of a job.
-pub(crate) fn push_notes(out: &mut Vec<u8>, fate: &Fate) -> Result<(), AllocError>
-    ensures { OnOk result (out.new.items ≡ out.old.items ++ notes_text (fate_held fate.now)) }
+pub(crate) fn push_notes(out: &mut Vec<u8>, job_outcome: &JobOutcome) -> Result<(), AllocError>
+    ensures { OnOk result (out.new.items ≡ out.old.items ++ notes_text (job_outcome_held job_outcome.now)) }
 {
-    match fate {
-        Fate::Refused => Ok(()),
-        Fate::Stuck { sleeping } => {
+    match job_outcome {
+        JobOutcome::Refused => Ok(()),
+        JobOutcome::Stuck { sleeping } => {
             push_names_note(out, b"sleeping forever: ", sleeping.as_slice())
         }
-        Fate::Ended { cancelled, cut, .. } => {
+        JobOutcome::Ended { cancelled, cut, .. } => {
             push_names_note(out, b"cancelled: ", cancelled.as_slice())?;
             push_names_note(out, b"cleanup cut: ", cut.as_slice())?;
             Ok(())

@@ -1,4 +1,4 @@
-use fault_text::Fate;
+use fault_text::JobOutcome;
 
 /// The outcome of a job for a value of one of its numbers.
 #[derive(Drop)]
@@ -6,5 +6,5 @@ pub struct Value {
     /// The value.
     pub value: u64,
     /// The outcome of the job.
-    pub fate: Fate,
+    pub job_outcome: JobOutcome,
 }

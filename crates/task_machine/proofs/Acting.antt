@@ -14,11 +14,11 @@ use Rattle.job_meaning.specs.Rest.{Event, noted, signs, enters, starts, starts_o
 use Rattle.nursery_book.specs.declared.book.NurseryBook.{NurseryBook}
 use Rattle.buffer_parts.specs.declared.part.Part.{Part}
 use Rattle.buffer_parts.specs.Lines.{Span}
-use Rattle.task_turns.specs.Midway.{Place, Move}
-use Rattle.task_turns.specs.Steps.{signs_to, signs_home}
-use Rattle.task_turns.specs.Wakes.{lines_made}
-use Rattle.task_machine.specs.declared.stop.Halt.{Halt}
-use Rattle.task_machine.specs.declared.stop.Halt.TheVariants.{ToBegin, Asked, Asleep, Awaits, Over}
+use Rattle.turn_semantics.specs.Midway.{Place, Move}
+use Rattle.turn_semantics.specs.Steps.{signs_to, signs_home}
+use Rattle.turn_semantics.specs.Wakes.{lines_made}
+use Rattle.task_machine.specs.declared.stop.TaskState.{TaskState}
+use Rattle.task_machine.specs.declared.stop.TaskState.TheVariants.{ToBegin, Asked, Asleep, Awaits, Over}
 use Rattle.task_machine.specs.declared.stop.Moved.{Moved}
 use Rattle.task_machine.specs.declared.stop.Moved.TheVariants.{On, Stops}
 use Rattle.task_machine.specs.declared.task.Own.{Own}
@@ -30,7 +30,7 @@ use Rattle.task_machine.specs.Fitting.{Block, a_scope, a_nursery, AreOthers, wai
 use Rattle.task_machine.specs.Left.{LeavesOne}
 use Rattle.task_machine.specs.Stacked.{AreAt, FoundAs}
 use Rattle.task_machine.specs.Standing.{HasBlock, HasNurseryOf, waits_by}
-use Rattle.task_machine.specs.Stops.{Numbers, IsHalt, MovesAs}
+use Rattle.task_machine.specs.Stops.{Numbers, IsTaskState, MovesAs}
 use Rattle.task_machine.specs.Worlds.{label_at}
 
 -- ---- a task that waits for no nursery
@@ -44,33 +44,33 @@ WaitsNot (Some (asleep n since)) = Unit {0}
 WaitsNot (Some (awaiting children ended exc)) = ⊥
 WaitsNot (Some (at_end u e)) = Unit {0}
 
-halts_not : (numbers : Numbers) (book : NurseryBook) (halt : Halt) (s : Stopped) → WaitsNot (Some s) → IsHalt numbers book halt s →
-    waits_of halt ≡ None
-halts_not numbers book ToBegin s not h = refl
-halts_not numbers book (Asked kernel purpose) s not h = refl
-halts_not numbers book (Asleep ticks since) s not h = refl
-halts_not numbers book (Awaits id since) to_begin not h = absurd h
-halts_not numbers book (Awaits id since) (asking kernel purpose) not h = absurd h
-halts_not numbers book (Awaits id since) (asleep n u) not h = absurd h
-halts_not numbers book (Awaits id since) (awaiting children ended exc) not h = absurd not
-halts_not numbers book (Awaits id since) (at_end u e) not h = absurd h
-halts_not numbers book Over s not h = refl
+task_states_not : (numbers : Numbers) (book : NurseryBook) (task_state : TaskState) (s : Stopped) → WaitsNot (Some s) → IsTaskState numbers book task_state s →
+    waits_of task_state ≡ None
+task_states_not numbers book ToBegin s not h = refl
+task_states_not numbers book (Asked kernel purpose) s not h = refl
+task_states_not numbers book (Asleep ticks since) s not h = refl
+task_states_not numbers book (Awaits id since) to_begin not h = absurd h
+task_states_not numbers book (Awaits id since) (asking kernel purpose) not h = absurd h
+task_states_not numbers book (Awaits id since) (asleep n u) not h = absurd h
+task_states_not numbers book (Awaits id since) (awaiting children ended exc) not h = absurd not
+task_states_not numbers book (Awaits id since) (at_end u e) not h = absurd h
+task_states_not numbers book Over s not h = refl
 
 -- after a move that does not stop to wait for children the task waits for no nursery
-pub waits_not : (numbers : Numbers) (book : NurseryBook) (part : Part) (goes : Moved) (halt : Halt) (o : Move) → WaitsNot o.stopped →
-    MovesAs numbers book part goes halt o →
-    waits_by goes halt ≡ None
-waits_not numbers book part (On exc) halt o not h = refl
-waits_not numbers book part (Stops stop) halt o not h = by_stop o.stopped refl
+pub waits_not : (numbers : Numbers) (book : NurseryBook) (part : Part) (goes : Moved) (task_state : TaskState) (o : Move) → WaitsNot o.stopped →
+    MovesAs numbers book part goes task_state o →
+    waits_by goes task_state ≡ None
+waits_not numbers book part (On exc) task_state o not h = refl
+waits_not numbers book part (Stops stop) task_state o not h = by_stop o.stopped refl
   where
-    by_stop : (s : Option Stopped) → o.stopped ≡ s → waits_of halt ≡ None
+    by_stop : (s : Option Stopped) → o.stopped ≡ s → waits_of task_state ≡ None
     by_stop None e =
-        absurd (let f : MovesAs numbers book part (Stops stop) halt (record o { stopped = None }) =
-        subst (λ (x : Option Stopped). MovesAs numbers book part (Stops stop) halt (record o { stopped = x })) e h in f.1)
+        absurd (let f : MovesAs numbers book part (Stops stop) task_state (record o { stopped = None }) =
+        subst (λ (x : Option Stopped). MovesAs numbers book part (Stops stop) task_state (record o { stopped = x })) e h in f.1)
     by_stop (Some s) e =
-        let f : MovesAs numbers book part (Stops stop) halt (record o { stopped = Some s }) =
-        subst (λ (x : Option Stopped). MovesAs numbers book part (Stops stop) halt (record o { stopped = x })) e h in
-        halts_not numbers book halt s (subst WaitsNot e not) f.1.0
+        let f : MovesAs numbers book part (Stops stop) task_state (record o { stopped = Some s }) =
+        subst (λ (x : Option Stopped). MovesAs numbers book part (Stops stop) task_state (record o { stopped = x })) e h in
+        task_states_not numbers book task_state s (subst WaitsNot e not) f.1.0
 
 -- a nursery of a task that waits for none is among its blocks
 pub block_of : (id : ℕ) (bs : List Block) (waits : Option ℕ) → waits ≡ None → HasNurseryOf id bs waits → HasBlock id bs

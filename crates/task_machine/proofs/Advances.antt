@@ -21,12 +21,12 @@ use Rattle.job_meaning.specs.Rest.{Stopped}
 use Rattle.nursery_book.specs.Nursery.{with_body}
 use Rattle.nursery_book.specs.Book.{Changes}
 use Rattle.task_machine.specs.declared.entry.Entry.{Entry}
-use Rattle.task_turns.specs.Midway.{Place, Move}
-use Rattle.task_turns.specs.Steps.{onward, step_pass, handler_if, step_try, step_frames, step_of}
+use Rattle.turn_semantics.specs.Midway.{Place, Move}
+use Rattle.turn_semantics.specs.Steps.{onward, step_pass, handler_if, step_try, step_frames, step_of}
 use Rattle.task_machine.specs.declared.frame.Frame.{Frame}
 use Rattle.task_machine.specs.declared.frame.Frame.TheVariants.{Steps, Scope, Nursery, Repeat, Try, Handler, Cleanup}
 use Rattle.task_machine.specs.declared.outcome.Kind.TheVariants as kind
-use Rattle.task_machine.specs.declared.stop.Halt.TheVariants.{Awaits, Over}
+use Rattle.task_machine.specs.declared.stop.TaskState.TheVariants.{Awaits, Over}
 use Rattle.task_machine.specs.declared.stop.Moved.{Moved}
 use Rattle.task_machine.specs.declared.stop.Moved.TheVariants.{On, Stops}
 use Rattle.task_machine.specs.declared.stop.Stop.TheVariants.{Wait, Ended}
@@ -36,7 +36,7 @@ use Rattle.task_machine.specs.Acts.{Scoping, scoping_of, Acts}
 use Rattle.task_machine.specs.Exits.{ExitsAt, FailsAt}
 use Rattle.task_machine.specs.Left.{LeavesOne}
 use Rattle.task_machine.specs.Fitting.{Block, a_scope, a_nursery, blocks_of}
-use Rattle.task_machine.specs.Frames.{laid_aside, frame_of, frames_onto, frames_of}
+use Rattle.task_machine.specs.Frames.{unboxed_exc, frame_of, frames_onto, frames_of}
 use Rattle.task_machine.specs.Stacked.{AreAt}
 use Rattle.task_machine.specs.Standing.{step_at, here_of, waits_by, Stands, AreNoted, Owns, OthersStay, Took, Takes}
 use Rattle.task_machine.specs.Stops.{Numbers, MovesAs}
@@ -71,7 +71,7 @@ took_as frames task before after old new goes froms numbers o part noted scoping
       numbers_after = took.numbers_after;
       frames_after = took.frames_after;
       places = took.places;
-      moves = subst (λ (p : Part). MovesAs took.numbers_after new.book p goes after.halt o) part took.moves;
+      moves = subst (λ (p : Part). MovesAs took.numbers_after new.book p goes after.task_state o) part took.moves;
       entries = took.entries;
       noted = took.noted ∙ ap (λ (es : List Entry). es ++ took.entries) noted;
       shown = subst (λ (p : Part). AreNoted (buffer_of p) took.entries o.made) part took.shown;
@@ -82,7 +82,7 @@ took_as frames task before after old new goes froms numbers o part noted scoping
       kept = took.kept;
       numbered = took.numbered;
       owned = subst (λ (s : Scoping). Owns (blocks_of frames) s.own s.tree old.book (blocks_of after.frames.items)
-          (waits_by goes after.halt)) scoping took.owned;
+          (waits_by goes after.task_state)) scoping took.owned;
       covered = took.covered;
       others = subst (λ (s : Scoping). OthersStay (blocks_of frames) s.own s.tree old.book new.book) scoping took.others;
       acts = subst (λ (s : Scoping). Acts old.tick s o.made (scoping_of after new)) scoping took.acts;
@@ -178,7 +178,7 @@ none_left (f ∷ fs) none = absurd (let e : false ≡ true = none (omega arith) 
 pub takes_end : (frames : List Frame) (task before after : Task) (old new : World) (exc : Option held.Exc) (goes : Moved) →
     frames ≡ before.frames.items ++ [] →
     (0 < length frames → false ≡ true) →
-    before ≡ record task { frames = before.frames } → goes ≡ Stops (Ended exc) → after ≡ record before { halt = Over } →
+    before ≡ record task { frames = before.frames } → goes ≡ Stops (Ended exc) → after ≡ record before { task_state = Over } →
     new ≡ record old { scopes = new.scopes } →
     FailsAt old new (scope_of before) (option_map exc_of exc) → Takes frames task after old new goes
     (step_at task old frames (option_map exc_of exc))
@@ -211,7 +211,7 @@ takes_exit frames fail task before after old new exc goes popped same stays worl
 -- the body of the innermost nursery has ended
 pub takes_body : (frames : List Frame) (id : ℕ) (task before after : Task) (old new : World) (exc : Option held.Exc) (goes : Moved) →
     frames ≡ before.frames.items ++ Nursery id ∷ [] →
-    before ≡ record task { frames = before.frames } → goes ≡ Stops (Wait id) → after ≡ record before { halt = Awaits id old.tick } →
+    before ≡ record task { frames = before.frames } → goes ≡ Stops (Wait id) → after ≡ record before { task_state = Awaits id old.tick } →
     new ≡ record old { scopes = new.scopes; book = new.book } → Changes old.book new.book id (with_body (option_map exc_of exc)) →
     FailsAt old new (scope_of before) (option_map exc_of exc) →
     Takes frames task after old new goes (step_at task old frames (option_map exc_of exc))
@@ -289,7 +289,7 @@ pub takes_handler : (frames : List Frame) (others : Option (Box held.Exc)) (clea
     after ≡ record before { frames = after.frames } →
     ((numbers : Numbers) → frames_of numbers after.frames.items ≡ rest.in_try tree.unhandled (cleaned_of cleanup.now)
     ∷ frames_of numbers before.frames.items) →
-    option_map exc_of goes ≡ handler_exc (option_map exc_of exc) (option_map exc_of (laid_aside others)) →
+    option_map exc_of goes ≡ handler_exc (option_map exc_of exc) (option_map exc_of (unboxed_exc others)) →
     Takes frames task after world world (On goes) (step_at task world frames (option_map exc_of exc))
 takes_handler frames others cleanup task before after world exc goes popped same stays held raised =
     takes_step frames before.frames.items (Handler others cleanup) task before after world world (On goes) (option_map exc_of exc) popped
@@ -298,23 +298,23 @@ takes_handler frames others cleanup task before after world exc goes popped same
     took_onward frames before after world goes froms numbers None ps
     (onward (rest.in_try tree.unhandled (cleaned_of cleanup.now) ∷ frames_of numbers before.frames.items) ps
     (handler_exc (option_map exc_of exc)
-    (option_map exc_of (laid_aside others)))) stands stays
+    (option_map exc_of (unboxed_exc others)))) stands stays
     (blocks_same before.frames.items after.frames.items (ap (λ (fs : List rest.Frame). blocks_onto fs []) (held own_keys))
     ∙ blocks_off before.frames.items frames (Handler others cleanup) popped refl)
-    (ap (λ (fs : List rest.Frame). onward fs ps (handler_exc (option_map exc_of exc) (option_map exc_of (laid_aside others)))) (sym (held numbers))
+    (ap (λ (fs : List rest.Frame). onward fs ps (handler_exc (option_map exc_of exc) (option_map exc_of (unboxed_exc others)))) (sym (held numbers))
     ∙ ap (λ (e : Option Exc). onward (frames_of numbers after.frames.items) ps e) (sym raised)))
 
 -- its cleanup has ended
 pub takes_cleanup : (frames : List Frame) (outcome : Option (Box held.Exc)) (task after : Task) (world : World) (exc goes : Option held.Exc) →
     frames ≡ after.frames.items ++ Cleanup outcome ∷ [] →
     after ≡ record task { frames = after.frames } → option_map exc_of goes
-    ≡ outcome_after (option_map exc_of (laid_aside outcome)) (option_map exc_of exc) →
+    ≡ outcome_after (option_map exc_of (unboxed_exc outcome)) (option_map exc_of exc) →
     Takes frames task after world world (On goes) (step_at task world frames (option_map exc_of exc))
 takes_cleanup frames outcome task after world exc goes popped same raised =
     takes_step frames after.frames.items (Cleanup outcome) task after after world world (On goes) (option_map exc_of exc) popped same
     (λ froms numbers ps count stands.
     took_onward frames after after world goes froms numbers None ps
-    (onward (frames_of numbers after.frames.items) ps (outcome_after (option_map exc_of (laid_aside outcome))
+    (onward (frames_of numbers after.frames.items) ps (outcome_after (option_map exc_of (unboxed_exc outcome))
     (option_map exc_of exc))) stands refl
     (blocks_off after.frames.items frames (Cleanup outcome) popped refl)
     (ap (λ (e : Option Exc). onward (frames_of numbers after.frames.items) ps e) (sym raised)))

@@ -4,7 +4,7 @@ use Rattle.std.specs.List.{slice_get}
 use Rattle.cancel_scopes.specs.Tree.{outer_of}
 use Rattle.exc_groups.specs.Exceptions.{raised}
 use Rattle.job_tree.specs.Tree as tree
-use Rattle.job_tree.specs.Modest.{AreModest}
+use Rattle.job_tree.specs.InRange.{AreInRange}
 use Rattle.job_tree.specs.Blocks.{steps_of, step_of as step_in, handled_of, cleaned_of}
 use Rattle.job_tree.specs.declared.deadline.Deadline.{Deadline}
 use Rattle.job_tree.specs.declared.step.Step.{Step}
@@ -16,9 +16,9 @@ use Rattle.job_meaning.specs.Rest as rest
 use Rattle.job_meaning.specs.Rest.{inside, path_in, asking}
 use Rattle.job_meaning.specs.Asking as ask
 use Rattle.nursery_book.specs.declared.book.NurseryBook.{NurseryBook}
-use Rattle.task_turns.specs.Midway.{Place, Move}
-use Rattle.task_turns.specs.Names.{names_at, AreNew, IsNew, NewIn}
-use Rattle.task_turns.specs.Steps.{onward, halts, making, sleeps, label_among, signs_to, begins_passes, step_on, step_frames}
+use Rattle.turn_semantics.specs.Midway.{Place, Move}
+use Rattle.turn_semantics.specs.Names.{names_at, AreNew, IsNew, NewIn}
+use Rattle.turn_semantics.specs.Steps.{onward, blocks_on, making, sleeps, label_among, signs_to, begins_passes, step_on, step_frames}
 use Rattle.task_machine.specs.declared.frame.Frame.{Frame}
 use Rattle.task_machine.specs.declared.frame.Frame.TheVariants.{Steps, Scope, Nursery}
 use Rattle.task_machine.specs.declared.stop.Moved.{Moved}
@@ -35,7 +35,7 @@ use Rattle.task_machine.specs.Stops.{Numbers, MovesAs}
 use Rattle.task_machine.specs.Tasks.{scope_of}
 use Rattle.task_machine.specs.Worlds.{label_at}
 use Rattle.task_machine.proofs.FrameLemmas.{frames_pushed, path_inside}
-use Rattle.task_machine.proofs.Tooks.{took_onward, took_halts, took_sleep, took_cancel}
+use Rattle.task_machine.proofs.Tooks.{took_onward, took_task_states, took_sleep, took_cancel}
 use Rattle.task_machine.proofs.TooksEntered.{took_scope, took_nursery}
 use Rattle.task_machine.proofs.TooksStarted.{here_inside, took_start, took_start_over}
 use Rattle.task_machine.proofs.Advances.{takes_step, blocks_onto, own_keys, blocks_same, blocks_off}
@@ -88,10 +88,10 @@ takes_sleeps : (frames : List Frame) (first : Step) (task before after : Task) (
     AtStep frames task before first →
     ((froms : Table) (here : Here) (ss : tree.Steps) (fs : List rest.Frame) (ps : List Place) (count : ℕ) →
     step_on froms world.tick here (step_in first) ss fs ps count ≡ sleeps froms ticks world.tick (rest.steps_left ss ∷ fs) ps) →
-    after ≡ record before { halt = after.halt } →
+    after ≡ record before { task_state = after.task_state } →
     ((froms : Table) (numbers : Numbers) (book : NurseryBook) (fs : List rest.Frame) (ps : List Place) →
     AreAt (label_at world) froms (outer_of world.scopes (scope_of before)) ps →
-    MovesAs numbers book before.part goes after.halt (sleeps froms ticks world.tick fs ps)) →
+    MovesAs numbers book before.part goes after.task_state (sleeps froms ticks world.tick fs ps)) →
     Takes frames task after world world goes (step_at task world frames None)
 takes_sleeps frames first task before after world goes ticks a is stays sleep =
     takes_on frames first task before after world world goes a
@@ -106,10 +106,10 @@ takes_sleeps frames first task before after world goes ticks a is stays sleep =
 pub takes_sleep : (frames : List Frame) (first : Step) (task before after : Task) (world : World) (goes : Moved) (ticks : ℕ) →
     AtStep frames task before first →
     first ≡ code.Sleep ticks →
-    after ≡ record before { halt = after.halt } →
+    after ≡ record before { task_state = after.task_state } →
     ((froms : Table) (numbers : Numbers) (book : NurseryBook) (fs : List rest.Frame) (ps : List Place) →
     AreAt (label_at world) froms (outer_of world.scopes (scope_of before)) ps →
-    MovesAs numbers book before.part goes after.halt (sleeps froms ticks world.tick fs ps)) →
+    MovesAs numbers book before.part goes after.task_state (sleeps froms ticks world.tick fs ps)) →
     Takes frames task after world world goes (step_at task world frames None)
 takes_sleep frames first task before after world goes ticks a is stays sleep =
     takes_sleeps frames first task before after world goes ticks a
@@ -119,10 +119,10 @@ takes_sleep frames first task before after world goes ticks a is stays sleep =
 -- a `checkpoint`, if the code continues as a sleep of no tick does, is the definitions' step
 pub takes_checkpoint : (frames : List Frame) (first : Step) (task before after : Task) (world : World) (goes : Moved) →
     AtStep frames task before first → first ≡ code.Checkpoint →
-    after ≡ record before { halt = after.halt } →
+    after ≡ record before { task_state = after.task_state } →
     ((froms : Table) (numbers : Numbers) (book : NurseryBook) (fs : List rest.Frame) (ps : List Place) →
     AreAt (label_at world) froms (outer_of world.scopes (scope_of before)) ps →
-    MovesAs numbers book before.part goes after.halt (sleeps froms 0 world.tick fs ps)) →
+    MovesAs numbers book before.part goes after.task_state (sleeps froms 0 world.tick fs ps)) →
     Takes frames task after world world goes (step_at task world frames None)
 takes_checkpoint frames first task before after world goes a is stays sleep =
     takes_sleeps frames first task before after world goes 0 a (λ froms here ss fs ps count.
@@ -131,10 +131,10 @@ takes_checkpoint frames first task before after world goes a is stays sleep =
 -- a `forever`, if the code stops or continues as a sleep until the farthest tick does, is the definitions' step
 pub takes_forever : (frames : List Frame) (first : Step) (task before after : Task) (world : World) (goes : Moved) (ticks : ℕ) →
     AtStep frames task before first → first ≡ code.Forever →
-    ticks ≡ far - world.tick → after ≡ record before { halt = after.halt } →
+    ticks ≡ far - world.tick → after ≡ record before { task_state = after.task_state } →
     ((froms : Table) (numbers : Numbers) (book : NurseryBook) (fs : List rest.Frame) (ps : List Place) →
     AreAt (label_at world) froms (outer_of world.scopes (scope_of before)) ps →
-    MovesAs numbers book before.part goes after.halt (sleeps froms ticks world.tick fs ps)) →
+    MovesAs numbers book before.part goes after.task_state (sleeps froms ticks world.tick fs ps)) →
     Takes frames task after world world goes (step_at task world frames None)
 takes_forever frames first task before after world goes ticks a is long stays sleep =
     takes_sleeps frames first task before after world goes ticks a
@@ -149,19 +149,19 @@ takes_asks : (frames : List Frame) (first : Step) (task before after : Task) (wo
     (purpose : ask.Purpose) →
     AtStep frames task before first →
     ((froms : Table) (here : Here) (ss : tree.Steps) (fs : List rest.Frame) (ps : List Place) (count : ℕ) →
-    step_on froms world.tick here (step_in first) ss fs ps count ≡ halts (asking kernel purpose) (rest.steps_left ss ∷ fs) ps) →
-    after ≡ record before { halt = after.halt } →
+    step_on froms world.tick here (step_in first) ss fs ps count ≡ blocks_on (asking kernel purpose) (rest.steps_left ss ∷ fs) ps) →
+    after ≡ record before { task_state = after.task_state } →
     ((numbers : Numbers) (book : NurseryBook) (fs : List rest.Frame) (ps : List Place) →
-    MovesAs numbers book before.part goes after.halt (halts (asking kernel purpose) fs ps)) →
+    MovesAs numbers book before.part goes after.task_state (blocks_on (asking kernel purpose) fs ps)) →
     Takes frames task after world world goes (step_at task world frames None)
 takes_asks frames first task before after world goes kernel purpose a is stays asks =
     takes_on frames first task before after world world goes a
     (λ froms numbers ps count stands new.
     subst (λ (o : Move). Took frames before after world world goes froms numbers o)
     (sym (is froms (here_inside before) (steps_of a.left.now) (frames_of numbers a.outer) ps count))
-    (took_halts frames before after world goes froms numbers None ps
-    (halts (asking kernel purpose) (rest.steps_left (steps_of a.left.now) ∷ frames_of numbers a.outer) ps) stands
-    (stays ∙ ap (λ (t : Task). record before { frames = t.frames; halt = after.halt }) (sym stays))
+    (took_task_states frames before after world goes froms numbers None ps
+    (blocks_on (asking kernel purpose) (rest.steps_left (steps_of a.left.now) ∷ frames_of numbers a.outer) ps) stands
+    (stays ∙ ap (λ (t : Task). record before { frames = t.frames; task_state = after.task_state }) (sym stays))
     (ap (λ (t : Task). blocks_of t.frames.items) stays ∙ blocks_put frames task before first a)
     (sym (ap (λ (t : Task). frames_of numbers t.frames.items) stays ∙ frames_put frames task before first a numbers)) refl refl refl tt
     (asks numbers world.book (rest.steps_left (steps_of a.left.now) ∷ frames_of numbers a.outer) ps)))
@@ -169,9 +169,9 @@ takes_asks frames first task before after world goes kernel purpose a is stays a
 -- a `pace`, where the code stops to ask for the count of its lines, is the definitions' step
 pub takes_pace : (frames : List Frame) (first : Step) (task before after : Task) (world : World) (goes : Moved) (k : ℕ) →
     AtStep frames task before first → first ≡ code.Pace k →
-    after ≡ record before { halt = after.halt } →
+    after ≡ record before { task_state = after.task_state } →
     ((numbers : Numbers) (book : NurseryBook) (fs : List rest.Frame) (ps : List Place) →
-    MovesAs numbers book before.part goes after.halt (halts (asking ask.count
+    MovesAs numbers book before.part goes after.task_state (blocks_on (asking ask.count
     (ask.paces k)) fs ps)) →
     Takes frames task after world world goes (step_at task world frames None)
 takes_pace frames first task before after world goes k a is stays asks =
@@ -182,23 +182,23 @@ takes_pace frames first task before after world goes k a is stays asks =
 pub takes_find : (frames : List Frame) (first : Step) (task before after : Task) (world : World) (goes : Moved) (text needle : List ℕ) →
     AtStep frames task before first →
     first ≡ code.Find text →
-    needle ≡ text → after ≡ record before { halt = after.halt } →
+    needle ≡ text → after ≡ record before { task_state = after.task_state } →
     ((numbers : Numbers) (book : NurseryBook) (fs : List rest.Frame) (ps : List Place) →
-    MovesAs numbers book before.part goes after.halt (halts (asking
+    MovesAs numbers book before.part goes after.task_state (blocks_on (asking
     (ask.find needle) ask.shows) fs ps)) →
     Takes frames task after world world goes (step_at task world frames None)
 takes_find frames first task before after world goes text needle a is sought stays asks =
     takes_asks frames first task before after world goes (ask.find needle) ask.shows a
     (λ froms here ss fs ps count.
     ap (λ (s : Step). step_on froms world.tick here (step_in s) ss fs ps count) is
-    ∙ ap (λ (bytes : List ℕ). halts (asking (ask.find bytes) ask.shows) (rest.steps_left ss ∷ fs) ps) (sym sought)) stays asks
+    ∙ ap (λ (bytes : List ℕ). blocks_on (asking (ask.find bytes) ask.shows) (rest.steps_left ss ∷ fs) ps) (sym sought)) stays asks
 
 -- a `head`, if the code stops to ask for this number of first lines, is the definitions' step
 pub takes_head : (frames : List Frame) (first : Step) (task before after : Task) (world : World) (goes : Moved) (n : ℕ) →
     AtStep frames task before first → first ≡ code.Head n →
-    after ≡ record before { halt = after.halt } →
+    after ≡ record before { task_state = after.task_state } →
     ((numbers : Numbers) (book : NurseryBook) (fs : List rest.Frame) (ps : List Place) →
-    MovesAs numbers book before.part goes after.halt (halts (asking
+    MovesAs numbers book before.part goes after.task_state (blocks_on (asking
     (ask.head n) ask.shows) fs ps)) →
     Takes frames task after world world goes (step_at task world frames None)
 takes_head frames first task before after world goes n a is stays asks =
@@ -209,9 +209,9 @@ takes_head frames first task before after world goes n a is stays asks =
 -- a `longest`, where the code stops to ask for the longest line, is the definitions' step
 pub takes_longest : (frames : List Frame) (first : Step) (task before after : Task) (world : World) (goes : Moved) →
     AtStep frames task before first → first ≡ code.Longest →
-    after ≡ record before { halt = after.halt } →
+    after ≡ record before { task_state = after.task_state } →
     ((numbers : Numbers) (book : NurseryBook) (fs : List rest.Frame) (ps : List Place) →
-    MovesAs numbers book before.part goes after.halt (halts (asking ask.longest ask.shows) fs ps)) →
+    MovesAs numbers book before.part goes after.task_state (blocks_on (asking ask.longest ask.shows) fs ps)) →
     Takes frames task after world world goes (step_at task world frames None)
 takes_longest frames first task before after world goes a is stays asks =
     takes_asks frames first task before after world goes ask.longest ask.shows a
@@ -221,16 +221,16 @@ takes_longest frames first task before after world goes a is stays asks =
 -- a `need`, where the code stops to ask for a line with its text, is the definitions' step
 pub takes_need : (frames : List Frame) (first : Step) (task before after : Task) (world : World) (goes : Moved)
     (text name needle : List ℕ) → AtStep frames task before first →
-    first ≡ code.Need text name → needle ≡ text → after ≡ record before { halt = after.halt } →
+    first ≡ code.Need text name → needle ≡ text → after ≡ record before { task_state = after.task_state } →
     ((numbers : Numbers) (book : NurseryBook) (fs : List rest.Frame) (ps : List Place) →
-    MovesAs numbers book before.part goes after.halt (halts (asking (ask.need needle)
+    MovesAs numbers book before.part goes after.task_state (blocks_on (asking (ask.need needle)
     (ask.needs name)) fs ps)) →
     Takes frames task after world world goes (step_at task world frames None)
 takes_need frames first task before after world goes text name needle a is sought stays asks =
     takes_asks frames first task before after world goes (ask.need needle) (ask.needs name) a
     (λ froms here ss fs ps count.
     ap (λ (s : Step). step_on froms world.tick here (step_in s) ss fs ps count) is
-    ∙ ap (λ (bytes : List ℕ). halts (asking (ask.need bytes) (ask.needs name)) (rest.steps_left ss ∷ fs) ps) (sym sought)) stays asks
+    ∙ ap (λ (bytes : List ℕ). blocks_on (asking (ask.need bytes) (ask.needs name)) (rest.steps_left ss ∷ fs) ps) (sym sought)) stays asks
 
 -- ---- an exception is raised, and a scope cancelled
 
@@ -238,7 +238,7 @@ takes_need frames first task before after world goes text name needle a is sough
 pub takes_raise : (frames : List Frame) (first : Step) (task before : Task) (world : World) (goes : Moved) (name : List ℕ) →
     AtStep frames task before first → first ≡ code.Raise name →
     ((numbers : Numbers) (book : NurseryBook) (fs : List rest.Frame) (ps : List Place) →
-    MovesAs numbers book before.part goes before.halt (onward fs ps (Some (raised name before.label world.tick)))) →
+    MovesAs numbers book before.part goes before.task_state (onward fs ps (Some (raised name before.label world.tick)))) →
     Takes frames task before world world goes (step_at task world frames None)
 takes_raise frames first task before world goes name a is raises =
     takes_on frames first task before before world world goes a
@@ -246,7 +246,7 @@ takes_raise frames first task before world goes name a is raises =
     subst (λ (o : Move). Took frames before before world world goes froms numbers o)
     (sym (ap (λ (s : Step). step_on froms world.tick (here_inside before) (step_in s) (steps_of a.left.now) (frames_of numbers a.outer) ps
     count) is))
-    (took_halts frames before before world goes froms numbers None ps
+    (took_task_states frames before before world goes froms numbers None ps
     (onward (rest.steps_left (steps_of a.left.now) ∷ frames_of numbers a.outer) ps (Some
     (raised name before.label world.tick))) stands refl
     (blocks_put frames task before first a) (sym (frames_put frames task before first a numbers)) refl refl refl tt
@@ -350,9 +350,9 @@ pub takes_start : (frames fs : List Frame) (id : ℕ) (first : Step) (task befor
     (body : tree.Steps) → (a : AtStep frames task before first) →
     first ≡ code.Start name None body → a.outer ≡ fs ++ Nursery id ∷ [] → (HasBlock id (blocks_of fs) → ⊥) →
     new ≡ record old { book = new.book; started = new.started } →
-    StartsOne old new id (label_in before name) before.part body → AreModest body →
+    StartsOne old new id (label_in before name) before.part body → AreInRange body →
     Takes frames task before old new (On None) (step_at task old frames None)
-takes_start frames fs id first task before old new name body a is within apart world starts modest =
+takes_start frames fs id first task before old new name body a is within apart world starts in_range =
     takes_on frames first task before before old new (On None) a
     (λ froms numbers ps count stands new_name.
     subst (λ (o : Move). Took frames before before old new (On None) froms numbers o)
@@ -363,7 +363,7 @@ takes_start frames fs id first task before old new name body a is within apart w
     (frames_of numbers a.outer) ps count) is))
     (took_start frames fs id a.left before old new froms numbers None ps name body count stands
     (in_body fs a.outer before.frames.items id a.left a.held within)
-    (blocks_put frames task before first a) apart world starts modest))
+    (blocks_put frames task before first a) apart world starts in_range))
 
 -- and one for each of the cuts of its part
 pub takes_start_over : (frames fs : List Frame) (id : ℕ) (first : Step) (task before : Task) (old new : World) (name : List ℕ) (k : ℕ)
@@ -371,8 +371,8 @@ pub takes_start_over : (frames fs : List Frame) (id : ℕ) (first : Step) (task 
     (a : AtStep frames task before first) →
     first ≡ code.Start name (Some k) body → a.outer ≡ fs ++ Nursery id ∷ [] → (HasBlock id (blocks_of fs) → ⊥) →
     new ≡ record old { book = new.book; started = new.started } →
-    StartsOver before old new id name k body k → AreModest body → Takes frames task before old new (On None) (step_at task old frames None)
-takes_start_over frames fs id first task before old new name k body a is within apart world starts modest =
+    StartsOver before old new id name k body k → AreInRange body → Takes frames task before old new (On None) (step_at task old frames None)
+takes_start_over frames fs id first task before old new name k body a is within apart world starts in_range =
     takes_on frames first task before before old new (On None) a
     (λ froms numbers ps count stands new_name.
     subst (λ (o : Move). Took frames before before old new (On None) froms numbers o)
@@ -383,7 +383,7 @@ takes_start_over frames fs id first task before old new name k body a is within 
     (frames_of numbers a.outer) ps count) is))
     (took_start_over frames fs id a.left before old new froms numbers None ps name k body count stands
     (in_body fs a.outer before.frames.items id a.left a.held within)
-    (blocks_put frames task before first a) apart world starts modest))
+    (blocks_put frames task before first a) apart world starts in_range))
 
 -- ---- a `try` begins
 

@@ -1,7 +1,7 @@
 -- Children that begin at their places, among others.
 use Rattle.std.proofs.Common.{inl, inr, ℕ, Option, List, [], ◌∷◌, ◌++◌}
 use Rattle.nursery_book.specs.declared.book.NurseryBook.{NurseryBook}
-use Rattle.task_turns.specs.Midway.{Begun}
+use Rattle.turn_semantics.specs.Midway.{Begun}
 use Rattle.task_machine.specs.declared.task.Task.{Task}
 use Rattle.task_machine.specs.Fitting.{Block}
 use Rattle.task_machine.specs.Standing.{AreBegun, BeginsAt}

@@ -6,9 +6,9 @@ use Rattle.exc_groups.specs.Exceptions.{Label}
 use Rattle.cancel_scopes.specs.Sight.{Level}
 use Rattle.cancel_scopes.specs.Tree.{Stack, Tree, stack_of, IsOpen, outer_of, IsChain, after_cancel}
 use Rattle.job_meaning.specs.Log.{Table}
-use Rattle.task_turns.specs.Midway.{Place}
-use Rattle.task_turns.specs.Names.{names_at, OwnNames}
-use Rattle.task_turns.specs.Steps.{label_among, signs_to, froms_after, lowered}
+use Rattle.turn_semantics.specs.Midway.{Place}
+use Rattle.turn_semantics.specs.Names.{names_at, OwnNames}
+use Rattle.turn_semantics.specs.Steps.{label_among, signs_to, froms_after, lowered}
 use Rattle.task_machine.specs.Labels.{Labels, scope_named}
 use Rattle.task_machine.specs.Stacked.{AreAt, IsKey, FoundAs}
 use Rattle.task_machine.proofs.Stacked.{named_at, named_is_in, signed_alike}

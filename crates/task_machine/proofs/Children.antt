@@ -1,6 +1,6 @@
 -- The children of a `start`, as a move of the definitions.
 use Rattle.std.proofs.Common.{◌≡◌, ℕ, Option, Some, None, List, [], ◌∷◌, ◌++◌, append_assoc, refl, ap, sym, ◌∙◌}
-use Rattle.job_tree.specs.Modest.{AreModest}
+use Rattle.job_tree.specs.InRange.{AreInRange}
 use Rattle.job_tree.specs.Tree.{Steps}
 use Rattle.job_tree.specs.declared.step.Step.{Step}
 use Rattle.job_tree.specs.declared.step.Step.TheVariants as code
@@ -34,9 +34,9 @@ pub takes_children : (frames : List Frame) (first : Step) (task before : Task) (
     (body : Steps) → Fits before.frames.items before old None →
     AtStep frames task before first → first ≡ code.Start name over body → new ≡ record old { book = new.book; started = new.started } →
     StartsChildren before old new name over body →
-    AreModest body →
+    AreInRange body →
     Takes frames task before old new (On None) (step_at task old frames None)
-takes_children frames first task before old new name over body h a is world s modest = by_over over is s.started
+takes_children frames first task before old new name over body h a is world s in_range = by_over over is s.started
   where
     within : a.outer ≡ s.at.outer ++ Nursery s.id ∷ []
     within = same_outer a.outer (s.at.outer ++ Nursery s.id ∷ []) _ s.at.top
@@ -48,6 +48,6 @@ takes_children frames first task before old new name over body h a is world s mo
 
     by_over : (o : Option ℕ) → first ≡ code.Start name o body → StartsAll before old new s.id name o body →
         Takes frames task before old new (On None) (step_at task old frames None)
-    by_over None e started = takes_start frames s.at.outer s.id first task before old new name body a e within other world started modest
+    by_over None e started = takes_start frames s.at.outer s.id first task before old new name body a e within other world started in_range
     by_over (Some k) e started = takes_start_over frames s.at.outer s.id first task before old new name k body a e within other world
-        started modest
+        started in_range

@@ -5,9 +5,9 @@ use Rattle.exc_groups.specs.Exceptions.{Label}
 use Rattle.cancel_scopes.specs.Sight.{Tick, Level}
 use Rattle.cancel_scopes.specs.Tree.{Stack, Tree, stack_of, outer_of, IsChain}
 use Rattle.job_meaning.specs.Log.{Table}
-use Rattle.task_turns.specs.Midway.{Place}
-use Rattle.task_turns.specs.Names.{IsName, names_at}
-use Rattle.task_turns.specs.Steps.{opened}
+use Rattle.turn_semantics.specs.Midway.{Place}
+use Rattle.turn_semantics.specs.Names.{IsName, names_at}
+use Rattle.turn_semantics.specs.Steps.{opened}
 use Rattle.task_machine.specs.Labels.{Labels, Updates}
 use Rattle.task_machine.specs.Stacked.{AreAt, SameOn}
 use Rattle.task_machine.proofs.Stacked.{entered_alike}

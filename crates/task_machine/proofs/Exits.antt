@@ -13,9 +13,9 @@ use Rattle.job_meaning.specs.Walk.{Kind, Left, left_as, left_with, exc_after}
 use Rattle.job_meaning.specs.Rest.{noted}
 use Rattle.task_machine.specs.declared.entry.Entry.{Entry}
 use Rattle.task_machine.specs.Noted.{entry_of, IsSlice}
-use Rattle.task_turns.specs.Midway.{Place}
-use Rattle.task_turns.specs.Names.{names_at, OwnNames}
-use Rattle.task_turns.specs.Steps.{signs_home, froms_after}
+use Rattle.turn_semantics.specs.Midway.{Place}
+use Rattle.turn_semantics.specs.Names.{names_at, OwnNames}
+use Rattle.turn_semantics.specs.Steps.{signs_home, froms_after}
 use Rattle.task_machine.specs.Acts.{key_failed}
 use Rattle.task_machine.specs.Labels.{Labels}
 use Rattle.task_machine.specs.Stacked.{AreAt}

@@ -8,11 +8,11 @@ use Rattle.buffer_parts.specs.declared.part.Part.{Part}
 use Rattle.cancel_scopes.specs.Sight.{Level}
 use Rattle.cancel_scopes.specs.Tree.{Stack, Tree, stack_of, outer_of, own_label, IsOpen, IsOwn, IsChain, IsApart, IsInnermost, OthersKeep}
 use Rattle.nursery_book.specs.declared.book.NurseryBook.{NurseryBook}
-use Rattle.task_turns.specs.Placed.{IsAmong}
+use Rattle.turn_semantics.specs.Placed.{IsAmong}
 use Rattle.task_machine.specs.declared.frame.Frame.{Frame}
 use Rattle.task_machine.specs.declared.frame.Frame.TheVariants.{Scope}
 use Rattle.task_machine.specs.declared.task.Own.{Own}
-use Rattle.task_machine.specs.Fitting.{Block, a_scope, blocks_of, AreModestFrames, StartsFit, Opened, OthersRun, FitsIn}
+use Rattle.task_machine.specs.Fitting.{Block, a_scope, blocks_of, AreInRangeFrames, StartsFit, Opened, OthersRun, FitsIn}
 use Rattle.task_machine.specs.Frames.{frames_of}
 use Rattle.task_machine.specs.Labels.{Labels}
 use Rattle.task_machine.specs.Left.{keys_of}
@@ -45,11 +45,11 @@ pub record Ready (home : Option ℕ) (own : List Own) (tree : Tree) (labels : La
 -- the frames change, and the blocks among them stay
 pub fits_frames : (fs gs : List Frame) (part : Part) (home : Option ℕ) (own : List Own) (n : ℕ) (tree : Tree) (labels : Labels)
     (book : NurseryBook) → blocks_of gs ≡ blocks_of fs →
-    AreModestFrames (frames_of (λ id. []) gs) → StartsFit (frames_of (λ id. []) gs) → FitsIn fs part home own n tree labels book None →
+    AreInRangeFrames (frames_of (λ id. []) gs) → StartsFit (frames_of (λ id. []) gs) → FitsIn fs part home own n tree labels book None →
     FitsIn gs part home own n tree labels book None
-fits_frames fs gs part home own n tree labels book same modest starts h =
+fits_frames fs gs part home own n tree labels book same in_range starts h =
     record {
-      modest = modest;
+      in_range = in_range;
       starts = starts;
       small = h.small;
       home = h.home;

@@ -12,11 +12,11 @@ use Rattle.exc_groups.specs.Exceptions.{Label, Exc}
 use Rattle.nursery_book.specs.Nursery.{Nursery as Members, with_body}
 use Rattle.nursery_book.specs.Book.{nursery_at, Updates, Changes}
 use Rattle.nursery_book.specs.declared.book.NurseryBook.{NurseryBook}
-use Rattle.task_turns.specs.Placed.{IsAmong}
+use Rattle.turn_semantics.specs.Placed.{IsAmong}
 use Rattle.task_machine.specs.declared.frame.Frame.{Frame}
 use Rattle.task_machine.specs.declared.frame.Frame.TheVariants.{Scope, Nursery}
 use Rattle.task_machine.specs.declared.task.Own.{Own}
-use Rattle.task_machine.specs.Fitting.{Block, a_scope, a_nursery, blocks_of, AreModestFrames, StartsFit, AreOthers, IsMine, IsBlockOf, Opened, AnyRuns, HasRunning, RunsIn, OthersRun, SameKeys, FitsIn}
+use Rattle.task_machine.specs.Fitting.{Block, a_scope, a_nursery, blocks_of, AreInRangeFrames, StartsFit, AreOthers, IsMine, IsBlockOf, Opened, AnyRuns, HasRunning, RunsIn, OthersRun, SameKeys, FitsIn}
 use Rattle.task_machine.specs.Frames.{frames_of}
 use Rattle.task_machine.specs.Labels.{Labels}
 use Rattle.task_machine.specs.Labels as label
@@ -99,7 +99,7 @@ pub fits_signed : (fs : List Frame) (part : Part) (home : Option ℕ) (own : Lis
     FitsIn fs part home own n old labels book waits → FitsIn fs part home own n new labels book waits
 fits_signed fs part home own n old new labels book waits same h =
     record {
-      modest = h.modest;
+      in_range = h.in_range;
       starts = h.starts;
       small = h.small;
       home = λ k e. same_open (stack_of new k) (stack_of old k) (same k) (h.home k e);
@@ -156,13 +156,13 @@ pub fits_entered : (fs gs : List Frame) (b : Block) (part : Part) (home : Option
     level.label ≡ o.id → OthersKeep old new o.id →
     label.Updates labels more o.id (Some name) → o.at ≡ n → ((id : ℕ) (m : Members) → nursery_at book id ≡ Some m →
     nursery_at after id ≡ Some m) → IsBlockOf more after b o →
-    blocks_of gs ≡ blocks_of fs ++ b ∷ [] → AreModestFrames (frames_of (λ id. []) gs) → StartsFit (frames_of (λ id. []) gs) →
+    blocks_of gs ≡ blocks_of fs ++ b ∷ [] → AreInRangeFrames (frames_of (λ id. []) gs) → StartsFit (frames_of (λ id. []) gs) →
     FitsIn fs part home own n old labels book None →
     FitsIn gs part home (own ++ o ∷ []) (suc n) new more after None
-fits_entered fs gs b part home own o n old new labels more book after name level chain closed stack named keep u at stay block blocks modest
+fits_entered fs gs b part home own o n old new labels more book after name level chain closed stack named keep u at stay block blocks in_range
     starts h =
     record {
-      modest = modest;
+      in_range = in_range;
       starts = starts;
       small = h.small;
       home = λ k e. subst IsSome (sym (kept_open old new o.id k closed keep (h.home k e))) (h.home k e);
@@ -243,7 +243,7 @@ pub fits_left : (fs : List Frame) (fail : Bool) (part : Part) (home : Option ℕ
     FitsIn (fs ++ Scope fail ∷ []) part home (os ++ o ∷ []) n old labels book None → FitsIn fs part home os n new more book None
 fits_left fs fail part home os o n old new labels more book chain owns apart top closed keep u first h =
     record {
-      modest = subst AreModestFrames (frames_push (λ id. []) fs (Scope fail)) h.modest;
+      in_range = subst AreInRangeFrames (frames_push (λ id. []) fs (Scope fail)) h.in_range;
       starts = subst StartsFit (frames_push (λ id. []) fs (Scope fail)) h.starts;
       small = h.small;
       home = home_open old new chain owns apart home os o top keep h.home;
@@ -314,7 +314,7 @@ pub fits_awaits : (fs : List Frame) (id : ℕ) (part : Part) (home : Option ℕ)
     FitsIn fs part home own n tree labels after (Some id)
 fits_awaits fs id part home own n tree labels book after exc changes h =
     record {
-      modest = subst AreModestFrames (frames_push (λ key. []) fs (Nursery id)) h.modest;
+      in_range = subst AreInRangeFrames (frames_push (λ key. []) fs (Nursery id)) h.in_range;
       starts = subst StartsFit (frames_push (λ key. []) fs (Nursery id)) h.starts;
       small = h.small;
       home = h.home;

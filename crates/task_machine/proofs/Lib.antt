@@ -25,7 +25,7 @@ pub mod TooksEntered
 pub mod TooksStarted
 pub mod TooksWoken
 pub mod Apart
-pub mod CrewLemmas
+pub mod StateLemmas
 pub mod Stopping
 pub mod Advances
 pub mod AdvancesSteps

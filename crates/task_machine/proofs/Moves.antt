@@ -4,10 +4,10 @@ use Rattle.cancel_scopes.specs.Sight.{seen}
 use Rattle.cancel_scopes.specs.Tree as scopes
 use Rattle.job_meaning.specs.Log.{Table}
 use Rattle.job_meaning.specs.Rest.{Frame}
-use Rattle.task_turns.specs.Midway.{Place, Move}
-use Rattle.task_turns.specs.Steps.{sleeps, falls_asleep}
+use Rattle.turn_semantics.specs.Midway.{Place, Move}
+use Rattle.turn_semantics.specs.Steps.{sleeps, falls_asleep}
 use Rattle.task_machine.specs.declared.stop.Stop.TheVariants.{Sleep}
-use Rattle.task_machine.specs.declared.stop.Halt.TheVariants.{Asleep}
+use Rattle.task_machine.specs.declared.stop.TaskState.TheVariants.{Asleep}
 use Rattle.buffer_parts.specs.declared.part.Part.{Part}
 use Rattle.nursery_book.specs.declared.book.NurseryBook.{NurseryBook}
 use Rattle.task_machine.specs.Stops.{Numbers, StopsAs}

@@ -134,7 +134,7 @@ pub fits_settled : (fs : List Frame) (id : ℕ) (part : Part) (home : Option ℕ
     FitsIn fs part home (os ++ o ∷ []) n old labels book (Some id) → FitsIn fs part home os n new more after None
 fits_settled fs id part home os o n old new labels more book after chain owns apart top closed keep u first settled ended h =
     record {
-      modest = h.modest;
+      in_range = h.in_range;
       starts = h.starts;
       small = h.small;
       home = home_open old new chain owns apart home os o top keep h.home;
@@ -209,7 +209,7 @@ pub fits_started : (fs : List Frame) (id : ℕ) (part : Part) (home : Option ℕ
     FitsIn fs part home own n tree labels after None
 fits_started fs id part home own n tree labels book after m more was u h =
     record {
-      modest = h.modest;
+      in_range = h.in_range;
       starts = h.starts;
       small = h.small;
       home = h.home;

@@ -10,10 +10,10 @@ use Rattle.cancel_scopes.specs.Tree as scopes
 use Rattle.job_meaning.specs.Log.{Table, same_label}
 use Rattle.job_meaning.specs.Walk.{label_if}
 use Rattle.job_meaning.proofs.Distinct.{same_label_equal, same_label_itself}
-use Rattle.task_turns.specs.Midway.{Place, stack_at}
-use Rattle.task_turns.specs.Steps.{label_among, lowered, lowered_if, opened, opened_if}
-use Rattle.task_turns.specs.Turned.{Known, labels_of}
-use Rattle.task_turns.specs.Names.{IsName, names_at, OwnNames}
+use Rattle.turn_semantics.specs.Midway.{Place, stack_at}
+use Rattle.turn_semantics.specs.Steps.{label_among, lowered, lowered_if, opened, opened_if}
+use Rattle.turn_semantics.specs.Turned.{Known, labels_of}
+use Rattle.turn_semantics.specs.Names.{IsName, names_at, OwnNames}
 use Rattle.task_machine.specs.Labels.{Labels, is_named, key_if, scope_named}
 use Rattle.task_machine.specs.Stacked.{AreAt, IsKey, Alone, SameOn, FoundAs}
 

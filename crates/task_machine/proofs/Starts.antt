@@ -48,7 +48,7 @@ starts_one old new id label part body task scope place s p b started child = by_
                 home_is = child.home_is ∙ ap (λ (h : Home). Some h) (home_is id place scope (length n.children) n.scope p s);
                 frames = child.frames;
                 own = child.own;
-                halt = child.halt;
+                task_state = child.task_state;
                 entries = child.entries;
                 froms = child.froms;
               };
@@ -120,7 +120,7 @@ starts_more self old mid new id k i name label part body h g named input cut =
               ∙ ap (λ (x : Home). Some x) (next_home id i h.nursery);
           frames = g.child.frames;
           own = g.child.own;
-          halt = g.child.halt;
+          task_state = g.child.task_state;
           entries = g.child.entries;
           froms = g.child.froms;
         },

@@ -7,23 +7,23 @@ use Rattle.job_meaning.specs.Rest as rest
 use Rattle.nursery_book.specs.Nursery.{is_settled}
 use Rattle.nursery_book.specs.Book.{HasNursery}
 use Rattle.nursery_book.specs.declared.book.NurseryBook.{NurseryBook}
-use Rattle.task_turns.specs.Midway.{Move}
+use Rattle.turn_semantics.specs.Midway.{Move}
 use Rattle.task_machine.specs.declared.frame.Frame.{Frame}
 use Rattle.task_machine.specs.declared.frame.Frame.TheVariants as frames
-use Rattle.task_machine.specs.declared.stop.Halt.{Halt}
-use Rattle.task_machine.specs.declared.stop.Halt.TheVariants.{ToBegin, Asked, Asleep, Awaits, Over}
+use Rattle.task_machine.specs.declared.stop.TaskState.{TaskState}
+use Rattle.task_machine.specs.declared.stop.TaskState.TheVariants.{ToBegin, Asked, Asleep, Awaits, Over}
 use Rattle.task_machine.specs.declared.stop.Moved.TheVariants.{Stops}
 use Rattle.task_machine.specs.declared.stop.Stop.{Stop}
 use Rattle.task_machine.specs.declared.stop.Wake.{Wake}
 use Rattle.task_machine.specs.declared.stop.Wake.TheVariants.{Begin, Due, Seen, Answer, Settled}
 use Rattle.task_machine.specs.Fitting.{blocks_of, waits_of}
 use Rattle.task_machine.specs.Frames.{frame_of, frames_onto, frames_of}
-use Rattle.task_machine.specs.Stops.{Numbers, IsHalt, StopsAs, MovesAs}
+use Rattle.task_machine.specs.Stops.{Numbers, IsTaskState, StopsAs, MovesAs}
 use Rattle.task_machine.specs.Waking.{WakesFrom}
 
 -- it is settled
-pub settled_from : (halt : Halt) (part : Part) (book : NurseryBook) (wake : Wake) (id : ℕ) → WakesFrom halt part book wake →
-    waits_of halt ≡ Some id →
+pub settled_from : (task_state : TaskState) (part : Part) (book : NurseryBook) (wake : Wake) (id : ℕ) → WakesFrom task_state part book wake →
+    waits_of task_state ≡ Some id →
     HasNursery book id (λ n. is_settled n ≡ true)
 settled_from ToBegin part book wake id h e = absurd (let f : None ≡ Some id = e in cc)
 settled_from (Asked kernel purpose) part book wake id h e = absurd (let f : None ≡ Some id = e in cc)
@@ -37,13 +37,13 @@ settled_from (Awaits key since) part book Settled id h e =
 settled_from Over part book wake id h e = absurd (let f : None ≡ Some id = e in cc)
 
 -- where the move of the definitions stops
-pub stop_of : (numbers : Numbers) (book : NurseryBook) (part : Part) (stop : Stop) (halt : Halt) (o : Move) →
-    MovesAs numbers book part (Stops stop) halt o →
-    (s : Stopped) × (o.stopped ≡ Some s) × IsHalt numbers book halt s
-stop_of numbers book part stop halt o h = by_stop o.stopped refl h.1
+pub stop_of : (numbers : Numbers) (book : NurseryBook) (part : Part) (stop : Stop) (task_state : TaskState) (o : Move) →
+    MovesAs numbers book part (Stops stop) task_state o →
+    (s : Stopped) × (o.stopped ≡ Some s) × IsTaskState numbers book task_state s
+stop_of numbers book part stop task_state o h = by_stop o.stopped refl h.1
   where
-    by_stop : (x : Option Stopped) → o.stopped ≡ x → StopsAs numbers book part stop halt x → (s : Stopped) × (o.stopped ≡ Some s)
-        × IsHalt numbers book halt s
+    by_stop : (x : Option Stopped) → o.stopped ≡ x → StopsAs numbers book part stop task_state x → (s : Stopped) × (o.stopped ≡ Some s)
+        × IsTaskState numbers book task_state s
     by_stop None e g = absurd g
     by_stop (Some s) e g = (s, e, g.0)
 

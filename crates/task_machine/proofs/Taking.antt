@@ -20,15 +20,15 @@ use Rattle.job_meaning.specs.Rest as rest
 use Rattle.job_meaning.specs.Rest.{Event, noted, signs, enters, starts, Stopped}
 use Rattle.task_machine.specs.declared.entry.Entry.{Entry}
 use Rattle.task_machine.specs.Noted.{entry_of, IsSlice}
-use Rattle.task_turns.specs.Midway.{Place, Midway, Begun, Move, moved, unmoved, then_move}
-use Rattle.task_turns.specs.Steps.{froms_after, step_of, turn_of}
-use Rattle.task_turns.specs.Placed.{PlacedAfter, places_behind}
-use Rattle.task_turns.specs.Names.{NewIn}
-use Rattle.task_turns.proofs.Events.{froms_append}
-use Rattle.task_turns.proofs.Turns.{turned_step}
-use Rattle.task_turns.proofs.Names.{step_stays_new}
+use Rattle.turn_semantics.specs.Midway.{Place, Midway, Begun, Move, moved, unmoved, then_move}
+use Rattle.turn_semantics.specs.Steps.{froms_after, step_of, turn_of}
+use Rattle.turn_semantics.specs.Placed.{PlacedAfter, places_behind}
+use Rattle.turn_semantics.specs.Names.{NewIn}
+use Rattle.turn_semantics.proofs.Events.{froms_append}
+use Rattle.turn_semantics.proofs.Turns.{turned_step}
+use Rattle.turn_semantics.proofs.Names.{step_stays_new}
 use Rattle.task_machine.specs.declared.frame.Frame.{Frame}
-use Rattle.task_machine.specs.declared.stop.Halt.{Halt}
+use Rattle.task_machine.specs.declared.stop.TaskState.{TaskState}
 use Rattle.task_machine.specs.declared.stop.Moved.{Moved}
 use Rattle.task_machine.specs.declared.stop.Moved.TheVariants.{On, Stops}
 use Rattle.task_machine.specs.declared.task.Task.{Task}
@@ -216,7 +216,7 @@ begun_on gs between after mid new blocks waits grow kept task b h =
       here = h.here;
       frames = h.frames;
       own = h.own;
-      halt = h.halt;
+      task_state = h.task_state;
       entries = h.entries;
       froms = h.froms;
       home = h.home;
@@ -224,7 +224,7 @@ begun_on gs between after mid new blocks waits grow kept task b h =
       number = by_number (nursery_at mid h.home.nursery) refl h.nursery;
       nursery = by_nursery (nursery_at mid h.home.nursery) refl h.nursery;
       owned = kept h.home.nursery among;
-      modest = h.modest;
+      in_range = h.in_range;
     }
   where
     among : HasBlock h.home.nursery (blocks_of gs)
@@ -260,11 +260,11 @@ all_begun_on gs between after mid new blocks waits grow kept (t ∷ ts) (b ∷ b
 )
 
 -- how the second of two moves continues is how both do
-moves_then : (numbers : Numbers) (book : NurseryBook) (was part : Part) (goes : Moved) (halt : Halt) (o q : Move) → part ≡ was →
-    MovesAs numbers book part goes halt q →
-    MovesAs numbers book was goes halt (then_move None o q)
-moves_then numbers book was part (On exc) halt o q e h = h
-moves_then numbers book was part (Stops stop) halt o q e h = (h.0, subst (λ (p : Part). StopsAs numbers book p stop halt q.stopped) e h.1)
+moves_then : (numbers : Numbers) (book : NurseryBook) (was part : Part) (goes : Moved) (task_state : TaskState) (o q : Move) → part ≡ was →
+    MovesAs numbers book part goes task_state q →
+    MovesAs numbers book was goes task_state (then_move None o q)
+moves_then numbers book was part (On exc) task_state o q e h = h
+moves_then numbers book was part (Stops stop) task_state o q e h = (h.0, subst (λ (p : Part). StopsAs numbers book p stop task_state q.stopped) e h.1)
 
 -- a move after which the task continues, and another from where it led: the move of both, with the numbers of the second
 took_both : (fs : List Frame) (before mid after : Task) (old w new : World) (exc : Option held.Exc) (goes : Moved) (froms : Table)
@@ -296,7 +296,7 @@ took_both fs before mid after old w new exc goes froms numbers o q first second 
     others_then id n at apart other =
         second.others id n (first.others id n at apart other) (stays_there id n at apart other) (still_other n other)
 
-    owned_then : Owns (blocks_of fs) before.own.items old.scopes old.book (blocks_of after.frames.items) (waits_by goes after.halt)
+    owned_then : Owns (blocks_of fs) before.own.items old.scopes old.book (blocks_of after.frames.items) (waits_by goes after.task_state)
     owned_then id has = by_second (second.owned id has)
       where
         by_old : ((n : Nursery) → nursery_at w.book id ≡ Some n → IsOfOther mid.own.items w.scopes n → ⊥) → HasBlock id (blocks_of fs)
@@ -311,7 +311,7 @@ took_both fs before mid after old w new exc goes froms numbers o q first second 
         by_second (inl h) = first.owned id (inl h)
         by_second (inr h) = by_old h (has_or_not id (blocks_of fs))
 
-    covered_then : Covers (blocks_of fs) numbers second.numbers_after (blocks_of after.frames.items) (waits_by goes after.halt)
+    covered_then : Covers (blocks_of fs) numbers second.numbers_after (blocks_of after.frames.items) (waits_by goes after.task_state)
         (first.tasks ++ second.tasks) (o.begun ++ q.begun)
     covered_then id place number has at = by_second (second.covered id place number has at)
       where
@@ -341,7 +341,7 @@ took_both fs before mid after old w new exc goes froms numbers o q first second 
           frames_after = second.frames_after;
           places = subst (λ (f : Table). AreAt (label_at new) f (outer_of new.scopes (scope_of after)) q.places)
               (sym (froms_append o.made q.made froms)) second.places;
-          moves = moves_then second.numbers_after new.book before.part mid.part goes after.halt o q part second.moves;
+          moves = moves_then second.numbers_after new.book before.part mid.part goes after.task_state o q part second.moves;
           entries = first.entries ++ second.entries;
           noted = grew_twice before.entries.items mid.entries.items after.entries.items first.entries second.entries first.noted
               second.noted;
@@ -349,10 +349,10 @@ took_both fs before mid after old w new exc goes froms numbers o q first second 
           tasks = first.tasks ++ second.tasks;
           started = grew_twice old.started.items w.started.items new.started.items first.tasks second.tasks first.started second.started;
           begun =
-              begun_append second.numbers_after new.book (blocks_of after.frames.items) (waits_by goes after.halt) first.tasks second.tasks
+              begun_append second.numbers_after new.book (blocks_of after.frames.items) (waits_by goes after.task_state) first.tasks second.tasks
               o.begun q.begun
               (all_begun_on mid.frames.items first.numbers_after second.numbers_after w.book new.book (blocks_of after.frames.items)
-              (waits_by goes after.halt)
+              (waits_by goes after.task_state)
               second.grow second.kept first.tasks o.begun first.begun)
               second.begun;
           grow = grow_then fs mid.frames.items numbers first.numbers_after second.numbers_after old.book w.book new.book first.grow kept

@@ -8,15 +8,15 @@ use Rattle.std.specs.List.{last_or}
 use Rattle.cancel_scopes.specs.Sight.{Tick}
 use Rattle.cancel_scopes.specs.Tree.{IsChain, IsOwn, IsApart}
 use Rattle.job_meaning.specs.Rest as rest
-use Rattle.job_tree.specs.declared.limits.TheConstants.{MOST_PASSES}
-use Rattle.job_tree.specs.Modest.{AreModest, IsModestHandler, IsModestCleanup}
+use Rattle.job_tree.specs.declared.limits.TheConstants.{MAX_PASSES}
+use Rattle.job_tree.specs.InRange.{AreInRange, IsInRangeHandler, IsInRangeCleanup}
 use Rattle.job_tree.specs.Starting.{StartsIn, HandlerStarts, CleanupStarts}
 use Rattle.job_tree.specs.Tree.{Steps}
 use Rattle.job_tree.specs.Tree as tree
 use Rattle.exc_groups.specs.Split.{named, keep, drop}
-use Rattle.task_turns.specs.Midway.{Place, Move}
-use Rattle.task_turns.specs.Steps.{onward, begins_passes, step_pass, handler_if, step_try}
-use Rattle.task_turns.specs.Bound.{turn_length, frames_length}
+use Rattle.turn_semantics.specs.Midway.{Place, Move}
+use Rattle.turn_semantics.specs.Steps.{onward, begins_passes, step_pass, handler_if, step_try}
+use Rattle.turn_semantics.specs.Bound.{turn_length, frames_length}
 use Rattle.exc_groups.specs.Exceptions.{Label, Exc}
 use Rattle.nursery_book.specs.Nursery.{End, Nursery as Members, with_body}
 use Rattle.nursery_book.specs.Book.{nursery_at, HasNursery, Updates, Changes}
@@ -25,14 +25,14 @@ use Rattle.task_machine.specs.declared.entry.ScopeFrom.{ScopeFrom}
 use Rattle.task_machine.specs.declared.frame.Frame.{Frame}
 use Rattle.task_machine.specs.declared.frame.Frame.TheVariants.{Scope, Nursery}
 use Rattle.task_machine.specs.declared.frame.Frame.TheVariants as frames
-use Rattle.task_machine.specs.declared.stop.Halt.{Halt}
-use Rattle.task_machine.specs.declared.stop.Halt.TheVariants.{Awaits}
+use Rattle.task_machine.specs.declared.stop.TaskState.{TaskState}
+use Rattle.task_machine.specs.declared.stop.TaskState.TheVariants.{Awaits}
 use Rattle.task_machine.specs.declared.stop.Wake.TheVariants.{Settled}
 use Rattle.task_machine.specs.declared.task.Own.{Own}
 use Rattle.task_machine.specs.declared.task.Task.{Task}
 use Rattle.task_machine.specs.declared.world.World.{World}
 use Rattle.task_machine.specs.Entered.{EntersOne, IsBlock, EntersBlock, EntersNursery}
-use Rattle.task_machine.specs.Fitting.{Block, a_scope, a_nursery, blocks_of, block_in, IsMine, Opened, AreModestFrames, StartsFit, IsBlockOf, SameKeys, FitsIn, Fits, waits_of}
+use Rattle.task_machine.specs.Fitting.{Block, a_scope, a_nursery, blocks_of, block_in, IsMine, Opened, AreInRangeFrames, StartsFit, IsBlockOf, SameKeys, FitsIn, Fits, waits_of}
 use Rattle.task_machine.specs.Frames.{frame_of, frames_of}
 use Rattle.task_machine.specs.Labels.{Labels}
 use Rattle.task_machine.specs.Left.{OwnFirst, LeavesOne}
@@ -58,14 +58,14 @@ pub record Laws (world : World) : Type 0 where
 -- ---- a nursery that is settled
 
 -- a task whose nursery is settled may leave its scope
-pub ready_awaits : (self : Task) (world : World) (id since : ℕ) → Laws world → self.halt ≡ Awaits id since →
-    WakesFrom self.halt self.part world.book Settled →
-    Fits self.frames.items self world (waits_of self.halt) → Ready (home_scope self) self.own.items world.scopes (label_at world)
+pub ready_awaits : (self : Task) (world : World) (id since : ℕ) → Laws world → self.task_state ≡ Awaits id since →
+    WakesFrom self.task_state self.part world.book Settled →
+    Fits self.frames.items self world (waits_of self.task_state) → Ready (home_scope self) self.own.items world.scopes (label_at world)
 ready_awaits self world id since laws is wake h =
     ready_settled self.frames.items id self.part (home_scope self) self.own.items (length self.froms.items) world.scopes (label_at world)
     world.book laws.chain laws.own laws.apart
-    (subst (λ (x : Halt). WakesFrom x self.part world.book Settled) is wake)
-    (subst (λ (x : Halt). Fits self.frames.items self world (waits_of x)) is h)
+    (subst (λ (x : TaskState). WakesFrom x self.part world.book Settled) is wake)
+    (subst (λ (x : TaskState). Fits self.frames.items self world (waits_of x)) is h)
 
 -- ---- a scope that is left
 
@@ -89,9 +89,9 @@ fits_after before after mid new stays world same h =
     mid.book None) (sym stays) h))
 
 -- what holds of a task is kept when the nursery that it waited for is closed and its scope is left
-pub settled_fits : (before after : Task) (old new : World) (book : NurseryBook) (id since : ℕ) → Laws old → before.halt ≡ Awaits id since →
-    WakesFrom before.halt before.part old.book Settled →
-    Fits before.frames.items before old (waits_of before.halt) → Updates old.book book id None →
+pub settled_fits : (before after : Task) (old new : World) (book : NurseryBook) (id since : ℕ) → Laws old → before.task_state ≡ Awaits id since →
+    WakesFrom before.task_state before.part old.book Settled →
+    Fits before.frames.items before old (waits_of before.task_state) → Updates old.book book id None →
     LeavesOne before after (record old { book = book }) new →
     OwnFirst new.scopes (home_scope before) after.own.items → after
     ≡ record before { own = after.own; froms = after.froms; entries = after.entries } →
@@ -103,12 +103,12 @@ settled_fits before after old new book id since laws is wake h ended l first sta
     laws.chain laws.own laws.apart
     (top_of old.scopes laws.chain laws.own (home_scope before) before.own.items after.own.items l.last l.taken (waits.scope l.last.id last)
     waits.first last) l.closed l.others l.unlabelled first
-    (subst (λ (x : Halt). WakesFrom x before.part old.book Settled) is wake) ended
+    (subst (λ (x : TaskState). WakesFrom x before.part old.book Settled) is wake) ended
     (subst (λ (own : List Own). FitsIn before.frames.items before.part (home_scope before) own (length before.froms.items) old.scopes
     (label_at old) old.book (Some id)) l.taken waits))
   where
     waits : Fits before.frames.items before old (Some id)
-    waits = subst (λ (x : Halt). Fits before.frames.items before old (waits_of x)) is h
+    waits = subst (λ (x : TaskState). Fits before.frames.items before old (waits_of x)) is h
 
     last : last_or (home_scope before) (ids before.own.items) ≡ Some l.last.id
     last = last_pushed (home_scope before) after.own.items before.own.items l.last l.taken
@@ -136,7 +136,7 @@ exited_fits fail before after old new laws h l first stays world =
 -- the scopes of the world were signed, and the nursery's body ended
 pub waits_fits : (id : ℕ) (exc : Option Exc) (before after : Task) (old new : World) →
     Fits (before.frames.items ++ Nursery id ∷ []) before old None → SameKeys old.scopes new.scopes →
-    Changes old.book new.book id (with_body exc) → after ≡ record before { halt = after.halt } →
+    Changes old.book new.book id (with_body exc) → after ≡ record before { task_state = after.task_state } →
     new ≡ record old { scopes = new.scopes; book = new.book } → Fits after.frames.items after new (Some id)
 waits_fits id exc before after old new h same changes stays world =
     subst (λ (w : World). FitsIn after.frames.items after.part (home_scope after) after.own.items (length after.froms.items) new.scopes
@@ -151,7 +151,7 @@ waits_fits id exc before after old new h same changes stays world =
 -- the scopes of the world were signed
 pub signed_fits : (before after : Task) (old new : World) (waits : Option ℕ) → Fits before.frames.items before old waits →
     SameKeys old.scopes new.scopes →
-    after ≡ record before { halt = after.halt } → new ≡ record old { scopes = new.scopes } → Fits after.frames.items after new waits
+    after ≡ record before { task_state = after.task_state } → new ≡ record old { scopes = new.scopes } → Fits after.frames.items after new waits
 signed_fits before after old new waits h same stays world =
     subst (λ (w : World). FitsIn after.frames.items after.part (home_scope after) after.own.items (length after.froms.items) new.scopes
     (label_at w) w.book waits) (sym world)
@@ -165,14 +165,14 @@ signed_fits before after old new waits h same stays world =
 -- what holds of a task is kept with other frames of the same blocks that can run
 pub frames_fit : (fs : List Frame) (before after : Task) (old : World) → Fits fs before old None →
     blocks_of after.frames.items ≡ blocks_of fs →
-    AreModestFrames (frames_of (λ id. []) after.frames.items) → StartsFit (frames_of (λ id. []) after.frames.items) →
-    after ≡ record before { frames = after.frames; halt = after.halt } →
+    AreInRangeFrames (frames_of (λ id. []) after.frames.items) → StartsFit (frames_of (λ id. []) after.frames.items) →
+    after ≡ record before { frames = after.frames; task_state = after.task_state } →
     Fits after.frames.items after old None
-frames_fit fs before after old h same modest starts stays =
+frames_fit fs before after old h same in_range starts stays =
     subst (λ (t : Task). FitsIn after.frames.items t.part (home_scope t) t.own.items (length t.froms.items) old.scopes (label_at old)
     old.book None) (sym stays)
     (fits_frames fs after.frames.items before.part (home_scope before) before.own.items (length before.froms.items) old.scopes
-    (label_at old) old.book same modest starts h)
+    (label_at old) old.book same in_range starts h)
 
 -- ---- a scope that is entered
 
@@ -181,10 +181,10 @@ pub entered_fits : (b : Block) (label : Label) (before after : Task) (old new : 
     Fits before.frames.items before old None → {deadline : Tick} → (e : EntersOne before after old new label deadline) →
     ((id : ℕ) (m : Members) → nursery_at old.book id ≡ Some m → nursery_at new.book id ≡ Some m) →
     IsBlockOf (label_at new) new.book b e.own →
-    blocks_of after.frames.items ≡ blocks_of before.frames.items ++ b ∷ [] → AreModestFrames (frames_of (λ id. []) after.frames.items) →
+    blocks_of after.frames.items ≡ blocks_of before.frames.items ++ b ∷ [] → AreInRangeFrames (frames_of (λ id. []) after.frames.items) →
     StartsFit (frames_of (λ id. []) after.frames.items) →
     after ≡ record before { frames = after.frames; own = after.own; froms = after.froms } → Fits after.frames.items after new None
-entered_fits b label before after old new laws h e stay block blocks modest starts stays =
+entered_fits b label before after old new laws h e stay block blocks in_range starts stays =
     subst (λ (t : Task). FitsIn after.frames.items t.part (home_scope t) after.own.items (length after.froms.items) new.scopes
     (label_at new) new.book None) (sym stays)
     (subst (λ (n : ℕ). FitsIn after.frames.items before.part (home_scope before) after.own.items n new.scopes (label_at new) new.book None)
@@ -193,7 +193,7 @@ entered_fits b label before after old new laws h e stay block blocks modest star
     (label_at new) new.book None) (sym e.opened)
     (fits_entered before.frames.items after.frames.items b before.part (home_scope before) before.own.items e.own
     (length before.froms.items) old.scopes new.scopes (label_at old) (label_at new) old.book
-    new.book label e.level laws.chain e.fresh e.stack e.named e.others e.labelled e.place stay block blocks modest starts h)))
+    new.book label e.level laws.chain e.fresh e.stack e.named e.others e.labelled e.place stay block blocks in_range starts h)))
   where
     froms : length after.froms.items ≡ suc (length before.froms.items)
     froms =
@@ -252,28 +252,28 @@ block_blocks before after exit body e =
 -- what holds of a task is kept when it enters a scope
 pub scope_fits : (fail : Bool) (body : Steps) (label : Label) (before after : Task) (old new : World) → Laws old →
     Fits before.frames.items before old None → {deadline : Tick} → EntersOne before after old new label deadline →
-    EntersBlock before after (Scope fail) body → AreModest body → StartsIn false body →
+    EntersBlock before after (Scope fail) body → AreInRange body → StartsIn false body →
     after ≡ record before { frames = after.frames; own = after.own; froms = after.froms } →
     new ≡ record old { scopes = new.scopes; labels = new.labels } → Fits after.frames.items after new None
-scope_fits fail body label before after old new laws h e inside modest starts stays world =
+scope_fits fail body label before after old new laws h e inside in_range starts stays world =
     entered_fits a_scope label before after old new laws h e (λ id m at. ap (λ (w : World). nursery_at w.book id) world ∙ at)
     (subst IsSome (sym e.labelled.changed) refl)
-    (block_blocks before after (Scope fail) body inside) (subst AreModestFrames (sym (block_frames before after (Scope fail) body inside))
-    (modest, h.modest))
+    (block_blocks before after (Scope fail) body inside) (subst AreInRangeFrames (sym (block_frames before after (Scope fail) body inside))
+    (in_range, h.in_range))
     (subst StartsFit (sym (block_frames before after (Scope fail) body inside)) (starts, h.starts)) stays
 
 -- what holds of a task is kept when it enters a nursery
 pub nursery_fits : (me : ℕ) (body : Steps) (label : Label) (before after : Task) (old new : World) → Laws old →
     Fits before.frames.items before old None → {deadline : Tick} → EntersOne before after old new label deadline →
-    EntersNursery me before after old new label body → AreModest body → StartsIn true body →
+    EntersNursery me before after old new label body → AreInRange body → StartsIn true body →
     after ≡ record before { frames = after.frames; own = after.own; froms = after.froms } →
     Fits after.frames.items after new None
-nursery_fits me body label before after old new laws h e n modest starts stays =
+nursery_fits me body label before after old new laws h e n in_range starts stays =
     entered_fits (a_nursery n.id) label before after old new laws h e (λ id m at. n.stands.others id (differs id m at) ∙ at)
     (subst (λ (m : Option Members). IsSomeAnd m (λ x. IsMine (label_at new) e.own x × (x.body ≡ None))) (sym n.stands.changed)
     (record { scope = same; label = e.labelled.changed }, refl))
-    (block_blocks before after (Nursery n.id) body n.frames) (subst AreModestFrames
-    (sym (block_frames before after (Nursery n.id) body n.frames)) (modest, h.modest))
+    (block_blocks before after (Nursery n.id) body n.frames) (subst AreInRangeFrames
+    (sym (block_frames before after (Nursery n.id) body n.frames)) (in_range, h.in_range))
     (subst StartsFit (sym (block_frames before after (Nursery n.id) body n.frames)) (starts, h.starts)) stays
   where
     differs : (id : ℕ) (m : Members) → nursery_at old.book id ≡ Some m → id ≢ n.id
@@ -298,17 +298,17 @@ nursery_length id body before after e = ap frames_length (block_frames before af
 
 -- without its innermost frame, which is no block
 pub frame_off : (fs : List Frame) (f : Frame) (task : Task) (world : World) → blocks_of (f ∷ []) ≡ [] →
-    Fits (fs ++ f ∷ []) task world None → AreModestFrames (frames_of (λ id. []) fs) →
+    Fits (fs ++ f ∷ []) task world None → AreInRangeFrames (frames_of (λ id. []) fs) →
     StartsFit (frames_of (λ id. []) fs) → Fits fs task world None
-frame_off fs f task world none h modest starts =
+frame_off fs f task world none h in_range starts =
     fits_frames (fs ++ f ∷ []) fs task.part (home_scope task) task.own.items (length task.froms.items) world.scopes (label_at world)
     world.book
-    (sym (blocks_append fs (f ∷ []) ∙ ap (λ (bs : List Block). blocks_of fs ++ bs) none ∙ append-nil (blocks_of fs))) modest starts h
+    (sym (blocks_append fs (f ∷ []) ∙ ap (λ (bs : List Block). blocks_of fs ++ bs) none ∙ append-nil (blocks_of fs))) in_range starts h
 
 -- what holds of the frames with one more
-pub modest_with : (fs : List Frame) (f : Frame) (task : Task) (world : World) → Fits (fs ++ f ∷ []) task world None →
-    AreModestFrames (frame_of (λ id. []) f ∷ frames_of (λ id. []) fs)
-modest_with fs f task world h = subst AreModestFrames (frames_push (λ id. []) fs f) h.modest
+pub in_range_with : (fs : List Frame) (f : Frame) (task : Task) (world : World) → Fits (fs ++ f ∷ []) task world None →
+    AreInRangeFrames (frame_of (λ id. []) f ∷ frames_of (λ id. []) fs)
+in_range_with fs f task world h = subst AreInRangeFrames (frames_push (λ id. []) fs f) h.in_range
 
 -- each `start` in the frames with one more is directly in a nursery
 pub starts_with : (fs : List Frame) (f : Frame) (task : Task) (world : World) → Fits (fs ++ f ∷ []) task world None →
@@ -331,14 +331,14 @@ pub pushed_fits : (fs : List Frame) (f g : Frame) (before after : Task) (world :
     block_in g (blocks_of fs) ≡ blocks_of fs → Fits (fs ++ f ∷ []) before world None →
     blocks_of after.frames.items ≡ block_in g (blocks_of fs) → frames_of (λ id. []) after.frames.items ≡ frame_of (λ id. []) g
     ∷ frames_of (λ id. []) fs →
-    AreModestFrames (frame_of (λ id. []) g ∷ frames_of (λ id. []) fs) → StartsFit (frame_of (λ id. []) g ∷ frames_of (λ id. []) fs) →
+    AreInRangeFrames (frame_of (λ id. []) g ∷ frames_of (λ id. []) fs) → StartsFit (frame_of (λ id. []) g ∷ frames_of (λ id. []) fs) →
     after ≡ record before { frames = after.frames } →
     Fits after.frames.items after world None
-pushed_fits fs f g before after world none same h blocks frames modest starts stays =
+pushed_fits fs f g before after world none same h blocks frames in_range starts stays =
     frames_fit (fs ++ f ∷ []) before after world h
     (blocks ∙ same ∙ sym (blocks_append fs (f ∷ []) ∙ ap (λ (bs : List Block). blocks_of fs ++ bs) none ∙ append-nil (blocks_of fs)))
-    (subst AreModestFrames (sym frames) modest)
-    (subst StartsFit (sym frames) starts) (stays ∙ ap (λ (t : Task). record before { frames = after.frames; halt = t.halt }) (sym stays))
+    (subst AreInRangeFrames (sym frames) in_range)
+    (subst StartsFit (sym frames) starts) (stays ∙ ap (λ (t : Task). record before { frames = after.frames; task_state = t.task_state }) (sym stays))
 
 -- ---- the innermost frame is popped
 
@@ -366,10 +366,10 @@ popped_body labels book fs id own h =
 
 -- ---- a `repeat`
 
-passes_modest : (count : ℕ) (body : Steps) (fs : List rest.Frame) (ps : List Place) → count ≤ MOST_PASSES → AreModest body →
-    AreModestFrames fs → AreModestFrames (begins_passes count body fs ps).frames
-passes_modest zero body fs ps few b m = m
-passes_modest (suc k) body fs ps few b m = (b, (b, (let e : 0 + k ≤ MOST_PASSES = omega (arith, few) in e), m))
+passes_in_range : (count : ℕ) (body : Steps) (fs : List rest.Frame) (ps : List Place) → count ≤ MAX_PASSES → AreInRange body →
+    AreInRangeFrames fs → AreInRangeFrames (begins_passes count body fs ps).frames
+passes_in_range zero body fs ps few b m = m
+passes_in_range (suc k) body fs ps few b m = (b, (b, (let e : 0 + k ≤ MAX_PASSES = omega (arith, few) in e), m))
 
 passes_starts : (count : ℕ) (body : Steps) (fs : List rest.Frame) (ps : List Place) → StartsIn false body → StartsFit fs →
     StartsFit (begins_passes count body fs ps).frames
@@ -383,16 +383,16 @@ passes_shorter (suc k) body fs ps = let e = suc-mul k (1 + turn_length body) in 
 
 -- a `repeat` has begun: the task still fits
 pub repeat_fits : (count : ℕ) (body : Steps) (before after : Task) (world : World) → Fits before.frames.items before world None →
-    count ≤ MOST_PASSES → AreModest body → StartsIn false body → blocks_of after.frames.items ≡ blocks_of before.frames.items →
+    count ≤ MAX_PASSES → AreInRange body → StartsIn false body → blocks_of after.frames.items ≡ blocks_of before.frames.items →
     begins_passes count body (frames_of (λ id. []) before.frames.items) [] ≡ onward (frames_of (λ id. []) after.frames.items) [] None →
     after ≡ record before { frames = after.frames } → Fits after.frames.items after world None
 repeat_fits count body before after world fits few b s blocks step stays =
     frames_fit before.frames.items before after world fits blocks
-    (subst AreModestFrames (ap (λ (o : Move). o.frames) step)
-    (passes_modest count body (frames_of (λ id. []) before.frames.items) [] few b fits.modest))
+    (subst AreInRangeFrames (ap (λ (o : Move). o.frames) step)
+    (passes_in_range count body (frames_of (λ id. []) before.frames.items) [] few b fits.in_range))
     (subst StartsFit (ap (λ (o : Move). o.frames) step)
     (passes_starts count body (frames_of (λ id. []) before.frames.items) [] s fits.starts))
-    (stays ∙ ap (λ (t : Task). record before { frames = after.frames; halt = t.halt }) (sym stays))
+    (stays ∙ ap (λ (t : Task). record before { frames = after.frames; task_state = t.task_state }) (sym stays))
 
 -- a `repeat` that has begun has fewer steps left than its step had
 pub repeat_length : (count : ℕ) (body : Steps) (before after : Task) →
@@ -404,11 +404,11 @@ repeat_length count body before after step =
     let f = ap (λ (o : Move). frames_length o.frames) step in
     omega (arith, e, f)
 
-pass_modest : (pass left : ℕ) (body : Steps) (fs : List rest.Frame) (ps : List Place) (exc : Option Exc) → AreModest body →
-    pass + left ≤ MOST_PASSES → AreModestFrames fs → AreModestFrames (step_pass pass left body fs ps exc).frames
-pass_modest pass left body fs ps (Some e) b few m = m
-pass_modest pass zero body fs ps None b few m = m
-pass_modest pass (suc k) body fs ps None b few m = (b, (b, (let e : suc pass + k ≤ MOST_PASSES = omega (arith, few) in e), m))
+pass_in_range : (pass left : ℕ) (body : Steps) (fs : List rest.Frame) (ps : List Place) (exc : Option Exc) → AreInRange body →
+    pass + left ≤ MAX_PASSES → AreInRangeFrames fs → AreInRangeFrames (step_pass pass left body fs ps exc).frames
+pass_in_range pass left body fs ps (Some e) b few m = m
+pass_in_range pass zero body fs ps None b few m = m
+pass_in_range pass (suc k) body fs ps None b few m = (b, (b, (let e : suc pass + k ≤ MAX_PASSES = omega (arith, few) in e), m))
 
 pass_starts : (pass left : ℕ) (body : Steps) (fs : List rest.Frame) (ps : List Place) (exc : Option Exc) → StartsIn false body →
     StartsFit fs → StartsFit (step_pass pass left body fs ps exc).frames
@@ -432,28 +432,28 @@ pub passed_fits : (pass left : ℕ) (body : Steps) (fs : List Frame) (f : Frame)
 passed_fits pass left body fs f exc after_exc before after world none is fits step blocks stays =
     frames_fit (fs ++ f ∷ []) before after world fits
     (blocks ∙ sym (blocks_append fs (f ∷ []) ∙ ap (λ (bs : List Block). blocks_of fs ++ bs) none ∙ append-nil (blocks_of fs)))
-    (subst AreModestFrames (ap (λ (o : Move). o.frames) step)
-    (pass_modest pass left body (frames_of (λ id. []) fs) [] exc modest.0 modest.1 modest.2))
+    (subst AreInRangeFrames (ap (λ (o : Move). o.frames) step)
+    (pass_in_range pass left body (frames_of (λ id. []) fs) [] exc in_range.0 in_range.1 in_range.2))
     (subst StartsFit (ap (λ (o : Move). o.frames) step)
     (pass_starts pass left body (frames_of (λ id. []) fs) [] exc starts.0 starts.1))
-    (stays ∙ ap (λ (t : Task). record before { frames = after.frames; halt = t.halt }) (sym stays))
+    (stays ∙ ap (λ (t : Task). record before { frames = after.frames; task_state = t.task_state }) (sym stays))
   where
-    modest : AreModestFrames (rest.in_repeat pass left body ∷ frames_of (λ id. []) fs)
-    modest = subst (λ (x : rest.Frame). AreModestFrames (x ∷ frames_of (λ id. []) fs)) is (modest_with fs f before world fits)
+    in_range : AreInRangeFrames (rest.in_repeat pass left body ∷ frames_of (λ id. []) fs)
+    in_range = subst (λ (x : rest.Frame). AreInRangeFrames (x ∷ frames_of (λ id. []) fs)) is (in_range_with fs f before world fits)
 
     starts : StartsFit (rest.in_repeat pass left body ∷ frames_of (λ id. []) fs)
     starts = subst (λ (x : rest.Frame). StartsFit (x ∷ frames_of (λ id. []) fs)) is (starts_with fs f before world fits)
 
 -- ---- a `try`
 
-try_modest : (h : tree.Handled) (k : tree.Cleaned) (fs : List rest.Frame) (ps : List Place) (exc : Option Exc) → IsModestHandler h →
-    IsModestCleanup k → AreModestFrames fs → AreModestFrames (step_try h k fs ps exc).frames
-try_modest tree.unhandled tree.uncleaned fs ps exc h k m = m
-try_modest tree.unhandled (tree.finally body) fs ps exc h k m = (k, m)
-try_modest (tree.except name body) cleanup fs ps None h k m = (tt, k, m)
-try_modest (tree.except name body) cleanup fs ps (Some e) h k m = by_match (keep (named name) e) (drop (named name) e)
+try_in_range : (h : tree.Handled) (k : tree.Cleaned) (fs : List rest.Frame) (ps : List Place) (exc : Option Exc) → IsInRangeHandler h →
+    IsInRangeCleanup k → AreInRangeFrames fs → AreInRangeFrames (step_try h k fs ps exc).frames
+try_in_range tree.unhandled tree.uncleaned fs ps exc h k m = m
+try_in_range tree.unhandled (tree.finally body) fs ps exc h k m = (k, m)
+try_in_range (tree.except name body) cleanup fs ps None h k m = (tt, k, m)
+try_in_range (tree.except name body) cleanup fs ps (Some e) h k m = by_match (keep (named name) e) (drop (named name) e)
   where
-    by_match : (o r : Option Exc) → AreModestFrames (handler_if o r e body cleanup fs ps).frames
+    by_match : (o r : Option Exc) → AreInRangeFrames (handler_if o r e body cleanup fs ps).frames
     by_match None r = (tt, k, m)
     by_match (Some x) r = (h, (k, m))
 
@@ -491,12 +491,12 @@ pub tried_fits : (h : tree.Handled) (k : tree.Cleaned) (fs : List Frame) (f : Fr
 tried_fits h k fs f exc after_exc before after world none is fits step blocks stays =
     frames_fit (fs ++ f ∷ []) before after world fits
     (blocks ∙ sym (blocks_append fs (f ∷ []) ∙ ap (λ (bs : List Block). blocks_of fs ++ bs) none ∙ append-nil (blocks_of fs)))
-    (subst AreModestFrames (ap (λ (o : Move). o.frames) step) (try_modest h k (frames_of (λ id. []) fs) [] exc modest.0 modest.1 modest.2))
+    (subst AreInRangeFrames (ap (λ (o : Move). o.frames) step) (try_in_range h k (frames_of (λ id. []) fs) [] exc in_range.0 in_range.1 in_range.2))
     (subst StartsFit (ap (λ (o : Move). o.frames) step) (try_starts h k (frames_of (λ id. []) fs) [] exc starts.0 starts.1 starts.2))
-    (stays ∙ ap (λ (t : Task). record before { frames = after.frames; halt = t.halt }) (sym stays))
+    (stays ∙ ap (λ (t : Task). record before { frames = after.frames; task_state = t.task_state }) (sym stays))
   where
-    modest : AreModestFrames (rest.in_try h k ∷ frames_of (λ id. []) fs)
-    modest = subst (λ (x : rest.Frame). AreModestFrames (x ∷ frames_of (λ id. []) fs)) is (modest_with fs f before world fits)
+    in_range : AreInRangeFrames (rest.in_try h k ∷ frames_of (λ id. []) fs)
+    in_range = subst (λ (x : rest.Frame). AreInRangeFrames (x ∷ frames_of (λ id. []) fs)) is (in_range_with fs f before world fits)
 
     starts : StartsFit (rest.in_try h k ∷ frames_of (λ id. []) fs)
     starts = subst (λ (x : rest.Frame). StartsFit (x ∷ frames_of (λ id. []) fs)) is (starts_with fs f before world fits)
@@ -510,12 +510,12 @@ pub handled_fits : (k : tree.Cleaned) (o : Option Exc) (fs : List Frame) (f : Fr
 handled_fits k o fs f before after world none is fits frames blocks stays =
     frames_fit (fs ++ f ∷ []) before after world fits
     (blocks ∙ sym (blocks_append fs (f ∷ []) ∙ ap (λ (bs : List Block). blocks_of fs ++ bs) none ∙ append-nil (blocks_of fs)))
-    (subst AreModestFrames (sym frames) (tt, modest.0, modest.1))
+    (subst AreInRangeFrames (sym frames) (tt, in_range.0, in_range.1))
     (subst StartsFit (sym frames) (tt, starts.0, starts.1)) (stays
-    ∙ ap (λ (t : Task). record before { frames = after.frames; halt = t.halt }) (sym stays))
+    ∙ ap (λ (t : Task). record before { frames = after.frames; task_state = t.task_state }) (sym stays))
   where
-    modest : AreModestFrames (rest.in_handler o k ∷ frames_of (λ id. []) fs)
-    modest = subst (λ (x : rest.Frame). AreModestFrames (x ∷ frames_of (λ id. []) fs)) is (modest_with fs f before world fits)
+    in_range : AreInRangeFrames (rest.in_handler o k ∷ frames_of (λ id. []) fs)
+    in_range = subst (λ (x : rest.Frame). AreInRangeFrames (x ∷ frames_of (λ id. []) fs)) is (in_range_with fs f before world fits)
 
     starts : StartsFit (rest.in_handler o k ∷ frames_of (λ id. []) fs)
     starts = subst (λ (x : rest.Frame). StartsFit (x ∷ frames_of (λ id. []) fs)) is (starts_with fs f before world fits)

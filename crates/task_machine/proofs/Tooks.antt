@@ -22,14 +22,14 @@ use Rattle.job_meaning.specs.Rest as rest
 use Rattle.job_meaning.specs.Rest.{Stopped, awaiting, at_end}
 use Rattle.task_machine.specs.declared.entry.Entry.{Entry}
 use Rattle.task_machine.specs.Noted.{IsSlice}
-use Rattle.task_turns.specs.Midway.{Place, Begun, Move, stack_at}
-use Rattle.task_turns.specs.Placed.{Placed}
-use Rattle.task_turns.specs.Steps.{onward, making, sleeps, falls_asleep, label_among, signs_to, signs_home, leaves, ends_as, froms_after, step_frames}
+use Rattle.turn_semantics.specs.Midway.{Place, Begun, Move, stack_at}
+use Rattle.turn_semantics.specs.Placed.{Placed}
+use Rattle.turn_semantics.specs.Steps.{onward, making, sleeps, falls_asleep, label_among, signs_to, signs_home, leaves, ends_as, froms_after, step_frames}
 use Rattle.task_machine.specs.declared.frame.Frame.{Frame}
 use Rattle.task_machine.specs.declared.frame.Frame.TheVariants.{Scope, Nursery}
 use Rattle.task_machine.specs.declared.outcome.Kind.TheVariants as kind
-use Rattle.task_machine.specs.declared.stop.Halt.{Halt}
-use Rattle.task_machine.specs.declared.stop.Halt.TheVariants.{Awaits, Over}
+use Rattle.task_machine.specs.declared.stop.TaskState.{TaskState}
+use Rattle.task_machine.specs.declared.stop.TaskState.TheVariants.{Awaits, Over}
 use Rattle.task_machine.specs.declared.stop.Moved.{Moved}
 use Rattle.task_machine.specs.declared.stop.Moved.TheVariants.{On, Stops}
 use Rattle.task_machine.specs.declared.stop.Stop.TheVariants.{Wait, Ended}
@@ -122,12 +122,12 @@ pub took_with : (frames : List Frame) (before after : Task) (old new : World) (g
     new.book ≡ old.book → new.started.items ≡ old.started.items → after.entries.items ≡ before.entries.items ++ entries →
     AreNoted (buffer_of before.part) entries o.made →
     o.begun ≡ [] →
-    ((id : ℕ) → HasBlock id (blocks_of frames) → HasNurseryOf id (blocks_of after.frames.items) (waits_by goes after.halt)) →
+    ((id : ℕ) → HasBlock id (blocks_of frames) → HasNurseryOf id (blocks_of after.frames.items) (waits_by goes after.task_state)) →
     ((id : ℕ) → HasBlock id (blocks_of after.frames.items) → HasBlock id (blocks_of frames)) →
     frames_of numbers after.frames.items ≡ o.frames →
     AreAt (label_at new) (froms_after froms o.made) (outer_of new.scopes (scope_of after)) o.places →
-    MovesAs numbers new.book before.part goes after.halt o →
-    waits_by goes after.halt ≡ None → Acts old.tick (scoping_of before old) o.made (scoping_of after new) →
+    MovesAs numbers new.book before.part goes after.task_state o →
+    waits_by goes after.task_state ≡ None → Acts old.tick (scoping_of before old) o.made (scoping_of after new) →
     Took frames before after old new goes froms numbers o
 took_with frames before after old new goes froms numbers o entries numbered book started noted shown none kept back gs at moves waits acts =
     record {
@@ -140,14 +140,14 @@ took_with frames before after old new goes froms numbers o entries numbered book
       shown = shown;
       tasks = [];
       started = started ∙ sym (append-nil old.started.items);
-      begun = subst (λ (bs : List Begun). AreBegun numbers new.book (blocks_of after.frames.items) (waits_by goes after.halt) [] bs)
+      begun = subst (λ (bs : List Begun). AreBegun numbers new.book (blocks_of after.frames.items) (waits_by goes after.task_state) [] bs)
           (sym none) tt;
       grow = grow_same frames numbers old.book new.book book;
       kept = kept;
       numbered = λ id has. numbered_same frames after.frames.items numbers old.book new.book book back numbered id
-          (block_of id (blocks_of after.frames.items) (waits_by goes after.halt) waits has);
-      owned = λ id has. inl (back id (block_of id (blocks_of after.frames.items) (waits_by goes after.halt) waits has));
-      covered = λ id place number has e. inl (back id (block_of id (blocks_of after.frames.items) (waits_by goes after.halt) waits has), e);
+          (block_of id (blocks_of after.frames.items) (waits_by goes after.task_state) waits has);
+      owned = λ id has. inl (back id (block_of id (blocks_of after.frames.items) (waits_by goes after.task_state) waits has));
+      covered = λ id place number has e. inl (back id (block_of id (blocks_of after.frames.items) (waits_by goes after.task_state) waits has), e);
       others = λ id n e apart other. ap (λ (b : NurseryBook). nursery_at b id) book ∙ e;
       acts = acts;
     }
@@ -159,8 +159,8 @@ pub took_quiet : (frames : List Frame) (before after : Task) (old new : World) (
     shown_made (buffer_of before.part) o.made ≡ [] → o.begun ≡ [] →
     blocks_of after.frames.items ≡ blocks_of frames → frames_of numbers after.frames.items ≡ o.frames →
     AreAt (label_at new) (froms_after froms o.made) (outer_of new.scopes (scope_of after)) o.places →
-    MovesAs numbers new.book before.part goes after.halt o →
-    waits_by goes after.halt ≡ None → Acts old.tick (scoping_of before old) o.made (scoping_of after new) →
+    MovesAs numbers new.book before.part goes after.task_state o →
+    waits_by goes after.task_state ≡ None → Acts old.tick (scoping_of before old) o.made (scoping_of after new) →
     Took frames before after old new goes froms numbers o
 took_quiet frames before after old new goes froms numbers o numbered book started entries quiet none same gs at moves waits acts =
     took_with frames before after old new goes froms numbers o [] numbered book started (entries ∙ sym (append-nil before.entries.items))
@@ -188,17 +188,17 @@ took_onward frames before after world exc froms numbers stopped ps o stands stay
     (same_acts world.tick (scoping_of before world) (scoping_of after world) (ap (λ (t : Task). scoping_of t world) stays)))
 
 -- the task stops, or continues, with another blocked state
-pub took_halts : (frames : List Frame) (before after : Task) (world : World) (goes : Moved) (froms : Table) (numbers : Numbers)
+pub took_task_states : (frames : List Frame) (before after : Task) (world : World) (goes : Moved) (froms : Table) (numbers : Numbers)
     (stopped : Option Stopped) (ps : List Place) (o : Move) →
-    Stands frames before world froms numbers stopped ps → after ≡ record before { frames = after.frames; halt = after.halt } →
+    Stands frames before world froms numbers stopped ps → after ≡ record before { frames = after.frames; task_state = after.task_state } →
     blocks_of after.frames.items ≡ blocks_of frames →
     o.frames ≡ frames_of numbers after.frames.items → o.places ≡ ps → o.made ≡ [] → o.begun ≡ [] → WaitsNot o.stopped →
-    MovesAs numbers world.book before.part goes after.halt o →
+    MovesAs numbers world.book before.part goes after.task_state o →
     Took frames before after world world goes froms numbers o
-took_halts frames before after world goes froms numbers stopped ps o stands stays same gs round made none not moves =
+took_task_states frames before after world goes froms numbers stopped ps o stands stays same gs round made none not moves =
     took_quiet frames before after world world goes froms numbers o stands.numbered refl refl (ap (λ (t : Task). t.entries.items) stays)
     (ap (λ (es : List rest.Event). shown_made (buffer_of before.part) es) made) none same (sym gs) at moves
-    (waits_not numbers world.book before.part goes after.halt o not moves)
+    (waits_not numbers world.book before.part goes after.task_state o not moves)
     (no_acts world.tick (scoping_of before world) (scoping_of after world) o.made made (ap (λ (t : Task). scoping_of t world) stays))
   where
     at : AreAt (label_at world) (froms_after froms o.made) (outer_of world.scopes (scope_of after)) o.places
@@ -226,23 +226,23 @@ falls_alone false (suc n) t fs ps = record { frames = refl; places = refl; made 
 pub took_sleep : (frames : List Frame) (before after : Task) (world : World) (goes : Moved) (froms : Table) (numbers : Numbers)
     (stopped : Option Stopped) (ps : List Place)
     (ticks : ℕ) →
-    Stands frames before world froms numbers stopped ps → after ≡ record before { halt = after.halt } →
+    Stands frames before world froms numbers stopped ps → after ≡ record before { task_state = after.task_state } →
     blocks_of before.frames.items ≡ blocks_of frames →
     (AreAt (label_at world) froms (outer_of world.scopes (scope_of before)) ps →
-    MovesAs numbers world.book before.part goes after.halt (sleeps froms ticks world.tick (frames_of numbers before.frames.items) ps)) →
+    MovesAs numbers world.book before.part goes after.task_state (sleeps froms ticks world.tick (frames_of numbers before.frames.items) ps)) →
     Took frames before after world world goes froms numbers (sleeps froms ticks world.tick (frames_of numbers before.frames.items) ps)
 took_sleep frames before after world goes froms numbers stopped ps ticks stands stays same sleep =
     let gs = frames_of numbers before.frames.items in
     let alone : LeavesAlone (sleeps froms ticks world.tick gs ps) gs ps = falls_alone _ ticks world.tick gs ps in
-    took_halts frames before after world goes froms numbers stopped ps (sleeps froms ticks world.tick gs ps) stands
-    (halted before after stays) (ap (λ
+    took_task_states frames before after world goes froms numbers stopped ps (sleeps froms ticks world.tick gs ps) stands
+    (task_stateed before after stays) (ap (λ
     (t : Task). blocks_of t.frames.items) stays ∙ same)
     (alone.frames ∙ ap (λ (t : Task). frames_of numbers t.frames.items) (sym stays)) alone.places alone.made alone.begun alone.waits
     (sleep stands.places)
   where
-    halted : (before after : Task) → after ≡ record before { halt = after.halt } →
-        after ≡ record before { frames = after.frames; halt = after.halt }
-    halted before after e = e ∙ ap (λ (t : Task). record before { frames = t.frames; halt = after.halt }) (sym e)
+    task_stateed : (before after : Task) → after ≡ record before { task_state = after.task_state } →
+        after ≡ record before { frames = after.frames; task_state = after.task_state }
+    task_stateed before after e = e ∙ ap (λ (t : Task). record before { frames = t.frames; task_state = after.task_state }) (sym e)
 
 -- ---- scopes that are signed
 
@@ -283,7 +283,7 @@ took_cancel frames before after old new froms numbers stopped ps name stands sta
 pub took_end : (before after : Task) (old new : World) (exc : Option held.Exc) (goes : Moved) (froms : Table) (numbers : Numbers)
     (stopped : Option Stopped) (ps : List Place) →
     Stands [] before old froms numbers stopped ps → before.frames.items ≡ [] → goes ≡ Stops (Ended exc) →
-    after ≡ record before { halt = Over } →
+    after ≡ record before { task_state = Over } →
     new ≡ record old { scopes = new.scopes } →
     FailsAt old new (scope_of before) (option_map exc_of exc) →
     Took [] before after old new goes froms numbers (ends_as (at_end old.tick (option_map exc_of exc)) (option_map exc_of exc) old.tick []
@@ -299,10 +299,10 @@ took_end before after old new exc goes froms numbers stopped ps stands empty goe
     (subst (λ (s : Option ℕ). AreAt (label_at new) (froms_after froms (signs_home e ps old.tick)) (outer_of new.scopes s) ps)
     (sym (ap (λ (t : Task). scope_of t) stays))
     (fails.lowered froms ps stands.own stands.places))
-    (subst (λ (m : Moved). MovesAs numbers new.book before.part m after.halt o) (sym goes_is)
-    (subst (λ (h : Halt). MovesAs numbers new.book before.part (Stops (Ended exc)) h o) (sym (ap (λ (t : Task). t.halt) stays))
+    (subst (λ (m : Moved). MovesAs numbers new.book before.part m after.task_state o) (sym goes_is)
+    (subst (λ (h : TaskState). MovesAs numbers new.book before.part (Stops (Ended exc)) h o) (sym (ap (λ (t : Task). t.task_state) stays))
     (refl, (tt, refl))))
-    (ap (λ (m : Moved). waits_by m after.halt) goes_is ∙ ap waits_of (ap (λ (t : Task). t.halt) stays))
+    (ap (λ (m : Moved). waits_by m after.task_state) goes_is ∙ ap waits_of (ap (λ (t : Task). t.task_state) stays))
     (home_signed before after old new e froms (outer_of old.scopes (scope_of before)) ps (ap (λ (t : Task). t.own.items) stays)
     (ap (λ (t : Task). t.froms.items) stays) (ap (λ (w : World). label_at w) world)
     stands.places fails.signed)
@@ -469,7 +469,7 @@ pub took_body : (frames : List Frame) (id : ℕ) (before after : Task) (old new 
     (froms : Table) (numbers : Numbers)
     (ps : List Place) (here : Here) (count : ℕ) →
     Stands frames before old froms numbers None ps → frames ≡ before.frames.items ++ Nursery id ∷ [] → goes ≡ Stops (Wait id) →
-    after ≡ record before { halt = Awaits id old.tick } → new ≡ record old { scopes = new.scopes; book = new.book } →
+    after ≡ record before { task_state = Awaits id old.tick } → new ≡ record old { scopes = new.scopes; book = new.book } →
     Changes old.book new.book id (with_body (option_map exc_of exc)) →
     FailsAt old new (scope_of before) (option_map exc_of exc) →
     Took frames before after old new goes froms numbers (step_frames froms old.tick here
@@ -491,10 +491,10 @@ took_body frames id before after old new exc goes froms numbers ps here count st
     left : after.frames.items ≡ before.frames.items
     left = ap (λ (t : Task). t.frames.items) stays
 
-    waits : waits_by goes after.halt ≡ Some id
+    waits : waits_by goes after.task_state ≡ Some id
     waits =
-        ap (λ (m : Moved). waits_by m after.halt) goes_is ∙ ap (λ (h : Halt). waits_by (Stops (Wait id)) h)
-        (ap (λ (t : Task). t.halt) stays)
+        ap (λ (m : Moved). waits_by m after.task_state) goes_is ∙ ap (λ (h : TaskState). waits_by (Stops (Wait id)) h)
+        (ap (λ (t : Task). t.task_state) stays)
 
     same : blocks_of frames ≡ blocks_of before.frames.items ++ a_nursery id ∷ []
     same = blocks_pushed before.frames.items frames (Nursery id) popped
@@ -502,12 +502,12 @@ took_body frames id before after old new exc goes froms numbers ps here count st
     c : (n : Members) × (nursery_at old.book id ≡ Some n) × Updates old.book new.book id (Some (with_body e n))
     c = change_of old.book new.book id (with_body e) changes
 
-    kept : (key : ℕ) → HasBlock key (blocks_of frames) → HasNurseryOf key (blocks_of after.frames.items) (waits_by goes after.halt)
+    kept : (key : ℕ) → HasBlock key (blocks_of frames) → HasNurseryOf key (blocks_of after.frames.items) (waits_by goes after.task_state)
     kept key has = by_either (has_either key (blocks_of before.frames.items) (a_nursery id ∷ [])
         (subst (λ (bs : List Block). HasBlock key bs) same has))
       where
         by_either : HasBlock key (blocks_of before.frames.items) ⊎ ((key ≡ id) ⊎ ⊥) →
-            HasNurseryOf key (blocks_of after.frames.items) (waits_by goes after.halt)
+            HasNurseryOf key (blocks_of after.frames.items) (waits_by goes after.task_state)
         by_either (inl h) = inl (subst (λ (fs : List Frame). HasBlock key (blocks_of fs)) (sym left) h)
         by_either (inr (inl f)) = inr (waits ∙ ap (λ (k : ℕ). Some k) (sym f))
         by_either (inr (inr h)) = absurd h
@@ -516,7 +516,7 @@ took_body frames id before after old new exc goes froms numbers ps here count st
     innermost = subst (λ (bs : List Block). HasBlock id bs) (sym same)
         (has_last id (blocks_of before.frames.items) (a_nursery id ∷ []) (inl refl))
 
-    back : (key : ℕ) → HasNurseryOf key (blocks_of after.frames.items) (waits_by goes after.halt) → HasBlock key (blocks_of frames)
+    back : (key : ℕ) → HasNurseryOf key (blocks_of after.frames.items) (waits_by goes after.task_state) → HasBlock key (blocks_of frames)
     back key (inl has) =
         subst (λ (bs : List Block). HasBlock key bs) (sym same)
         (has_more key (blocks_of before.frames.items) (a_nursery id ∷ [])
@@ -542,11 +542,11 @@ took_body frames id before after old new exc goes froms numbers ps here count st
               (outer_of new.scopes (scope_of before)) rs) f
               (fails.lowered froms ps stands.own stands.places));
           moves =
-              subst (λ (m : Moved). MovesAs numbers new.book before.part m after.halt
+              subst (λ (m : Moved). MovesAs numbers new.book before.part m after.task_state
               (ends_as (awaiting (numbers id) old.tick e) e old.tick gs (p ∷ qs))) (sym goes_is)
-              (subst (λ (h : Halt). MovesAs numbers new.book before.part (Stops (Wait id)) h
+              (subst (λ (h : TaskState). MovesAs numbers new.book before.part (Stops (Wait id)) h
               (ends_as (awaiting (numbers id) old.tick e) e old.tick gs (p ∷ qs)))
-              (sym (ap (λ (t : Task). t.halt) stays))
+              (sym (ap (λ (t : Task). t.task_state) stays))
               (refl, ((refl, refl, subst (λ (o : Option Members). IsSomeAnd o (λ n. n.body ≡ Some e)) (sym c.2.changed) refl), refl)));
           entries = [];
           noted = ap (λ (t : Task). t.entries.items) stays ∙ sym (append-nil before.entries.items);

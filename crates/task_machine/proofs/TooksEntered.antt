@@ -15,9 +15,9 @@ use Rattle.job_meaning.specs.Rest.{Stopped}
 use Rattle.nursery_book.specs.Nursery.{Nursery as Members, opened as opens}
 use Rattle.nursery_book.specs.Book.{nursery_at, HasNursery}
 use Rattle.task_machine.specs.Noted.{IsSlice}
-use Rattle.task_turns.specs.Midway.{Place}
-use Rattle.task_turns.specs.Names.{IsName, names_at}
-use Rattle.task_turns.specs.Steps.{enters_block}
+use Rattle.turn_semantics.specs.Midway.{Place}
+use Rattle.turn_semantics.specs.Names.{IsName, names_at}
+use Rattle.turn_semantics.specs.Steps.{enters_block}
 use Rattle.task_machine.specs.declared.frame.Frame.{Frame}
 use Rattle.task_machine.specs.declared.frame.Frame.TheVariants.{Steps, Scope, Nursery, Repeat, Try, Handler, Cleanup}
 use Rattle.task_machine.specs.declared.stop.Moved.TheVariants.{On}

@@ -15,7 +15,7 @@ use Rattle.cancel_scopes.specs.Tree.{outer_of}
 use Rattle.exc_groups.specs.Exceptions.{Label}
 use Rattle.job_tree.specs.Tree as tree
 use Rattle.job_tree.specs.Blocks.{steps_of}
-use Rattle.job_tree.specs.Modest.{AreModest}
+use Rattle.job_tree.specs.InRange.{AreInRange}
 use Rattle.job_tree.specs.declared.step.Step.{Step}
 use Rattle.job_meaning.specs.Log.{Table}
 use Rattle.job_meaning.specs.Walk.{Here, here_in, label_here, label_over}
@@ -25,9 +25,9 @@ use Rattle.nursery_book.specs.Nursery.{End, Nursery as Members}
 use Rattle.nursery_book.specs.Book.{nursery_at, HasNursery, Updates}
 use Rattle.nursery_book.specs.declared.book.NurseryBook.{NurseryBook}
 use Rattle.task_machine.specs.Noted.{IsSlice}
-use Rattle.task_turns.specs.Midway.{Place, Begun}
-use Rattle.task_turns.specs.Steps.{begun_one, begun_over, froms_after, step_on}
-use Rattle.task_turns.proofs.Events.{froms_append}
+use Rattle.turn_semantics.specs.Midway.{Place, Begun}
+use Rattle.turn_semantics.specs.Steps.{begun_one, begun_over, froms_after, step_on}
+use Rattle.turn_semantics.proofs.Events.{froms_append}
 use Rattle.task_machine.specs.declared.frame.Frame.{Frame}
 use Rattle.task_machine.specs.declared.frame.Frame.TheVariants.{Steps, Nursery}
 use Rattle.task_machine.specs.declared.stop.Moved.TheVariants.{On}
@@ -281,10 +281,10 @@ begun_child : (more : Numbers) (book : NurseryBook) (blocks : List Block) (waits
     (n : Members) (ps : List Place) (number : ℕ) → IsChild task label input range body (home_at id n i) →
     slice_get (more id) (length n.children + i) ≡ Some number →
     HasNursery book id (λ m. (m.scope ≡ n.scope) × (slice_get m.children (length n.children + i) ≡ Some None)) → HasBlock id blocks →
-    AreModest body →
+    AreInRange body →
     IsBegun more book blocks waits task (begun_one number (record { input = input; part = range; task = label; path = label.indices }) body
     ps)
-begun_child more book blocks waits task label input range body id i n ps number c at scope has modest =
+begun_child more book blocks waits task label input range body id i n ps number c at scope has in_range =
     record {
       here =
           ap (λ (x : List ℕ). (let h : Here = record {
@@ -299,7 +299,7 @@ begun_child more book blocks waits task label input range body id i n ps number 
           ∙ ap (λ (x : Label). (let h : Here = record { input = input; part = range; task = x; path = x.indices } in h)) c.label_is;
       frames = c.frames;
       own = c.own;
-      halt = c.halt;
+      task_state = c.task_state;
       entries = c.entries;
       froms = c.froms;
       home = home_at id n i;
@@ -307,7 +307,7 @@ begun_child more book blocks waits task label input range body id i n ps number 
       number = at;
       nursery = scope;
       owned = inl has;
-      modest = modest;
+      in_range = in_range;
     }
 
 -- one child is started
@@ -318,11 +318,11 @@ pub took_start : (frames fs : List Frame) (id : ℕ) (left : Bor (List Step)) (t
     task.frames.items ≡ fs ++ Nursery id ∷ Steps left ∷ [] →
     blocks_of task.frames.items ≡ blocks_of frames → (HasBlock id (blocks_of fs) → ⊥) →
     new ≡ record old { book = new.book; started = new.started } →
-    StartsOne old new id (record { name = name; indices = path_of task }) task.part body → AreModest body →
+    StartsOne old new id (record { name = name; indices = path_of task }) task.part body → AreInRange body →
     Took frames task task old new (On None) froms numbers
     (step_on froms old.tick (here_inside task) (tree.start name None body) (steps_of left.now)
     (rest.in_nursery (numbers id) ∷ frames_of numbers fs) ps count)
-took_start frames fs id left task old new froms numbers stopped ps name body count stands held same apart world s modest =
+took_start frames fs id left task old new froms numbers stopped ps name body count stands held same apart world s in_range =
     took_starts frames fs id left task old new froms numbers stopped ps s.nursery (None ∷ []) (count ∷ []) (s.task ∷ [])
     (begun_one count (here_in (label_here name (here_inside task)) (range_of task.part) (here_inside task)) body ps ∷ [])
     (starts count (label_here name (here_inside task)) old.tick ∷ [])
@@ -332,7 +332,7 @@ took_start frames fs id left task old new froms numbers stopped ps name body cou
           (range_of task.part) body id 0 s.nursery ps count s.child got
           (subst (λ (o : Option Members). IsSomeAnd o (λ m. (m.scope ≡ s.nursery.scope)
           × (slice_get m.children (length s.nursery.children + 0) ≡ Some None)))
-          (sym s.book.changed) (refl, got_behind s.nursery.children (None ∷ []) 0 (length s.nursery.children + 0) refl)) has modest,
+          (sym s.book.changed) (refl, got_behind s.nursery.children (None ∷ []) 0 (length s.nursery.children + 0) refl)) has in_range,
       tt,
     ) refl refl (start_acts old.tick count (label_here name (here_inside task)) old.tick (scoping_of task old) (scoping_of task new)
     (ap (λ (w : World). scoping_of task w) world)) begins
@@ -418,20 +418,20 @@ begun_first : (more : Numbers) (book : NurseryBook) (blocks : List Block) (waits
     (first : ℕ) → ((i : ℕ) → i < k → slice_get (more id) (length n.children + i) ≡ Some (first + i)) →
     ((i : ℕ) → i < k → HasNursery book id (λ m. (m.scope ≡ n.scope) × (slice_get m.children (length n.children + i) ≡ Some None))) →
     HasBlock id blocks →
-    AreModest body → (i : ℕ) → i ≤ k → (tasks : List Task) → AreChildren self id n name k body tasks i →
+    AreInRange body → (i : ℕ) → i ≤ k → (tasks : List Task) → AreChildren self id n name k body tasks i →
     AreBegun more book blocks waits tasks (begun_over name (here_inside self) k body ps first i)
-begun_first more book blocks waits self id n name k body ps first got scope has modest zero few tasks c =
+begun_first more book blocks waits self id n name k body ps first got scope has in_range zero few tasks c =
     subst (λ (ts : List Task). AreBegun more book blocks waits ts []) (sym c) tt
-begun_first more book blocks waits self id n name k body ps first got scope has modest (suc i) few tasks c =
+begun_first more book blocks waits self id n name k body ps first got scope has in_range (suc i) few tasks c =
     subst (λ (ts : List Task). AreBegun more book blocks waits ts (begun_over name (here_inside self) k body ps first (suc i))) (sym c.2)
     (begun_more more book blocks waits c.0 (c.1 ∷ []) (begun_over name (here_inside self) k body ps first i)
     (begun_one (first + i) (here_in (label_over name (here_inside self) i) (cut_of (buffer_of self.part) (range_of self.part) k i)
     (here_inside self)) body ps ∷ [])
-    (begun_first more book blocks waits self id n name k body ps first got scope has modest i (omega (arith, few)) c.0 c.3) (
+    (begun_first more book blocks waits self id n name k body ps first got scope has in_range i (omega (arith, few)) c.0 c.3) (
       begun_child more book blocks waits c.1 (label_over name (here_inside self) i) (buffer_of self.part)
           (cut_of (buffer_of self.part) (range_of self.part) k i) body id i n ps
           (first + i) c.4
-          (got i (omega (arith, few))) (scope i (omega (arith, few))) has modest,
+          (got i (omega (arith, few))) (scope i (omega (arith, few))) has in_range,
       tt,
     ))
 
@@ -481,11 +481,11 @@ pub took_start_over : (frames fs : List Frame) (id : ℕ) (left : Bor (List Step
     task.frames.items ≡ fs ++ Nursery id ∷ Steps left ∷ [] →
     blocks_of task.frames.items ≡ blocks_of frames → (HasBlock id (blocks_of fs) → ⊥) →
     new ≡ record old { book = new.book; started = new.started } →
-    StartsOver task old new id name k body k → AreModest body →
+    StartsOver task old new id name k body k → AreInRange body →
     Took frames task task old new (On None) froms numbers
     (step_on froms old.tick (here_inside task) (tree.start name (Some k) body) (steps_of left.now)
     (rest.in_nursery (numbers id) ∷ frames_of numbers fs) ps count)
-took_start_over frames fs id left task old new froms numbers stopped ps name k body count stands held same apart world s modest =
+took_start_over frames fs id left task old new froms numbers stopped ps name k body count stands held same apart world s in_range =
     took_starts frames fs id left task old new froms numbers stopped ps s.nursery (running k) (numbered count k) s.tasks
     (begun_over name (here_inside task) k body ps count k)
     (starts_over name (here_inside task) old.tick count k) stands held same apart world s.was s.book (all_running k)
@@ -495,7 +495,7 @@ took_start_over frames fs id left task old new froms numbers stopped ps name k b
     subst (λ (o : Option Members). IsSomeAnd o (λ m. (m.scope ≡ s.nursery.scope)
     × (slice_get m.children (length s.nursery.children + i) ≡ Some None)))
     (sym s.book.changed) (refl, got_behind s.nursery.children (running k) i (length s.nursery.children + i) refl ∙ running_at k i less))
-    has modest k (omega arith) s.tasks s.children)
+    has in_range k (omega arith) s.tasks s.children)
     (over_froms name (here_inside task) old.tick count k froms)
     (over_unshown (buffer_of task.part) name (here_inside task) old.tick count k)
     (starts_acts old.tick name (here_inside task) old.tick count k (scoping_of task old) (scoping_of task new)

@@ -20,10 +20,10 @@ use Rattle.nursery_book.specs.Nursery.{Nursery as Members}
 use Rattle.nursery_book.specs.Book.{nursery_at, Updates}
 use Rattle.task_machine.specs.declared.entry.Entry.TheVariants as entries
 use Rattle.task_machine.specs.Noted.{entry_of, IsSlice}
-use Rattle.task_turns.specs.Midway.{Place}
-use Rattle.task_turns.specs.Placed.{PlacedStop}
-use Rattle.task_turns.specs.Steps.{making, leaves, froms_after}
-use Rattle.task_turns.specs.Wakes.{lines_made, settled}
+use Rattle.turn_semantics.specs.Midway.{Place}
+use Rattle.turn_semantics.specs.Placed.{PlacedStop}
+use Rattle.turn_semantics.specs.Steps.{making, leaves, froms_after}
+use Rattle.turn_semantics.specs.Wakes.{lines_made, settled}
 use Rattle.task_machine.specs.declared.frame.Frame.{Frame}
 use Rattle.task_machine.specs.declared.outcome.Kind.TheVariants as kind
 use Rattle.task_machine.specs.declared.stop.Moved.TheVariants.{On}
@@ -139,7 +139,7 @@ pub took_lines : (frames : List Frame) (before after : Task) (world : World) (fr
     (ps : List Place) (spans : List Span)
     (lines : List Line) →
     Stands frames before world froms numbers stopped ps → before.frames.items ≡ frames →
-    after ≡ record before { halt = after.halt; entries = after.entries } →
+    after ≡ record before { task_state = after.task_state; entries = after.entries } →
     after.entries.items ≡ before.entries.items ++ map entries.Line lines → AreLinesAt (buffer_of before.part) spans lines →
     Took frames before after world world (On None) froms numbers (making (lines_made world.tick spans) (frames_of numbers frames) ps)
 took_lines frames before after world froms numbers stopped ps spans lines stands held stays noted at =

@@ -11,7 +11,7 @@ use Rattle.buffer_parts.specs.Lines.{Range, Span, bytes_of}
 use Rattle.buffer_parts.specs.Part.{buffer_of, range_of, span_of}
 use Rattle.buffer_parts.specs.declared.part.Part.{Part}
 use Rattle.buffer_parts.proofs.JoinLemmas.{length-lines_from}
-use Rattle.job_meaning.specs.declared.limits.TheConstants.{MOST_INPUT}
+use Rattle.job_meaning.specs.declared.limits.TheConstants.{MAX_INPUT}
 use Rattle.line_kernels.specs.Answers.{AreLinesAt, IsAnswer}
 use Rattle.line_kernels.specs.Kernels.{needed_in, count_in}
 use Rattle.line_kernels.specs.declared.answers.Answer.TheVariants as answers
@@ -23,8 +23,8 @@ count_le : (input : List ℕ) (r : Range) → count_in input r ≤ length (bytes
 count_le input r = length-lines_from r.from (bytes_of input r)
 
 -- a count of the lines of a part that is not too long is no greater than the longest input
-pub count_few : (kernel : Kernel) (part : Part) (n : ℕ) → length (bytes_of (buffer_of part) (range_of part)) ≤ MOST_INPUT →
-    IsAnswer kernel part (answers.Count n) → n ≤ MOST_INPUT
+pub count_few : (kernel : Kernel) (part : Part) (n : ℕ) → length (bytes_of (buffer_of part) (range_of part)) ≤ MAX_INPUT →
+    IsAnswer kernel part (answers.Count n) → n ≤ MAX_INPUT
 count_few (Find needle) part n small a = absurd a
 count_few (Head count) part n small a = absurd a
 count_few Longest part n small a = absurd a

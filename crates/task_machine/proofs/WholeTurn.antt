@@ -10,16 +10,16 @@ use Rattle.job_meaning.specs.Rest as rest
 use Rattle.job_meaning.specs.Rest.{Stopped, to_begin, asking, asleep, awaiting, at_end}
 use Rattle.buffer_parts.specs.declared.part.Part.{Part}
 use Rattle.nursery_book.specs.declared.book.NurseryBook.{NurseryBook}
-use Rattle.task_turns.specs.Midway.{Place, Midway, Move, then_move}
-use Rattle.task_turns.specs.Placed.{PlacedAfter}
-use Rattle.task_turns.specs.Names.{NewIn, OwnNames, names_at, StaysNew}
-use Rattle.task_turns.specs.Steps.{froms_after, turn_of}
-use Rattle.task_turns.specs.Wakes.{CanWake, from_start, from_asking, from_sleep, from_due, from_wait, turn_from}
-use Rattle.task_turns.specs.Wakes as wakes
-use Rattle.task_turns.proofs.Waking.{turned_from}
-use Rattle.task_turns.proofs.Names.{turn_stays_new}
-use Rattle.task_machine.specs.declared.stop.Halt.{Halt}
-use Rattle.task_machine.specs.declared.stop.Halt.TheVariants.{ToBegin, Asked, Asleep, Awaits, Over}
+use Rattle.turn_semantics.specs.Midway.{Place, Midway, Move, then_move}
+use Rattle.turn_semantics.specs.Placed.{PlacedAfter}
+use Rattle.turn_semantics.specs.Names.{NewIn, OwnNames, names_at, StaysNew}
+use Rattle.turn_semantics.specs.Steps.{froms_after, turn_of}
+use Rattle.turn_semantics.specs.Wakes.{CanWake, from_start, from_asking, from_sleep, from_due, from_wait, turn_from}
+use Rattle.turn_semantics.specs.Wakes as wakes
+use Rattle.turn_semantics.proofs.Waking.{turned_from}
+use Rattle.turn_semantics.proofs.Names.{turn_stays_new}
+use Rattle.task_machine.specs.declared.stop.TaskState.{TaskState}
+use Rattle.task_machine.specs.declared.stop.TaskState.TheVariants.{ToBegin, Asked, Asleep, Awaits, Over}
 use Rattle.task_machine.specs.declared.stop.Moved.TheVariants.{On, Stops}
 use Rattle.task_machine.specs.declared.stop.Stop.{Stop}
 use Rattle.task_machine.specs.declared.stop.Wake.{Wake}
@@ -28,13 +28,13 @@ use Rattle.task_machine.specs.declared.task.Task.{Task}
 use Rattle.task_machine.specs.declared.world.World.{World}
 use Rattle.task_machine.specs.Frames.{frames_of}
 use Rattle.task_machine.specs.Standing.{here_of, Stands, Took, StopsAfter, wake_at, TookTurn}
-use Rattle.task_machine.specs.Stops.{Numbers, IsHalt, StopsAs}
+use Rattle.task_machine.specs.Stops.{Numbers, IsTaskState, StopsAs}
 use Rattle.task_machine.specs.Waking.{WakesFrom, wake_in}
 use Rattle.task_machine.proofs.Taking.{took_then}
 
 -- a wake that fits the blocked state is possible after the stop
-pub can_wake : (halt : Halt) (part : Part) (book : NurseryBook) (numbers : Numbers) (w : Wake) (s : Stopped) → WakesFrom halt part book w →
-    IsHalt numbers book halt s → CanWake (wake_in book halt w) s
+pub can_wake : (task_state : TaskState) (part : Part) (book : NurseryBook) (numbers : Numbers) (w : Wake) (s : Stopped) → WakesFrom task_state part book w →
+    IsTaskState numbers book task_state s → CanWake (wake_in book task_state w) s
 can_wake ToBegin part book numbers Begin to_begin f h = from_start
 can_wake ToBegin part book numbers Begin (asking l q) f h = absurd h
 can_wake ToBegin part book numbers Begin (asleep m v) f h = absurd h
@@ -132,35 +132,35 @@ wake_stands task after old new exc froms numbers ps count stopped w can stands t
 pub turns_at_once : (task after : Task) (old new : World) (wake : Wake) (stop : Stop) (froms : Table) (numbers : Numbers) (ps : List Place)
     (count : ℕ) (stopped : Stopped) →
     Took task.frames.items task after old new (Stops stop) froms numbers
-    (wake_at task old (wake_in old.book task.halt wake) stopped froms numbers ps) →
+    (wake_at task old (wake_in old.book task.task_state wake) stopped froms numbers ps) →
     TookTurn task after old new wake stop froms numbers stopped ps count
 unfolding turn_from
 turns_at_once task after old new wake stop froms numbers ps count stopped took =
-    let o = wake_at task old (wake_in old.book task.halt wake) stopped froms numbers ps in
+    let o = wake_at task old (wake_in old.book task.task_state wake) stopped froms numbers ps in
     record {
       steps = zero;
       took = subst (λ (p : Move). Took task.frames.items task after old new (Stops stop) froms numbers p)
           (sym (then_none o.stopped o _ took.moves.1)) took;
     }
   where
-    then_none : (s : Option Stopped) (o q : Move) → StopsAs took.numbers_after new.book task.part stop after.halt s → then_move s o q ≡ o
+    then_none : (s : Option Stopped) (o q : Move) → StopsAs took.numbers_after new.book task.part stop after.task_state s → then_move s o q ≡ o
     then_none None o q h = absurd h
     then_none (Some s) o q h = refl
 
 -- it went on, and stopped later
 pub turns_later : (task mid after : Task) (old w new : World) (wake : Wake) (exc : Option held.Exc) (stop : Stop) (froms : Table)
     (numbers : Numbers) (ps : List Place) (count : ℕ) (stopped : Stopped) →
-    mid.part ≡ task.part → mid.label ≡ task.label → w.tick ≡ old.tick → CanWake (wake_in old.book task.halt wake) stopped →
+    mid.part ≡ task.part → mid.label ≡ task.label → w.tick ≡ old.tick → CanWake (wake_in old.book task.task_state wake) stopped →
     Stands task.frames.items task old froms numbers (Some stopped) ps →
     Took task.frames.items task mid old w (On exc) froms numbers
-    (wake_at task old (wake_in old.book task.halt wake) stopped froms numbers ps) →
+    (wake_at task old (wake_in old.book task.task_state wake) stopped froms numbers ps) →
     StopsAfter mid after w new (option_map exc_of exc) stop →
     TookTurn task after old new wake stop froms numbers stopped ps count
 unfolding turn_from
 turns_later task mid after old w new wake exc stop froms numbers ps count stopped part label tick can stands took steps =
-    let o = wake_at task old (wake_in old.book task.halt wake) stopped froms numbers ps in
+    let o = wake_at task old (wake_in old.book task.task_state wake) stopped froms numbers ps in
     let s = steps (froms_after froms o.made) took.numbers_after o.places (count + length o.begun)
-    (wake_stands task mid old w exc froms numbers ps count stopped (wake_in old.book task.halt wake) can stands took) in
+    (wake_stands task mid old w exc froms numbers ps count stopped (wake_in old.book task.task_state wake) can stands took) in
     record {
       steps = s.steps;
       took =

@@ -9,9 +9,9 @@ use Rattle.exc_groups.specs.Exceptions.{Label}
 use Rattle.cancel_scopes.specs.Sight.{Tick, Level}
 use Rattle.cancel_scopes.specs.Tree.{stack_of, outer_of, OthersKeep, SameMarks}
 use Rattle.job_meaning.specs.Log.{Table}
-use Rattle.task_turns.specs.Midway.{Place}
-use Rattle.task_turns.specs.Names.{IsName, names_at, OwnNames}
-use Rattle.task_turns.specs.Steps.{opened, label_among, signs_to, froms_after}
+use Rattle.turn_semantics.specs.Midway.{Place}
+use Rattle.turn_semantics.specs.Names.{IsName, names_at, OwnNames}
+use Rattle.turn_semantics.specs.Steps.{opened, label_among, signs_to, froms_after}
 use Rattle.task_machine.specs.declared.frame.Frame.{Frame}
 use Rattle.task_machine.specs.declared.frame.Frame.TheVariants as frame
 use Rattle.task_machine.specs.declared.task.Own.{Own}

@@ -9,9 +9,9 @@ use Rattle.job_meaning.specs.Walk.{left_as, left_with, exc_after}
 use Rattle.job_meaning.specs.Walk as meaning
 use Rattle.job_meaning.specs.Rest.{noted}
 use Rattle.task_machine.specs.declared.entry.Entry.{Entry}
-use Rattle.task_turns.specs.Midway.{Place, stack_at}
-use Rattle.task_turns.specs.Names.{names_at, OwnNames}
-use Rattle.task_turns.specs.Steps.{signs_home, froms_after}
+use Rattle.turn_semantics.specs.Midway.{Place, stack_at}
+use Rattle.turn_semantics.specs.Names.{names_at, OwnNames}
+use Rattle.turn_semantics.specs.Steps.{signs_home, froms_after}
 use Rattle.task_machine.specs.declared.outcome.Kind.{Kind}
 use Rattle.task_machine.specs.declared.task.Task.{Task}
 use Rattle.task_machine.specs.declared.world.World.{World}

@@ -3,9 +3,9 @@ use Rattle.std.specs.Prelude.{◌≡◌, ◌≢◌, ◌⊎◌, ℕ, zero, suc, �
 use Rattle.std.specs.Option.{ForSome, option_map}
 use Rattle.std.specs.List.{last_or}
 use Rattle.job_tree.specs.Starting.{StartsIn, HandlerStarts, CleanupStarts}
-use Rattle.task_turns.specs.Placed.{in_body}
-use Rattle.job_tree.specs.declared.limits.TheConstants.{MOST_PASSES}
-use Rattle.job_tree.specs.Modest.{AreModest, IsModestHandler, IsModestCleanup}
+use Rattle.turn_semantics.specs.Placed.{in_body}
+use Rattle.job_tree.specs.declared.limits.TheConstants.{MAX_PASSES}
+use Rattle.job_tree.specs.InRange.{AreInRange, IsInRangeHandler, IsInRangeCleanup}
 use Rattle.buffer_parts.specs.Lines.{bytes_of}
 use Rattle.buffer_parts.specs.Part.{buffer_of, range_of}
 use Rattle.buffer_parts.specs.declared.part.Part.{Part}
@@ -14,11 +14,11 @@ use Rattle.nursery_book.specs.Nursery.{End, Nursery as Members}
 use Rattle.nursery_book.specs.Book.{HasNursery}
 use Rattle.nursery_book.specs.declared.book.NurseryBook.{NurseryBook}
 use Rattle.job_meaning.specs.Rest as rest
-use Rattle.job_meaning.specs.declared.limits.TheConstants.{MOST_INPUT}
+use Rattle.job_meaning.specs.declared.limits.TheConstants.{MAX_INPUT}
 use Rattle.task_machine.specs.declared.frame.Frame.{Frame}
 use Rattle.task_machine.specs.declared.frame.Frame.TheVariants.{Steps, Scope, Nursery, Repeat, Try, Handler, Cleanup}
-use Rattle.task_machine.specs.declared.stop.Halt.{Halt}
-use Rattle.task_machine.specs.declared.stop.Halt.TheVariants.{ToBegin, Asked, Asleep, Awaits, Over}
+use Rattle.task_machine.specs.declared.stop.TaskState.{TaskState}
+use Rattle.task_machine.specs.declared.stop.TaskState.TheVariants.{ToBegin, Asked, Asleep, Awaits, Over}
 use Rattle.task_machine.specs.declared.task.Own.{Own}
 use Rattle.task_machine.specs.declared.task.Task.{Task}
 use Rattle.task_machine.specs.declared.world.World.{World}
@@ -30,15 +30,15 @@ use Rattle.task_machine.specs.Tasks.{home_scope}
 use Rattle.task_machine.specs.Worlds.{label_at}
 
 -- all numbers of the steps and of the passes that are left are in range
-abbrev pub AreModestFrames : List rest.Frame → Type 0
-AreModestFrames [] = Unit {0}
-AreModestFrames (rest.steps_left ss ∷ fs) = AreModest ss × AreModestFrames fs
-AreModestFrames (rest.in_scope fail ∷ fs) = AreModestFrames fs
-AreModestFrames (rest.in_nursery children ∷ fs) = AreModestFrames fs
-AreModestFrames (rest.in_repeat pass left body ∷ fs) = AreModest body × (pass + left ≤ MOST_PASSES) × AreModestFrames fs
-AreModestFrames (rest.in_try handler cleanup ∷ fs) = IsModestHandler handler × IsModestCleanup cleanup × AreModestFrames fs
-AreModestFrames (rest.in_handler others cleanup ∷ fs) = IsModestCleanup cleanup × AreModestFrames fs
-AreModestFrames (rest.in_cleanup outcome ∷ fs) = AreModestFrames fs
+abbrev pub AreInRangeFrames : List rest.Frame → Type 0
+AreInRangeFrames [] = Unit {0}
+AreInRangeFrames (rest.steps_left ss ∷ fs) = AreInRange ss × AreInRangeFrames fs
+AreInRangeFrames (rest.in_scope fail ∷ fs) = AreInRangeFrames fs
+AreInRangeFrames (rest.in_nursery children ∷ fs) = AreInRangeFrames fs
+AreInRangeFrames (rest.in_repeat pass left body ∷ fs) = AreInRange body × (pass + left ≤ MAX_PASSES) × AreInRangeFrames fs
+AreInRangeFrames (rest.in_try handler cleanup ∷ fs) = IsInRangeHandler handler × IsInRangeCleanup cleanup × AreInRangeFrames fs
+AreInRangeFrames (rest.in_handler others cleanup ∷ fs) = IsInRangeCleanup cleanup × AreInRangeFrames fs
+AreInRangeFrames (rest.in_cleanup outcome ∷ fs) = AreInRangeFrames fs
 
 -- each `start` that is left is directly in a nursery
 abbrev pub StartsFit : List rest.Frame → Type 0
@@ -133,7 +133,7 @@ RunsIn book (a_nursery id ∷ bs) zero waits = HasRunning book (Some id) ⊎ Run
 RunsIn book (b ∷ bs) (suc i) waits = RunsIn book bs i waits
 
 -- the nursery that a task in this blocked state waits for, if it does
-abbrev pub waits_of : Halt → Option ℕ
+abbrev pub waits_of : TaskState → Option ℕ
 waits_of ToBegin = None
 waits_of (Asked kernel purpose) = None
 waits_of (Asleep ticks since) = None
@@ -157,9 +157,9 @@ pub record FitsIn
     (frames : List Frame) (part : Part) (within : Option ℕ) (own : List Own) (entered : ℕ) (tree : Tree) (labels : Labels)
     (book : NurseryBook) (waits : Option ℕ) : Type 0
   where
-    pub modest : AreModestFrames (frames_of (λ id. []) frames)
+    pub in_range : AreInRangeFrames (frames_of (λ id. []) frames)
     pub starts : StartsFit (frames_of (λ id. []) frames)
-    pub small : length (bytes_of (buffer_of part) (range_of part)) ≤ MOST_INPUT
+    pub small : length (bytes_of (buffer_of part) (range_of part)) ≤ MAX_INPUT
     pub home : ForSome within (IsOpen tree)
     pub scope : ForSome (last_or within (map (λ (o : Own). o.id) own)) (IsOpen tree)
     pub first : OwnFirst tree within own

@@ -10,9 +10,9 @@ use Rattle.task_machine.specs.declared.frame.Frame.{Frame}
 use Rattle.task_machine.specs.declared.frame.Frame.TheVariants.{Steps, Scope, Nursery, Repeat, Try, Handler, Cleanup}
 
 -- the exception in an optional box
-abbrev pub laid_aside : Option (Box held.Exc) → Option held.Exc
-laid_aside None = None
-laid_aside (Some aside) = Some aside.value
+abbrev pub unboxed_exc : Option (Box held.Exc) → Option held.Exc
+unboxed_exc None = None
+unboxed_exc (Some in_box) = Some in_box.value
 
 -- one frame, where the children that were started in each nursery have these numbers
 abbrev pub frame_of : (ℕ → List ℕ) → Frame → rest.Frame
@@ -21,8 +21,8 @@ frame_of children (Scope fail) = rest.in_scope fail
 frame_of children (Nursery id) = rest.in_nursery (children id)
 frame_of children (Repeat pass left body) = rest.in_repeat pass left body.now
 frame_of children (Try handler cleanup) = rest.in_try (handled_of (option_copied handler)) (cleaned_of cleanup.now)
-frame_of children (Handler others cleanup) = rest.in_handler (option_map exc_of (laid_aside others)) (cleaned_of cleanup.now)
-frame_of children (Cleanup outcome) = rest.in_cleanup (option_map exc_of (laid_aside outcome))
+frame_of children (Handler others cleanup) = rest.in_handler (option_map exc_of (unboxed_exc others)) (cleaned_of cleanup.now)
+frame_of children (Cleanup outcome) = rest.in_cleanup (option_map exc_of (unboxed_exc outcome))
 
 -- those that the code holds, inside the outer ones
 abbrev pub frames_onto : (ℕ → List ℕ) → List Frame → List rest.Frame → List rest.Frame

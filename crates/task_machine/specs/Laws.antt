@@ -5,9 +5,9 @@ use Rattle.exc_groups.specs.Exceptions.{Label}
 use Rattle.cancel_scopes.specs.Sight.{Tick, Level, seen, catches}
 use Rattle.cancel_scopes.specs.Tree as scopes
 use Rattle.job_meaning.specs.Log.{Table}
-use Rattle.task_turns.specs.Midway.{Place, stack_at}
-use Rattle.task_turns.specs.Names.{IsName, names_at, OwnNames}
-use Rattle.task_turns.specs.Steps.{label_among, lowered, opened}
+use Rattle.turn_semantics.specs.Midway.{Place, stack_at}
+use Rattle.turn_semantics.specs.Names.{IsName, names_at, OwnNames}
+use Rattle.turn_semantics.specs.Steps.{label_among, lowered, opened}
 use Rattle.task_machine.specs.Labels.{Labels, scope_named}
 use Rattle.task_machine.specs.Stacked.{AreAt, IsKey, SameOn, FoundAs}
 

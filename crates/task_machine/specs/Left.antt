@@ -5,7 +5,7 @@ use Rattle.std.specs.List.{last_or}
 use Rattle.cancel_scopes.specs.Sight.{Tick, Level, catches}
 use Rattle.cancel_scopes.specs.Tree.{Tree, Stack, stack_of, outer_of, own_from, OthersKeep, OtherMarksKeep, IsInnermost}
 use Rattle.job_meaning.specs.Log.{Table}
-use Rattle.task_turns.specs.Midway.{Place, stack_at}
+use Rattle.turn_semantics.specs.Midway.{Place, stack_at}
 use Rattle.task_machine.specs.declared.entry.ScopeFrom.{ScopeFrom}
 use Rattle.task_machine.specs.declared.leaving.Closed.{Closed}
 use Rattle.task_machine.specs.declared.task.Own.{Own}

@@ -4,7 +4,7 @@ use Rattle.std.specs.Prelude.{◌≡◌, ◌⊎◌, ℕ, Option, Some, None, Lis
 use Rattle.exc_groups.specs.Exceptions.{Label}
 use Rattle.cancel_scopes.specs.Tree as scopes
 use Rattle.job_meaning.specs.Log.{Table}
-use Rattle.task_turns.specs.Midway.{Place}
+use Rattle.turn_semantics.specs.Midway.{Place}
 use Rattle.task_machine.specs.Labels.{Labels}
 
 -- A stack of open scopes corresponds to these places with the froms of a table: each scope has the place's label and

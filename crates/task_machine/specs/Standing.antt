@@ -8,7 +8,7 @@ use Rattle.nursery_book.specs.Book.{nursery_at, HasNursery}
 use Rattle.nursery_book.specs.declared.book.NurseryBook.{NurseryBook}
 use Rattle.exc_groups.specs.Exceptions.{Exc}
 use Rattle.job_tree.specs.declared.step.Step as held
-use Rattle.job_tree.specs.Modest.{AreModest}
+use Rattle.job_tree.specs.InRange.{AreInRange}
 use Rattle.job_meaning.specs.Log.{Table}
 use Rattle.job_meaning.specs.Walk.{Here}
 use Rattle.job_meaning.specs.Shown.{Shown, shown_at}
@@ -16,16 +16,16 @@ use Rattle.job_meaning.specs.Rest as rest
 use Rattle.job_meaning.specs.Rest.{Event, noted, signs, enters, starts, Stopped}
 use Rattle.task_machine.specs.declared.entry.Entry.{Entry}
 use Rattle.task_machine.specs.Noted.{entry_of, IsSlice}
-use Rattle.task_turns.specs.Midway.{Place, Begun, Move}
-use Rattle.task_turns.specs.Placed.{PlacedAfter, places_behind}
-use Rattle.task_turns.specs.Names.{NewIn, OwnNames, names_at}
-use Rattle.task_turns.specs.Steps.{froms_after, step_of, turn_of}
-use Rattle.task_turns.specs.Wakes as wakes
-use Rattle.task_turns.specs.Wakes.{wake_of, turn_from}
+use Rattle.turn_semantics.specs.Midway.{Place, Begun, Move}
+use Rattle.turn_semantics.specs.Placed.{PlacedAfter, places_behind}
+use Rattle.turn_semantics.specs.Names.{NewIn, OwnNames, names_at}
+use Rattle.turn_semantics.specs.Steps.{froms_after, step_of, turn_of}
+use Rattle.turn_semantics.specs.Wakes as wakes
+use Rattle.turn_semantics.specs.Wakes.{wake_of, turn_from}
 use Rattle.task_machine.specs.declared.frame.Frame.{Frame}
 use Rattle.task_machine.specs.declared.frame.Frame.TheVariants as code
-use Rattle.task_machine.specs.declared.stop.Halt.{Halt}
-use Rattle.task_machine.specs.declared.stop.Halt.TheVariants.{ToBegin}
+use Rattle.task_machine.specs.declared.stop.TaskState.{TaskState}
+use Rattle.task_machine.specs.declared.stop.TaskState.TheVariants.{ToBegin}
 use Rattle.task_machine.specs.declared.stop.Moved.TheVariants.{On, Stops}
 use Rattle.task_machine.specs.declared.stop.Moved.{Moved}
 use Rattle.task_machine.specs.declared.stop.Stop.{Stop}
@@ -38,7 +38,7 @@ use Rattle.task_machine.specs.Acts.{Acts, scoping_of}
 use Rattle.task_machine.specs.Fitting.{Block, a_scope, a_nursery, blocks_of, waits_of, AreOthers}
 use Rattle.task_machine.specs.Frames.{frames_of}
 use Rattle.task_machine.specs.Stacked.{AreAt}
-use Rattle.task_machine.specs.Stops.{Numbers, IsHalt, MovesAs}
+use Rattle.task_machine.specs.Stops.{Numbers, IsTaskState, MovesAs}
 use Rattle.task_machine.specs.Tasks.{scope_of, home_of}
 use Rattle.task_machine.specs.Waking.{wake_in}
 use Rattle.task_machine.specs.Worlds.{label_at}
@@ -58,9 +58,9 @@ abbrev pub HasNurseryOf : ℕ → List Block → Option ℕ → Type 0
 HasNurseryOf id bs waits = HasBlock id bs ⊎ (waits ≡ Some id)
 
 -- the nursery that a task waits for after a move
-abbrev pub waits_by : Moved → Halt → Option ℕ
-waits_by (On exc) halt = None
-waits_by (Stops stop) halt = waits_of halt
+abbrev pub waits_by : Moved → TaskState → Option ℕ
+waits_by (On exc) task_state = None
+waits_by (Stops stop) task_state = waits_of task_state
 
 -- a move that is no stop
 abbrev pub GoesOn : Moved → Type 0
@@ -108,7 +108,7 @@ pub record IsBegun (numbers : Numbers) (book : NurseryBook) (bs : List Block) (w
   pub here : here_of task ≡ b.here
   pub frames : (others : Numbers) → frames_of others task.frames.items ≡ rest.steps_left b.body ∷ []
   pub own : task.own.items ≡ []
-  pub halt : task.halt ≡ ToBegin
+  pub task_state : task.task_state ≡ ToBegin
   pub entries : task.entries.items ≡ []
   pub froms : task.froms.items ≡ []
   pub home : Home
@@ -116,7 +116,7 @@ pub record IsBegun (numbers : Numbers) (book : NurseryBook) (bs : List Block) (w
   pub number : slice_get (numbers home.nursery) home.place ≡ Some b.number
   pub nursery : HasNursery book home.nursery (λ n. (n.scope ≡ home.scope) × (slice_get n.children home.place ≡ Some None))
   pub owned : HasNurseryOf home.nursery bs waits
-  pub modest : AreModest b.body
+  pub in_range : AreInRange b.body
 
 abbrev pub AreBegun : Numbers → NurseryBook → List Block → Option ℕ → List Task → List Begun → Type 0
 AreBegun numbers book bs waits [] [] = Unit {0}
@@ -173,20 +173,20 @@ pub record Took
     pub numbers_after : Numbers
     pub frames_after : frames_of numbers_after after.frames.items ≡ o.frames
     pub places : AreAt (label_at new) (froms_after froms o.made) (outer_of new.scopes (scope_of after)) o.places
-    pub moves : MovesAs numbers_after new.book before.part moved after.halt o
+    pub moves : MovesAs numbers_after new.book before.part moved after.task_state o
     pub entries : List Entry
     pub noted : after.entries.items ≡ before.entries.items ++ entries
     pub shown : AreNoted (buffer_of before.part) entries o.made
     pub tasks : List Task
     pub started : new.started.items ≡ old.started.items ++ tasks
-    pub begun : AreBegun numbers_after new.book (blocks_of after.frames.items) (waits_by moved after.halt) tasks o.begun
+    pub begun : AreBegun numbers_after new.book (blocks_of after.frames.items) (waits_by moved after.task_state) tasks o.begun
     pub grow : Grow frames numbers numbers_after old.book new.book
-    pub kept : (id : ℕ) → HasBlock id (blocks_of frames) → HasNurseryOf id (blocks_of after.frames.items) (waits_by moved after.halt)
-    pub numbered : AllNumbered numbers_after new.book after.frames.items (waits_by moved after.halt)
+    pub kept : (id : ℕ) → HasBlock id (blocks_of frames) → HasNurseryOf id (blocks_of after.frames.items) (waits_by moved after.task_state)
+    pub numbered : AllNumbered numbers_after new.book after.frames.items (waits_by moved after.task_state)
     -- a nursery of the task was one before, or was opened
-    pub owned : Owns (blocks_of frames) before.own.items old.scopes old.book (blocks_of after.frames.items) (waits_by moved after.halt)
+    pub owned : Owns (blocks_of frames) before.own.items old.scopes old.book (blocks_of after.frames.items) (waits_by moved after.task_state)
     -- each number of a child was there before, or is that of a child begun
-    pub covered : Covers (blocks_of frames) numbers numbers_after (blocks_of after.frames.items) (waits_by moved after.halt) tasks o.begun
+    pub covered : Covers (blocks_of frames) numbers numbers_after (blocks_of after.frames.items) (waits_by moved after.task_state) tasks o.begun
     -- the nurseries of other tasks stay as they are
     pub others : OthersStay (blocks_of frames) before.own.items old.scopes old.book new.book
     pub acts : Acts old.tick (scoping_of before old) o.made (scoping_of after new)
@@ -259,7 +259,7 @@ abbrev pub Wakens : Task → Task → World → World → Moved → wakes.Wake �
 Wakens task after old new goes w =
     (froms : Table) (numbers : Numbers) (stopped : Stopped) (ps : List Place) →
     Stands task.frames.items task old froms numbers (Some stopped) ps →
-    IsHalt numbers old.book task.halt stopped → Took task.frames.items task after old new goes froms numbers
+    IsTaskState numbers old.book task.task_state stopped → Took task.frames.items task after old new goes froms numbers
     (wake_at task old w stopped froms numbers ps)
 
 -- a move that stops
@@ -274,11 +274,11 @@ pub record TookTurn
     pub steps : ℕ
     pub took :
         TookTo before after old new stop froms numbers
-        (turn_from steps froms old.tick (here_of before) (wake_in old.book before.halt wake) stopped (frames_of numbers before.frames.items)
+        (turn_from steps froms old.tick (here_of before) (wake_in old.book before.task_state wake) stopped (frames_of numbers before.frames.items)
         ps count)
 
 abbrev pub TurnsAs : Task → Task → World → World → Wake → Stop → Type 0
 TurnsAs before after old new wake stop =
-    (froms : Table) (numbers : Numbers) (ps : List Place) (count : ℕ) (stopped : Stopped) → IsHalt numbers old.book before.halt stopped →
+    (froms : Table) (numbers : Numbers) (ps : List Place) (count : ℕ) (stopped : Stopped) → IsTaskState numbers old.book before.task_state stopped →
     Stands before.frames.items before old froms numbers (Some stopped) ps →
     TookTurn before after old new wake stop froms numbers stopped ps count

@@ -9,7 +9,7 @@ use Rattle.job_tree.specs.Tree.{Steps}
 use Rattle.job_meaning.specs.Rest.{steps_left}
 use Rattle.nursery_book.specs.Nursery.{End, Nursery, with_start}
 use Rattle.nursery_book.specs.Book.{nursery_at, Updates}
-use Rattle.task_machine.specs.declared.stop.Halt.TheVariants.{ToBegin}
+use Rattle.task_machine.specs.declared.stop.TaskState.TheVariants.{ToBegin}
 use Rattle.task_machine.specs.declared.task.Home.{Home}
 use Rattle.task_machine.specs.declared.task.Task.{Task}
 use Rattle.task_machine.specs.declared.world.World.{World}
@@ -26,7 +26,7 @@ pub record IsChild (task : Task) (label : Label) (input : List ℕ) (range : Ran
   pub home_is : task.home ≡ Some home
   pub frames : (numbers : Numbers) → frames_of numbers task.frames.items ≡ steps_left body ∷ []
   pub own : task.own.items ≡ []
-  pub halt : task.halt ≡ ToBegin
+  pub task_state : task.task_state ≡ ToBegin
   pub entries : task.entries.items ≡ []
   pub froms : task.froms.items ≡ []
 

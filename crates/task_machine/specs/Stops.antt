@@ -9,11 +9,11 @@ use Rattle.nursery_book.specs.declared.book.NurseryBook.{NurseryBook}
 use Rattle.nursery_book.specs.Book.{HasNursery}
 use Rattle.job_meaning.specs.Asking as ask
 use Rattle.job_meaning.specs.Rest.{Stopped, to_begin, asking, asleep, awaiting, at_end}
-use Rattle.task_turns.specs.Midway.{Move}
+use Rattle.turn_semantics.specs.Midway.{Move}
 use Rattle.task_machine.specs.declared.stop.Stop.{Stop}
 use Rattle.task_machine.specs.declared.stop.Stop.TheVariants.{Ask, Sleep, Wait, Ended}
-use Rattle.task_machine.specs.declared.stop.Halt.{Halt}
-use Rattle.task_machine.specs.declared.stop.Halt.TheVariants.{ToBegin, Asked, Asleep, Awaits, Over}
+use Rattle.task_machine.specs.declared.stop.TaskState.{TaskState}
+use Rattle.task_machine.specs.declared.stop.TaskState.TheVariants.{ToBegin, Asked, Asleep, Awaits, Over}
 use Rattle.task_machine.specs.declared.stop.Purpose.{Purpose}
 use Rattle.task_machine.specs.declared.stop.Purpose.TheVariants.{Shows, Needs, Paces}
 use Rattle.task_machine.specs.declared.stop.Moved.{Moved}
@@ -37,28 +37,28 @@ abbrev pub Numbers : Type 0
 Numbers = ℕ → List ℕ
 
 -- the blocked state of a task corresponds to this stop of the definitions
-abbrev pub IsHalt : Numbers → NurseryBook → Halt → Stopped → Type 0
-IsHalt numbers book ToBegin to_begin = Unit {0}
-IsHalt numbers book (Asked kernel purpose) (asking k p) = (kernel_in kernel ≡ k) × (purpose_in purpose ≡ p)
-IsHalt numbers book (Asleep ticks since) (asleep n u) = (ticks ≡ n) × (since ≡ u)
-IsHalt numbers book (Awaits nursery since) (awaiting children u exc) =
+abbrev pub IsTaskState : Numbers → NurseryBook → TaskState → Stopped → Type 0
+IsTaskState numbers book ToBegin to_begin = Unit {0}
+IsTaskState numbers book (Asked kernel purpose) (asking k p) = (kernel_in kernel ≡ k) × (purpose_in purpose ≡ p)
+IsTaskState numbers book (Asleep ticks since) (asleep n u) = (ticks ≡ n) × (since ≡ u)
+IsTaskState numbers book (Awaits nursery since) (awaiting children u exc) =
     (numbers nursery ≡ children) × (since ≡ u) × HasNursery book nursery (λ n. n.body ≡ Some exc)
-IsHalt numbers book Over (at_end u e) = Unit {0}
-IsHalt numbers book _ _ = ⊥
+IsTaskState numbers book Over (at_end u e) = Unit {0}
+IsTaskState numbers book _ _ = ⊥
 
 -- the stop that is returned to the caller, for a task on this part
-abbrev pub IsTold : Part → Stop → Halt → Stopped → Type 0
+abbrev pub IsTold : Part → Stop → TaskState → Stopped → Type 0
 IsTold part (Ask request) (Asked kernel purpose) stopped = (request.kernel ≡ kernel) × (request.part ≡ part)
 IsTold part (Sleep due) (Asleep ticks since) stopped = due ≡ since + ticks
 IsTold part (Wait id) (Awaits nursery since) stopped = id ≡ nursery
 IsTold part (Ended exc) Over (at_end u e) = option_map exc_of exc ≡ e
 IsTold part _ _ _ = ⊥
 
-abbrev pub StopsAs : Numbers → NurseryBook → Part → Stop → Halt → Option Stopped → Type 0
-StopsAs numbers book part stop halt None = ⊥
-StopsAs numbers book part stop halt (Some stopped) = IsHalt numbers book halt stopped × IsTold part stop halt stopped
+abbrev pub StopsAs : Numbers → NurseryBook → Part → Stop → TaskState → Option Stopped → Type 0
+StopsAs numbers book part stop task_state None = ⊥
+StopsAs numbers book part stop task_state (Some stopped) = IsTaskState numbers book task_state stopped × IsTold part stop task_state stopped
 
 -- the code continues as a move does, with the same exception, or stops where it stops
-abbrev pub MovesAs : Numbers → NurseryBook → Part → Moved → Halt → Move → Type 0
-MovesAs numbers book part (On exc) halt o = (option_map exc_of exc ≡ o.exc) × (o.stopped ≡ None)
-MovesAs numbers book part (Stops stop) halt o = (o.exc ≡ None) × StopsAs numbers book part stop halt o.stopped
+abbrev pub MovesAs : Numbers → NurseryBook → Part → Moved → TaskState → Move → Type 0
+MovesAs numbers book part (On exc) task_state o = (option_map exc_of exc ≡ o.exc) × (o.stopped ≡ None)
+MovesAs numbers book part (Stops stop) task_state o = (o.exc ≡ None) × StopsAs numbers book part stop task_state o.stopped

@@ -2,7 +2,7 @@
 use Rattle.std.specs.Prelude.{◌≡◌, ◌≤◌, ◌^◌, true, Option, Some, None, map}
 use Rattle.buffer_parts.specs.Part.{span_of}
 use Rattle.buffer_parts.specs.declared.part.Part.{Part}
-use Rattle.job_tree.specs.declared.limits.TheConstants.{GREATEST_PACE}
+use Rattle.job_tree.specs.declared.limits.TheConstants.{MAX_PACE}
 use Rattle.line_kernels.specs.Answers.{IsAnswer}
 use Rattle.line_kernels.specs.declared.answers.Answer as held
 use Rattle.line_kernels.specs.declared.answers.Answer.TheVariants as answers
@@ -11,9 +11,9 @@ use Rattle.nursery_book.specs.Nursery.{Nursery, is_settled, raised_by}
 use Rattle.nursery_book.specs.Book.{nursery_at, HasNursery}
 use Rattle.nursery_book.specs.declared.book.NurseryBook.{NurseryBook}
 use Rattle.job_meaning.specs.Asking as ask
-use Rattle.task_turns.specs.Wakes as wakes
-use Rattle.task_machine.specs.declared.stop.Halt.{Halt}
-use Rattle.task_machine.specs.declared.stop.Halt.TheVariants.{ToBegin, Asked, Asleep, Awaits, Over}
+use Rattle.turn_semantics.specs.Wakes as wakes
+use Rattle.task_machine.specs.declared.stop.TaskState.{TaskState}
+use Rattle.task_machine.specs.declared.stop.TaskState.TheVariants.{ToBegin, Asked, Asleep, Awaits, Over}
 use Rattle.task_machine.specs.declared.stop.Purpose.{Purpose}
 use Rattle.task_machine.specs.declared.stop.Purpose.TheVariants.{Shows, Needs, Paces}
 use Rattle.task_machine.specs.declared.stop.Wake.{Wake}
@@ -21,27 +21,27 @@ use Rattle.task_machine.specs.declared.stop.Wake.TheVariants.{Begin, Due, Seen, 
 
 -- A wake fits what a task on this part stopped at: it begins once, an answer is that of the kernel asked, and a nursery that is
 -- waited for is settled.
-abbrev pub WakesFrom : Halt → Part → NurseryBook → Wake → Type 0
+abbrev pub WakesFrom : TaskState → Part → NurseryBook → Wake → Type 0
 WakesFrom ToBegin part book Begin = Unit {0}
 WakesFrom (Asleep ticks since) part book Due = Unit {0}
 WakesFrom (Asleep ticks since) part book Seen = Unit {0}
 WakesFrom (Asked kernel purpose) part book (Answer answer) = IsAnswer kernel part answer
 WakesFrom (Awaits id since) part book Settled = HasNursery book id (λ n. is_settled n ≡ true)
-WakesFrom halt part book wake = ⊥
+WakesFrom task_state part book wake = ⊥
 
 -- the divisor of a `pace` is in range
-abbrev pub IsModestPurpose : Purpose → Type 0
-IsModestPurpose Shows = Unit {0}
-IsModestPurpose (Needs name) = Unit {0}
-IsModestPurpose (Paces k) = (1 ≤ k) × (k ≤ GREATEST_PACE)
+abbrev pub IsInRangePurpose : Purpose → Type 0
+IsInRangePurpose Shows = Unit {0}
+IsInRangePurpose (Needs name) = Unit {0}
+IsInRangePurpose (Paces k) = (1 ≤ k) × (k ≤ MAX_PACE)
 
 -- and no sleep is of more than 2 to the 40 ticks
-abbrev pub IsModestHalt : Halt → Type 0
-IsModestHalt ToBegin = Unit {0}
-IsModestHalt (Asked kernel purpose) = IsModestPurpose purpose
-IsModestHalt (Asleep ticks since) = ticks ≤ 2 ^ 40
-IsModestHalt (Awaits id since) = Unit {0}
-IsModestHalt Over = Unit {0}
+abbrev pub IsInRangeTaskState : TaskState → Type 0
+IsInRangeTaskState ToBegin = Unit {0}
+IsInRangeTaskState (Asked kernel purpose) = IsInRangePurpose purpose
+IsInRangeTaskState (Asleep ticks since) = ticks ≤ 2 ^ 40
+IsInRangeTaskState (Awaits id since) = Unit {0}
+IsInRangeTaskState Over = Unit {0}
 
 -- an answer in the terms of the definitions
 abbrev pub answer_in : held.Answer → ask.Answer
@@ -54,7 +54,7 @@ abbrev pub raised_in : Option Nursery → Option Exc
 raised_in None = None
 raised_in (Some n) = raised_by n
 
-abbrev pub settled_exc : NurseryBook → Halt → Option Exc
+abbrev pub settled_exc : NurseryBook → TaskState → Option Exc
 settled_exc book ToBegin = None
 settled_exc book (Asked kernel purpose) = None
 settled_exc book (Asleep ticks since) = None
@@ -62,9 +62,9 @@ settled_exc book (Awaits id since) = raised_in (nursery_at book id)
 settled_exc book Over = None
 
 -- a wake in the terms of the definitions
-abbrev pub wake_in : NurseryBook → Halt → Wake → wakes.Wake
-wake_in book halt Begin = wakes.begins
-wake_in book halt Due = wakes.is_due
-wake_in book halt Seen = wakes.sees
-wake_in book halt (Answer answer) = wakes.has_answer (answer_in answer)
-wake_in book halt Settled = wakes.settles (settled_exc book halt)
+abbrev pub wake_in : NurseryBook → TaskState → Wake → wakes.Wake
+wake_in book task_state Begin = wakes.begins
+wake_in book task_state Due = wakes.is_due
+wake_in book task_state Seen = wakes.sees
+wake_in book task_state (Answer answer) = wakes.has_answer (answer_in answer)
+wake_in book task_state Settled = wakes.settles (settled_exc book task_state)

@@ -3,15 +3,15 @@ ghost use Rattle.std.specs.Option.{ForSome};
 ghost use Rattle.exc_groups.specs.Exceptions.{Label as Named};
 ghost use Rattle.cancel_scopes.specs.Tree.{IsOpen, outer_of};
 ghost use Rattle.job_meaning.specs.Log.{Table};
-ghost use Rattle.task_turns.specs.Midway.{Place};
-ghost use Rattle.task_turns.specs.Names.{IsName, names_at};
-ghost use Rattle.task_turns.specs.Steps.{opened};
+ghost use Rattle.turn_semantics.specs.Midway.{Place};
+ghost use Rattle.turn_semantics.specs.Names.{IsName, names_at};
+ghost use Rattle.turn_semantics.specs.Steps.{opened};
 ghost use Rattle.task_machine.specs.Tasks.{scope_of};
 ghost use Rattle.task_machine.specs.Worlds.{label_at};
 ghost use Rattle.task_machine.specs.Stacked.{AreAt};
 ghost use Rattle.task_machine.specs.Entered.{EntersAt, EntersOne, EntersBlock, EntersNursery, label_in};
 ghost use Rattle.task_machine.specs.declared.frame.Frame.TheVariants.{Scope};
-ghost use Rattle.job_tree.specs.Modest.{IsModestDeadline};
+ghost use Rattle.job_tree.specs.InRange.{IsInRangeDeadline};
 ghost use Rattle.job_meaning.specs.Walk.{due};
 
 use crate::entry::ScopeFrom;
@@ -71,7 +71,7 @@ impl<'a> Task<'a> {
         world: &mut World<'a>,
     ) -> Result<(), AllocError>
         requires scope { ForSome (scope_of self.old) (IsOpen world.old.scopes) }
-        requires modest { IsModestDeadline block.deadline }
+        requires in_range { IsInRangeDeadline block.deadline }
         requires tick { world.old.tick ≤ 2 ^ 62 }
         ensures stays { OnOk result (self.new
             ≡ record self.old { frames = self.new.frames; own = self.new.own; froms = self.new.froms }) }
@@ -97,7 +97,7 @@ impl<'a> Task<'a> {
         world: &mut World<'a>,
     ) -> Result<(), AllocError>
         requires scope { ForSome (scope_of self.old) (IsOpen world.old.scopes) }
-        requires modest { IsModestDeadline block.deadline }
+        requires in_range { IsInRangeDeadline block.deadline }
         requires tick { world.old.tick ≤ 2 ^ 62 }
         ensures stays { OnOk result (self.new
             ≡ record self.old { frames = self.new.frames; own = self.new.own; froms = self.new.froms }) }
@@ -122,7 +122,7 @@ impl<'a> Task<'a> {
 
 // The tick of a deadline for a scope that is entered in a tick.
 fn due(deadline: Deadline, tick: u64) -> Option<u64>
-    requires modest { IsModestDeadline deadline }
+    requires in_range { IsInRangeDeadline deadline }
     requires room { tick ≤ 2 ^ 62 }
     ensures due { result ≡ due deadline tick }
     ensures bounded { ForSome result (λ from. from < 2 ^ 63) }

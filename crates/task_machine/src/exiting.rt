@@ -5,7 +5,7 @@ ghost use Rattle.exc_groups.specs.Held.{exc_of};
 ghost use Rattle.cancel_scopes.specs.Tree.{IsOpen, IsInnermost};
 ghost use Rattle.nursery_book.specs.Nursery.{with_body};
 ghost use Rattle.nursery_book.specs.Book.{HasNursery, Changes};
-ghost use Rattle.task_machine.specs.declared.stop.Halt.TheVariants.{Awaits, Over};
+ghost use Rattle.task_machine.specs.declared.stop.TaskState.TheVariants.{Awaits, Over};
 ghost use Rattle.task_machine.specs.declared.stop.Moved.TheVariants.{Stops};
 ghost use Rattle.task_machine.specs.declared.stop.Stop.TheVariants.{Wait, Ended};
 ghost use Rattle.task_machine.specs.Tasks.{scope_of, home_scope};
@@ -16,7 +16,7 @@ ghost use Rattle.task_machine.specs.Fitting.{SameKeys};
 
 use crate::leaving::Closed;
 use crate::outcome::{Kind, exc_after, left_with};
-use crate::stop::{Halt, Moved, Stop};
+use crate::stop::{Moved, Stop, TaskState};
 use crate::task::Task;
 use crate::world::World;
 use cancel_scopes::stacks_are_chains;
@@ -85,7 +85,7 @@ impl<'a> Task<'a> {
         requires tick { world.old.tick + 1 < 2 ^ 63 }
         requires nursery { HasNursery world.old.book nursery (λ n. n.body ≡ None) }
         ensures moved { result ≡ Stops (Wait nursery) }
-        ensures stays { self.new ≡ record self.old { halt = Awaits nursery world.old.tick } }
+        ensures stays { self.new ≡ record self.old { task_state = Awaits nursery world.old.tick } }
         ensures rest { world.new ≡ record world.old { scopes = world.new.scopes; book = world.new.book } }
         ensures ended { Changes world.old.book world.new.book nursery (with_body (option_map exc_of exc)) }
         ensures keys { SameKeys world.old.scopes world.new.scopes }
@@ -93,7 +93,7 @@ impl<'a> Task<'a> {
     {
         self.fail(&exc, world);
         world.book.body_ended(nursery, exc);
-        self.halt = Halt::Awaits {
+        self.task_state = TaskState::Awaits {
             nursery,
             since: world.now(),
         };
@@ -105,13 +105,13 @@ impl<'a> Task<'a> {
         requires scope { ForSome (scope_of self.old) (IsOpen world.old.scopes) }
         requires tick { world.old.tick + 1 < 2 ^ 63 }
         ensures moved { result ≡ Stops (Ended exc) }
-        ensures stays { self.new ≡ record self.old { halt = Over } }
+        ensures stays { self.new ≡ record self.old { task_state = Over } }
         ensures rest { world.new ≡ record world.old { scopes = world.new.scopes } }
         ensures keys { SameKeys world.old.scopes world.new.scopes }
         ensures at { FailsAt world.old world.new (scope_of self.old) (option_map exc_of exc) }
     {
         self.fail(&exc, world);
-        self.halt = Halt::Over;
+        self.task_state = TaskState::Over;
         Moved::Stops(Stop::Ended(exc))
     }
 }

@@ -6,17 +6,17 @@
 //!
 //! The layer promises that a label belongs to the scope that was entered with it until that scope is left, that a name finds
 //! the innermost scope of that name, that a call of the world changes only the parts that it names, and that a turn does to
-//! the task and the world what a turn of the definitions does (`task_turns`). It uses the scope tree, the book of nurseries,
+//! the task and the world what a turn of the definitions does (`turn_semantics`). It uses the scope tree, the book of nurseries,
 //! and the jobs whose steps it borrows.
 #![tactic(auto)]
 
+mod boxing;
 mod cancelling;
 mod entering;
 mod entry;
 mod exiting;
 mod frame;
 mod labels;
-mod laid_aside;
 mod laws;
 mod leaving;
 mod outcome;
@@ -30,8 +30,8 @@ mod turning;
 mod waking;
 mod world;
 
+pub use boxing::{box_exc, unbox_exc};
 pub use entry::{Entry, ScopeFrom};
-pub use laid_aside::{lay_aside, take_up};
 pub use laws::law_places;
 pub use stop::{Stop, Wake};
 pub use task::Task;

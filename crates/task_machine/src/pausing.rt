@@ -5,16 +5,16 @@ ghost use Rattle.cancel_scopes.specs.Tree.{IsOpen, outer_of};
 ghost use Rattle.nursery_book.specs.declared.book.NurseryBook.{NurseryBook as Book};
 ghost use Rattle.job_meaning.specs.Log.{Table};
 ghost use Rattle.job_meaning.specs.Rest.{Frame as Left, asking};
-ghost use Rattle.task_turns.specs.Midway.{Place};
-ghost use Rattle.task_turns.specs.Steps.{sleeps, onward, halts};
+ghost use Rattle.turn_semantics.specs.Midway.{Place};
+ghost use Rattle.turn_semantics.specs.Steps.{sleeps, onward, blocks_on};
 ghost use Rattle.task_machine.specs.Standing.{waits_by};
 ghost use Rattle.task_machine.specs.Tasks.{scope_of};
-ghost use Rattle.task_machine.specs.Waking.{IsModestHalt, IsModestPurpose};
+ghost use Rattle.task_machine.specs.Waking.{IsInRangeTaskState, IsInRangePurpose};
 ghost use Rattle.task_machine.specs.Worlds.{label_at};
 ghost use Rattle.task_machine.specs.Stacked.{AreAt};
 ghost use Rattle.task_machine.specs.Stops.{Numbers, MovesAs, kernel_in, purpose_in};
 
-use crate::stop::{Halt, Moved, Purpose, Stop};
+use crate::stop::{Moved, Purpose, Stop, TaskState};
 use crate::task::Task;
 use crate::world::World;
 use exc_groups::Exc;
@@ -28,12 +28,12 @@ impl<'a> Task<'a> {
         requires scope { ForSome (scope_of self.old) (IsOpen world.now.scopes) }
         requires ticks { ticks ≤ 2 ^ 40 }
         requires tick { world.now.tick ≤ 2 ^ 62 }
-        ensures stays { self.new ≡ record self.old { halt = self.new.halt } }
-        ensures halt { IsModestHalt self.old.halt → IsModestHalt self.new.halt }
-        ensures waits { waits_by result self.new.halt ≡ None }
+        ensures stays { self.new ≡ record self.old { task_state = self.new.task_state } }
+        ensures task_state { IsInRangeTaskState self.old.task_state → IsInRangeTaskState self.new.task_state }
+        ensures waits { waits_by result self.new.task_state ≡ None }
         ensures sleeps { (froms : Table) (numbers : Numbers) (book : Book) (fs : List Left) (ps : List Place) →
             AreAt (label_at world.now) froms (outer_of world.now.scopes (scope_of self.old)) ps →
-            MovesAs numbers book self.old.part result self.new.halt (sleeps froms ticks world.now.tick fs ps) }
+            MovesAs numbers book self.old.part result self.new.task_state (sleeps froms ticks world.now.tick fs ps) }
     {
         if world.sees(self.scope()) {
             return Moved::On(Some(Exc::Cancelled));
@@ -42,15 +42,15 @@ impl<'a> Task<'a> {
             return Moved::On(None);
         }
         let since = world.now();
-        self.halt = Halt::Asleep { ticks, since };
+        self.task_state = TaskState::Asleep { ticks, since };
         Moved::Stops(Stop::Sleep(since + ticks))
     }
 
     // Raises an exception of that name.
     pub(crate) fn raise(&self, name: Name, world: &World<'a>) -> Result<Moved<'a>, AllocError>
-        ensures on { IfOk result (λ moved. waits_by moved self.now.halt ≡ None) }
+        ensures on { IfOk result (λ moved. waits_by moved self.now.task_state ≡ None) }
         ensures raises { IfOk result (λ moved. (numbers : Numbers) (book : Book) (fs : List Left) (ps : List Place) →
-            MovesAs numbers book self.now.part moved self.now.halt
+            MovesAs numbers book self.now.part moved self.now.task_state
             (onward fs ps (Some (raised name self.now.label world.now.tick)))) }
     {
         let task = self.label.copy(self.alloc)?;
@@ -63,14 +63,14 @@ impl<'a> Task<'a> {
 
     // Asks a kernel for an answer on the task's part.
     pub(crate) fn ask(&mut self, kernel: Kernel<'a>, purpose: Purpose) -> Moved<'a>
-        ensures stays { self.new ≡ record self.old { halt = self.new.halt } }
-        ensures halt { IsModestPurpose purpose → IsModestHalt self.new.halt }
-        ensures waits { waits_by result self.new.halt ≡ None }
+        ensures stays { self.new ≡ record self.old { task_state = self.new.task_state } }
+        ensures task_state { IsInRangePurpose purpose → IsInRangeTaskState self.new.task_state }
+        ensures waits { waits_by result self.new.task_state ≡ None }
         ensures asks { (numbers : Numbers) (book : Book) (fs : List Left) (ps : List Place) →
-            MovesAs numbers book self.old.part result self.new.halt
-            (halts (asking (kernel_in kernel.entry) (purpose_in purpose)) fs ps) }
+            MovesAs numbers book self.old.part result self.new.task_state
+            (blocks_on (asking (kernel_in kernel.entry) (purpose_in purpose)) fs ps) }
     {
-        self.halt = Halt::Asked { kernel, purpose };
+        self.task_state = TaskState::Asked { kernel, purpose };
         Moved::Stops(Stop::Ask(Request {
             kernel,
             part: self.part,

@@ -1,9 +1,9 @@
 ghost use Rattle.std.specs.Prelude.{◌≡◌, ◌+◌, ◌≤◌, List, [], ◌∷◌, None, OnOk, IfOk};
 ghost use Rattle.std.specs.Option.{option_map};
 ghost use Rattle.exc_groups.specs.Held.{exc_of};
-ghost use Rattle.job_tree.specs.declared.limits.TheConstants.{MOST_PASSES};
-ghost use Rattle.task_turns.specs.Midway.{Place};
-ghost use Rattle.task_turns.specs.Steps.{onward, begins_passes, step_pass};
+ghost use Rattle.job_tree.specs.declared.limits.TheConstants.{MAX_PASSES};
+ghost use Rattle.turn_semantics.specs.Midway.{Place};
+ghost use Rattle.turn_semantics.specs.Steps.{onward, begins_passes, step_pass};
 ghost use Rattle.task_machine.specs.Entered.{label_in};
 ghost use Rattle.task_machine.specs.Fitting.{blocks_of};
 ghost use Rattle.task_machine.specs.Frames.{frames_of, passes_onto};
@@ -45,7 +45,7 @@ impl<'a> Task<'a> {
         body: &'a Body,
         exc: Option<Exc>,
     ) -> Result<Option<Exc>, AllocError>
-        requires { pass + left ≤ MOST_PASSES }
+        requires { pass + left ≤ MAX_PASSES }
         ensures stays { OnOk result (self.new ≡ record self.old { frames = self.new.frames }) }
         ensures blocks { OnOk result (blocks_of self.new.frames.items ≡ blocks_of self.old.frames.items) }
         ensures step { IfOk result (λ after. (numbers : Numbers) (ps : List Place) →

@@ -3,16 +3,16 @@ ghost use Rattle.buffer_parts.specs.Part.{buffer_of, range_of};
 ghost use Rattle.exc_groups.specs.Exceptions.{Label as Named};
 ghost use Rattle.job_meaning.specs.Rest.{steps_left};
 ghost use Rattle.nursery_book.specs.Book.{HasNursery};
-ghost use Rattle.task_machine.specs.declared.stop.Halt.TheVariants.{ToBegin};
-ghost use Rattle.job_tree.specs.Modest.{IsModestOver};
-ghost use Rattle.task_turns.specs.Placed.{in_body};
+ghost use Rattle.task_machine.specs.declared.stop.TaskState.TheVariants.{ToBegin};
+ghost use Rattle.job_tree.specs.InRange.{IsInRangeOver};
+ghost use Rattle.turn_semantics.specs.Placed.{in_body};
 ghost use Rattle.task_machine.specs.Fitting.{Fits, frames_behind, InBody};
 ghost use Rattle.task_machine.specs.Frames.{frames_of};
 ghost use Rattle.task_machine.specs.Stops.{Numbers};
 ghost use Rattle.task_machine.specs.Started.{StartsOne, StartsOver, StartsChildren};
 
 use crate::frame::Frame;
-use crate::stop::Halt;
+use crate::stop::TaskState;
 use crate::task::{Home, Task};
 use crate::world::World;
 use buffer_parts::Part;
@@ -37,7 +37,7 @@ impl<'a> Task<'a> {
         ensures frames { IfOk result (λ task. (numbers : Numbers) →
             frames_of numbers task.frames.items ≡ steps_left body.now ∷ []) }
         ensures own { IfOk result (λ task. task.own.items ≡ []) }
-        ensures halt { IfOk result (λ task. task.halt ≡ ToBegin) }
+        ensures task_state { IfOk result (λ task. task.task_state ≡ ToBegin) }
         ensures entries { IfOk result (λ task. task.entries.items ≡ []) }
         ensures froms { IfOk result (λ task. task.froms.items ≡ []) }
     {
@@ -50,7 +50,7 @@ impl<'a> Task<'a> {
             home: Some(home),
             frames,
             own: Vec::new(alloc),
-            halt: Halt::ToBegin,
+            task_state: TaskState::ToBegin,
             entries: Vec::new(alloc),
             froms: Vec::new(alloc),
         })
@@ -114,7 +114,7 @@ impl<'a> Task<'a> {
         world: &mut World<'a>,
     ) -> Result<(), AllocError>
         requires fits { Fits self.now.frames.items self.now world.old None }
-        requires over { IsModestOver over }
+        requires over { IsInRangeOver over }
         requires body { IsTrue (in_body (frames_behind (frames_of (λ id. []) self.now.frames.items))) }
         ensures rest { OnOk result (world.new ≡ record world.old { book = world.new.book; started = world.new.started }) }
         ensures fits { OnOk result (Fits self.now.frames.items self.now world.new None) }

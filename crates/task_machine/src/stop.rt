@@ -33,7 +33,7 @@ pub enum Stop<'a> {
 
 /// The blocked state of a task: what it needs to continue.
 #[derive(Drop)]
-pub(crate) enum Halt<'a> {
+pub(crate) enum TaskState<'a> {
     /// It has not begun.
     ToBegin,
     /// It asked a kernel for an answer.

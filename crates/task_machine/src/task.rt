@@ -1,16 +1,16 @@
 ghost use Rattle.std.specs.Prelude.{◌≡◌, ℕ, ◌≤◌, ◌++◌, List, [], ◌∷◌, None, IfOk, OnOk, length};
 ghost use Rattle.buffer_parts.specs.Lines.{bytes_of};
 ghost use Rattle.buffer_parts.specs.Part.{buffer_of, range_of};
-ghost use Rattle.job_meaning.specs.declared.limits.TheConstants.{MOST_INPUT};
+ghost use Rattle.job_meaning.specs.declared.limits.TheConstants.{MAX_INPUT};
 ghost use Rattle.job_meaning.specs.Rest.{steps_left};
 ghost use Rattle.task_machine.specs.Fitting.{blocks_of, block_in};
 ghost use Rattle.task_machine.specs.Frames.{frame_of, frames_of};
 ghost use Rattle.task_machine.specs.Tasks.{scope_of, home_of, home_scope};
-ghost use Rattle.task_machine.specs.declared.stop.Halt.TheVariants.{ToBegin};
+ghost use Rattle.task_machine.specs.declared.stop.TaskState.TheVariants.{ToBegin};
 
 use crate::entry::{Entry, ScopeFrom};
 use crate::frame::Frame;
-use crate::stop::Halt;
+use crate::stop::TaskState;
 use buffer_parts::Part;
 use cancel_scopes::ScopeId;
 use exc_groups::Label;
@@ -51,24 +51,24 @@ pub struct Task<'a> {
     pub(crate) frames: SmallVec<Frame<'a>, 2>,
     // The innermost is the last.
     pub(crate) own: Vec<Own>,
-    pub(crate) halt: Halt<'a>,
+    pub(crate) task_state: TaskState<'a>,
     pub(crate) entries: Vec<Entry<'a>>,
     pub(crate) froms: Vec<ScopeFrom>,
 }
 
 impl<'a> Task<'a> {
-    /// Returns the root task of a job on a part of the input, which has at most `MOST_INPUT` bytes. All steps of the
+    /// Returns the root task of a job on a part of the input, which has at most `MAX_INPUT` bytes. All steps of the
     /// job are left to do, it is in no nursery and no scope, and it has noted nothing. The only error is that memory
     /// was refused.
     pub fn root(alloc: Global, job: &'a Job, part: Part<'a>) -> Result<Task<'a>, AllocError>
-        requires { length (bytes_of (buffer_of part) (range_of part)) ≤ MOST_INPUT }
+        requires { length (bytes_of (buffer_of part) (range_of part)) ≤ MAX_INPUT }
         ensures label { IfOk result (λ task. task.label ≡ record { name = job.now.name; indices = [] }) }
         ensures part { IfOk result (λ task. task.part ≡ part.entry) }
         ensures home { IfOk result (λ task. task.home ≡ None) }
         ensures frames { IfOk result (λ task. (children : ℕ → List ℕ) →
             frames_of children task.frames.items ≡ steps_left job.now.steps ∷ []) }
         ensures own { IfOk result (λ task. task.own.items ≡ []) }
-        ensures halt { IfOk result (λ task. task.halt ≡ ToBegin) }
+        ensures task_state { IfOk result (λ task. task.task_state ≡ ToBegin) }
         ensures entries { IfOk result (λ task. task.entries.items ≡ []) }
         ensures froms { IfOk result (λ task. task.froms.items ≡ []) }
     {
@@ -81,7 +81,7 @@ impl<'a> Task<'a> {
             home: None,
             frames,
             own: Vec::new(alloc),
-            halt: Halt::ToBegin,
+            task_state: TaskState::ToBegin,
             entries: Vec::new(alloc),
             froms: Vec::new(alloc),
         })

@@ -5,14 +5,14 @@ ghost use Rattle.exc_groups.specs.Held.{exc_of};
 ghost use Rattle.job_meaning.specs.Rest.{steps_left, in_try};
 ghost use Rattle.job_meaning.specs.Walk.{handler_exc as raised_in_handler};
 ghost use Rattle.job_tree.specs.Tree.{unhandled};
-ghost use Rattle.task_turns.specs.Midway.{Place};
-ghost use Rattle.task_turns.specs.Steps.{onward, step_try};
+ghost use Rattle.turn_semantics.specs.Midway.{Place};
+ghost use Rattle.turn_semantics.specs.Steps.{onward, step_try};
 ghost use Rattle.task_machine.specs.Fitting.{blocks_of};
-ghost use Rattle.task_machine.specs.Frames.{frames_of, laid_aside};
+ghost use Rattle.task_machine.specs.Frames.{frames_of, unboxed_exc};
 ghost use Rattle.task_machine.specs.Stops.{Numbers};
 
+use crate::boxing::{box_exc, unbox_exc};
 use crate::frame::Frame;
-use crate::laid_aside::{lay_aside, take_up};
 use crate::outcome::handler_exc;
 use crate::task::Task;
 use exc_groups::{Exc, Match, split};
@@ -70,7 +70,7 @@ impl<'a> Task<'a> {
             self.without_handler(cleanup)?;
             return Ok(Some(exc));
         }
-        let rest = lay_aside(self.alloc, rest)?;
+        let rest = box_exc(self.alloc, rest)?;
         self.push(Frame::Handler { rest, cleanup })?;
         self.push(Frame::Steps(handler.body.as_slice()))?;
         Ok(None)
@@ -87,10 +87,10 @@ impl<'a> Task<'a> {
         ensures blocks { OnOk result (blocks_of self.new.frames.items ≡ blocks_of self.old.frames.items) }
         ensures frames { OnOk result ((numbers : Numbers) → frames_of numbers self.new.frames.items
             ≡ in_try unhandled (cleaned_of cleanup.now) ∷ frames_of numbers self.old.frames.items) }
-        ensures exc { IfOk result (λ after. option_map exc_of after ≡ raised_in_handler (option_map exc_of exc) (option_map exc_of (laid_aside rest))) }
+        ensures exc { IfOk result (λ after. option_map exc_of after ≡ raised_in_handler (option_map exc_of exc) (option_map exc_of (unboxed_exc rest))) }
     {
         self.without_handler(cleanup)?;
-        handler_exc(self.alloc, exc, take_up(rest))
+        handler_exc(self.alloc, exc, unbox_exc(rest))
     }
 
     // Continues after the handler of a `try`.
@@ -121,7 +121,7 @@ impl<'a> Task<'a> {
         let Some(body) = cleanup else {
             return Ok(exc);
         };
-        let outcome = lay_aside(self.alloc, exc)?;
+        let outcome = box_exc(self.alloc, exc)?;
         self.push(Frame::Cleanup { outcome })?;
         self.push(Frame::Steps(body.as_slice()))?;
         Ok(None)

@@ -2,20 +2,20 @@ ghost use Rattle.std.specs.Prelude.{◌≡◌, ℕ, ◌+◌, ◌<◌, ◌≤◌,
 ghost use Rattle.std.specs.Option.{option_map};
 ghost use Rattle.exc_groups.specs.Held.{exc_of};
 ghost use Rattle.job_tree.specs.Blocks.{step_of};
-ghost use Rattle.job_tree.specs.Modest.{IsModestStep};
+ghost use Rattle.job_tree.specs.InRange.{IsInRangeStep};
 ghost use Rattle.job_tree.specs.Starting.{StartsAt};
-ghost use Rattle.task_turns.specs.Placed.{in_body};
-ghost use Rattle.task_turns.specs.Bound.{step_length, frames_length};
+ghost use Rattle.turn_semantics.specs.Placed.{in_body};
+ghost use Rattle.turn_semantics.specs.Bound.{step_length, frames_length};
 ghost use Rattle.task_machine.specs.declared.frame.Frame.TheVariants.{Steps};
 ghost use Rattle.task_machine.specs.Fitting.{Fits, waits_of, frames_behind};
 ghost use Rattle.task_machine.specs.Frames.{frames_of};
 ghost use Rattle.task_machine.specs.Standing.{waits_by, GoesOn, StepsAs, BlockStepsAs, RunsAs, StopsAfter, TurnsAs};
 ghost use Rattle.task_machine.specs.Waiters.{OpenedBy};
-ghost use Rattle.task_machine.specs.Waking.{WakesFrom, IsModestHalt};
+ghost use Rattle.task_machine.specs.Waking.{WakesFrom, IsInRangeTaskState};
 
+use crate::boxing::unbox_exc;
 use crate::entering::Block;
 use crate::frame::Frame;
-use crate::laid_aside::take_up;
 use crate::outcome::{Kind, outcome_after};
 use crate::stop::{Moved, Purpose, Stop, Wake};
 use crate::task::Task;
@@ -45,14 +45,14 @@ impl<'a> Task<'a> {
         wake: Wake<'a>,
         world: &mut World<'a>,
     ) -> Result<Stop<'a>, AllocError>
-        requires fits { Fits self.old.frames.items self.old world.old (waits_of self.old.halt) }
+        requires fits { Fits self.old.frames.items self.old world.old (waits_of self.old.task_state) }
         requires tick { world.old.tick ≤ 2 ^ 62 }
-        requires halt { IsModestHalt self.old.halt }
-        requires wake { WakesFrom self.old.halt self.old.part world.old.book wake }
+        requires task_state { IsInRangeTaskState self.old.task_state }
+        requires wake { WakesFrom self.old.task_state self.old.part world.old.book wake }
         ensures stays { OnOk result (self.new ≡ record self.old {
           frames = self.new.frames;
           own = self.new.own;
-          halt = self.new.halt;
+          task_state = self.new.task_state;
           entries = self.new.entries;
           froms = self.new.froms;
         }) }
@@ -62,8 +62,8 @@ impl<'a> Task<'a> {
           book = world.new.book;
           started = world.new.started;
         }) }
-        ensures halt { OnOk result (IsModestHalt self.new.halt) }
-        ensures fits { OnOk result (Fits self.new.frames.items self.new world.new (waits_of self.new.halt)) }
+        ensures task_state { OnOk result (IsInRangeTaskState self.new.task_state) }
+        ensures fits { OnOk result (Fits self.new.frames.items self.new world.new (waits_of self.new.task_state)) }
         ensures waiters { OnOk result (OpenedBy me world.old.book world.new.book) }
         ensures turn { IfOk result (λ stop. TurnsAs self.old self.new world.old world.new wake.entry stop) }
     {
@@ -85,11 +85,11 @@ impl<'a> Task<'a> {
     ) -> Result<Stop<'a>, AllocError>
         requires fits { Fits self.old.frames.items self.old world.old None }
         requires tick { world.old.tick ≤ 2 ^ 62 }
-        requires halt { IsModestHalt self.old.halt }
+        requires task_state { IsInRangeTaskState self.old.task_state }
         ensures stays { OnOk result (self.new ≡ record self.old {
           frames = self.new.frames;
           own = self.new.own;
-          halt = self.new.halt;
+          task_state = self.new.task_state;
           entries = self.new.entries;
           froms = self.new.froms;
         }) }
@@ -99,8 +99,8 @@ impl<'a> Task<'a> {
           book = world.new.book;
           started = world.new.started;
         }) }
-        ensures halt { OnOk result (IsModestHalt self.new.halt) }
-        ensures fits { OnOk result (Fits self.new.frames.items self.new world.new (waits_of self.new.halt)) }
+        ensures task_state { OnOk result (IsInRangeTaskState self.new.task_state) }
+        ensures fits { OnOk result (Fits self.new.frames.items self.new world.new (waits_of self.new.task_state)) }
         ensures waiters { OnOk result (OpenedBy me world.old.book world.new.book) }
         ensures steps { IfOk result (λ stop. StopsAfter self.old self.new world.old world.new (option_map exc_of exc) stop) }
     {
@@ -122,11 +122,11 @@ impl<'a> Task<'a> {
     ) -> Result<Moved<'a>, AllocError>
         requires fits { Fits self.old.frames.items self.old world.old None }
         requires tick { world.old.tick ≤ 2 ^ 62 }
-        requires halt { IsModestHalt self.old.halt }
+        requires task_state { IsInRangeTaskState self.old.task_state }
         ensures stays { OnOk result (self.new ≡ record self.old {
           frames = self.new.frames;
           own = self.new.own;
-          halt = self.new.halt;
+          task_state = self.new.task_state;
           entries = self.new.entries;
           froms = self.new.froms;
         }) }
@@ -136,8 +136,8 @@ impl<'a> Task<'a> {
           book = world.new.book;
           started = world.new.started;
         }) }
-        ensures halt { OnOk result (IsModestHalt self.new.halt) }
-        ensures fits { IfOk result (λ moved. Fits self.new.frames.items self.new world.new (waits_by moved self.new.halt)) }
+        ensures task_state { OnOk result (IsInRangeTaskState self.new.task_state) }
+        ensures fits { IfOk result (λ moved. Fits self.new.frames.items self.new world.new (waits_by moved self.new.task_state)) }
         ensures shorter { IfOk result (λ moved. GoesOn moved → frames_length (frames_of (λ id. []) self.new.frames.items)
             < frames_length (frames_of (λ id. []) self.old.frames.items)) }
         ensures waiters { OnOk result (OpenedBy me world.old.book world.new.book) }
@@ -169,7 +169,7 @@ impl<'a> Task<'a> {
                 let exc = self.end_handler(rest, cleanup, exc)?;
                 Ok(Moved::On(exc))
             }
-            Frame::Cleanup { outcome } => Ok(Moved::On(outcome_after(take_up(outcome), exc))),
+            Frame::Cleanup { outcome } => Ok(Moved::On(outcome_after(unbox_exc(outcome), exc))),
         }
     }
 
@@ -183,11 +183,11 @@ impl<'a> Task<'a> {
     ) -> Result<Moved<'a>, AllocError>
         requires fits { Fits (self.old.frames.items ++ Steps steps ∷ []) self.old world.old None }
         requires tick { world.old.tick ≤ 2 ^ 62 }
-        requires halt { IsModestHalt self.old.halt }
+        requires task_state { IsInRangeTaskState self.old.task_state }
         ensures stays { OnOk result (self.new ≡ record self.old {
           frames = self.new.frames;
           own = self.new.own;
-          halt = self.new.halt;
+          task_state = self.new.task_state;
           entries = self.new.entries;
           froms = self.new.froms;
         }) }
@@ -197,8 +197,8 @@ impl<'a> Task<'a> {
           book = world.new.book;
           started = world.new.started;
         }) }
-        ensures halt { OnOk result (IsModestHalt self.new.halt) }
-        ensures fits { IfOk result (λ moved. Fits self.new.frames.items self.new world.new (waits_by moved self.new.halt)) }
+        ensures task_state { OnOk result (IsInRangeTaskState self.new.task_state) }
+        ensures fits { IfOk result (λ moved. Fits self.new.frames.items self.new world.new (waits_by moved self.new.task_state)) }
         ensures shorter { IfOk result (λ moved. GoesOn moved → frames_length (frames_of (λ id. []) self.new.frames.items)
             < frames_length (frames_of (λ id. []) (self.old.frames.items ++ Steps steps.entry ∷ []))) }
         ensures waiters { OnOk result (OpenedBy me world.old.book world.new.book) }
@@ -224,13 +224,13 @@ impl<'a> Task<'a> {
     ) -> Result<Moved<'a>, AllocError>
         requires fits { Fits self.old.frames.items self.old world.old None }
         requires tick { world.old.tick ≤ 2 ^ 62 }
-        requires halt { IsModestHalt self.old.halt }
-        requires modest { IsModestStep (step_of step.now) }
+        requires task_state { IsInRangeTaskState self.old.task_state }
+        requires in_range { IsInRangeStep (step_of step.now) }
         requires starts { StartsAt (in_body (frames_behind (frames_of (λ id. []) self.old.frames.items))) (step_of step.now) }
         ensures stays { OnOk result (self.new ≡ record self.old {
           frames = self.new.frames;
           own = self.new.own;
-          halt = self.new.halt;
+          task_state = self.new.task_state;
           froms = self.new.froms;
         }) }
         ensures world { OnOk result (world.new ≡ record world.old {
@@ -239,9 +239,9 @@ impl<'a> Task<'a> {
           book = world.new.book;
           started = world.new.started;
         }) }
-        ensures halt { OnOk result (IsModestHalt self.new.halt) }
+        ensures task_state { OnOk result (IsInRangeTaskState self.new.task_state) }
         ensures fits { OnOk result (Fits self.new.frames.items self.new world.new None) }
-        ensures waits { IfOk result (λ moved. waits_by moved self.new.halt ≡ None) }
+        ensures waits { IfOk result (λ moved. waits_by moved self.new.task_state ≡ None) }
         ensures length { OnOk result (frames_length (frames_of (λ id. []) self.new.frames.items)
             < step_length (step_of step.now) + frames_length (frames_of (λ id. []) self.old.frames.items)) }
         ensures waiters { OnOk result (OpenedBy me world.old.book world.new.book) }

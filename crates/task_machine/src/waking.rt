@@ -3,21 +3,21 @@ ghost use Rattle.std.specs.Option.{ForSome};
 ghost use Rattle.buffer_parts.specs.Lines.{bytes_of};
 ghost use Rattle.buffer_parts.specs.Part.{buffer_of, range_of};
 ghost use Rattle.cancel_scopes.specs.Tree.{IsOpen};
-ghost use Rattle.job_meaning.specs.declared.limits.TheConstants.{MOST_INPUT};
+ghost use Rattle.job_meaning.specs.declared.limits.TheConstants.{MAX_INPUT};
 ghost use Rattle.task_machine.specs.declared.stop.Wake.TheVariants as wakes;
 ghost use Rattle.line_kernels.specs.declared.kernel.Kernel.{Kernel};
 ghost use Rattle.job_meaning.specs.Asking.{missing, counted};
-ghost use Rattle.task_machine.specs.declared.stop.Halt.TheVariants.{Asked};
-ghost use Rattle.task_turns.specs.Wakes.{has_answer, settles};
+ghost use Rattle.task_machine.specs.declared.stop.TaskState.TheVariants.{Asked};
+ghost use Rattle.turn_semantics.specs.Wakes.{has_answer, settles};
 ghost use Rattle.task_machine.specs.Fitting.{Fits, waits_of};
 ghost use Rattle.task_machine.specs.Standing.{waits_by, Wakens};
 ghost use Rattle.task_machine.specs.Tasks.{scope_of};
 ghost use Rattle.task_machine.specs.Waiters.{SameWaiters};
-ghost use Rattle.task_machine.specs.Waking.{WakesFrom, wake_in, answer_in, settled_exc, IsModestHalt, IsModestPurpose};
+ghost use Rattle.task_machine.specs.Waking.{WakesFrom, wake_in, answer_in, settled_exc, IsInRangeTaskState, IsInRangePurpose};
 
 use crate::entry::Entry;
 use crate::outcome::Kind;
-use crate::stop::{Halt, Moved, Purpose, Wake};
+use crate::stop::{Moved, Purpose, TaskState, Wake};
 use crate::task::Task;
 use crate::world::World;
 use buffer_parts::Line;
@@ -33,19 +33,19 @@ impl<'a> Task<'a> {
         wake: Wake<'a>,
         world: &mut World<'a>,
     ) -> Result<Moved<'a>, AllocError>
-        requires fits { Fits self.old.frames.items self.old world.old (waits_of self.old.halt) }
+        requires fits { Fits self.old.frames.items self.old world.old (waits_of self.old.task_state) }
         requires tick { world.old.tick ≤ 2 ^ 62 }
-        requires halt { IsModestHalt self.old.halt }
-        requires wake { WakesFrom self.old.halt self.old.part world.old.book wake }
+        requires task_state { IsInRangeTaskState self.old.task_state }
+        requires wake { WakesFrom self.old.task_state self.old.part world.old.book wake }
         ensures stays { OnOk result (self.new
-            ≡ record self.old { own = self.new.own; halt = self.new.halt; entries = self.new.entries; froms = self.new.froms }) }
+            ≡ record self.old { own = self.new.own; task_state = self.new.task_state; entries = self.new.entries; froms = self.new.froms }) }
         ensures world { OnOk result (world.new
             ≡ record world.old { scopes = world.new.scopes; labels = world.new.labels; book = world.new.book }) }
-        ensures halt { OnOk result (IsModestHalt self.new.halt) }
-        ensures fits { IfOk result (λ moved. Fits self.new.frames.items self.new world.new (waits_by moved self.new.halt)) }
+        ensures task_state { OnOk result (IsInRangeTaskState self.new.task_state) }
+        ensures fits { IfOk result (λ moved. Fits self.new.frames.items self.new world.new (waits_by moved self.new.task_state)) }
         ensures waiters { OnOk result (SameWaiters world.old.book world.new.book) }
         ensures wakes { IfOk result (λ moved. Wakens self.old self.new world.old world.new moved
-            (wake_in world.old.book self.old.halt wake.entry)) }
+            (wake_in world.old.book self.old.task_state wake.entry)) }
     {
         match wake {
             Wake::Begin => Ok(Moved::On(None)),
@@ -69,16 +69,16 @@ impl<'a> Task<'a> {
         world: &World<'a>,
     ) -> Result<Moved<'a>, AllocError>
         requires scope { ForSome (scope_of self.old) (IsOpen world.now.scopes) }
-        requires small { length (bytes_of (buffer_of self.old.part) (range_of self.old.part)) ≤ MOST_INPUT }
+        requires small { length (bytes_of (buffer_of self.old.part) (range_of self.old.part)) ≤ MAX_INPUT }
         requires tick { world.now.tick ≤ 2 ^ 62 }
-        requires halt { IsModestHalt self.old.halt }
-        requires wake { WakesFrom self.old.halt self.old.part world.now.book (wakes.Answer answer) }
-        ensures stays { OnOk result (self.new ≡ record self.old { halt = self.new.halt; entries = self.new.entries }) }
-        ensures halt { OnOk result (IsModestHalt self.new.halt) }
-        ensures waits { IfOk result (λ moved. waits_by moved self.new.halt ≡ None) }
+        requires task_state { IsInRangeTaskState self.old.task_state }
+        requires wake { WakesFrom self.old.task_state self.old.part world.now.book (wakes.Answer answer) }
+        ensures stays { OnOk result (self.new ≡ record self.old { task_state = self.new.task_state; entries = self.new.entries }) }
+        ensures task_state { OnOk result (IsInRangeTaskState self.new.task_state) }
+        ensures waits { IfOk result (λ moved. waits_by moved self.new.task_state ≡ None) }
         ensures wakes { IfOk result (λ moved. Wakens self.old self.new world.now world.now moved (has_answer (answer_in answer.entry))) }
     {
-        let Halt::Asked { purpose, .. } = &self.halt else {
+        let TaskState::Asked { purpose, .. } = &self.task_state else {
             unreachable!()
         };
         let purpose = *purpose;
@@ -97,8 +97,8 @@ impl<'a> Task<'a> {
 
     // There is no such line: `need` raises.
     fn miss(&self, purpose: Purpose, world: &World<'a>) -> Result<Moved<'a>, AllocError>
-        ensures waits { IfOk result (λ moved. waits_by moved self.now.halt ≡ None) }
-        ensures wakes { IfOk result (λ moved. (kernel : Kernel) → self.now.halt ≡ Asked kernel purpose →
+        ensures waits { IfOk result (λ moved. waits_by moved self.now.task_state ≡ None) }
+        ensures wakes { IfOk result (λ moved. (kernel : Kernel) → self.now.task_state ≡ Asked kernel purpose →
             Wakens self.now self.now world.now world.now moved (has_answer missing)) }
     {
         match purpose {
@@ -114,13 +114,13 @@ impl<'a> Task<'a> {
     // There are `count` lines: `pace` sleeps accordingly.
     fn pace(&mut self, count: u64, purpose: Purpose, world: &World<'a>) -> Moved<'a>
         requires scope { ForSome (scope_of self.old) (IsOpen world.now.scopes) }
-        requires few { count ≤ MOST_INPUT }
+        requires few { count ≤ MAX_INPUT }
         requires tick { world.now.tick ≤ 2 ^ 62 }
-        requires purpose { IsModestPurpose purpose }
-        ensures stays { self.new ≡ record self.old { halt = self.new.halt } }
-        ensures halt { IsModestHalt self.old.halt → IsModestHalt self.new.halt }
-        ensures waits { waits_by result self.new.halt ≡ None }
-        ensures wakes { (kernel : Kernel) → self.old.halt ≡ Asked kernel purpose →
+        requires purpose { IsInRangePurpose purpose }
+        ensures stays { self.new ≡ record self.old { task_state = self.new.task_state } }
+        ensures task_state { IsInRangeTaskState self.old.task_state → IsInRangeTaskState self.new.task_state }
+        ensures waits { waits_by result self.new.task_state ≡ None }
+        ensures wakes { (kernel : Kernel) → self.old.task_state ≡ Asked kernel purpose →
             Wakens self.old self.new world.now world.now result (has_answer (counted count)) }
     {
         match purpose {
@@ -132,19 +132,19 @@ impl<'a> Task<'a> {
 
     // The nursery that the task waits for is settled: it is left with the group of what its members raised.
     fn settle(&mut self, world: &mut World<'a>) -> Result<Moved<'a>, AllocError>
-        requires fits { Fits self.old.frames.items self.old world.old (waits_of self.old.halt) }
-        requires wake { WakesFrom self.old.halt self.old.part world.old.book wakes.Settled }
+        requires fits { Fits self.old.frames.items self.old world.old (waits_of self.old.task_state) }
+        requires wake { WakesFrom self.old.task_state self.old.part world.old.book wakes.Settled }
         ensures stays { OnOk result (self.new
             ≡ record self.old { own = self.new.own; entries = self.new.entries; froms = self.new.froms }) }
         ensures world { OnOk result (world.new
             ≡ record world.old { scopes = world.new.scopes; labels = world.new.labels; book = world.new.book }) }
-        ensures fits { IfOk result (λ moved. Fits self.new.frames.items self.new world.new (waits_by moved self.new.halt)) }
+        ensures fits { IfOk result (λ moved. Fits self.new.frames.items self.new world.new (waits_by moved self.new.task_state)) }
         ensures waiters { OnOk result (SameWaiters world.old.book world.new.book) }
         ensures wakes { IfOk result (λ moved. Wakens self.old self.new world.old world.new moved
-            (settles (settled_exc world.old.book self.old.halt))) }
+            (settles (settled_exc world.old.book self.old.task_state))) }
     {
         stacks_are_chains(&world.scopes);
-        let Halt::Awaits { nursery, .. } = &self.halt else {
+        let TaskState::Awaits { nursery, .. } = &self.task_state else {
             unreachable!()
         };
         let nursery = *nursery;

@@ -1,5 +1,5 @@
 ghost use Rattle.std.specs.Prelude.{◌≡◌, ◌≤◌, List, ℕ, codes, length, true, IfOk};
-ghost use Rattle.job_meaning.specs.declared.limits.TheConstants.{MOST_INPUT};
+ghost use Rattle.job_meaning.specs.declared.limits.TheConstants.{MAX_INPUT};
 ghost use Rattle.test_app.specs.Mets.{IsFaultsMet, IsRacesMet, answer_of, denied_answer};
 
 use crate::kept::Kept;
@@ -30,7 +30,7 @@ pub(crate) fn no_races<R: Threads + Sync>(
     input: &[u8],
     settings: Settings,
 ) -> Result<Met, AllocError>
-    requires { length input.now ≤ MOST_INPUT }
+    requires { length input.now ≤ MAX_INPUT }
     ensures { IfOk result (λ met. IsRacesMet job_text.now input.now settings.limit (answer_of met)) }
 {
     let mut out = Kept::new(alloc);
@@ -54,7 +54,7 @@ pub(crate) fn no_faults<R: Threads + Sync>(
     settings: Settings,
     kinds: Deny,
 ) -> Result<Met, AllocError>
-    requires { length input.now ≤ MOST_INPUT }
+    requires { length input.now ≤ MAX_INPUT }
     ensures { IfOk result (λ met. IsFaultsMet job_text.now input.now settings.limit kinds (answer_of met)) }
 {
     let mut out = Kept::new(alloc);

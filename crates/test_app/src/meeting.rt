@@ -1,5 +1,5 @@
 ghost use Rattle.std.specs.Prelude.{◌≤◌, length, IfOk};
-ghost use Rattle.job_meaning.specs.declared.limits.TheConstants.{MOST_INPUT};
+ghost use Rattle.job_meaning.specs.declared.limits.TheConstants.{MAX_INPUT};
 ghost use Rattle.expect_text.specs.Views.{expected_of};
 ghost use Rattle.test_app.specs.Mets.{IsMet, answer_of};
 
@@ -24,7 +24,7 @@ pub fn meets<R: Threads + Sync>(
     report: &[u8],
     story: &[u8],
 ) -> Result<Met, AllocError>
-    requires { length input.now ≤ MOST_INPUT }
+    requires { length input.now ≤ MAX_INPUT }
     ensures { IfOk result (λ met. IsMet job_text.now input.now settings.limit (expected_of expectation.entry) report.now story.now
         (answer_of met)) }
 {

@@ -1,5 +1,5 @@
 ghost use Rattle.std.specs.Prelude.{◌≤◌, length, IfOk};
-ghost use Rattle.job_meaning.specs.declared.limits.TheConstants.{MOST_INPUT};
+ghost use Rattle.job_meaning.specs.declared.limits.TheConstants.{MAX_INPUT};
 ghost use Rattle.test_app.specs.Outputs.{IsChart, IsFaults, IsOutput, IsRaces, IsReport, IsStory};
 
 use crate::denying::fault_name;
@@ -25,7 +25,7 @@ pub fn output_of<R: Threads + Sync>(
     settings: Settings,
     output: Output,
 ) -> Result<Vec<u8>, AllocError>
-    requires { length input.now ≤ MOST_INPUT }
+    requires { length input.now ≤ MAX_INPUT }
     ensures { IfOk result (λ bytes. IsOutput job_text.now input.now settings.limit output bytes.items) }
 {
     match output {
@@ -45,7 +45,7 @@ fn report_of<R: Threads + Sync>(
     input: &[u8],
     settings: Settings,
 ) -> Result<Vec<u8>, AllocError>
-    requires { length input.now ≤ MOST_INPUT }
+    requires { length input.now ≤ MAX_INPUT }
     ensures { IfOk result (λ bytes. IsReport job_text.now input.now settings.limit bytes.items) }
 {
     let mut out = Kept::new(alloc);
@@ -72,7 +72,7 @@ fn story_of<R: Threads + Sync>(
     input: &[u8],
     settings: Settings,
 ) -> Result<Vec<u8>, AllocError>
-    requires { length input.now ≤ MOST_INPUT }
+    requires { length input.now ≤ MAX_INPUT }
     ensures { IfOk result (λ bytes. IsStory job_text.now input.now settings.limit bytes.items) }
 {
     let mut out = Kept::new(alloc);
@@ -100,7 +100,7 @@ fn chart_of<R: Threads + Sync>(
     input: &[u8],
     settings: Settings,
 ) -> Result<Vec<u8>, AllocError>
-    requires { length input.now ≤ MOST_INPUT }
+    requires { length input.now ≤ MAX_INPUT }
     ensures { IfOk result (λ bytes. IsChart job_text.now input.now settings.limit bytes.items) }
 {
     let mut out = Kept::new(alloc);
@@ -129,7 +129,7 @@ fn faults_of<R: Threads + Sync>(
     input: &[u8],
     settings: Settings,
 ) -> Result<Vec<u8>, AllocError>
-    requires { length input.now ≤ MOST_INPUT }
+    requires { length input.now ≤ MAX_INPUT }
     ensures { IfOk result (λ bytes. IsFaults job_text.now input.now settings.limit bytes.items) }
 {
     let mut out = Kept::new(alloc);
@@ -155,7 +155,7 @@ fn races_of<R: Threads + Sync>(
     input: &[u8],
     settings: Settings,
 ) -> Result<Vec<u8>, AllocError>
-    requires { length input.now ≤ MOST_INPUT }
+    requires { length input.now ≤ MAX_INPUT }
     ensures { IfOk result (λ bytes. IsRaces job_text.now input.now settings.limit bytes.items) }
 {
     let mut out = Kept::new(alloc);

@@ -2,11 +2,11 @@ use job_tree::Name;
 
 // The maximum number of blocks that may enclose a block in one function of the program. Python allows 20, and a `try` with all
 // its parts takes four of them. Some versions of Python crash near that limit, so a few are left free.
-const MOST_BLOCKS: usize = 12;
+const MAX_BLOCKS: usize = 12;
 
 // The maximum depth of nested `finally` blocks. Python compiles each `finally` twice, so one inside another four times, and so
 // on.
-const MOST_CLEANUPS: usize = 3;
+const MAX_CLEANUPS: usize = 3;
 
 // Where a block of the program is.
 #[derive(Clone, Copy)]
@@ -74,11 +74,11 @@ impl Place {
 
     // Returns whether a block of the job here needs a function of its own.
     pub(crate) fn is_deep(&self) -> bool {
-        self.blocks > MOST_BLOCKS
+        self.blocks > MAX_BLOCKS
     }
 
     // Returns whether a cleanup here needs a function that is defined before its `try`.
     pub(crate) fn is_deep_in_cleanups(&self) -> bool {
-        self.cleanups >= MOST_CLEANUPS
+        self.cleanups >= MAX_CLEANUPS
     }
 }

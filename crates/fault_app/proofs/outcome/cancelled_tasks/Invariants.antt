@@ -1,6 +1,6 @@
 use Rattle.std.proofs.Common.{◌≡◌, ◌++◌, drop, map}
-use Rattle.task_roster.specs.Records.{row_in}
-use Rattle.fault_text.specs.Fates.{cancelled_in}
+use Rattle.task_table.specs.Records.{row_in}
+use Rattle.fault_text.specs.JobOutcomes.{cancelled_in}
 use Rattle.fault_app.proofs.outcome.cancelled_tasks.Given as goal
 
 abbrev pub invariant-records : goal.invariant-records

@@ -1,9 +1,9 @@
 use Rattle.std.proofs.Common.{map, ap, ◌∙◌}
 use Rattle.job_story.specs.Froms.{table_in}
 use Rattle.job_runner.specs.Runs.{rows_of, scope_froms_of}
-use Rattle.task_roster.specs.Records.{row_in}
+use Rattle.task_table.specs.Records.{row_in}
 use Rattle.story_app.proofs.Tables.{is_of_meaning}
-use Rattle.fault_text.specs.Fates.{cancelled_in}
+use Rattle.fault_text.specs.JobOutcomes.{cancelled_in}
 use Rattle.fault_app.proofs.Summaries.{is_summary}
 use Rattle.fault_app.proofs.summary.summary_of.Goals as goal
 

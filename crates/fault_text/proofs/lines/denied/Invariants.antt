@@ -1,10 +1,10 @@
 use Rattle.std.proofs.Common.{◌≡◌, ◌++◌, drop}
 use Rattle.std.specs.Prelude.{map}
 use Rattle.fault_text.specs.Table.{first_denied, denied_lines}
-use Rattle.fault_text.specs.Views.{fate_held, line_held}
+use Rattle.fault_text.specs.Views.{job_outcome_held, line_held}
 use Rattle.fault_text.proofs.lines.denied.Given as goal
 
 abbrev pub invariant-lines : goal.invariant-lines
 invariant-lines l =
     l.out.items ++ denied_lines l.limit l.deny l.widths (map line_held (drop l.line-index l.lines))
-    ≡ first_denied l.limit l.deny l.widths (fate_held l.first) ++ denied_lines l.limit l.deny l.widths (map line_held l.lines)
+    ≡ first_denied l.limit l.deny l.widths (job_outcome_held l.first) ++ denied_lines l.limit l.deny l.widths (map line_held l.lines)

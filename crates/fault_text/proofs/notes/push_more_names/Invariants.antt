@@ -1,5 +1,5 @@
 use Rattle.std.proofs.Common.{◌≡◌, ◌++◌, length}
-use Rattle.fault_text.specs.Fates.{more_names}
+use Rattle.fault_text.specs.JobOutcomes.{more_names}
 use Rattle.fault_text.proofs.notes.push_more_names.Given as goal
 
 abbrev pub invariant-names : goal.invariant-names

@@ -1,7 +1,7 @@
 use Rattle.std.proofs.Common.{◌≡◌, ◌++◌, take}
 use Rattle.std.specs.Prelude.{map}
 use Rattle.std.specs.List.{flat_map}
-use Rattle.task_roster.specs.Records.{row_in}
+use Rattle.task_table.specs.Records.{row_in}
 use Rattle.job_report.specs.Text.{row_text}
 use Rattle.job_report.proofs.rows.push_rows.Given as goal
 

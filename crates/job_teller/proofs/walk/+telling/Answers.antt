@@ -29,7 +29,7 @@ use Rattle.job_teller.proofs.Passing.{at_first, room_pass, pass_failed, pass_nex
 use Rattle.job_teller.proofs.walk.+telling.Goals as goal
 
 pub tell_steps-steps-init : goal.tell_steps-steps-init
-tell_steps-steps-init t c = at_start _ _ _ _ _ (c.at-told.ensures _) c.requires.modest c.requires.room
+tell_steps-steps-init t c = at_start _ _ _ _ _ (c.at-told.ensures _) c.requires.in_range c.requires.room
 
 pub tell_steps-tell_step-requires : goal.tell_steps-tell_step-requires
 tell_steps-tell_step-requires t c =
@@ -38,7 +38,7 @@ tell_steps-tell_step-requires t c =
     let weight = weight_at c.args.steps.now c.steps.step-index c.step-item.result c.steps-test.true c.step-item.is in (
       omega (arith, weight, c.decreases),
       (
-        at.modest.0,
+        at.in_range.0,
         subst (λ (u : ℕ). HasRoom (size_in (step_of c.step-item.result)) c.args.here u) (sym c.end.ensures) (room_step _ _ _ _ _ _ _ _ at),
       ),
     )
@@ -144,13 +144,13 @@ tell_children-returns t c =
     (tell_each k (started_over c.args.name.now c.args.copies c.args.body.now here c.args.tick) c.args.tick)) last c.copies.invariant
 
 pub tell_passes-passes-init : goal.tell_passes-passes-init
-tell_passes-passes-init t c = at_first _ _ _ _ _ _ (c.at-told.ensures _) c.requires.modest c.requires.room
+tell_passes-passes-init t c = at_first _ _ _ _ _ _ (c.at-told.ensures _) c.requires.in_range c.requires.room
 
 pub tell_passes-tell_pass-requires : goal.tell_passes-tell_pass-requires
 tell_passes-tell_pass-requires t c = (
   omega (arith, c.decreases),
   (
-    c.requires.modest,
+    c.requires.in_range,
     subst (λ (u : ℕ). HasRoom (size_of c.args.body.now) c.args.here u) (sym c.end.ensures)
         (room_pass _ _ _ _ _ _ _ _ c.passes.invariant c.passes-test.true),
   ),
@@ -187,19 +187,19 @@ tell_pass-returns t c =
 pub tell_try-tell_handler-requires : goal.tell_try-tell_handler-requires
 tell_try-tell_handler-requires t c =
     let inner = tells_at _ _ _ c.in_ok-told.told _ _ c.args.body.now _ _ _ c.args.tick c.as_slice.ensures refl c.in_ok-told.ensures in
-    let small = ends_small c.in_ok-told.told _ c.args.body.now _ _ c.args.tick c.requires.modest c.requires.room.small inner.told in (
+    let small = ends_small c.in_ok-told.told _ c.args.body.now _ _ c.args.tick c.requires.in_range c.requires.room.small inner.told in (
       omega (arith, c.decreases),
-      (c.requires.modest_handler, record { room = omega (arith, small, c.requires.room.room); small = c.requires.room.small }),
+      (c.requires.in_range_handler, record { room = omega (arith, small, c.requires.room.room); small = c.requires.room.small }),
     )
 
 pub tell_try-tell_cleanup-requires : goal.tell_try-tell_cleanup-requires
 tell_try-tell_cleanup-requires t c =
     let inner = tells_at _ _ _ c.in_ok-told.told _ _ c.args.body.now _ _ _ c.args.tick c.as_slice.ensures refl c.in_ok-told.ensures in
     let handled = c.in_ok-told-2.ensures _ _ inner in
-    let small = ends_handled c.in_ok-told-2.told _ (handled_of c.args.handler.now) c.args.body.now _ _ c.args.tick c.requires.modest
-    c.requires.modest_handler c.requires.room.small handled.told in (
+    let small = ends_handled c.in_ok-told-2.told _ (handled_of c.args.handler.now) c.args.body.now _ _ c.args.tick c.requires.in_range
+    c.requires.in_range_handler c.requires.room.small handled.told in (
       omega (arith, c.decreases),
-      (c.requires.modest_cleanup, record { room = omega (arith, small, c.requires.room.room); small = c.requires.room.small }),
+      (c.requires.in_range_cleanup, record { room = omega (arith, small, c.requires.room.room); small = c.requires.room.small }),
     )
 
 pub tell_try-returns : goal.tell_try-returns

@@ -3,8 +3,8 @@ use Rattle.std.proofs.lemmas.List.{drop_all}
 use Rattle.job_tokens.proofs.Numbers.{value_step, is_above, is_whole}
 use Rattle.job_tokens.proofs.number.value_of.Goals as goal
 
-pub returns-then-value-gt-GREATEST_NUMBER : goal.returns-then-value-gt-GREATEST_NUMBER
-returns-then-value-gt-GREATEST_NUMBER c =
+pub returns-then-value-gt-MAX_NUMBER : goal.returns-then-value-gt-MAX_NUMBER
+returns-then-value-gt-MAX_NUMBER c =
     let step = value_step c.loop-digit.value c.args.digits.now c.loop-digit.digit-index c.from.result c.loop-digit-test.true
     (c.from.ensures ∙ c.saturating_sub.ensures) in
     sym (is_above (10 * c.loop-digit.value + c.from.result) c.args.digits.now (drop (c.loop-digit.digit-index + 1) c.args.digits.now)

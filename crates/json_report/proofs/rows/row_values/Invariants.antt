@@ -1,6 +1,6 @@
 use Rattle.std.proofs.Common.{◌≡◌, map, take}
 use Rattle.serde_json.specs.View.{view}
-use Rattle.task_roster.specs.Records.{row_in}
+use Rattle.task_table.specs.Records.{row_in}
 use Rattle.json_report.specs.Values.{row_json}
 use Rattle.json_report.proofs.rows.row_values.Given as goal
 

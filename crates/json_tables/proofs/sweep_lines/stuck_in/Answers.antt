@@ -1,5 +1,5 @@
 use Rattle.std.proofs.Common.{rules}
-use Rattle.fault_text.specs.Fates.{is_stuck}
+use Rattle.fault_text.specs.JobOutcomes.{is_stuck}
 use Rattle.sweep_text.proofs.Counted.{counted}
 use Rattle.json_tables.proofs.sweep_lines.stuck_in.Goals as goal
 

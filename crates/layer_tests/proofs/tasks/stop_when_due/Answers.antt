@@ -7,8 +7,8 @@ use Rattle.layer_tests.proofs.tasks.stop_when_due.Goals as goal
 
 pub turn-requires-clause-fits : goal.turn-requires-clause-fits
 turn-requires-clause-fits c =
-    subst (λ (w : World). Fits c.args.task.now.frames.items c.args.task.now w (waits_of c.args.task.now.halt)) (sym c.set_now.ensures) c.requires.fits
+    subst (λ (w : World). Fits c.args.task.now.frames.items c.args.task.now w (waits_of c.args.task.now.task_state)) (sym c.set_now.ensures) c.requires.fits
 
 pub turn-requires-clause-wake : goal.turn-requires-clause-wake
 turn-requires-clause-wake c =
-    subst (λ (w : World). WakesFrom c.args.task.now.halt c.args.task.now.part w.book Due) (sym c.set_now.ensures) c.requires.asleep
+    subst (λ (w : World). WakesFrom c.args.task.now.task_state c.args.task.now.part w.book Due) (sym c.set_now.ensures) c.requires.asleep

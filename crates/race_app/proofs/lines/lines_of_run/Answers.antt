@@ -1,6 +1,6 @@
 use Rattle.std.proofs.Common.{ap, map}
 use Rattle.std.proofs.lemmas.Result.{IfOk-weaker}
-use Rattle.task_roster.specs.Records.{row_in}
+use Rattle.task_table.specs.Records.{row_in}
 use Rattle.job_runner.specs.Runs.{rows_of}
 use Rattle.race_text.specs.Views.{found_held, line_held}
 use Rattle.race_app.specs.Views.{ran_seen}

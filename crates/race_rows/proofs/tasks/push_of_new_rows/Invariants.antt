@@ -1,6 +1,6 @@
 use Rattle.std.proofs.Common.{◌≡◌, ◌++◌, drop}
 use Rattle.std.specs.Prelude.{map}
-use Rattle.task_roster.specs.Records.{row_in}
+use Rattle.task_table.specs.Records.{row_in}
 use Rattle.race_rows.specs.Differences.{of_new_rows}
 use Rattle.race_rows.specs.Views.{difference_held}
 use Rattle.race_rows.proofs.tasks.push_of_new_rows.Given as goal

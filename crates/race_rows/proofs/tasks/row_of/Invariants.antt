@@ -1,6 +1,6 @@
 use Rattle.std.proofs.Common.{◌≡◌, drop}
 use Rattle.std.specs.Prelude.{map}
-use Rattle.task_roster.specs.Records.{row_in}
+use Rattle.task_table.specs.Records.{row_in}
 use Rattle.race_rows.specs.Differences.{row_of}
 use Rattle.race_rows.proofs.tasks.row_of.Given as goal
 

@@ -8,4 +8,4 @@ returns c =
     c.format_of.ensures (cut_back c.args.text.now _ 11 c.min.result c.split_at.ensures.back c.min.ensures) c.in_ok-lexed.ensures
     c.as_slice-tokens.ensures.value
     c.as_slice.ensures.value
-    c.in_ok-course.ensures.fault c.in_ok-course.ensures.roles c.shape_at.ensures c.given_first.ensures
+    c.in_ok-checked.ensures.fault c.in_ok-checked.ensures.roles c.shape_at.ensures c.given_first.ensures

@@ -1,13 +1,13 @@
 use Rattle.std.proofs.Common.{arith}
-use Rattle.scoped_workers.proofs.StationLemmas.{told-first, gathered-all}
+use Rattle.scoped_workers.proofs.WorkerStateLemmas.{told-first, gathered-all}
 use Rattle.scoped_workers.proofs.working.draw_all.Goals as goal
 
 pub close-requires-clause-told : goal.close-requires-clause-told
 close-requires-clause-told g c =
     let some = c.requires.some_workers in
     let made = c.in_ok-claims.ensures.passes.1 in
-    let stations = c.in_ok-stations.ensures.count in
-    let ran = c.run_all-stations.ensures.count in
+    let worker_states = c.in_ok-worker_states.ensures.count in
+    let ran = c.run_all-worker_states.ensures.count in
     let gathered = c.in_ok-gathered.ensures.count in
     told-first c.in_ok-gathered.gathered.passes.items (omega arith) (λ k d less. (c.in_ok-gathered.ensures.passes k d less).1)
 

@@ -1,9 +1,9 @@
 use Rattle.std.proofs.Common.{arith, rules, ◌≡◌, ◌∙◌, length, All, ap, sym, subst, List}
 use Rattle.std.proofs.lemmas.List.{length-set, nil_from_length}
 use Rattle.std.proofs.lemmas.List.Elements.{All-head, All-rest}
-use Rattle.scoped_workers.specs.declared.station.Numbered.{Numbered}
-use Rattle.scoped_workers.specs.Stations.{IsRight}
-use Rattle.scoped_workers.proofs.StationLemmas.{ComputedBut, placed-none, placed-one_more, placed-all}
+use Rattle.scoped_workers.specs.declared.worker_state.Numbered.{Numbered}
+use Rattle.scoped_workers.specs.WorkerStates.{IsRight}
+use Rattle.scoped_workers.proofs.WorkerStateLemmas.{ComputedBut, placed-none, placed-one_more, placed-all}
 use Rattle.scoped_workers.proofs.working.place.Goals as goal
 
 pub loop-numbered-init : goal.loop-numbered-init

@@ -1,6 +1,6 @@
 use Rattle.std.proofs.Common.{All, ◌≡◌, length}
-use Rattle.scoped_workers.specs.Stations.{IsRight}
-use Rattle.scoped_workers.proofs.StationLemmas.{ComputedBut}
+use Rattle.scoped_workers.specs.WorkerStates.{IsRight}
+use Rattle.scoped_workers.proofs.WorkerStateLemmas.{ComputedBut}
 use Rattle.scoped_workers.proofs.working.place.Given as goal
 
 abbrev pub invariant-loop-numbered : goal.invariant-loop-numbered

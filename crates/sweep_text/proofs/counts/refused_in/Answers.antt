@@ -1,5 +1,5 @@
 use Rattle.std.proofs.Common.{rules}
-use Rattle.fault_text.specs.Fates.{is_refused}
+use Rattle.fault_text.specs.JobOutcomes.{is_refused}
 use Rattle.sweep_text.proofs.Counted.{counted}
 use Rattle.sweep_text.proofs.counts.refused_in.Goals as goal
 

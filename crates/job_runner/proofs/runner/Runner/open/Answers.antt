@@ -5,11 +5,11 @@ use Rattle.job_runner.proofs.runner.Runner.open.Goals as goal
 
 pub returns-clause-underway : goal.returns-clause-underway
 returns-clause-underway c =
-    opened _ c.in_ok-task.task c.in_ok-roster.root
+    opened _ c.in_ok-task.task c.in_ok-task_table.root
     (record {
       names = c.spelled_jobs_are_sound.ensures.names _ _ c.steps-steps.ensures.spelled;
       starts = c.spelled_jobs_are_sound.ensures.starts _ _ c.steps-steps.ensures.spelled;
-      modest = c.steps-steps.ensures.modest;
+      in_range = c.steps-steps.ensures.in_range;
     })
     c.requires.small
     (record {
@@ -27,11 +27,11 @@ returns-clause-underway c =
       home = c.in_ok-task.ensures.home;
       frames = c.in_ok-task.ensures.frames;
       own = c.in_ok-task.ensures.own;
-      halt = c.in_ok-task.ensures.halt;
+      task_state = c.in_ok-task.ensures.task_state;
       entries = c.in_ok-task.ensures.entries;
       froms = c.in_ok-task.ensures.froms;
     })
-    c.in_ok-roster.ensures.root refl c.in_ok-roster.ensures.agree c.new-2.ensures.now c.new-2.ensures.limit c.requires.bounded
+    c.in_ok-task_table.ensures.root refl c.in_ok-task_table.ensures.agree c.new-2.ensures.now c.new-2.ensures.limit c.requires.bounded
     c.new-2.ensures.timers c.new-3.ensures c.new.ensures.unchanged c.new-batch.result.next
     c.add.new.self.next c.new-batch.ensures.next c.in_ok-add.ensures.added c.turn_over.ensures.current c.turn_over.ensures.next
     c.turn_over.ensures.unplaced

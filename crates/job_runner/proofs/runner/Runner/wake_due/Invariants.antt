@@ -6,4 +6,4 @@ abbrev pub invariant-due : goal.invariant-due
 invariant-due l = IsDue l.fn.self l.self
 
 abbrev pub decreases-due : goal.decreases-due
-decreases-due l = timed (length l.fn.self.roster.live.slots.slots) l.self.clock
+decreases-due l = timed (length l.fn.self.task_table.live.slots.slots) l.self.clock

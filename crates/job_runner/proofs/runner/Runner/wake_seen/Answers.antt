@@ -1,5 +1,5 @@
 use Rattle.std.proofs.Common.{ℕ, refl, subst}
-use Rattle.sleeper_sights.specs.Sleeping.{TakesSeen, NoneSees}
+use Rattle.sleepers.specs.Sleeping.{TakesSeen, NoneSees}
 use Rattle.job_runner.proofs.Waking.{seeing_first, seer_timed, seeing_next, seeing_fewer, seeing_last}
 use Rattle.job_runner.proofs.runner.Runner.wake_seen.Goals as goal
 

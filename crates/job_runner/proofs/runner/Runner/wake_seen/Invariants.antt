@@ -6,4 +6,4 @@ abbrev pub invariant-seen : goal.invariant-seen
 invariant-seen l = IsSeeing l.fn.self l.self
 
 abbrev pub decreases-seen : goal.decreases-seen
-decreases-seen l = timed (length l.fn.self.roster.live.slots.slots) l.self.clock
+decreases-seen l = timed (length l.fn.self.task_table.live.slots.slots) l.self.clock

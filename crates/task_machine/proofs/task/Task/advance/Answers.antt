@@ -4,20 +4,20 @@ use Rattle.exc_groups.specs.declared.exc.Exc as held
 use Rattle.exc_groups.specs.Held.{exc_of}
 use Rattle.job_tree.specs.Blocks.{handled_of, cleaned_of}
 use Rattle.job_meaning.specs.Walk.{outcome_after}
-use Rattle.task_turns.specs.Bound.{frames_length}
-use Rattle.task_turns.specs.Midway.{Move}
+use Rattle.turn_semantics.specs.Bound.{frames_length}
+use Rattle.turn_semantics.specs.Midway.{Move}
 use Rattle.task_machine.specs.declared.frame.Frame.TheVariants.{Scope, Nursery, Repeat, Try, Handler, Cleanup}
 use Rattle.task_machine.specs.declared.frame.Frame.{Frame}
-use Rattle.task_machine.specs.declared.stop.Halt.{Halt}
+use Rattle.task_machine.specs.declared.stop.TaskState.{TaskState}
 use Rattle.task_machine.specs.declared.stop.Moved.{Moved}
 use Rattle.task_machine.specs.declared.task.Task.{Task}
 use Rattle.task_machine.specs.Fitting.{Fits, waits_of}
 use Rattle.task_machine.specs.Standing.{waits_by}
-use Rattle.task_machine.specs.Frames.{laid_aside, frames_of}
+use Rattle.task_machine.specs.Frames.{unboxed_exc, frames_of}
 use Rattle.task_machine.specs.Tasks.{home_scope}
 use Rattle.task_machine.specs.Worlds.{label_at}
 use Rattle.task_machine.proofs.Fits.{ready_scope}
-use Rattle.task_machine.proofs.TaskFits.{exited_fits, waits_fits, frame_off, modest_with, starts_with, popped_fits, popped_length, popped_body, pass_shorter, passed_fits, try_shorter, tried_fits, handled_fits}
+use Rattle.task_machine.proofs.TaskFits.{exited_fits, waits_fits, frame_off, in_range_with, starts_with, popped_fits, popped_length, popped_body, pass_shorter, passed_fits, try_shorter, tried_fits, handled_fits}
 use Rattle.task_machine.proofs.Advances.{takes_end, takes_exit, takes_body, takes_pass, takes_try, takes_handler, takes_cleanup}
 use Rattle.task_machine.specs.declared.world.World.{World}
 use Rattle.task_machine.proofs.Waiters.{same_book, opened_none, opened_still, ended_waiters}
@@ -80,14 +80,14 @@ returns-in-Nursery-clause-fits c =
     let self = c.args.self.now in
     let e = c.end_body.ensures in
     subst (λ (m : Moved). Fits c.end_body.new.self.frames.items c.end_body.new.self c.end_body.new.world
-    (waits_by m c.end_body.new.self.halt)) (sym e.moved)
-    (subst (λ (h : Halt). Fits c.end_body.new.self.frames.items c.end_body.new.self c.end_body.new.world (waits_of h))
-    (sym (ap (λ (t : Task). t.halt) e.stays))
+    (waits_by m c.end_body.new.self.task_state)) (sym e.moved)
+    (subst (λ (h : TaskState). Fits c.end_body.new.self.frames.items c.end_body.new.self c.end_body.new.world (waits_of h))
+    (sym (ap (λ (t : Task). t.task_state) e.stays))
     (waits_fits c.in-Nursery.id (option_map exc_of c.args.exc) (record self { frames = c.pop.new.self }) c.end_body.new.self
     c.args.world.now c.end_body.new.world
     (popped_fits self c.pop.new.self.items c.in-Some.frame (Nursery c.in-Nursery.id) c.args.world.now c.in-Some.ensures.items
     c.in-Nursery.is c.requires.fits) e.keys e.ended
-    (e.stays ∙ ap (λ (t : Task). record self { frames = c.pop.new.self; halt = t.halt }) (sym e.stays)) e.rest))
+    (e.stays ∙ ap (λ (t : Task). record self { frames = c.pop.new.self; task_state = t.task_state }) (sym e.stays)) e.rest))
 
 pub returns-in_ok-exc-in-Try-clause-fits : goal.returns-in_ok-exc-in-Try-clause-fits
 returns-in_ok-exc-in-Try-clause-fits c =
@@ -115,7 +115,7 @@ returns-in_ok-exc-in-Handler-clause-fits c =
     let self = c.args.self.now in
     let e = c.in_ok-exc-in-Handler.ensures in
     let f = Handler c.in-Handler.rest c.in-Handler.cleanup in
-    handled_fits (cleaned_of c.in-Handler.cleanup.now) (option_map exc_of (laid_aside c.in-Handler.rest)) c.pop.new.self.items f
+    handled_fits (cleaned_of c.in-Handler.cleanup.now) (option_map exc_of (unboxed_exc c.in-Handler.rest)) c.pop.new.self.items f
     (record self { frames = c.pop.new.self }) c.end_handler.new.self c.args.world.now refl refl
     (popped_fits self c.pop.new.self.items c.in-Some.frame f c.args.world.now c.in-Some.ensures.items c.in-Handler.is c.requires.fits)
     (e.frames (λ id. [])) e.blocks e.stays
@@ -135,7 +135,7 @@ returns-in-Cleanup-clause-fits c =
     let fs = c.pop.new.self.items in
     let f = Cleanup c.in-Cleanup.outcome in
     let fits = popped_fits self fs c.in-Some.frame f c.args.world.now c.in-Some.ensures.items c.in-Cleanup.is c.requires.fits in
-    frame_off fs f self c.args.world.now refl fits (modest_with fs f self c.args.world.now fits)
+    frame_off fs f self c.args.world.now refl fits (in_range_with fs f self c.args.world.now fits)
     (starts_with fs f self c.args.world.now fits)
 
 pub returns-in-Cleanup-clause-shorter : goal.returns-in-Cleanup-clause-shorter
@@ -193,7 +193,7 @@ returns-in-Cleanup-clause-step c =
     let self = c.args.self.now in
     takes_cleanup self.frames.items c.in-Cleanup.outcome self (record self { frames = c.pop.new.self }) c.args.world.now c.args.exc
     c.outcome_after.result (c.in-Some.ensures.items ∙ ap (λ (f : Frame). c.pop.new.self.items ++ f ∷ []) c.in-Cleanup.is) refl
-    (c.outcome_after.ensures ∙ ap (λ (o : Option held.Exc). outcome_after (option_map exc_of o) (option_map exc_of c.args.exc)) c.take_up.ensures)
+    (c.outcome_after.ensures ∙ ap (λ (o : Option held.Exc). outcome_after (option_map exc_of o) (option_map exc_of c.args.exc)) c.unbox_exc.ensures)
 
 pub returns-in_ok-moved-in-Steps-clause-step : goal.returns-in_ok-moved-in-Steps-clause-step
 returns-in_ok-moved-in-Steps-clause-step c = c.in_ok-moved-in-Steps.ensures.step c.args.self.now.frames.items c.args.self.now
@@ -203,7 +203,7 @@ pub next_pass-requires : goal.next_pass-requires
 next_pass-requires c =
     let self = c.args.self.now in
     let f = Repeat c.in-Repeat.pass c.in-Repeat.left c.in-Repeat.body in
-    (modest_with c.pop.new.self.items f self c.args.world.now
+    (in_range_with c.pop.new.self.items f self c.args.world.now
     (popped_fits self c.pop.new.self.items c.in-Some.frame f c.args.world.now c.in-Some.ensures.items c.in-Repeat.is
     c.requires.fits)).1
 

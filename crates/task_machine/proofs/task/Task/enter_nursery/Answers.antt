@@ -3,8 +3,8 @@ use Rattle.exc_groups.specs.Exceptions.{Label}
 use Rattle.cancel_scopes.specs.Sight.{Tick}
 use Rattle.cancel_scopes.specs.Tree.{outer_of}
 use Rattle.job_meaning.specs.Walk.{due}
-use Rattle.task_turns.specs.Midway.{Place}
-use Rattle.task_turns.specs.Steps.{opened}
+use Rattle.turn_semantics.specs.Midway.{Place}
+use Rattle.turn_semantics.specs.Steps.{opened}
 use Rattle.task_machine.specs.Stacked.{AreAt}
 use Rattle.task_machine.specs.Worlds.{label_at}
 use Rattle.nursery_book.specs.Nursery.{opened as opens}

@@ -1,16 +1,16 @@
 use Rattle.std.proofs.Common.{[], List, ap, sym, ◌∙◌, subst, refl, arith}
 use Rattle.job_tree.specs.Blocks.{step_of, steps_of}
-use Rattle.job_tree.specs.Modest.{AreModest}
+use Rattle.job_tree.specs.InRange.{AreInRange}
 use Rattle.job_tree.specs.Starting.{StartsIn, StartsAt}
 use Rattle.job_tree.specs.declared.step.Step.{Step}
 use Rattle.job_meaning.specs.Rest as rest
-use Rattle.task_turns.specs.Bound.{turn_length, frames_length}
-use Rattle.task_turns.specs.Placed.{in_body}
+use Rattle.turn_semantics.specs.Bound.{turn_length, frames_length}
+use Rattle.turn_semantics.specs.Placed.{in_body}
 use Rattle.task_machine.specs.declared.frame.Frame.TheVariants.{Steps}
 use Rattle.task_machine.specs.Fitting.{frames_behind}
 use Rattle.task_machine.specs.Frames.{frames_of}
 use Rattle.task_machine.proofs.FrameLemmas.{frames_push}
-use Rattle.task_machine.proofs.TaskFits.{frame_off, pushed_fits, modest_with, starts_with, steps_longer}
+use Rattle.task_machine.proofs.TaskFits.{frame_off, pushed_fits, in_range_with, starts_with, steps_longer}
 use Rattle.std.proofs.lemmas.List.{nil_from_length}
 use Rattle.task_machine.specs.declared.task.Task.{Task}
 use Rattle.task_machine.proofs.Advances.{takes_skipped, takes_last, takes_well}
@@ -22,7 +22,7 @@ returns-in-Some-clause-fits c =
     let fs = c.args.self.now.frames.items in
     let f = Steps c.args.steps in
     frame_off fs f c.args.self.now c.args.world.now refl c.requires.fits
-    (modest_with fs f c.args.self.now c.args.world.now c.requires.fits).1
+    (in_range_with fs f c.args.self.now c.args.world.now c.requires.fits).1
     (starts_with fs f c.args.self.now c.args.world.now c.requires.fits).1
 
 pub returns-in-Some-clause-shorter : goal.returns-in-Some-clause-shorter
@@ -33,19 +33,19 @@ returns-in_default-split_first-clause-fits c =
     let fs = c.args.self.now.frames.items in
     let f = Steps c.args.steps in
     frame_off fs f c.args.self.now c.args.world.now refl c.requires.fits
-    (modest_with fs f c.args.self.now c.args.world.now c.requires.fits).1
+    (in_range_with fs f c.args.self.now c.args.world.now c.requires.fits).1
     (starts_with fs f c.args.self.now c.args.world.now c.requires.fits).1
 
 pub returns-in_default-split_first-clause-shorter : goal.returns-in_default-split_first-clause-shorter
 returns-in_default-split_first-clause-shorter c =
     λ u. steps_longer c.args.self.now.frames.items (Steps c.args.steps) (steps_of c.args.steps.now) refl
 
-pub run-requires-clause-modest : goal.run-requires-clause-modest
-run-requires-clause-modest c =
+pub run-requires-clause-in_range : goal.run-requires-clause-in_range
+run-requires-clause-in_range c =
     let fs = c.args.self.now.frames.items in
-    let all : AreModest (steps_of c.args.steps.now) =
-    (modest_with fs (Steps c.args.steps) c.args.self.now c.args.world.now c.requires.fits).0 in
-    (subst (λ (ss : List Step). AreModest (steps_of ss)) c.in-Some-split_first.ensures.cases.0 all).0
+    let all : AreInRange (steps_of c.args.steps.now) =
+    (in_range_with fs (Steps c.args.steps) c.args.self.now c.args.world.now c.requires.fits).0 in
+    (subst (λ (ss : List Step). AreInRange (steps_of ss)) c.in-Some-split_first.ensures.cases.0 all).0
 
 pub run-requires-clause-starts : goal.run-requires-clause-starts
 run-requires-clause-starts c =
@@ -62,11 +62,11 @@ run-requires-clause-fits c =
     let fs = self.frames.items in
     let world = c.args.world.now in
     let split = c.in-Some-split_first.ensures.cases.0 in
-    let modest = modest_with fs (Steps c.args.steps) self world c.requires.fits in
+    let in_range = in_range_with fs (Steps c.args.steps) self world c.requires.fits in
     let starts = starts_with fs (Steps c.args.steps) self world c.requires.fits in
     pushed_fits fs (Steps c.args.steps) (Steps c.in-Some-split_first.rest) self c.push.new.self world refl refl c.requires.fits
     c.in_ok-push.ensures.blocks (c.in_ok-push.ensures.frames (λ id. []))
-    ((subst (λ (ss : List Step). AreModest (steps_of ss)) split modest.0).1, modest.1)
+    ((subst (λ (ss : List Step). AreInRange (steps_of ss)) split in_range.0).1, in_range.1)
     ((subst (λ (ss : List Step). StartsIn (in_body (frames_of (λ id. []) fs)) (steps_of ss)) split starts.0).1, starts.1)
     c.in_ok-push.ensures.stays
 

@@ -13,7 +13,7 @@ use Rattle.task_machine.proofs.task.Task.go_to_stop.Goals as goal
 pub steps-init : goal.steps-init
 steps-init c = (
   c.requires.fits,
-  c.requires.halt,
+  c.requires.task_state,
   refl,
   refl,
   opened_still c.args.me c.args.world.now.book,
@@ -28,15 +28,15 @@ steps-preserved c =
     let i = c.steps.invariant in
     let e = c.in_ok-next.ensures in (
       subst (λ (m : Moved). Fits c.advance.new.self.frames.items c.advance.new.self c.advance.new.world
-          (waits_by m c.advance.new.self.halt)) c.in-On.is e.fits,
-      e.halt,
+          (waits_by m c.advance.new.self.task_state)) c.in-On.is e.fits,
+      e.task_state,
       e.stays
           ∙ ap
           (λ (t : Task).
           record t {
             frames = c.advance.new.self.frames;
             own = c.advance.new.self.own;
-            halt = c.advance.new.self.halt;
+            task_state = c.advance.new.self.task_state;
             entries = c.advance.new.self.entries;
             froms = c.advance.new.self.froms;
           }) i.2,

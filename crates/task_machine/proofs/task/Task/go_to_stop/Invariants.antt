@@ -2,25 +2,25 @@ use Rattle.std.proofs.Common.{◌≡◌, ℕ, List, []}
 use Rattle.std.specs.Option.{option_map}
 use Rattle.exc_groups.specs.Held.{exc_of}
 use Rattle.job_meaning.specs.Log.{Table}
-use Rattle.task_turns.specs.Midway.{Place}
+use Rattle.turn_semantics.specs.Midway.{Place}
 use Rattle.task_machine.specs.Standing.{Stands}
 use Rattle.task_machine.specs.Stops.{Numbers}
 use Rattle.task_machine.proofs.TurnGoes.{GoneOn}
 use Rattle.std.specs.Prelude.{None}
-use Rattle.task_turns.specs.Bound.{frames_length}
+use Rattle.turn_semantics.specs.Bound.{frames_length}
 use Rattle.task_machine.specs.Fitting.{Fits}
 use Rattle.task_machine.specs.Frames.{frames_of}
 use Rattle.task_machine.specs.Waiters.{OpenedBy}
-use Rattle.task_machine.specs.Waking.{IsModestHalt}
+use Rattle.task_machine.specs.Waking.{IsInRangeTaskState}
 use Rattle.task_machine.proofs.task.Task.go_to_stop.Given as goal
 
 abbrev pub invariant-steps : goal.invariant-steps
 invariant-steps l =
-    Fits l.self.frames.items l.self l.world None × IsModestHalt l.self.halt
+    Fits l.self.frames.items l.self l.world None × IsInRangeTaskState l.self.task_state
     × (l.self ≡ record l.initial.self {
       frames = l.self.frames;
       own = l.self.own;
-      halt = l.self.halt;
+      task_state = l.self.task_state;
       entries = l.self.entries;
       froms =
           l.self.froms;

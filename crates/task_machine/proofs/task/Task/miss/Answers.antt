@@ -1,6 +1,6 @@
 use Rattle.std.proofs.Common.{refl, ap}
 use Rattle.job_meaning.specs.Asking as ask
-use Rattle.task_turns.specs.Wakes.{goes_on_with}
+use Rattle.turn_semantics.specs.Wakes.{goes_on_with}
 use Rattle.task_machine.specs.declared.stop.Purpose.{Purpose}
 use Rattle.task_machine.specs.Standing.{here_of}
 use Rattle.task_machine.specs.Stops.{purpose_in}

@@ -1,10 +1,10 @@
 use Rattle.std.proofs.Common.{refl, ap, subst}
 use Rattle.job_meaning.specs.Asking as ask
-use Rattle.task_turns.specs.Wakes.{goes_on_with}
+use Rattle.turn_semantics.specs.Wakes.{goes_on_with}
 use Rattle.task_machine.specs.declared.stop.Purpose.{Purpose}
 use Rattle.task_machine.specs.Standing.{here_of}
 use Rattle.task_machine.specs.Stops.{purpose_in}
-use Rattle.task_machine.specs.Waking.{IsModestPurpose}
+use Rattle.task_machine.specs.Waking.{IsInRangePurpose}
 use Rattle.task_machine.proofs.Wakens.{wakes_answered, wakes_counted}
 use Rattle.task_machine.proofs.Wakes.{paced_is}
 use Rattle.task_machine.proofs.task.Task.pace.Goals as goal
@@ -16,7 +16,7 @@ returns-in-Paces-clause-wakes c =
     λ kernel asked.
     wakes_counted self self c.sleep.new.self c.args.world.now c.sleep.result kernel c.args.purpose k c.args.count _ refl asked
     (ap purpose_in c.in-Paces.is)
-    (paced_is c.args.count k (subst IsModestPurpose c.in-Paces.is c.requires.purpose).0) c.sleep.ensures.stays c.sleep.ensures.sleeps
+    (paced_is c.args.count k (subst IsInRangePurpose c.in-Paces.is c.requires.purpose).0) c.sleep.ensures.stays c.sleep.ensures.sleeps
 
 pub returns-in-Shows-clause-wakes : goal.returns-in-Shows-clause-wakes
 returns-in-Shows-clause-wakes c =

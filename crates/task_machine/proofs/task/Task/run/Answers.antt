@@ -1,11 +1,11 @@
 use Rattle.std.proofs.Common.{ℕ, ◌-◌, None, [], ap, ◌∙◌, subst, refl, arith}
 use Rattle.job_tree.specs.Blocks.{step_of}
-use Rattle.job_tree.specs.Modest.{IsModestStep}
+use Rattle.job_tree.specs.InRange.{IsInRangeStep}
 use Rattle.job_tree.specs.Starting.{StartsAt}
 use Rattle.job_tree.specs.declared.step.Step.{Step}
 use Rattle.job_meaning.specs.Walk.{far}
-use Rattle.task_turns.specs.Bound.{step_length}
-use Rattle.task_turns.specs.Placed.{in_body}
+use Rattle.turn_semantics.specs.Bound.{step_length}
+use Rattle.turn_semantics.specs.Placed.{in_body}
 use Rattle.task_machine.specs.Entered.{label_in}
 use Rattle.task_machine.specs.Fitting.{frames_behind}
 use Rattle.task_machine.specs.Frames.{frames_of}
@@ -24,12 +24,12 @@ pub returns-in_ok-enter_scope-in-Scope-clause-fits : goal.returns-in_ok-enter_sc
 returns-in_ok-enter_scope-in-Scope-clause-fits c =
     let laws = c.stacks_are_chains.ensures in
     let e = c.in_ok-enter_scope-in-Scope.ensures in
-    let modest = subst (λ (s : Step). IsModestStep (step_of s)) c.in-Scope.is c.requires.modest in
+    let in_range = subst (λ (s : Step). IsInRangeStep (step_of s)) c.in-Scope.is c.requires.in_range in
     let starts = subst (λ (s : Step). StartsAt (in_body (frames_behind (frames_of (λ id. []) c.args.self.now.frames.items))) (step_of s))
     c.in-Scope.is c.requires.starts in
     scope_fits c.in-Scope.fail c.in-Scope.body (label_in c.args.self.now c.in-Scope.name) c.args.self.now c.enter_scope.new.self
     c.args.world.now c.enter_scope.new.world
-    (record { chain = laws.chain; own = laws.own; apart = laws.apart }) c.requires.fits e.own e.frames modest.1 starts e.stays e.world
+    (record { chain = laws.chain; own = laws.own; apart = laws.apart }) c.requires.fits e.own e.frames in_range.1 starts e.stays e.world
 
 pub returns-in_ok-enter_scope-in-Scope-clause-length : goal.returns-in_ok-enter_scope-in-Scope-clause-length
 returns-in_ok-enter_scope-in-Scope-clause-length c =
@@ -42,12 +42,12 @@ pub returns-in_ok-enter_nursery-in-Nursery-clause-fits : goal.returns-in_ok-ente
 returns-in_ok-enter_nursery-in-Nursery-clause-fits c =
     let laws = c.stacks_are_chains.ensures in
     let e = c.in_ok-enter_nursery-in-Nursery.ensures in
-    let modest = subst (λ (s : Step). IsModestStep (step_of s)) c.in-Nursery.is c.requires.modest in
+    let in_range = subst (λ (s : Step). IsInRangeStep (step_of s)) c.in-Nursery.is c.requires.in_range in
     let starts = subst (λ (s : Step). StartsAt (in_body (frames_behind (frames_of (λ id. []) c.args.self.now.frames.items))) (step_of s))
     c.in-Nursery.is c.requires.starts in
     nursery_fits c.args.me c.in-Nursery.body (label_in c.args.self.now c.in-Nursery.name) c.args.self.now c.enter_nursery.new.self
     c.args.world.now c.enter_nursery.new.world
-    (record { chain = laws.chain; own = laws.own; apart = laws.apart }) c.requires.fits e.own e.nursery modest.1 starts e.stays
+    (record { chain = laws.chain; own = laws.own; apart = laws.apart }) c.requires.fits e.own e.nursery in_range.1 starts e.stays
 
 pub returns-in_ok-enter_nursery-in-Nursery-clause-length : goal.returns-in_ok-enter_nursery-in-Nursery-clause-length
 returns-in_ok-enter_nursery-in-Nursery-clause-length c =
@@ -131,16 +131,16 @@ returns-in_ok-begin_children-in-Start-clause-step c =
     λ frames task a.
     takes_children frames c.args.step.now task c.args.self.now c.args.world.now c.begin_children.new.world c.in-Start.name c.in-Start.over
     c.in-Start.body c.requires.fits a c.in-Start.is e.rest e.children
-    (subst (λ (s : Step). IsModestStep (step_of s)) c.in-Start.is c.requires.modest).1
+    (subst (λ (s : Step). IsInRangeStep (step_of s)) c.in-Start.is c.requires.in_range).1
 
 pub returns-in_ok-begin_passes-in-Repeat-clause-fits : goal.returns-in_ok-begin_passes-in-Repeat-clause-fits
 returns-in_ok-begin_passes-in-Repeat-clause-fits c =
     let e = c.in_ok-begin_passes-in-Repeat.ensures in
-    let modest = subst (λ (s : Step). IsModestStep (step_of s)) c.in-Repeat.is c.requires.modest in
+    let in_range = subst (λ (s : Step). IsInRangeStep (step_of s)) c.in-Repeat.is c.requires.in_range in
     let starts = subst (λ (s : Step). StartsAt (in_body (frames_behind (frames_of (λ id. []) c.args.self.now.frames.items))) (step_of s))
     c.in-Repeat.is c.requires.starts in
     repeat_fits c.in-Repeat.count c.in-Repeat.body c.args.self.now c.begin_passes.new.self c.args.world.now c.requires.fits
-    modest.0 modest.1 starts e.blocks (e.step (λ id. []) []) e.stays
+    in_range.0 in_range.1 starts e.blocks (e.step (λ id. []) []) e.stays
 
 pub returns-in_ok-begin_passes-in-Repeat-clause-length : goal.returns-in_ok-begin_passes-in-Repeat-clause-length
 returns-in_ok-begin_passes-in-Repeat-clause-length c =

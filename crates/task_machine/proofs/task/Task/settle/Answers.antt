@@ -5,8 +5,8 @@ use Rattle.std.specs.Option.{option_map}
 use Rattle.exc_groups.specs.Exceptions.{Exc}
 use Rattle.exc_groups.specs.Held.{exc_of}
 use Rattle.nursery_book.specs.Book.{nursery_at}
-use Rattle.task_turns.specs.Wakes.{settles}
-use Rattle.task_machine.specs.declared.stop.Halt.{Halt}
+use Rattle.turn_semantics.specs.Wakes.{settles}
+use Rattle.task_machine.specs.declared.stop.TaskState.{TaskState}
 use Rattle.task_machine.specs.declared.stop.Moved.TheVariants.{On}
 use Rattle.task_machine.specs.Fitting.{blocks_of, Fits, waits_of}
 use Rattle.task_machine.specs.Standing.{Wakens}
@@ -60,11 +60,11 @@ returns-clause-wakes c =
     c.exit.new.world c.in_ok-exc.exc c.in_ok-exc-2.exc refl c.in-Awaits.is
     (apart_awaited self.frames.items self.part (home_scope self) self.own.items _ world.scopes (label_at world) world.book
     c.in-Awaits.nursery
-    (subst (λ (h : Halt). Fits self.frames.items self world (waits_of h)) c.in-Awaits.is c.requires.fits)) refl c.in_ok-exc.ensures.closed
+    (subst (λ (h : TaskState). Fits self.frames.items self world (waits_of h)) c.in-Awaits.is c.requires.fits)) refl c.in_ok-exc.ensures.closed
     exited.stays exited.world exited.at exited.left
     (λ n at other.
     has_scope (label_at world) world.book (blocks_of self.frames.items) self.own.items (Some c.in-Awaits.nursery) c.in-Awaits.nursery n
-    (subst (λ (h : Halt). Fits self.frames.items self world (waits_of h)) c.in-Awaits.is c.requires.fits).opened (inr refl) at other.1))
+    (subst (λ (h : TaskState). Fits self.frames.items self world (waits_of h)) c.in-Awaits.is c.requires.fits).opened (inr refl) at other.1))
 
 pub returns-clause-waiters : goal.returns-clause-waiters
 returns-clause-waiters c =

@@ -2,9 +2,9 @@ use Rattle.std.proofs.Common.{◌≡◌, ℕ, ◌+◌, true, false, Option, Some
 use Rattle.exc_groups.specs.Exceptions.{cancelled}
 use Rattle.cancel_scopes.specs.Sight.{seen}
 use Rattle.cancel_scopes.specs.Tree.{outer_of}
-use Rattle.task_turns.specs.Midway.{Move}
+use Rattle.turn_semantics.specs.Midway.{Move}
 use Rattle.task_machine.specs.declared.stop.Stop.TheVariants.{Sleep}
-use Rattle.task_machine.specs.declared.stop.Halt.TheVariants.{Asleep}
+use Rattle.task_machine.specs.declared.stop.TaskState.TheVariants.{Asleep}
 use Rattle.task_machine.specs.Stops.{StopsAs}
 use Rattle.task_machine.proofs.Moves.{sleeps_by, sleeps_on, sleeps_off}
 use Rattle.task_machine.proofs.task.Task.sleep.Goals as goal

@@ -16,7 +16,7 @@ returns-clause-started c =
       home_is = child.home;
       frames = child.frames;
       own = child.own;
-      halt = child.halt;
+      task_state = child.task_state;
       entries = child.entries;
       froms = child.froms;
     })

@@ -2,12 +2,12 @@ use Rattle.std.proofs.Common.{None, List, ◌++◌, map, refl, ap, sym, ◌∙�
 use Rattle.buffer_parts.specs.Part.{span_of}
 use Rattle.buffer_parts.specs.declared.line.Line.{Line}
 use Rattle.task_machine.specs.declared.entry.Entry.TheVariants as entries
-use Rattle.task_turns.specs.Wakes.{has_answer}
+use Rattle.turn_semantics.specs.Wakes.{has_answer}
 use Rattle.task_machine.specs.declared.stop.Moved.TheVariants.{On}
 use Rattle.task_machine.specs.Standing.{Wakens}
 use Rattle.line_kernels.specs.Answers.{IsAnswer}
 use Rattle.line_kernels.specs.declared.answers.Answer as held
-use Rattle.task_machine.specs.declared.stop.Halt.{Halt}
+use Rattle.task_machine.specs.declared.stop.TaskState.{TaskState}
 use Rattle.task_machine.specs.declared.stop.Wake.TheVariants.{Answer}
 use Rattle.task_machine.specs.Waking.{WakesFrom, answer_in}
 use Rattle.task_machine.proofs.Wakens.{wakes_lines}
@@ -19,7 +19,7 @@ pace-requires-clause-few c =
     let part = c.args.self.now.part in
     count_few c.in-Asked.kernel part c.in-Count.count c.requires.small
     (subst (λ (a : held.Answer). IsAnswer c.in-Asked.kernel part a) c.in-Count.is
-    (subst (λ (h : Halt). WakesFrom h part c.args.world.now.book (Answer c.args.answer)) c.in-Asked.is c.requires.wake))
+    (subst (λ (h : TaskState). WakesFrom h part c.args.world.now.book (Answer c.args.answer)) c.in-Asked.is c.requires.wake))
 
 pub returns-in_ok-push_lines-in-Lines-clause-wakes : goal.returns-in_ok-push_lines-in-Lines-clause-wakes
 returns-in_ok-push_lines-in-Lines-clause-wakes c =
@@ -32,7 +32,7 @@ returns-in_ok-push_lines-in-Lines-clause-wakes c =
     (c.in_ok-push_lines-in-Lines.ensures ∙ ap (λ (ls : List Line). self.entries.items ++ map entries.Line ls) c.as_slice.ensures)
     (lines_at c.in-Asked.kernel self.part lines
     (subst (λ (a : held.Answer). IsAnswer c.in-Asked.kernel self.part a) c.in-Lines.is
-    (subst (λ (h : Halt). WakesFrom h self.part c.args.world.now.book (Answer c.args.answer)) c.in-Asked.is c.requires.wake))))
+    (subst (λ (h : TaskState). WakesFrom h self.part c.args.world.now.book (Answer c.args.answer)) c.in-Asked.is c.requires.wake))))
 
 pub returns-in_ok-moved-in-Missing-clause-wakes : goal.returns-in_ok-moved-in-Missing-clause-wakes
 returns-in_ok-moved-in-Missing-clause-wakes c =

@@ -13,24 +13,24 @@ returns-in_ok-stop-in-On-clause-turn c =
     let self = c.args.self.now in
     let world = c.args.world.now in
     let woke = c.in_ok-exc.ensures in
-    λ froms numbers ps count stopped halt stands.
+    λ froms numbers ps count stopped task_state stands.
     turns_later self c.wake.new.self c.go_to_stop.new.self world c.wake.new.world c.go_to_stop.new.world c.args.wake c.in-On.exc
     c.in_ok-stop-in-On.stop froms numbers ps count stopped
     (ap (λ (t : Task). t.part) woke.stays) (ap (λ (t : Task). t.label) woke.stays) (ap (λ (w : World). w.tick) woke.world)
-    (can_wake self.halt self.part world.book numbers c.args.wake stopped c.requires.wake halt) stands
+    (can_wake self.task_state self.part world.book numbers c.args.wake stopped c.requires.wake task_state) stands
     (subst (λ (m : Moved). Took self.frames.items self c.wake.new.self world c.wake.new.world m froms numbers
-    (wake_at self world (wake_in world.book self.halt c.args.wake) stopped froms numbers ps)) c.in-On.is
-    (woke.wakes froms numbers stopped ps stands halt)) c.in_ok-stop-in-On.ensures.steps
+    (wake_at self world (wake_in world.book self.task_state c.args.wake) stopped froms numbers ps)) c.in-On.is
+    (woke.wakes froms numbers stopped ps stands task_state)) c.in_ok-stop-in-On.ensures.steps
 
 pub returns-in-Stops-clause-turn : goal.returns-in-Stops-clause-turn
 returns-in-Stops-clause-turn c =
     let self = c.args.self.now in
     let world = c.args.world.now in
-    λ froms numbers ps count stopped halt stands.
+    λ froms numbers ps count stopped task_state stands.
     turns_at_once self c.wake.new.self world c.wake.new.world c.args.wake c.in-Stops.stop froms numbers ps count stopped
     (subst (λ (m : Moved). Took self.frames.items self c.wake.new.self world c.wake.new.world m froms numbers
-    (wake_at self world (wake_in world.book self.halt c.args.wake) stopped froms numbers ps)) c.in-Stops.is
-    (c.in_ok-exc.ensures.wakes froms numbers stopped ps stands halt))
+    (wake_at self world (wake_in world.book self.task_state c.args.wake) stopped froms numbers ps)) c.in-Stops.is
+    (c.in_ok-exc.ensures.wakes froms numbers stopped ps stands task_state))
 
 pub returns-in_ok-stop-in-On-clause-waiters : goal.returns-in_ok-stop-in-On-clause-waiters
 returns-in_ok-stop-in-On-clause-waiters c =

@@ -12,28 +12,28 @@ pub returns-in-Begin-clause-wakes : goal.returns-in-Begin-clause-wakes
 returns-in-Begin-clause-wakes c =
     let self = c.args.self.now in
     let world = c.args.world.now in
-    subst (λ (w : held.Wake). Wakens self self world world (On None) (wake_in world.book self.halt w)) (sym c.in-Begin.is)
+    subst (λ (w : held.Wake). Wakens self self world world (On None) (wake_in world.book self.task_state w)) (sym c.in-Begin.is)
     (wakes_begin self self world refl)
 
 pub returns-in-Due-clause-wakes : goal.returns-in-Due-clause-wakes
 returns-in-Due-clause-wakes c =
     let self = c.args.self.now in
     let world = c.args.world.now in
-    subst (λ (w : held.Wake). Wakens self self world world (On None) (wake_in world.book self.halt w)) (sym c.in-Due.is)
+    subst (λ (w : held.Wake). Wakens self self world world (On None) (wake_in world.book self.task_state w)) (sym c.in-Due.is)
     (wakes_due self self world refl)
 
 pub returns-in-Seen-clause-wakes : goal.returns-in-Seen-clause-wakes
 returns-in-Seen-clause-wakes c =
     let self = c.args.self.now in
     let world = c.args.world.now in
-    subst (λ (w : held.Wake). Wakens self self world world (On (Some Cancelled)) (wake_in world.book self.halt w)) (sym c.in-Seen.is)
+    subst (λ (w : held.Wake). Wakens self self world world (On (Some Cancelled)) (wake_in world.book self.task_state w)) (sym c.in-Seen.is)
     (wakes_seen self self world (Some Cancelled) refl refl)
 
 pub returns-in_ok-moved-in-Answer-clause-wakes : goal.returns-in_ok-moved-in-Answer-clause-wakes
 returns-in_ok-moved-in-Answer-clause-wakes c =
     let self = c.args.self.now in
     let world = c.args.world.now in
-    subst (λ (w : held.Wake). Wakens self c.take_answer.new.self world world c.in_ok-moved-in-Answer.moved (wake_in world.book self.halt w))
+    subst (λ (w : held.Wake). Wakens self c.take_answer.new.self world world c.in_ok-moved-in-Answer.moved (wake_in world.book self.task_state w))
     (sym c.in-Answer.is) (c.in_ok-moved-in-Answer.ensures.wakes)
 
 pub returns-in_ok-moved-in-Settled-clause-wakes : goal.returns-in_ok-moved-in-Settled-clause-wakes
@@ -41,7 +41,7 @@ returns-in_ok-moved-in-Settled-clause-wakes c =
     let self = c.args.self.now in
     let world = c.args.world.now in
     subst (λ (w : held.Wake). Wakens self c.settle.new.self world c.settle.new.world c.in_ok-moved-in-Settled.moved
-    (wake_in world.book self.halt w)) (sym c.in-Settled.is) (c.in_ok-moved-in-Settled.ensures.wakes)
+    (wake_in world.book self.task_state w)) (sym c.in-Settled.is) (c.in_ok-moved-in-Settled.ensures.wakes)
 
 pub returns-in-Begin-clause-waiters : goal.returns-in-Begin-clause-waiters
 returns-in-Begin-clause-waiters c = same_book c.args.world.now.book c.args.world.now.book refl

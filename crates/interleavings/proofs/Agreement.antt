@@ -1,0 +1,138 @@
+-- If a run agrees with a table, the table and the froms that the run keeps agree at the present tick; and the jump: nothing
+-- that was not done yet happens before the tick to which the clock jumps.
+use Rattle.std.proofs.Common.{◌≡◌, ℕ, zero, suc, ◌+◌, ◌-◌, ◌<◌, ◌≤◌, min, max, true, Some, None, List, [], ◌∷◌, refl, sym, ap, ◌∙◌, subst, inl, inr, arith}
+use Rattle.exc_groups.specs.Exceptions.{Label}
+use Rattle.cancel_scopes.specs.Sight.{Tick, sight}
+use Rattle.job_meaning.specs.Log.{Result, Table, least_sign}
+use Rattle.job_meaning.specs.Walk.{latest}
+use Rattle.job_meaning.specs.Before.{upto}
+use Rattle.job_meaning.specs.Rest.{told_members, Stopped, to_begin, asking, asleep, awaiting, at_end}
+use Rattle.job_meaning.proofs.Late.{Timed}
+use Rattle.job_meaning.proofs.Clips.{upto_most, sight_near, least_late}
+use Rattle.turn_semantics.specs.Midway.{Place, stack_at}
+use Rattle.turn_semantics.specs.Placed.{PlacedStop}
+use Rattle.turn_semantics.specs.Turned.{AgreesOn, AgreesIn, made_sign}
+use Rattle.interleavings.specs.Interleaving.{Started, Tells, Fits, made_least, all_least, EnteredIn, In, Kid, HasFrom, Entered, EachPlace, RunInvariant, live, goes_on, resumes, AllFrom, Unended, StaysUntil, Blocked}
+use Rattle.interleavings.proofs.Readings.{upto_from, entered_times, left_fresh}
+use Rattle.interleavings.proofs.Contract.{near_places, agrees_each}
+use Rattle.interleavings.proofs.Lateness.{late_rest, timed_rest, sleeping_end, latest_in}
+
+-- a record of outcomes says the same as itself
+pub told_tells : (q : Started) → Tells q q.told
+told_tells q = λ i h. refl
+
+-- what a task has left lets nothing happen before v
+left_timed : (k : Table) (q : Started) (v : ℕ) → Fits k q → PlacedStop q.rest.stopped q.rest.frames q.places →
+    (live q.rest.stopped ≡ true → v ≤ resumes k q) → Timed v q.left
+left_timed k q v p s h =
+    subst (Timed v) (p.lefts q.told (told_tells q)) (timed_rest k q.told q.here q.stop v q.rest.stopped q.rest.frames q.places s h)
+
+-- a task ends no earlier than it continues
+pub ends_at : (k : Table) (q : Started) (v : ℕ) → Fits k q → PlacedStop q.rest.stopped q.rest.frames q.places →
+    live q.rest.stopped ≡ true → v ≤ resumes k q → v ≤ q.final_result.end
+ends_at k q v p s l h =
+    subst (λ (r : Result). v ≤ r.end) (p.comes q.told (told_tells q))
+    (late_rest k q.told q.here q.stop v q.rest.stopped q.rest.frames q.places s l h).ends
+
+lefts_late : (v : ℕ) (l : Label) (qs : List Started) → ((q : Started) → In q qs → Timed v q.left) → all_least v l qs ≡ made_least v l qs
+unfolding all_least made_least
+lefts_late v l [] h = refl
+lefts_late v l (q ∷ qs) h =
+    let a : upto v (least_sign l q.left) ≡ v = least_late v v l q.left (omega arith) (h q (inl refl)) in
+    let b : upto v (made_sign l q.made) ≤ v = upto_most v (made_sign l q.made) in
+    let c : all_least v l qs ≡ made_least v l qs = lefts_late v l qs (λ x i. h x (inr i)) in
+    omega arith
+
+module _ (k f : Table) (whole : Result) (qs : List Started) (o : RunInvariant k f whole qs) (v : ℕ) (from : AllFrom k qs v) where
+  -- the first sign before v, where there is one, was made
+  pub same_least : (l : Label) → upto v (least_sign l whole.log) ≡ made_least v l qs
+  same_least l = o.signed v l ∙ lefts_late v l qs (λ q i. left_timed k q v (o.fits q i) (o.shape q i) (from q i))
+
+  -- the table agrees at v with the from that is kept of a label that was entered
+  pub agrees : (l : Label) (d : Tick) → HasFrom k f whole.log qs l d → upto (suc v) (k l) ≡ upto (suc v) (f l)
+  agrees l d p =
+      ap (upto (suc v)) p.settled
+      ∙ (upto_from v d (least_sign l whole.log)
+      ∙ (ap (λ (n : ℕ). min (upto (suc v) d) (suc n)) (same_least l) ∙ sym (p.kept v)))
+
+  -- so of each label that some task entered
+  pub agrees_entered : (l : Label) → Entered qs l → upto (suc v) (k l) ≡ upto (suc v) (f l)
+  agrees_entered l e = agrees l e.deadline (o.known e.by e.among l e.deadline e.made)
+
+  -- so they agree for the scopes and nurseries that enclose each task
+  pub agrees_on : (ps : List Place) → EachPlace (Entered qs) ps → AgreesOn v k f ps
+  agrees_on [] p = tt
+  agrees_on (x ∷ ps) p = (agrees_entered x.label p.0, agrees_on ps p.1)
+
+  -- and the table has, at v, the deadline of each label that a task has left to enter
+  deadline_left : (q : Started) → In q qs → (l : Label) (d : Tick) → EnteredIn l d q.left → upto (suc v) (k l) ≡ upto (suc v) d
+  deadline_left q i l d e =
+      let a : made_least v l qs ≡ v = o.made v l (left_fresh l q qs i (entered_times l d q.left e) (o.once l)) in
+      let b : upto v (least_sign l whole.log) ≡ made_least v l qs = same_least l in
+      let c : upto (suc v) d ≤ suc v = upto_most (suc v) d in
+      ap (upto (suc v)) (o.follows q i l d e) ∙ (upto_from v d (least_sign l whole.log) ∙ omega arith)
+
+  -- so it agrees with the log of what that task has left
+  pub agrees_in : (q : Started) → In q qs → AgreesIn v k q.left
+  agrees_in q i = agrees_each v k q.left (deadline_left q i)
+
+  sleeps_until : (u n since : ℕ) (x y : Tick) → v < u → u ≤ since + n → upto u y ≡ u → upto (suc v) x ≡ upto (suc v) y →
+      suc v ≤ max since (upto (since + n) x)
+  sleeps_until u n since None None m p g j = omega arith
+  sleeps_until u n since None (Some y) m p g j = omega arith
+  sleeps_until u n since (Some x) None m p g j = omega arith
+  sleeps_until u n since (Some x) (Some y) m p g j = omega arith
+
+  waits_on : (q : Started) (children : List ℕ) (ended : ℕ) (c : Unended qs q children) → suc v ≤ (q.told c.number).end →
+      suc v ≤ latest ended (told_members q.told children)
+  waits_on q children ended c h =
+      let j : (q.told c.number).end ≤ latest ended (told_members q.told children) = latest_in q.told ended children c.number c.among in
+      omega arith
+
+  -- One tick further: no sleeper continues before it, and a task that waits continues no earlier than a child that has not
+  -- ended, whose serial number is greater.
+  pub further :
+      (u bound : ℕ) → v < u → Blocked f qs u → ((q : Started) → In q qs → q.serial < bound) → (n : ℕ) (q : Started) → In q qs →
+      live q.rest.stopped ≡ true → bound ≤ q.serial + n →
+      suc v ≤ resumes k q
+  further u m h b small zero q i a z = let w : q.serial < m = small q i in absurd (omega arith)
+  further u m h b small (suc n) q i a z =
+      by_stop q.rest.stopped a (b q i)
+      (λ children c.
+      let kid : Kid qs q c.number = o.kids q i c.number c.below in
+      let x : q.serial < kid.kid.serial = kid.later in
+      let w : live kid.kid.rest.stopped ≡ true = c.alive kid.kid kid.among kid.serial in
+      let y : suc v ≤ resumes k kid.kid = further u m h b small n kid.kid kid.among w (omega arith) in
+      let d : suc v ≤ kid.kid.final_result.end = ends_at k kid.kid (suc v) (o.fits kid.kid kid.among) (o.shape kid.kid kid.among) w y in
+      subst (λ (r : Result). suc v ≤ r.end) kid.same d)
+    where
+      by_stop : (s : Stopped) → live s ≡ true → StaysUntil f qs u q s →
+          ((children : List ℕ) (c : Unended qs q children) → suc v ≤ (q.told c.number).end) →
+          suc v ≤ goes_on q.told s (stack_at k q.places) q.stop
+      by_stop to_begin l p go = absurd p
+      by_stop (asking kernel purpose) l p go = absurd p
+      by_stop (asleep n since) l p go =
+          subst (λ j. suc v ≤ j) (sym (sleeping_end (stack_at k q.places) n since))
+          (sleeps_until u n since (sight (stack_at k q.places)) (sight (stack_at f q.places)) h p.0 p.1
+          (sight_near (suc v) _ _ (near_places v k f q.places (agrees_on q.places (o.placed q i)))))
+      by_stop (awaiting children ended exc) l p go = waits_on q children ended p (go children p)
+      by_stop (at_end t e) l p go = cc
+
+-- nothing that was not made happens before the tick to which the clock jumps
+pub climb :
+    (k f : Table) (whole : Result) (qs : List Started) → RunInvariant k f whole qs → (t bound : ℕ) →
+    ((q : Started) → In q qs → q.serial < bound) → AllFrom k qs t → (u : ℕ) → Blocked f qs u →
+    (n v : ℕ) → v ≡ t + n → v ≤ u → AllFrom k qs v
+climb k f whole qs o t m small a u b zero v e h = subst (AllFrom k qs) (omega arith) a
+climb k f whole qs o t m small a u b (suc n) v e h = λ q i l.
+    let w : ℕ = t + n in
+    let p : AllFrom k qs w = climb k f whole qs o t m small a u b n w refl (omega arith) in
+    let z : suc w ≤ resumes k q = further k f whole qs o w p u m (omega arith) b small m q i l (omega arith) in
+    omega arith
+
+-- so where the clock jumps
+pub jumps :
+    (k f : Table) (whole : Result) (qs : List Started) → RunInvariant k f whole qs → (t bound : ℕ) →
+    ((q : Started) → In q qs → q.serial < bound) → AllFrom k qs t → (u : ℕ) → t ≤ u → Blocked f qs u →
+    AllFrom k qs u
+jumps k f whole qs o t m small a u h b = climb k f whole qs o t m small a u b (u - t) u (omega arith) (omega arith)

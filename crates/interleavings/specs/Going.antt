@@ -1,0 +1,74 @@
+-- How a run continues: what is kept of the root before its first turn, and of a task and its new children after a
+-- turn.
+use Rattle.std.specs.Prelude.{ℕ, suc, ◌+◌, ◌-◌, eqb, ltb, cond, List, [], ◌∷◌, ◌++◌, length}
+use Rattle.job_tree.specs.Tree.{Tree}
+use Rattle.job_meaning.specs.Log.{Table}
+use Rattle.job_meaning.specs.Walk.{by_table}
+use Rattle.job_meaning.specs.Meaning.{root_here}
+use Rattle.job_meaning.specs.Follow.{follow}
+use Rattle.job_meaning.specs.Rest.{ChildOutcomes, Stopped, Rest, rest_comes_to, rest_at_start}
+use Rattle.turn_semantics.specs.Midway.{stack_at, Begun, Move, none_told, begun_comes_to}
+use Rattle.interleavings.specs.Interleaving.{Started}
+
+-- the root before its first turn, with the result of following a table
+abbrev pub root_task : Table → Tree → List ℕ → Started
+root_task k job input =
+    record {
+      serial = 0;
+      here = root_here job input;
+      places = [];
+      stop = 0;
+      rest = rest_at_start job.steps;
+      made = [];
+      count = 0;
+      child = (λ i. 0);
+      told = none_told;
+      final_result = follow k job input;
+      left = (follow k job input).log;
+    }
+
+-- a record of outcomes, with the results of following the table for the children begun in tick t
+unfoldable pub told_new : Table → ℕ → ChildOutcomes → List Begun → ChildOutcomes
+told_new k t told [] i = told i
+told_new k t told (b ∷ bs) i = cond (eqb i b.number) (begun_comes_to k t b) (told_new k t told bs i)
+
+-- the children begun in tick t as started tasks, with serial numbers from m on
+unfoldable pub children_from : Table → ℕ → ℕ → List Begun → List Started
+children_from k t m [] = []
+children_from k t m (b ∷ bs) =
+    record {
+      serial = m;
+      here = b.here;
+      places = b.places;
+      stop = t;
+      rest = rest_at_start b.body;
+      made = [];
+      count = 0;
+      child = (λ i. 0);
+      told = none_told;
+      final_result = begun_comes_to k t b;
+      left = (begun_comes_to k t b).log;
+    } ∷ children_from k t (suc m) bs
+
+-- the serial numbers of a task's children: those before, and m and on
+unfoldable pub child_from : (count : ℕ) → (ℕ → ℕ) → ℕ → ℕ → ℕ
+child_from count child m i = cond (ltb i count) (child i) (m + (i - count))
+
+-- the task after a turn in tick t that stopped so, where new serial numbers start at m
+abbrev pub turned : Table → ℕ → ℕ → Started → Move → Stopped → Started
+turned k t m q o s =
+    let told = told_new k t q.told o.begun in
+    let rest : Rest = record { stopped = s; frames = o.frames } in
+    record {
+      serial = q.serial;
+      here = q.here;
+      places = o.places;
+      stop = t;
+      rest = rest;
+      made = q.made ++ o.made;
+      count = q.count + length o.begun;
+      child = child_from q.count q.child m;
+      told = told;
+      final_result = q.final_result;
+      left = (rest_comes_to (by_table k) told rest q.here (stack_at k o.places) t).log;
+    }

@@ -1,0 +1,211 @@
+-- An interleaving that agrees with a table: what is kept of each started task, and what holds of all of them together.
+use Rattle.std.specs.Prelude.{◌≡◌, ℕ, suc, ◌+◌, ◌<◌, ◌≤◌, min, Bool, true, false, List, [], ◌∷◌, ◌⊎◌, if◌then◌else◌}
+use Rattle.exc_groups.specs.Exceptions.{Label}
+use Rattle.cancel_scopes.specs.Sight.{Tick, sight}
+use Rattle.job_meaning.specs.Log.{Log, nil, entry, sign, entered, task, Result, same_label, least_sign, from_by, times_entered, Table}
+use Rattle.job_meaning.specs.Walk.{Stack, Here, by_table, sleeping, latest}
+use Rattle.job_meaning.specs.Before.{upto}
+use Rattle.job_meaning.specs.Rest.{Event, noted, signs, enters, starts, ChildOutcomes, told_members, Stopped, to_begin, asking, asleep, awaiting, at_end, Rest, rest_comes_to, task_comes_to}
+use Rattle.turn_semantics.specs.Midway.{Place, stack_at}
+use Rattle.turn_semantics.specs.Placed.{PlacedStop, IsAmong}
+use Rattle.turn_semantics.specs.Turned.{made_sign}
+
+-- ---- one started task
+
+-- A started task. Its serial number distinguishes it from all others, and is never used again. It is at a point of the
+-- job, enclosed by these scopes and nurseries (innermost first), since its last stop, in that tick, with that rest to do;
+-- it has made these events and started `count` children, each of which has a serial number. The last three fields depend
+-- on the table that is followed, and no code keeps them: what is recorded of its children's outcomes, the task's whole
+-- result, and the log of what it has left.
+pub record Started : Type 0 where
+  pub serial : ℕ
+  pub here : Here
+  pub places : List Place
+  pub stop : ℕ
+  pub rest : Rest
+  pub made : List Event
+  pub count : ℕ
+  pub child : ℕ → ℕ
+  pub told : ChildOutcomes
+  pub final_result : Result
+  pub left : Log
+
+-- another record of outcomes says the same of the children that a task has started
+abbrev pub Tells : Started → ChildOutcomes → Type 0
+Tells q told = (i : ℕ) → i < q.count → told i ≡ q.told i
+
+-- what a task has done and the result of its rest when the table is followed are together its whole result
+pub record Fits (k : Table) (q : Started) : Type 0 where
+  pub comes : (told : ChildOutcomes) → Tells q told → task_comes_to (by_table k) told q.made q.rest q.here (stack_at k q.places) q.stop ≡ q.final_result
+  pub lefts : (told : ChildOutcomes) → Tells q told → (rest_comes_to (by_table k) told q.rest q.here (stack_at k q.places) q.stop).log ≡ q.left
+
+-- ---- sums over what all tasks have done and what all have left
+
+-- how often a label is entered among events
+unfoldable pub times_made : Label → List Event → ℕ
+times_made l [] = 0
+times_made l (noted t e ∷ es) = times_made l es
+times_made l (signs m t ∷ es) = times_made l es
+times_made l (enters m t d ∷ es) = (if same_label l m then 1 else 0) + times_made l es
+times_made l (starts i m t ∷ es) = times_made l es
+
+-- as far as c, the first sign for a label among what all have done
+unfoldable pub made_least : ℕ → Label → List Started → ℕ
+made_least c l [] = c
+made_least c l (q ∷ qs) = min (upto c (made_sign l q.made)) (made_least c l qs)
+
+-- and among what all have done and have left
+unfoldable pub all_least : ℕ → Label → List Started → ℕ
+all_least c l [] = c
+all_least c l (q ∷ qs) = min (min (upto c (made_sign l q.made)) (upto c (least_sign l q.left))) (all_least c l qs)
+
+-- how often all together entered a label
+unfoldable pub made_times : Label → List Started → ℕ
+made_times l [] = 0
+made_times l (q ∷ qs) = times_made l q.made + made_times l qs
+
+-- and how often they entered it or have it left to enter
+unfoldable pub all_times : Label → List Started → ℕ
+all_times l [] = 0
+all_times l (q ∷ qs) = (times_made l q.made + times_entered l q.left) + all_times l qs
+
+-- a label is entered with a deadline, in a log
+abbrev pub EnteredIn : Label → Tick → Log → Type 0
+EnteredIn l d nil = ⊥
+EnteredIn l d (entry t e rest) = EnteredIn l d rest
+EnteredIn l d (sign m t rest) = EnteredIn l d rest
+EnteredIn l d (entered m t x rest) = ((l ≡ m) × (d ≡ x)) ⊎ EnteredIn l d rest
+EnteredIn l d (task m s u e own rest) = EnteredIn l d own ⊎ EnteredIn l d rest
+
+-- and among events
+abbrev pub EntersWith : Label → Tick → List Event → Type 0
+EntersWith l d [] = ⊥
+EntersWith l d (noted t e ∷ es) = EntersWith l d es
+EntersWith l d (signs m t ∷ es) = EntersWith l d es
+EntersWith l d (enters m t x ∷ es) = ((l ≡ m) × (d ≡ x)) ⊎ EntersWith l d es
+EntersWith l d (starts i m t ∷ es) = EntersWith l d es
+
+-- a child with that number is started among events
+abbrev pub StartsChild : ℕ → List Event → Type 0
+StartsChild i [] = ⊥
+StartsChild i (noted t e ∷ es) = StartsChild i es
+StartsChild i (signs m t ∷ es) = StartsChild i es
+StartsChild i (enters m t d ∷ es) = StartsChild i es
+StartsChild i (starts j m t ∷ es) = (i ≡ j) ⊎ StartsChild i es
+
+-- ---- all started tasks
+
+abbrev pub In : {A : Type 0} → A → List A → Type 0
+In x [] = ⊥
+In x (y ∷ ys) = (x ≡ y) ⊎ In x ys
+
+-- the task that is child number i of q: it was started later, and its result is the one that is recorded for it
+pub record Kid (qs : List Started) (q : Started) (i : ℕ) : Type 0 where
+  pub kid : Started
+  pub among : In kid qs
+  pub serial : kid.serial ≡ q.child i
+  pub later : q.serial < kid.serial
+  pub same : kid.final_result ≡ q.told i
+
+-- The from of a label that was entered with deadline d. In the table it is determined by the deadline and the first of
+-- all signs; in the run by the deadline and the first of the signs made so far.
+pub record HasFrom (k f : Table) (whole : Log) (qs : List Started) (l : Label) (d : Tick) : Type 0 where
+  pub settled : k l ≡ from_by d (least_sign l whole)
+  pub kept : (c : ℕ) → upto (suc c) (f l) ≡ min (upto (suc c) d) (suc (made_least c l qs))
+
+-- some task entered the label
+pub record Entered (qs : List Started) (l : Label) : Type 0 where
+  pub deadline : Tick
+  pub by : Started
+  pub among : In by qs
+  pub made : EntersWith l deadline by.made
+
+abbrev pub EachPlace : (Label → Type 0) → List Place → Type 0
+EachPlace P [] = Unit {0}
+EachPlace P (p ∷ ps) = P p.label × EachPlace P ps
+
+-- the result of the task with serial number 0 is the whole result
+pub record Root (whole : Result) (qs : List Started) : Type 0 where
+  pub root : Started
+  pub among : In root qs
+  pub first : root.serial ≡ 0
+  pub comes : root.final_result ≡ whole
+
+-- the task that started q, earlier than q
+pub record Parent (qs : List Started) (q : Started) : Type 0 where
+  pub starter : Started
+  pub among : In starter qs
+  pub earlier : starter.serial < q.serial
+  pub number : ℕ
+  pub started : StartsChild number starter.made
+  pub same : q.final_result ≡ starter.told number
+
+-- An interleaving that agrees with a table: k is the table that is followed, f contains the froms that the run keeps,
+-- `whole` is the result of following k, and qs are all tasks ever started.
+pub record RunInvariant (k f : Table) (whole : Result) (qs : List Started) : Type 0 where
+  -- what each task has done and what it has left are its whole result
+  pub fits : (q : Started) → In q qs → Fits k q
+  -- the frames of each fit the scopes and nurseries that enclose it
+  pub shape : (q : Started) → In q qs → PlacedStop q.rest.stopped q.rest.frames q.places
+  -- the children are numbered, and each is a task
+  pub numbered : (q : Started) → In q qs → (i : ℕ) → StartsChild i q.made → i < q.count
+  pub kids : (q : Started) → In q qs → (i : ℕ) → i < q.count → Kid qs q i
+  -- each task but the root was started by another
+  pub parents : (q : Started) → In q qs → (q.final_result ≡ whole) ⊎ Parent qs q
+  -- the signs of the whole are those made and those left to make
+  pub signed : (c : ℕ) (l : Label) → upto c (least_sign l whole.log) ≡ all_least c l qs
+  -- no label is entered twice
+  pub once : (l : Label) → all_times l qs ≤ 1
+  -- a sign was made only for a label that was entered
+  pub made : (c : ℕ) (l : Label) → made_times l qs ≡ 0 → made_least c l qs ≡ c
+  -- the table has the from of each label that is left to enter
+  pub follows : (q : Started) → In q qs → (l : Label) (d : Tick) → EnteredIn l d q.left → k l ≡ from_by d (least_sign l whole.log)
+  -- the table and the run have the froms of each label that was entered
+  pub known : (q : Started) → In q qs → (l : Label) (d : Tick) → EntersWith l d q.made → HasFrom k f whole.log qs l d
+  -- each scope and nursery that encloses a task was entered
+  pub placed : (q : Started) → In q qs → EachPlace (Entered qs) q.places
+  pub root : Root whole qs
+
+-- ---- when tasks continue
+
+abbrev pub live : Stopped → Bool
+live to_begin = true
+live (asking kernel purpose) = true
+live (asleep n since) = true
+live (awaiting children ended exc) = true
+live (at_end u e) = false
+
+-- the tick in which a task that stopped in tick t continues
+abbrev pub goes_on : ChildOutcomes → Stopped → Stack → ℕ → ℕ
+goes_on told to_begin st t = t
+goes_on told (asking kernel purpose) st t = t
+goes_on told (asleep n since) st t = (sleeping st n since).end
+goes_on told (awaiting children ended exc) st t = latest ended (told_members told children)
+goes_on told (at_end u e) st t = u
+
+-- the tick in which a started task continues, according to a table
+abbrev pub resumes : Table → Started → ℕ
+resumes k q = goes_on q.told q.rest.stopped (stack_at k q.places) q.stop
+
+-- nothing that was not done yet happens before tick v
+abbrev pub AllFrom : Table → List Started → ℕ → Type 0
+AllFrom k qs v = (q : Started) → In q qs → live q.rest.stopped ≡ true → v ≤ resumes k q
+
+-- one of the children for which q waits has not ended: the task with its serial number is live
+pub record Unended (qs : List Started) (q : Started) (children : List ℕ) : Type 0 where
+  pub number : ℕ
+  pub among : IsAmong number children
+  pub below : number < q.count
+  pub alive : (c : Started) → In c qs → c.serial ≡ q.child number → live c.rest.stopped ≡ true
+
+-- a task is not ready, and neither due nor cancelled before tick u
+abbrev pub StaysUntil : Table → List Started → ℕ → Started → Stopped → Type 0
+StaysUntil f qs u q to_begin = ⊥
+StaysUntil f qs u q (asking kernel purpose) = ⊥
+StaysUntil f qs u q (asleep n since) = (u ≤ since + n) × (upto u (sight (stack_at f q.places)) ≡ u)
+StaysUntil f qs u q (awaiting children ended exc) = Unended qs q children
+StaysUntil f qs u q (at_end t e) = Unit {0}
+
+-- no task is ready, and each sleeper is due, and sees a cancellation, in tick u or later
+abbrev pub Blocked : Table → List Started → ℕ → Type 0
+Blocked f qs u = (q : Started) → In q qs → StaysUntil f qs u q q.rest.stopped

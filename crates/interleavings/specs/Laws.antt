@@ -1,0 +1,100 @@
+-- The laws of runs in turns. They are the contract of a function that does nothing.
+use Rattle.std.specs.Prelude.{◌≡◌, ◌⊎◌, true, ℕ, ◌+◌, ◌*◌, ◌<◌, ◌≤◌, Some, List, [], ◌∷◌}
+use Rattle.exc_groups.specs.Exceptions.{Label}
+use Rattle.job_tree.specs.Tree.{Tree}
+use Rattle.job_tree.specs.Names.{GivesNamesOnce, size_of}
+use Rattle.job_tree.specs.Starting.{StartsInNurseries}
+use Rattle.job_meaning.specs.Log.{Table}
+use Rattle.job_meaning.specs.Meaning.{root_label, meaning_records, meaning_froms, meaning_end, meaning_table}
+use Rattle.job_meaning.specs.Follow.{follow, IsSettled}
+use Rattle.job_meaning.specs.Rest.{asleep}
+use Rattle.turn_semantics.specs.Midway.{Place}
+use Rattle.turn_semantics.specs.Placed.{PlacedStop, home_after, KidsAfter, HasChildAfter}
+use Rattle.turn_semantics.specs.Turned.{AgreesOn, Known, labels_of, EntersIn}
+use Rattle.interleavings.specs.Interleaving.{Started, In, EachPlace, RunInvariant, live, AllFrom, Blocked}
+use Rattle.interleavings.specs.Runs.{Reached, turns_taken, all_weights}
+use Rattle.interleavings.specs.Rows.{Row, HasRow, records_by, froms_in, DepthFirst}
+
+-- Each turn reduces the weight, so a run has at most as many turns as the initial weight of the root, which is twice the
+-- job's size plus one.
+abbrev pub RunsEnd : Type 0
+RunsEnd =
+    (k : Table) (job : Tree) (input : List ℕ) (f : Table) (t m : ℕ) (qs : List Started) → (r : Reached k job input f t m qs) →
+    turns_taken r + all_weights qs ≤ 2 * size_of job.steps + 1
+
+-- The task that has another task in one of its nurseries: it was started earlier, and the other task has this serial
+-- number. The scopes and nurseries of that task's home are this nursery and those that enclose it.
+pub record Home (qs : List Started) (serial : ℕ) (home : List Place) : Type 0 where
+  pub starter : Started
+  pub among : In starter qs
+  pub earlier : starter.serial < serial
+  pub number : ℕ
+  pub same : serial ≡ starter.child number
+  pub has : HasChildAfter number home (Some starter.rest.stopped) starter.rest.frames starter.places
+
+-- a task's home: the scopes and nurseries outside those of its own frames
+abbrev pub home_of : Started → List Place
+home_of q = home_after (Some q.rest.stopped) q.rest.frames q.places
+
+-- What holds of each task of a run: its frames fit the scopes and nurseries that enclose it, the children of its
+-- nurseries are those that it started, and the scopes and nurseries that enclose it are its own or its home's. While it
+-- has not ended it is the root, which has no home, or it is in an unsettled nursery of another task.
+pub record IsHoused (qs : List Started) (q : Started) : Type 0 where
+  pub placed : PlacedStop q.rest.stopped q.rest.frames q.places
+  pub kids : KidsAfter q.count (Some q.rest.stopped) q.rest.frames
+  pub own : EachPlace (λ l. EntersIn l q.made ⊎ Known l (labels_of (home_of q))) q.places
+  pub home : live q.rest.stopped ≡ true → ((q.serial ≡ 0) × (home_of q ≡ [])) ⊎ Home qs q.serial (home_of q)
+
+abbrev pub TasksAreHoused : Type 0
+TasksAreHoused =
+    (k : Table) (job : Tree) (input : List ℕ) → StartsInNurseries job →
+    (f : Table) (t m : ℕ) (qs : List Started) → Reached k job input f t m qs → (q : Started) → In q qs → IsHoused qs q
+
+-- A scope or nursery that encloses a live task has not been left by the task that entered it: so the task that leaves one
+-- is the last one in it.
+abbrev pub LastToLeave : Type 0
+LastToLeave =
+    (k : Table) (job : Tree) (input : List ℕ) → GivesNamesOnce job → StartsInNurseries job → IsSettled k job input →
+    (f : Table) (t m : ℕ) (qs : List Started) → Reached k job input f t m qs → (l : Label) (q : Started) → In q qs → EntersIn l q.made →
+    (x : Started) → In x qs → live x.rest.stopped ≡ true → Known l (labels_of x.places) → Known l (labels_of q.places)
+
+-- For each settled table a run agrees with it: nothing that was not done yet happens before the tick, and the table
+-- agrees there with the froms that the run keeps, for the scopes and nurseries that enclose each task.
+abbrev pub RunsKeepInvariant : Type 0
+RunsKeepInvariant =
+    (k : Table) (job : Tree) (input : List ℕ) → IsSettled k job input → GivesNamesOnce job → StartsInNurseries job →
+    (f : Table) (t m : ℕ) (qs : List Started) → Reached k job input f t m qs →
+    RunInvariant k f (follow k job input) qs × AllFrom k qs t × ((q : Started) → In q qs → AgreesOn t k f q.places)
+
+-- a run in which all tasks have ended has what the job means: its records, its froms and its end
+abbrev pub RunsAreTheMeaning : Type 0
+RunsAreTheMeaning =
+    (job : Tree) (input : List ℕ) → GivesNamesOnce job → StartsInNurseries job →
+    (f : Table) (t m : ℕ) (qs : List Started) → Reached (meaning_table job input) job input f t m qs →
+    (rows : ℕ → Row) → ((q : Started) → In q qs → HasRow f rows q) → (rows 0).label ≡ root_label job.name → (rows 0).start ≡ 0 →
+    (taken : List ℕ) → DepthFirst rows (0 ∷ []) taken →
+    (records_by rows taken ≡ meaning_records job input) × (froms_in rows taken ≡ meaning_froms job input)
+    × ((rows 0).end ≡ meaning_end job input)
+
+-- a task that sleeps
+pub record Sleeps (qs : List Started) : Type 0 where
+  pub sleeper : Started
+  pub among : In sleeper qs
+  pub ticks : ℕ
+  pub since : ℕ
+  pub stopped : sleeper.rest.stopped ≡ asleep ticks since
+
+-- If no task is ready and one has not ended, one sleeps: so the clock has a tick to jump to.
+abbrev pub BlockedRunsSleep : Type 0
+BlockedRunsSleep =
+    (k : Table) (job : Tree) (input : List ℕ) → GivesNamesOnce job → StartsInNurseries job → IsSettled k job input →
+    (f : Table) (t m : ℕ) (qs : List Started) → Reached k job input f t m qs → (u : ℕ) → Blocked f qs u →
+    (q : Started) → In q qs → live q.rest.stopped ≡ true → Sleeps qs
+
+-- If a task of a run has not ended, the job does not end before the present tick. So if a run stops at a limit because
+-- the clock would jump past it, the job's end is past the limit.
+abbrev pub LimitsAreExact : Type 0
+LimitsAreExact =
+    (job : Tree) (input : List ℕ) → GivesNamesOnce job → StartsInNurseries job →
+    (f : Table) (t m : ℕ) (qs : List Started) → Reached (meaning_table job input) job input f t m qs →
+    (q : Started) → In q qs → live q.rest.stopped ≡ true → t ≤ meaning_end job input

@@ -1,0 +1,7 @@
+pub mod Interleaving
+pub mod Woken
+pub mod Going
+pub mod Runs
+pub mod Rows
+pub mod Laws
+pub mod Worked

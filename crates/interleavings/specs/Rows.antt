@@ -1,0 +1,77 @@
+-- The rows of a run that is over, one for each started task, and how its records and froms are read from them.
+use Rattle.std.specs.Prelude.{◌≡◌, ℕ, Option, List, [], ◌∷◌, ◌++◌}
+use Rattle.exc_groups.specs.Exceptions.{Label, Exc}
+use Rattle.job_meaning.specs.Log.{Table}
+use Rattle.job_meaning.specs.Meaning.{Noted, Record, From, froms_by}
+use Rattle.job_meaning.specs.Rest.{Event, noted, signs, enters, starts, at_end}
+use Rattle.interleavings.specs.Interleaving.{Started}
+
+-- the row of a task: its record, the froms of the scopes and nurseries that it entered, and the rows of its children,
+-- all in order
+pub record Row : Type 0 where
+  pub label : Label
+  pub start : ℕ
+  pub end : ℕ
+  pub exc : Option Exc
+  pub entries : List Noted
+  pub froms : List From
+  pub children : List ℕ
+
+-- ---- readings of events
+
+abbrev pub entries_made : List Event → List Noted
+entries_made [] = []
+entries_made (noted t e ∷ es) = record { tick = t; entry = e } ∷ entries_made es
+entries_made (signs l t ∷ es) = entries_made es
+entries_made (enters l t d ∷ es) = entries_made es
+entries_made (starts i l t ∷ es) = entries_made es
+
+abbrev pub entered_made : List Event → List Label
+entered_made [] = []
+entered_made (noted t e ∷ es) = entered_made es
+entered_made (signs l t ∷ es) = entered_made es
+entered_made (enters l t d ∷ es) = l ∷ entered_made es
+entered_made (starts i l t ∷ es) = entered_made es
+
+-- the serial numbers of the children started
+abbrev pub children_made : (ℕ → ℕ) → List Event → List ℕ
+children_made child [] = []
+children_made child (noted t e ∷ es) = children_made child es
+children_made child (signs l t ∷ es) = children_made child es
+children_made child (enters l t d ∷ es) = children_made child es
+children_made child (starts i l t ∷ es) = child i ∷ children_made child es
+
+-- each child started has a row with its label and its start
+abbrev pub StartsRows : (ℕ → Row) → (ℕ → ℕ) → List Event → Type 0
+StartsRows rows child [] = Unit {0}
+StartsRows rows child (noted t e ∷ es) = StartsRows rows child es
+StartsRows rows child (signs l t ∷ es) = StartsRows rows child es
+StartsRows rows child (enters l t d ∷ es) = StartsRows rows child es
+StartsRows rows child (starts i l t ∷ es) = ((rows (child i)).label ≡ l) × ((rows (child i)).start ≡ t) × StartsRows rows child es
+
+-- the row of a task that has ended, with the froms that the run kept
+pub record HasRow (f : Table) (rows : ℕ → Row) (q : Started) : Type 0 where
+  pub ended : q.rest.stopped ≡ at_end (rows q.serial).end (rows q.serial).exc
+  pub entries : (rows q.serial).entries ≡ entries_made q.made
+  pub froms : (rows q.serial).froms ≡ froms_by f (entered_made q.made)
+  pub children : (rows q.serial).children ≡ children_made q.child q.made
+  pub starts : StartsRows rows q.child q.made
+
+-- ---- readings of rows
+
+abbrev pub record_of : Row → Record
+record_of row = record { label = row.label; start = row.start; end = row.end; exc = row.exc; entries = row.entries }
+
+abbrev pub records_by : (ℕ → Row) → List ℕ → List Record
+records_by rows [] = []
+records_by rows (s ∷ ss) = record_of (rows s) ∷ records_by rows ss
+
+abbrev pub froms_in : (ℕ → Row) → List ℕ → List From
+froms_in rows [] = []
+froms_in rows (s ∷ ss) = (rows s).froms ++ froms_in rows ss
+
+-- From a stack of rows, first to last: a row is taken from it and its children are pushed, until it is empty. So each
+-- row is followed by its descendants.
+pub data DepthFirst (rows : ℕ → Row) : List ℕ → List ℕ → Type 0 where
+  no_more : DepthFirst rows [] []
+  and_more : (s : ℕ) (stack taken : List ℕ) → DepthFirst rows ((rows s).children ++ stack) taken → DepthFirst rows (s ∷ stack) (s ∷ taken)

@@ -1,0 +1,28 @@
+//! The laws of runs in turns. The function does nothing: its contract is the law.
+
+ghost use Rattle.interleavings.specs.Laws.{
+  BlockedRunsSleep,
+  LastToLeave,
+  LimitsAreExact,
+  RunsAreTheMeaning,
+  RunsEnd,
+  RunsKeepInvariant,
+  TasksAreHoused,
+};
+
+/// For each settled table, every run in turns agrees with the table (`RunInvariant`), whatever the order in which tasks have
+/// their turns: nothing that was not done yet happens before the present tick, and the table agrees there with the froms
+/// that the run keeps. When all tasks have ended, the records, the froms and the end that are read from their rows are
+/// those of the meaning. While a task has not ended, the job does not end before the present tick; and if no task is ready,
+/// one sleeps. A run takes at most twice as many turns as the job has steps (including those of children) plus one. A task
+/// that has not ended is the root, or is in an unsettled nursery of the task that started it; and the task that leaves a
+/// scope or nursery is the last one in it.
+pub fn law_runs()
+    ensures interleaving { RunsKeepInvariant }
+    ensures meaning { RunsAreTheMeaning }
+    ensures limit { LimitsAreExact }
+    ensures sleeper { BlockedRunsSleep }
+    ensures turns { RunsEnd }
+    ensures housed { TasksAreHoused }
+    ensures last { LastToLeave }
+{}

@@ -1,0 +1,216 @@
+ghost use Rattle.std.specs.Prelude.{◌≡◌, reverse};
+ghost use Rattle.job_syntax.specs.Nonterminals.{step_rest, cleanup_rest, tail_rest, nursery_rest, nursery_shield_rest, next};
+ghost use Rattle.job_syntax.specs.Syntax.{role_of};
+ghost use Rattle.job_tree.specs.declared.format.Format.{Format};
+ghost use Rattle.job_tokens.specs.Lexing.{Gives};
+ghost use Rattle.job_tokens.specs.declared.token.Shape.TheVariants as shape;
+
+use crate::keyword::Keyword;
+use crate::role::Role;
+use job_tokens::{Mark, Shape};
+use job_tree::{Format, Name};
+
+/// A nonterminal of the grammar: what may have to come next in a job text.
+#[derive(Clone, Copy, PartialEq, Eq)]
+pub enum Nonterminal {
+    /// A whole job.
+    Job,
+    /// The steps of a block, and the `}` after them.
+    Steps,
+    /// The steps and starts of a nursery, and the `}` after them.
+    Items,
+    /// What follows the block of a `try`, and the rest of the enclosing block.
+    StepsTail,
+    /// The same directly inside a nursery.
+    ItemsTail,
+    /// What follows a handler, and the rest of the enclosing block.
+    StepsCleanup,
+    /// The same directly inside a nursery.
+    ItemsCleanup,
+    /// The rest of a scope after its name.
+    Scope,
+    /// The rest of a scope after its deadline.
+    Shield,
+    /// The rest of a scope after its `shield`.
+    Fail,
+    /// The rest of a nursery after its name.
+    Nursery,
+    /// The rest of a nursery after its deadline.
+    NurseryShield,
+    /// The rest of a `start` after its name.
+    Over,
+    /// The name that a job, scope, nursery or started task gets.
+    Given,
+    /// The name of an exception that is raised.
+    Raised,
+    /// The name of the exceptions that a handler handles.
+    Handled,
+    /// The name in a `cancel`.
+    Target,
+    /// A number.
+    Number,
+    /// A string.
+    Text,
+    /// `{`
+    Open,
+    /// `;`
+    Semicolon,
+}
+
+// The nonterminals that follow a token, last first, in the order in which they go onto a stack. `outer`, `tail` and `cleanup`
+// are the rest of the enclosing block; directly inside a nursery, it has nonterminals of its own.
+macro_rules! rest {
+    (outer $inside:ident, $($nonterminal:ident),*) => { rest!($inside: Items | Steps, $($nonterminal),*) };
+    (tail $inside:ident, $($nonterminal:ident),*) => { rest!($inside: ItemsTail | StepsTail, $($nonterminal),*) };
+    (cleanup $inside:ident, $($nonterminal:ident),*) => { rest!($inside: ItemsCleanup | StepsCleanup, $($nonterminal),*) };
+    ($inside:ident: $items:ident | $steps:ident, $($nonterminal:ident),*) => {
+        if $inside { rest!($items, $($nonterminal),*) } else { rest!($steps, $($nonterminal),*) }
+    };
+    ($($nonterminal:ident),*) => { Some(&[$(Nonterminal::$nonterminal),*]) };
+}
+
+impl Nonterminal {
+    /// Returns the role of a token that is read for this nonterminal.
+    pub fn role(self) -> Role
+        ensures { result ≡ role_of self }
+    {
+        match self {
+            Nonterminal::Given => Role::Given,
+            Nonterminal::Raised => Role::Raised,
+            Nonterminal::Handled => Role::Handled,
+            Nonterminal::Target => Role::Target,
+            _ => Role::Plain,
+        }
+    }
+
+    /// Returns the nonterminals that must follow, last first, if this token is read for this nonterminal in a text of the
+    /// format. Returns `None` if the token cannot be read for it.
+    pub fn next(self, format: Format, shape: Shape) -> Option<&'static [Nonterminal]>
+        ensures { Gives (λ x. reverse x.now) result (next format self shape) }
+    {
+        match shape {
+            Shape::Word(word) => self.behind_word(format, word),
+            Shape::Number(number) => if self == Nonterminal::Number && number.is_some() {
+                rest!()
+            } else {
+                None
+            },
+            Shape::Text(_) => if self == Nonterminal::Text {
+                rest!()
+            } else {
+                None
+            },
+            Shape::Mark(mark) => self.behind_mark(mark),
+        }
+    }
+
+    fn behind_word(self, format: Format, word: Name) -> Option<&'static [Nonterminal]>
+        ensures { Gives (λ x. reverse x.now) result (next format self (shape.Word word)) }
+    {
+        // Any word is accepted as a name here. Keywords are refused by a later check.
+        if self.role() != Role::Plain {
+            return rest!();
+        }
+        match (self, Keyword::of(word)?) {
+            (Nonterminal::Job, Keyword::Job) => rest!(Steps, Open, Given),
+            (Nonterminal::Steps, keyword) => step_rest(format, false, keyword),
+            (Nonterminal::Items, keyword) => step_rest(format, true, keyword),
+            (Nonterminal::StepsTail, keyword) => tail_rest(false, keyword),
+            (Nonterminal::ItemsTail, keyword) => tail_rest(true, keyword),
+            (Nonterminal::StepsCleanup, keyword) => cleanup_rest(format, false, keyword),
+            (Nonterminal::ItemsCleanup, keyword) => cleanup_rest(format, true, keyword),
+            (Nonterminal::Scope, Keyword::After | Keyword::At) => rest!(Shield, Number),
+            (Nonterminal::Scope | Nonterminal::Shield, Keyword::Shield) => rest!(Fail),
+            (Nonterminal::Scope | Nonterminal::Shield | Nonterminal::Fail, Keyword::Fail) => rest!(
+                Steps, Open
+            ),
+            (Nonterminal::Nursery, keyword) => nursery_rest(format, keyword),
+            (Nonterminal::NurseryShield, keyword) => nursery_shield_rest(format, keyword),
+            (Nonterminal::Over, Keyword::Over) => rest!(Steps, Open, Number),
+            _ => None,
+        }
+    }
+
+    fn behind_mark(self, mark: Mark) -> Option<&'static [Nonterminal]>
+        ensures { (format : Format) → Gives (λ x. reverse x.now) result (next format self (shape.Mark mark)) }
+    {
+        match (self, mark) {
+            (
+                Nonterminal::Steps
+                | Nonterminal::Items
+                | Nonterminal::StepsCleanup
+                | Nonterminal::ItemsCleanup,
+                Mark::Close,
+            ) => rest!(),
+            (
+                Nonterminal::Scope | Nonterminal::Shield | Nonterminal::Fail | Nonterminal::Over,
+                Mark::Open,
+            ) => { rest!(Steps) }
+            (Nonterminal::Nursery | Nonterminal::NurseryShield, Mark::Open) => rest!(Items),
+            (Nonterminal::Open, Mark::Open) | (Nonterminal::Semicolon, Mark::Semicolon) => rest!(),
+            _ => None,
+        }
+    }
+}
+
+// Returns what follows the first word of a step. A `start` may occur only directly inside a nursery, and a `repeat` only in
+// format 2.
+fn step_rest(format: Format, inside: bool, keyword: Keyword) -> Option<&'static [Nonterminal]>
+    ensures { Gives (λ x. reverse x.now) result (step_rest format inside keyword) }
+{
+    match keyword {
+        Keyword::Sleep | Keyword::Pace | Keyword::Head => rest!(outer inside, Semicolon, Number),
+        Keyword::Checkpoint | Keyword::Forever | Keyword::Longest => rest!(outer inside, Semicolon),
+        Keyword::Find => rest!(outer inside, Semicolon, Text),
+        Keyword::Need => rest!(outer inside, Semicolon, Raised, Text),
+        Keyword::Raise => rest!(outer inside, Semicolon, Raised),
+        Keyword::Cancel => rest!(outer inside, Semicolon, Target),
+        Keyword::Scope => rest!(outer inside, Scope, Given),
+        Keyword::Nursery => rest!(outer inside, Nursery, Given),
+        Keyword::Start if inside => rest!(Items, Over, Given),
+        Keyword::Repeat if format == Format::Two => rest!(outer inside, Steps, Open, Number),
+        Keyword::Try => rest!(tail inside, Steps, Open),
+        _ => None,
+    }
+}
+
+// Returns what follows a word in the head of a nursery. Only in format 2 has the head such words.
+fn nursery_rest(format: Format, keyword: Keyword) -> Option<&'static [Nonterminal]>
+    ensures { Gives (λ x. reverse x.now) result (nursery_rest format keyword) }
+{
+    match (format, keyword) {
+        (Format::Two, Keyword::After) => rest!(NurseryShield, Number),
+        _ => nursery_shield_rest(format, keyword),
+    }
+}
+
+// The same after the deadline of the nursery.
+fn nursery_shield_rest(format: Format, keyword: Keyword) -> Option<&'static [Nonterminal]>
+    ensures { Gives (λ x. reverse x.now) result (nursery_shield_rest format keyword) }
+{
+    match (format, keyword) {
+        (Format::Two, Keyword::Shield) => rest!(Items, Open),
+        _ => None,
+    }
+}
+
+// Returns what follows the word after a handler.
+fn cleanup_rest(format: Format, inside: bool, keyword: Keyword) -> Option<&'static [Nonterminal]>
+    ensures { Gives (λ x. reverse x.now) result (cleanup_rest format inside keyword) }
+{
+    match keyword {
+        Keyword::Finally => rest!(outer inside, Steps, Open),
+        _ => step_rest(format, inside, keyword),
+    }
+}
+
+// Returns what follows the word after the block of a `try`.
+fn tail_rest(inside: bool, keyword: Keyword) -> Option<&'static [Nonterminal]>
+    ensures { Gives (λ x. reverse x.now) result (tail_rest inside keyword) }
+{
+    match keyword {
+        Keyword::Except => rest!(cleanup inside, Steps, Open, Handled),
+        Keyword::Finally => rest!(outer inside, Steps, Open),
+        _ => None,
+    }
+}

@@ -1,0 +1,66 @@
+-- The ranges of the numbers of a job.
+use Rattle.std.specs.Prelude.{ℕ, ◌≤◌, Option, Some, None}
+use Rattle.job_tree.specs.declared.limits.TheConstants.{MAX_NUMBER, MAX_PACE, MAX_COPIES, MAX_PASSES, MAX_STEPS, MAX_STEPS_OF_FORMAT_1}
+use Rattle.job_tree.specs.declared.deadline.Deadline.{Deadline}
+use Rattle.job_tree.specs.declared.format.Format.{Format}
+use Rattle.job_tree.specs.declared.format.Format.TheVariants.{One, Two}
+use Rattle.job_tree.specs.declared.deadline.Deadline.TheVariants.{Never, After, At}
+use Rattle.job_tree.specs.Tree.{Step, sleep, checkpoint, forever, pace, find, head, longest, need, raise, cancel, scope, nursery, start, repeat, attempt, Steps, stop, step, Handled, unhandled, except, Cleaned, uncleaned, finally, Tree}
+use Rattle.job_tree.specs.Names.{size_of}
+
+-- the number of a deadline is at most the maximum
+abbrev pub IsInRangeDeadline : Deadline → Type 0
+IsInRangeDeadline Never = Unit {0}
+IsInRangeDeadline (After n) = n ≤ MAX_NUMBER
+IsInRangeDeadline (At n) = n ≤ MAX_NUMBER
+
+-- the number of copies that a `start .. over` makes is in its range: at least one
+abbrev pub IsInRangeOver : Option ℕ → Type 0
+IsInRangeOver None = Unit {0}
+IsInRangeOver (Some k) = (1 ≤ k) × (k ≤ MAX_COPIES)
+
+-- all numbers of a block are in their ranges
+abbrev mutual
+  pub AreInRange : Steps → Type 0
+  AreInRange stop = Unit {0}
+  AreInRange (step s ss) = IsInRangeStep s × AreInRange ss
+
+  pub IsInRangeStep : Step → Type 0
+  IsInRangeStep (sleep n) = n ≤ MAX_NUMBER
+  IsInRangeStep checkpoint = Unit {0}
+  IsInRangeStep forever = Unit {0}
+  IsInRangeStep (pace k) = (1 ≤ k) × (k ≤ MAX_PACE)
+  IsInRangeStep (find text) = Unit {0}
+  IsInRangeStep (head n) = n ≤ MAX_NUMBER
+  IsInRangeStep longest = Unit {0}
+  IsInRangeStep (need text name) = Unit {0}
+  IsInRangeStep (raise name) = Unit {0}
+  IsInRangeStep (cancel name) = Unit {0}
+  IsInRangeStep (scope name deadline shield fail body) = IsInRangeDeadline deadline × AreInRange body
+  IsInRangeStep (nursery name deadline shield body) = IsInRangeDeadline deadline × AreInRange body
+  IsInRangeStep (start name over body) = IsInRangeOver over × AreInRange body
+  IsInRangeStep (repeat count body) = (count ≤ MAX_PASSES) × AreInRange body
+  IsInRangeStep (attempt body handler cleanup) = AreInRange body × IsInRangeHandler handler × IsInRangeCleanup cleanup
+
+  pub IsInRangeHandler : Handled → Type 0
+  IsInRangeHandler unhandled = Unit {0}
+  IsInRangeHandler (except name body) = AreInRange body
+
+  pub IsInRangeCleanup : Cleaned → Type 0
+  IsInRangeCleanup uncleaned = Unit {0}
+  IsInRangeCleanup (finally body) = AreInRange body
+
+-- the number in the first line of a text of this format
+abbrev pub number_of : Format → ℕ
+number_of One = 1
+number_of Two = 2
+
+-- the maximum number of step instances of a job of this format
+abbrev pub most_steps : Format → ℕ
+most_steps One = MAX_STEPS_OF_FORMAT_1
+most_steps Two = MAX_STEPS
+
+-- a job whose numbers are in their ranges, with no more step instances than its format allows
+pub record IsInRange (job : Tree) : Type 0 where
+  pub numbers : AreInRange job.steps
+  pub size : size_of job.steps ≤ most_steps job.format

@@ -1,7 +1,0 @@
-pub mod Course
-pub mod Woken
-pub mod Going
-pub mod Runs
-pub mod Rows
-pub mod Laws
-pub mod Worked

@@ -1,0 +1,103 @@
+-- A maximum number of tasks of the program that have not ended.
+use Rattle.std.proofs.Common.{◌≡◌, ◌⊎◌, inl, inr, true, false, ℕ, ◌+◌, ◌*◌, ◌≤◌, Option, Some, None, List, [], ◌∷◌, length, refl, ap, sym, ◌∙◌, subst, arith}
+use Rattle.std.specs.Prelude.{IsSome}
+use Rattle.job_tree.specs.Tree.{Tree as Job}
+use Rattle.job_tree.specs.Names.{size_of}
+use Rattle.job_meaning.specs.Log.{Table}
+use Rattle.job_meaning.specs.Asking.{shows, needs, paces}
+use Rattle.job_meaning.specs.Rest.{Stopped, to_begin, asking, asleep, awaiting, at_end, stop_weight, rest_weight}
+use Rattle.task_machine.specs.declared.task.Task.{Task}
+use Rattle.interleavings.specs.Interleaving.{Started, In, live}
+use Rattle.interleavings.specs.Runs.{Front, is_front, behind_one, all_weights}
+use Rattle.interleavings.proofs.Running.{runs_end}
+use Rattle.run_refinement.specs.RunState.{RunState, Refines}
+use Rattle.run_refinement.specs.Laws.{AreDistinct}
+use Rattle.run_refinement.proofs.LabelsApart.{below_of}
+
+-- a task that has not ended weighs something
+live_weighs : (s : Stopped) → live s ≡ true → 1 ≤ stop_weight s
+live_weighs to_begin e = omega arith
+live_weighs (asking kernel shows) e = omega arith
+live_weighs (asking kernel (needs name)) e = omega arith
+live_weighs (asking kernel (paces k)) e = omega arith
+live_weighs (asleep n since) e = omega arith
+live_weighs (awaiting children ended exc) e = omega arith
+live_weighs (at_end u x) e = absurd (let f : false ≡ true = e in cc)
+
+-- A task that is among others, and those.
+record Apart (q : Started) (qs : List Started) : Type 0 where
+  pub others : List Started
+  pub front : Front q qs others
+  pub rest : (x : Started) → In x qs → (x ≡ q) ⊎ In x others
+
+apart : (q : Started) (qs : List Started) → In q qs → Apart q qs
+apart q [] i = absurd i
+apart q (x ∷ qs) (inl e) = record { others = qs; front = subst (λ (y : Started). Front q (y ∷ qs) qs) e (is_front q qs); rest = rest }
+  where
+    rest : (z : Started) → In z (x ∷ qs) → (z ≡ q) ⊎ In z qs
+    rest z (inl h) = inl (h ∙ sym e)
+    rest z (inr h) = inr h
+apart q (x ∷ qs) (inr i) = further (apart q qs i)
+  where
+    behind : (others : List Started) (z : Started) → (z ≡ q) ⊎ In z others → (z ≡ q) ⊎ In z (x ∷ others)
+    behind others z (inl h) = inl h
+    behind others z (inr h) = inr (inr h)
+
+    rest : (a : Apart q qs) (z : Started) → In z (x ∷ qs) → (z ≡ q) ⊎ In z (x ∷ a.others)
+    rest a z (inl h) = inr (inl h)
+    rest a z (inr h) = behind a.others z (a.rest z h)
+
+    further : Apart q qs → Apart q (x ∷ qs)
+    further a = record { others = x ∷ a.others; front = behind_one q x qs a.others a.front; rest = rest a }
+
+front_weighs : {q : Started} {qs others : List Started} → Front q qs others → all_weights qs ≡ rest_weight q.rest + all_weights others
+front_weighs (is_front q qs) = refl
+front_weighs (behind_one q x qs others at) = omega (arith, front_weighs at)
+
+-- a task of this serial number is among these, and has not ended
+record LivesAt (at : ℕ → Started) (qs : List Started) (s : ℕ) : Type 0 where
+  pub among : In (at s) qs
+  pub serial : (at s).serial ≡ s
+  pub lives : live (at s).rest.stopped ≡ true
+
+-- at most this number of some tasks have not ended
+few_live : (at : ℕ → Started) (numbers : List ℕ) (qs : List Started) → AreDistinct numbers → ((s : ℕ) → In s numbers → LivesAt at qs s) →
+    length numbers ≤ all_weights qs
+few_live at [] qs distinct lives = omega arith
+few_live at (s ∷ ss) qs distinct lives =
+    let weight = front_weighs a.front in
+    let one : 1 ≤ stop_weight (at s).rest.stopped = live_weighs (at s).rest.stopped here.lives in
+    let fewer : length ss ≤ all_weights a.others = few_live at ss a.others distinct.1 behind in
+    omega (arith, weight, one, fewer)
+  where
+    here : LivesAt at qs s
+    here = lives s (inl refl)
+
+    a : Apart (at s) qs
+    a = apart (at s) qs here.among
+
+    other : (u : ℕ) → In u ss → (at u).serial ≡ u → (at u ≡ at s) ⊎ In (at u) a.others → In (at u) a.others
+    other u i e (inl h) = absurd (distinct.0 (subst (λ (n : ℕ). In n ss) (sym e ∙ ap (λ (q : Started). q.serial) h ∙ here.serial) i))
+    other u i e (inr h) = h
+
+    behind : (u : ℕ) → In u ss → LivesAt at a.others u
+    behind u i = let l = lives u (inr i) in record {
+      among = other u i l.serial (a.rest (at u) l.among);
+      serial = l.serial;
+      lives =
+          l.lives;
+    }
+
+-- at most this number of tasks of the program have not ended
+pub state_few : (k : Table) (job : Job) (input : List ℕ) (t m : ℕ) (state : RunState) → Refines k job input t m None state →
+    (numbers : List ℕ) → AreDistinct numbers → ((s : ℕ) → In s numbers → IsSome (state.task s)) → length numbers ≤ 2 * size_of job.steps + 1
+state_few k job input t m state c numbers distinct some =
+    let fewer = few_live c.interleaving.at numbers c.interleaving.tasks distinct (λ s i. found s (state.task s) refl (some s i)) in
+    let most = runs_end k job input c.interleaving.froms t m c.interleaving.tasks c.interleaving.reached in
+    omega (arith, fewer, most)
+  where
+    found : (s : ℕ) (task : Option Task) → state.task s ≡ task → IsSome task → LivesAt c.interleaving.at c.interleaving.tasks s
+    found s None e is = absurd (let f : false ≡ true = is in cc)
+    found s (Some task) e is =
+        let has = c.interleaving.has s (below_of c s task e) in
+        record { among = has.0; serial = has.1; lives = (c.follows s task e).lives (λ (n : None ≡ Some s). cc) }

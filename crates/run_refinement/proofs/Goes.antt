@@ -1,0 +1,360 @@
+-- A run of the definitions continues with a turn of one of its tasks: which tasks it has then, by their serial
+-- numbers.
+use Rattle.std.proofs.Common.{◌≡◌, ◌≢◌, ◌⊎◌, inl, inr, ℕ, zero, suc, ◌+◌, ◌-◌, ◌<◌, ◌≤◌, ◌==◌, nat_lt, Bool, true, false, Option, Some, None, List, [], ◌∷◌, ◌++◌, length, refl, ap, sym, ◌∙◌, subst, arith}
+use Rattle.std.proofs.lemmas.Bool.{eqb-true, eq-eqb}
+use Rattle.std.proofs.lemmas.Bool.Decides.{nat_tests}
+use Rattle.std.specs.List.{slice_get}
+use Rattle.cancel_scopes.specs.Sight.{seen}
+use Rattle.job_tree.specs.Tree.{Tree as Job}
+use Rattle.job_meaning.specs.Log.{Table}
+use Rattle.exc_groups.specs.Exceptions.{Exc}
+use Rattle.job_meaning.specs.Rest.{Stopped, to_begin, asking, asleep, awaiting, at_end}
+use Rattle.turn_semantics.specs.Midway.{Begun, Move, stack_at}
+use Rattle.turn_semantics.specs.Steps.{froms_after}
+use Rattle.turn_semantics.specs.Turned.{TurnsOver}
+use Rattle.turn_semantics.specs.Wakes.{Wake, begins, sees, is_due, has_answer, settles, CanWake, from_start, from_asking, from_sleep, from_due, from_wait}
+use Rattle.interleavings.specs.Interleaving.{Started, In}
+use Rattle.interleavings.specs.Going.{turned, children_from}
+use Rattle.interleavings.specs.Woken.{MayWake, WaitIsOver}
+use Rattle.interleavings.specs.Runs.{turn, Front, is_front, behind_one, turns_taken}
+use Rattle.interleavings.proofs.Picking.{SameTasks, front_same}
+use Rattle.interleavings.proofs.Readings.{in_first, in_second, in_either}
+use Rattle.run_refinement.specs.RunState.{Interleaving, AreApart}
+use Rattle.run_refinement.specs.Turn.{child_at}
+
+-- ---- any task may be taken to the front
+
+-- the others, where one is taken to the front
+pub record Others (q : Started) (qs : List Started) : Type 0 where
+  pub others : List Started
+  pub front : Front q qs others
+
+-- any task of a run may be taken to the front
+pub front_of : (q : Started) (qs : List Started) → In q qs → Others q qs
+front_of q [] i = absurd i
+front_of q (x ∷ qs) (inl e) = subst (λ (y : Started). Others q (y ∷ qs)) e (record { others = qs; front = is_front q qs })
+front_of q (x ∷ qs) (inr i) =
+    let o = front_of q qs i in record { others = x ∷ o.others; front = behind_one q x qs o.others o.front }
+
+apart_front : (q : Started) (qs others : List Started) → Front q qs others → AreApart qs → AreApart (q ∷ others)
+apart_front q _ _ (is_front q' qs') a = a
+apart_front q _ _ (behind_one q' x qs' others' at) a =
+    let inner = apart_front q' qs' others' at a.1 in
+    let same = front_same q' qs' others' at in
+    (by_either inner.0 (same.back q' (inl refl)), (λ y i e. a.0 y (same.back y (inr i)) e, inner.1))
+  where
+    by_either : ((y : Started) → In y others' → y.serial ≢ q'.serial) → In q' qs' → (y : Started) → In y (x ∷ others') →
+        y.serial ≢ q'.serial
+    by_either inner there y (inl e) f = a.0 q' there (sym f ∙ ap (λ (z : Started). z.serial) e)
+    by_either inner there y (inr i) f = inner y i f
+
+-- ---- the children begun, by their serial numbers
+
+-- the child at this index, where the first has this serial number
+abbrev nth_child : Table → ℕ → ℕ → List Begun → ℕ → Started → Started
+nth_child k t m [] i d = d
+nth_child k t m (b ∷ bs) zero d = child_at k t m b
+nth_child k t m (b ∷ bs) (suc i) d = nth_child k t (suc m) bs i d
+
+nth_in : (k : Table) (t m : ℕ) (bs : List Begun) (i : ℕ) (d : Started) → i < length bs →
+    In (nth_child k t m bs i d) (children_from k t m bs) × ((nth_child k t m bs i d).serial ≡ m + i)
+unfolding children_from
+nth_in k t m [] i d less = absurd (omega (arith, less))
+nth_in k t m (b ∷ bs) zero d less = (inl refl, omega arith)
+nth_in k t m (b ∷ bs) (suc i) d less = let h = nth_in k t (suc m) bs i d (omega (arith, less)) in (inr h.0, let e = h.1 in omega (arith, e))
+
+-- the child at an index of those begun
+record IsNth (k : Table) (t m : ℕ) (bs : List Begun) (d x : Started) : Type 0 where
+  pub place : ℕ
+  pub below : place < length bs
+  pub serial : x.serial ≡ m + place
+  pub is : x ≡ nth_child k t m bs place d
+
+in_nth : (k : Table) (t m : ℕ) (bs : List Begun) (d x : Started) → In x (children_from k t m bs) → IsNth k t m bs d x
+unfolding children_from
+in_nth k t m [] d x i = absurd i
+in_nth k t m (b ∷ bs) d x (inl e) =
+    record { place = 0; below = omega arith; serial = ap (λ (y : Started). y.serial) e ∙ omega arith; is = e }
+in_nth k t m (b ∷ bs) d x (inr i) =
+    let h = in_nth k t (suc m) bs d x i in
+    record {
+      place = suc h.place;
+      below = (let e = h.below in omega (arith, e));
+      serial = (let e = h.serial in omega (arith, e));
+      is =
+          h.is;
+    }
+
+nth_at : (k : Table) (t m : ℕ) (bs : List Begun) (i : ℕ) (d : Started) (b : Begun) → slice_get bs i ≡ Some b →
+    nth_child k t m bs i d ≡ child_at k t (m + i) b
+nth_at k t m [] i d b e = absurd (let f : None ≡ Some b = e in cc)
+nth_at k t m (c ∷ bs) zero d b e =
+    let f : Some c ≡ Some b = e in let g : c ≡ b = cc in let n : m ≡ m + 0 = omega arith in
+    ap (λ (x : Begun). child_at k t m x) g ∙ ap (λ (x : ℕ). child_at k t x b) n
+nth_at k t m (c ∷ bs) (suc i) d b e =
+    let n : suc m + i ≡ m + suc i = omega arith in nth_at k t (suc m) bs i d b e ∙ ap (λ (x : ℕ). child_at k t x b) n
+
+nth_past : (k : Table) (t m : ℕ) (bs : List Begun) (i : ℕ) (d : Started) → length bs ≤ i → nth_child k t m bs i d ≡ d
+nth_past k t m [] i d le = refl
+nth_past k t m (b ∷ bs) zero d le = absurd (omega (arith, le))
+nth_past k t m (b ∷ bs) (suc i) d le = nth_past k t (suc m) bs i d (omega (arith, le))
+
+children_apart : (k : Table) (t m : ℕ) (bs : List Begun) → AreApart (children_from k t m bs)
+unfolding children_from
+children_apart k t m [] = tt
+children_apart k t m (b ∷ bs) =
+    (λ x i e. let h = in_nth k t (suc m) bs x x i in let g = h.serial in absurd (omega (arith, e, g)), children_apart k t (suc m) bs)
+
+apart_append : (xs ys : List Started) → AreApart xs → AreApart ys → ((x y : Started) → In x xs → In y ys → y.serial ≢ x.serial) →
+    AreApart (xs ++ ys)
+apart_append [] ys a b differ = b
+apart_append (x ∷ xs) ys a b differ = (by_part, apart_append xs ys a.1 b (λ y z i j. differ y z (inr i) j))
+  where
+    by_either : (y : Started) → In y xs ⊎ In y ys → y.serial ≢ x.serial
+    by_either y (inl i) = a.0 y i
+    by_either y (inr i) = differ x y (inl refl) i
+
+    by_part : (y : Started) → In y (xs ++ ys) → y.serial ≢ x.serial
+    by_part y i = by_either y (in_either y xs ys i)
+
+-- ---- what may wake a task, where the tasks are in another order
+
+wait_moved : (qs rs : List Started) (q : Started) (t : ℕ) (children : List ℕ) (ended : ℕ) (e x : Option Exc) →
+    ((c : Started) → In c rs → In c qs) →
+    WaitIsOver qs q t children ended e x → WaitIsOver rs q t children ended e x
+wait_moved qs rs q t children ended e x back h =
+    record { ends = h.ends; numbers = h.numbers; over = λ i among c is serial. h.over i among c (back c is) serial; settled = h.settled }
+
+-- or where other froms show the same
+pub ready_by : (f g : Table) (qs rs : List Started) (t : ℕ) (q : Started) (w : Wake) (s : Stopped) →
+    seen (stack_at f q.places) t ≡ seen (stack_at g q.places) t →
+    ((children : List ℕ) (ended : ℕ) (e x : Option Exc) → WaitIsOver qs q t children ended e x → WaitIsOver rs q t children ended e x) →
+    MayWake f qs t q w s → MayWake g rs t q w s
+ready_by f g qs rs t q begins to_begin same over h = h
+ready_by f g qs rs t q begins (asking k p) same over h = absurd h
+ready_by f g qs rs t q begins (asleep n u) same over h = absurd h
+ready_by f g qs rs t q begins (awaiting cs u e) same over h = absurd h
+ready_by f g qs rs t q begins (at_end u e) same over h = absurd h
+ready_by f g qs rs t q (has_answer a) to_begin same over h = absurd h
+ready_by f g qs rs t q (has_answer a) (asking k p) same over h = h
+ready_by f g qs rs t q (has_answer a) (asleep n u) same over h = absurd h
+ready_by f g qs rs t q (has_answer a) (awaiting cs u e) same over h = absurd h
+ready_by f g qs rs t q (has_answer a) (at_end u e) same over h = absurd h
+ready_by f g qs rs t q is_due to_begin same over h = absurd h
+ready_by f g qs rs t q is_due (asking k p) same over h = absurd h
+ready_by f g qs rs t q is_due (asleep n u) same over h = (h.0, sym same ∙ h.1)
+ready_by f g qs rs t q is_due (awaiting cs u e) same over h = absurd h
+ready_by f g qs rs t q is_due (at_end u e) same over h = absurd h
+ready_by f g qs rs t q sees to_begin same over h = absurd h
+ready_by f g qs rs t q sees (asking k p) same over h = absurd h
+ready_by f g qs rs t q sees (asleep n u) same over h = (h.0, sym same ∙ h.1)
+ready_by f g qs rs t q sees (awaiting cs u e) same over h = absurd h
+ready_by f g qs rs t q sees (at_end u e) same over h = absurd h
+ready_by f g qs rs t q (settles x) to_begin same over h = absurd h
+ready_by f g qs rs t q (settles x) (asking k p) same over h = absurd h
+ready_by f g qs rs t q (settles x) (asleep n u) same over h = absurd h
+ready_by f g qs rs t q (settles x) (awaiting cs u e) same over h = over cs u e x h
+ready_by f g qs rs t q (settles x) (at_end u e) same over h = absurd h
+
+-- a task that may be woken among some tasks may be woken among fewer of them
+pub may_moved : (f : Table) (qs rs : List Started) (t : ℕ) (q : Started) (w : Wake) (s : Stopped) → ((c : Started) → In c rs → In c qs) →
+    MayWake f qs t q w s → MayWake f rs t q w s
+may_moved f qs rs t q w s back h =
+    ready_by f f qs rs t q w s refl (λ children ended e x over. wait_moved qs rs q t children ended e x back over) h
+
+-- and such a wake can come of its stop
+pub may_can : (f : Table) (qs : List Started) (t : ℕ) (q : Started) (w : Wake) (s : Stopped) → MayWake f qs t q w s → CanWake w s
+may_can f qs t q begins to_begin h = from_start
+may_can f qs t q begins (asking k p) h = absurd h
+may_can f qs t q begins (asleep n u) h = absurd h
+may_can f qs t q begins (awaiting cs u e) h = absurd h
+may_can f qs t q begins (at_end u e) h = absurd h
+may_can f qs t q (has_answer a) to_begin h = absurd h
+may_can f qs t q (has_answer a) (asking k p) h = from_asking
+may_can f qs t q (has_answer a) (asleep n u) h = absurd h
+may_can f qs t q (has_answer a) (awaiting cs u e) h = absurd h
+may_can f qs t q (has_answer a) (at_end u e) h = absurd h
+may_can f qs t q is_due to_begin h = absurd h
+may_can f qs t q is_due (asking k p) h = absurd h
+may_can f qs t q is_due (asleep n u) h = from_due
+may_can f qs t q is_due (awaiting cs u e) h = absurd h
+may_can f qs t q is_due (at_end u e) h = absurd h
+may_can f qs t q sees to_begin h = absurd h
+may_can f qs t q sees (asking k p) h = absurd h
+may_can f qs t q sees (asleep n u) h = from_sleep
+may_can f qs t q sees (awaiting cs u e) h = absurd h
+may_can f qs t q sees (at_end u e) h = absurd h
+may_can f qs t q (settles x) to_begin h = absurd h
+may_can f qs t q (settles x) (asking k p) h = absurd h
+may_can f qs t q (settles x) (asleep n u) h = absurd h
+may_can f qs t q (settles x) (awaiting cs u e) h = from_wait
+may_can f qs t q (settles x) (at_end u e) h = absurd h
+
+-- ---- the run after a turn
+
+-- which task has a serial number: the one that had its turn, another, or a child begun
+abbrev picked : Bool → Bool → Started → Started → Started → Started
+picked true b turned_now old new = turned_now
+picked false true turned_now old new = old
+picked false false turned_now old new = new
+
+-- The run with the turn taken, and what it has at each serial number.
+pub record WentOn (k : Table) (job : Job) (input : List ℕ) (t m s : ℕ) (was : Interleaving k job input t m) (o : Move) (stopped : Stopped) : Type
+    0 where
+  pub is : Interleaving k job input t (m + length o.begun)
+  pub counts : turns_taken is.reached ≡ turns_taken was.reached + 1
+  pub froms : is.froms ≡ froms_after was.froms o.made
+  pub of_task : is.at s ≡ turned k t m (was.at s) o stopped
+  pub of_child : (i : ℕ) (b : Begun) → slice_get o.begun i ≡ Some b → is.at (m + i) ≡ child_at k t (m + i) b
+  pub of_other : (p : ℕ) → p < m → p ≢ s → is.at p ≡ was.at p
+
+-- a turn of a task that may be woken so takes a run on
+pub went_on : (k : Table) (job : Job) (input : List ℕ) (t m s : ℕ) (was : Interleaving k job input t m) (wake : Wake) (o : Move)
+    (stopped : Stopped) → s < m →
+    MayWake was.froms was.tasks t (was.at s) wake (was.at s).rest.stopped →
+    TurnsOver (was.at s).stop t (was.at s).here was.froms wake (was.at s).rest (was.at s).places (was.at s).count o →
+    o.stopped ≡ Some stopped →
+    WentOn k job input t m s was o stopped
+went_on k job input t m s was wake o stopped less may goes stops =
+    record {
+      is =
+          record {
+            froms = froms_after was.froms o.made;
+            tasks = (turned k t m q o stopped ∷ children_from k t m o.begun) ++ others;
+            reached =
+                turn was.froms t m q was.tasks others wake o stopped was.reached front.front
+                (may_moved was.froms was.tasks (q ∷ others) t q wake q.rest.stopped same.back may) goes stops;
+            at = at_after;
+            has = has_after;
+            one = one_after;
+            differ = differ_after;
+            none = none_after;
+          };
+      counts = refl;
+      froms = refl;
+      of_task = at_task;
+      of_child = λ i b e. at_child i ∙ nth_at k t m o.begun i (was.at (m + i)) b e;
+      of_other = at_other;
+    }
+  where
+    q : Started
+    q = was.at s
+
+    front : Others q was.tasks
+    front = front_of q was.tasks (was.has s less).0
+
+    others : List Started
+    others = front.others
+
+    same : SameTasks was.tasks (q ∷ others)
+    same = front_same q was.tasks others front.front
+
+    apart : AreApart (q ∷ others)
+    apart = apart_front q was.tasks others front.front was.differ
+
+    at_after : ℕ → Started
+    at_after p = picked (p == s) (nat_lt p m) (turned k t m q o stopped) (was.at p) (nth_child k t m o.begun (p - m) (was.at p))
+
+    at_task : at_after s ≡ turned k t m q o stopped
+    at_task = ap (λ (b : Bool). picked b (nat_lt s m) (turned k t m q o stopped) (was.at s) (nth_child k t m o.begun (s - m) (was.at s)))
+        (eq-eqb s s refl)
+
+    at_other : (p : ℕ) → p < m → p ≢ s → at_after p ≡ was.at p
+    at_other p lt differs = by_same (p == s) refl (nat_lt p m) refl
+      where
+        by_same : (b : Bool) → (p == s) ≡ b → (c : Bool) → nat_lt p m ≡ c →
+            picked b c (turned k t m q o stopped) (was.at p) (nth_child k t m o.begun (p - m) (was.at p)) ≡ was.at p
+        by_same true e c f = absurd (differs (eqb-true p s e))
+        by_same false e true f = refl
+        by_same false e false f = absurd (grind (arith, nat_tests))
+
+    at_born : (p : ℕ) → m ≤ p → at_after p ≡ nth_child k t m o.begun (p - m) (was.at p)
+    at_born p le = by_same (p == s) refl (nat_lt p m) refl
+      where
+        by_same : (b : Bool) → (p == s) ≡ b → (c : Bool) → nat_lt p m ≡ c →
+            picked b c (turned k t m q o stopped) (was.at p) (nth_child k t m o.begun (p - m) (was.at p))
+            ≡ nth_child k t m o.begun (p - m) (was.at p)
+        by_same true e c f = absurd (let g : p ≡ s = eqb-true p s e in omega (arith, g, le, less))
+        by_same false e true f = absurd (grind (arith, nat_tests))
+        by_same false e false f = refl
+
+    at_child : (i : ℕ) → at_after (m + i) ≡ nth_child k t m o.begun i (was.at (m + i))
+    at_child i = at_born (m + i) (omega arith) ∙ ap (λ (x : ℕ). nth_child k t m o.begun x (was.at (m + i)))
+        (let e : m + i - m ≡ i = omega arith in e)
+
+    has_old : (p : ℕ) → p < m → p ≢ s → In (was.at p) others
+    has_old p lt differs = by_either (same.forth (was.at p) (was.has p lt).0)
+      where
+        by_either : In (was.at p) (q ∷ others) → In (was.at p) others
+        by_either (inl e) = absurd (differs (sym (was.has p lt).1 ∙ ap (λ (x : Started). x.serial) e ∙ (was.has s less).1))
+        by_either (inr i) = i
+
+    has_after : (p : ℕ) → p < m + length o.begun → In (at_after p) ((turned k t m q o stopped ∷ children_from k t m o.begun) ++ others)
+        × ((at_after p).serial ≡ p)
+    has_after p lt = by_same (p == s) refl (nat_lt p m) refl
+      where
+        Has : Started → Type 0
+        Has x = In x ((turned k t m q o stopped ∷ children_from k t m o.begun) ++ others) × (x.serial ≡ p)
+
+        by_same : (b : Bool) → (p == s) ≡ b → (c : Bool) → nat_lt p m ≡ c → Has (at_after p)
+        by_same true e c f =
+            let g : p ≡ s = eqb-true p s e in
+            subst Has (sym (ap at_after g ∙ at_task)) (inl refl, (was.has s less).1 ∙ sym g)
+        by_same false e true f =
+            let lower : p < m = grind (arith, nat_tests) in
+            let differs : p ≢ s = λ g. absurd (let x : true ≡ false = sym (eq-eqb p s g) ∙ e in cc) in
+            subst Has (sym (at_other p lower differs)) (
+              in_second (was.at p) (turned k t m q o stopped ∷ children_from k t m o.begun) others (has_old p lower differs),
+              (was.has p lower).1,
+            )
+        by_same false e false f =
+            let upper : m ≤ p = grind (arith, nat_tests) in
+            let h = nth_in k t m o.begun (p - m) (was.at p) (omega (arith, lt, upper)) in
+            subst Has (sym (at_born p upper)) (
+              inr (in_first (nth_child k t m o.begun (p - m) (was.at p)) (children_from k t m o.begun) others h.0),
+              (let e = h.1 in omega (arith, e, upper)),
+            )
+
+    one_after : (x : Started) → In x ((turned k t m q o stopped ∷ children_from k t m o.begun) ++ others) → (x ≡ at_after x.serial)
+        × (x.serial < m + length o.begun)
+    one_after x i = by_part (in_either x (turned k t m q o stopped ∷ children_from k t m o.begun) others i)
+      where
+        by_part : In x (turned k t m q o stopped ∷ children_from k t m o.begun) ⊎ In x others → (x ≡ at_after x.serial)
+            × (x.serial < m + length o.begun)
+        by_part (inl (inl e)) =
+            let is_s : x.serial ≡ s = ap (λ (y : Started). y.serial) e ∙ (was.has s less).1 in
+            (e ∙ sym at_task ∙ ap at_after (sym is_s), omega (arith, is_s, less))
+        by_part (inl (inr j)) =
+            let h = in_nth k t m o.begun (was.at x.serial) x j in
+            let upper : m ≤ x.serial = (let e = h.serial in omega (arith, e)) in
+            let place : h.place ≡ x.serial - m = (let e = h.serial in omega (arith, e)) in (
+              h.is ∙ ap (λ (n : ℕ). nth_child k t m o.begun n (was.at x.serial)) place
+                  ∙ sym (at_born x.serial upper),
+              (let e = h.serial in let f = h.below in omega (arith, e, f)),
+            )
+        by_part (inr j) =
+            let h = was.one x (same.back x (inr j)) in
+            let differs : x.serial ≢ s = λ e. absurd (apart.0 x j (e ∙ sym (was.has s less).1)) in
+            (h.0 ∙ sym (at_other x.serial h.1 differs), (let e = h.1 in omega (arith, e)))
+
+    differ_after : AreApart ((turned k t m q o stopped ∷ children_from k t m o.begun) ++ others)
+    differ_after =
+        (by_part, apart_append (children_from k t m o.begun) others (children_apart k t m o.begun) apart.1 later)
+      where
+        later : (x y : Started) → In x (children_from k t m o.begun) → In y others → y.serial ≢ x.serial
+        later x y i j e =
+            let h = in_nth k t m o.begun x x i in let g = (was.one y (same.back y (inr j))).1 in let z =
+            h.serial in absurd (omega (arith, e, g, z))
+
+        by_either : (x : Started) → In x (children_from k t m o.begun) ⊎ In x others → x.serial ≢ q.serial
+        by_either x (inl i) e =
+            let h = in_nth k t m o.begun x x i in let g = (was.has s less).1 in let z = h.serial in absurd (omega (arith, e, g, z, less))
+        by_either x (inr i) e = apart.0 x i e
+
+        by_part : (x : Started) → In x (children_from k t m o.begun ++ others) → x.serial ≢ q.serial
+        by_part x i = by_either x (in_either x (children_from k t m o.begun) others i)
+
+    none_after : (p : ℕ) → m + length o.begun ≤ p → (at_after p).made ≡ []
+    none_after p le =
+        ap (λ (x : Started). x.made) (at_born p (omega (arith, le)) ∙ nth_past k t m o.begun (p - m) (was.at p) (omega (arith, le)))
+        ∙ was.none p (omega (arith, le))

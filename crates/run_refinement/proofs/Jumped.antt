@@ -1,0 +1,198 @@
+-- The tasks of the program when the clock jumps or started tasks are taken: everything else stays.
+use Rattle.std.proofs.Common.{◌≡◌, ℕ, ◌≤◌, Option, Some, None, List, [], ◌∷◌, refl, ap, sym, ◌∙◌, subst, arith}
+use Rattle.std.specs.List.{slice_get}
+use Rattle.std.specs.Option.{IsSomeAnd}
+use Rattle.job_tree.specs.Tree.{Tree as Job}
+use Rattle.job_meaning.specs.Log.{Table}
+use Rattle.job_meaning.specs.Rest as rest
+use Rattle.nursery_book.specs.Nursery.{End, Nursery}
+use Rattle.nursery_book.specs.Book.{nursery_at}
+use Rattle.task_machine.specs.declared.task.Home.{Home}
+use Rattle.task_machine.specs.declared.task.Task.{Task}
+use Rattle.task_machine.specs.declared.world.World.{World}
+use Rattle.task_machine.specs.Stops.{Numbers}
+use Rattle.interleavings.specs.Interleaving.{Started, Blocked}
+use Rattle.interleavings.specs.Runs.{jump, turns_taken}
+use Rattle.interleavings.specs.Rows.{children_made}
+use Rattle.run_refinement.specs.RunState.{Interleaving, RunState, Gone, HasHome, IsMember, HasMembers, Follows, HasEnded, OpenedBy, AreStarted, Refines}
+use Rattle.run_refinement.specs.Moved.{SameTasks, moved_world}
+
+-- ---- the same tasks
+
+module _ (t u m : ℕ) (le : t ≤ u) (old new : RunState) (at : ℕ → Started) (numbers : ℕ → Numbers) (same : SameTasks old new) where
+  abbrev there : RunState
+  there = record new { world = moved_world old.world u new.world }
+
+  home_moved : (s : ℕ) (home : Option Home) → HasHome old at numbers s home → HasHome there at numbers s home
+  home_moved s None h = h
+  home_moved s (Some home) h =
+      record {
+        parent = h.parent;
+        starter = h.starter;
+        lives = same.task h.parent ∙ h.lives;
+        earlier = h.earlier;
+        owned = h.owned;
+        runs = h.runs;
+        number = h.number;
+        stands = h.stands;
+        below = h.below;
+        serial = h.serial;
+      }
+
+  member_moved : (id place serial : ℕ) (e : Option End) → IsMember old at t id place serial e → IsMember there at u id place serial e
+  member_moved id place serial None h = h
+  member_moved id place serial (Some None) h = (h.0, same.task serial ∙ h.1, h.2)
+  member_moved id place serial (Some (Some exc)) h = (h.0, same.gone serial ∙ h.1, (let e = h.2 in omega (arith, e, le)), h.3)
+
+  members_moved : (ns : Numbers) (q : Started) (id : ℕ) (n : Nursery) → HasMembers old at t ns q id n → HasMembers there at u ns q id n
+  members_moved ns q id n h =
+      record {
+        long = h.long;
+        members = λ place number e. (let g = h.members place number e in
+            (g.0, member_moved id place (q.child number) (slice_get n.children place) g.1));
+      }
+
+  nursery_moved : (ns : Numbers) (q : Started) (id : ℕ) (o : Option Nursery) → IsSomeAnd o (λ n. HasMembers old at t ns q id n) →
+      IsSomeAnd o (λ n. HasMembers there at u ns q id n)
+  nursery_moved ns q id None h = h
+  nursery_moved ns q id (Some n) h = members_moved ns q id n h
+
+  follows_moved : (f : Table) (input : List ℕ) (leaving : Option ℕ) (s : ℕ) (task : Task) →
+      Follows old f input t at numbers leaving s task →
+      Follows there f input u at numbers leaving s task
+  follows_moved f input leaving s task h =
+      record {
+        here = h.here;
+        input_is = h.input_is;
+        lives = h.lives;
+        frames = h.frames;
+        stands = record {
+          places = h.stands.places;
+          numbered = h.stands.numbered;
+          placed = h.stands.placed;
+          new = h.stands.new;
+          own =
+              h.stands.own;
+        };
+        task_state = h.task_state;
+        in_range = h.in_range;
+        goes =
+            record {
+              in_range = h.goes.in_range;
+              starts = h.goes.starts;
+              home = h.goes.home;
+              scope = h.goes.scope;
+              first = h.goes.first;
+              froms = h.goes.froms;
+              opened = h.goes.opened;
+            };
+        notes = h.notes;
+        tracks = record {
+          labels = h.tracks.labels;
+          differ = h.tracks.differ;
+          named = h.tracks.named;
+          kept = h.tracks.kept;
+          left =
+              h.tracks.left;
+        };
+        home = home_moved s task.home h.home;
+        nurseries = λ id has. nursery_moved (numbers s) (at s) id (nursery_at old.world.book id) (h.nurseries id has);
+      }
+
+  opened_back : (key s : ℕ) → OpenedBy there key s → OpenedBy old key s
+  opened_back key s h = record {
+    task = h.task;
+    lives = sym (same.task s) ∙ h.lives;
+    place = h.place;
+    scope = h.scope;
+    own = h.own;
+    is =
+        h.is;
+  }
+
+  opened_there : (key s : ℕ) → OpenedBy old key s → OpenedBy there key s
+  opened_there key s h = record { task = h.task; lives = same.task s ∙ h.lives; place = h.place; scope = h.scope; own = h.own; is = h.is }
+
+  started_moved : (child : ℕ → ℕ) (es : List rest.Event) → AreStarted old.start at child es → AreStarted new.start at child es
+  started_moved child [] h = h
+  started_moved child (rest.noted v e ∷ es) h = started_moved child es h
+  started_moved child (rest.signs l v ∷ es) h = started_moved child es h
+  started_moved child (rest.enters l v d ∷ es) h = started_moved child es h
+  started_moved child (rest.starts i l v ∷ es) h = (h.0, same.start (child i) ∙ h.1, started_moved child es h.2)
+
+-- what the code holds in the later tick, or with tasks taken, is the same run
+state_moved : (k : Table) (job : Job) (input : List ℕ) (t u m : ℕ) (leaving : Option ℕ) (old new : RunState) → t ≤ u → SameTasks old new →
+    new.world ≡ moved_world old.world u new.world →
+    (c : Refines k job input t m leaving old) → (d : Interleaving k job input u m) → d.froms ≡ c.interleaving.froms → d.at ≡ c.interleaving.at →
+    turns_taken d.reached ≡ turns_taken c.interleaving.reached →
+    (x : Refines k job input u m leaving new) × (x.interleaving.at ≡ d.at)
+state_moved k job input t u m leaving old new le same world c d froms at taken =
+    subst (λ (w : World). (x : Refines k job input u m leaving (record new { world = w })) × (x.interleaving.at ≡ d.at)) (sym world) (
+      record {
+        interleaving = d;
+        numbers = c.numbers;
+        counted = taken ∙ c.counted ∙ sym same.turns;
+        tick = refl;
+        small = c.small;
+        some = c.some;
+        begun = same.start 0 ∙ c.begun;
+        unborn = λ s less. (same.task s ∙ (c.unborn s less).0, same.gone s ∙ (c.unborn s less).1);
+        ended = λ s less e. by_ended s (c.ended s less (sym (same.task s) ∙ e));
+        follows = λ s task e.
+            subst (λ (f : Table). Follows (there t u m le old new d.at c.numbers same) f input u d.at c.numbers leaving s task) (sym froms)
+            (follows_moved t u m le old new d.at c.numbers same c.interleaving.froms input leaving s task
+            (subst (λ (a : ℕ → Started). Follows old c.interleaving.froms input t a c.numbers leaving s task) (sym at)
+            (c.follows s task (sym (same.task s) ∙ e))));
+        owned = λ key o. (let h = c.owned key o in (h.0, opened_there t u m le old new d.at c.numbers same key h.0 h.1));
+        apart = λ key s v x y. c.apart key s v (opened_back t u m le old new d.at c.numbers same key s x)
+            (opened_back t u m le old new d.at c.numbers same key v y);
+        labelled = c.labelled;
+        started = λ s less.
+            started_moved t u m le old new d.at c.numbers same (d.at s).child (d.at s).made
+            (subst (λ (a : ℕ → Started). AreStarted old.start a (a s).child (a s).made) (sym at) (c.started s less));
+        children = λ s less. same.children s ∙ c.children s less ∙ ap (λ (a : ℕ → Started). children_made (a s).child (a s).made) (sym at);
+      },
+      refl,
+    )
+  where
+    by_ended : (s : ℕ) → (g : Gone) × (old.gone s ≡ Some g) × HasEnded c.interleaving.froms input t (c.interleaving.at s) g →
+        (g : Gone) × (new.gone s ≡ Some g) × HasEnded d.froms input u (d.at s) g
+    by_ended s h = (
+      h.0,
+      same.gone s ∙ h.1,
+      subst (λ (f : Table). HasEnded f input u (d.at s) h.0) (sym froms)
+          (subst (λ (a : ℕ → Started). HasEnded c.interleaving.froms input u (a s) h.0) (sym at)
+          (record {
+            label = h.2.label;
+            stopped = h.2.stopped;
+            before = (let e = h.2.before in omega (arith, e, le));
+            notes =
+                h.2.notes;
+            froms = h.2.froms;
+          })),
+    )
+
+-- the clock jumps where no task is ready
+pub state_jumps : (k : Table) (job : Job) (input : List ℕ) (t u m : ℕ) (old new : RunState) → t ≤ u → SameTasks old new →
+    new.world ≡ moved_world old.world u new.world →
+    (c : Refines k job input t m None old) → Blocked c.interleaving.froms c.interleaving.tasks u → Refines k job input u m None new
+state_jumps k job input t u m old new le same world c blocked =
+    (state_moved k job input t u m None old new le same world c
+    (record {
+      froms = c.interleaving.froms;
+      tasks = c.interleaving.tasks;
+      reached = jump c.interleaving.froms t u m c.interleaving.tasks c.interleaving.reached le blocked;
+      at = c.interleaving.at;
+      has = c.interleaving.has;
+      one = c.interleaving.one;
+      differ = c.interleaving.differ;
+      none = c.interleaving.none;
+    })
+    refl refl refl).0
+
+-- and tasks that were started are taken
+pub state_takes : (k : Table) (job : Job) (input : List ℕ) (t m : ℕ) (leaving : Option ℕ) (old new : RunState) → SameTasks old new →
+    new.world ≡ moved_world old.world t new.world →
+    (c : Refines k job input t m leaving old) → (x : Refines k job input t m leaving new) × (x.interleaving.at ≡ c.interleaving.at)
+state_takes k job input t m leaving old new same world c =
+    state_moved k job input t t m leaving old new (omega arith) same world c c.interleaving refl refl refl

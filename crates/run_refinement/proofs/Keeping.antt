@@ -1,0 +1,305 @@
+-- What stays the same for other tasks when one has its turn or leaves: a task that may continue may still do so, and
+-- each home has its owner.
+use Rattle.std.proofs.Common.{◌≡◌, ◌≢◌, ◌⊎◌, inl, inr, ◌&&◌, Bool, true, false, ℕ, zero, suc, ◌+◌, ◌-◌, ◌<◌, ◌≤◌, Option, Some, None, List, [], ◌∷◌, length, refl, ap, sym, ◌∙◌, subst, arith}
+use Rattle.std.proofs.lemmas.Bool.{cases_lt}
+use Rattle.std.specs.Prelude.{is_some, slice_get, slice_set}
+use Rattle.std.specs.List.{list_all}
+use Rattle.buffer_parts.specs.declared.part.Part.{Part}
+use Rattle.exc_groups.specs.Exceptions.{Exc}
+use Rattle.cancel_scopes.specs.Sight.{seen}
+use Rattle.cancel_scopes.specs.Tree.{outer_of}
+use Rattle.nursery_book.specs.Nursery.{End, Nursery, with_child, is_settled}
+use Rattle.nursery_book.specs.Book.{nursery_at, HasNursery}
+use Rattle.nursery_book.specs.declared.book.NurseryBook.{NurseryBook}
+use Rattle.job_tree.specs.Tree.{Tree as Job}
+use Rattle.job_tree.specs.Names.{GivesNamesOnce}
+use Rattle.job_tree.specs.Starting.{StartsInNurseries}
+use Rattle.job_meaning.specs.Log.{Table}
+use Rattle.job_meaning.specs.Follow.{follow, IsSettled}
+use Rattle.job_meaning.specs.Rest as rest
+use Rattle.job_meaning.proofs.Clips.{seen_near}
+use Rattle.turn_semantics.specs.Midway.{stack_at}
+use Rattle.turn_semantics.specs.Turned.{AgreesOn}
+use Rattle.task_machine.specs.declared.stop.TaskState.{TaskState}
+use Rattle.task_machine.specs.declared.stop.TaskState.TheVariants.{Asleep, Awaits}
+use Rattle.task_machine.specs.declared.stop.Stop.{Stop}
+use Rattle.task_machine.specs.declared.stop.Wake.{Wake}
+use Rattle.task_machine.specs.declared.stop.Wake.TheVariants.{Due, Seen, Settled}
+use Rattle.task_machine.specs.declared.task.Home.{Home}
+use Rattle.task_machine.specs.declared.task.Task.{Task}
+use Rattle.task_machine.specs.declared.world.World.{World}
+use Rattle.task_machine.specs.Fitting.{Block, blocks_of, waits_of}
+use Rattle.task_machine.specs.Standing.{HasNurseryOf, IsBegun}
+use Rattle.task_machine.specs.Stops.{IsTaskState}
+use Rattle.task_machine.specs.Tasks.{scope_of}
+use Rattle.task_machine.specs.Waking.{WakesFrom}
+use Rattle.task_machine.specs.Worlds.{label_at}
+use Rattle.task_machine.proofs.Stacked.{one_of, seen_at}
+use Rattle.interleavings.specs.Interleaving.{Started, In, RunInvariant, AllFrom}
+use Rattle.interleavings.proofs.Contract.{near_places}
+use Rattle.interleavings.proofs.Running.{runs_keep_invariant}
+use Rattle.run_refinement.specs.RunState.{RunState, LivesIn, HasHome, Follows, Refines}
+use Rattle.run_refinement.specs.Leaving.{Leaving}
+use Rattle.run_refinement.specs.Ready.{IsTimely, MayGo, Keeps, AreHomesOf}
+use Rattle.run_refinement.specs.Turn.{Turning, numbers_then, leaving_by}
+use Rattle.run_refinement.proofs.ActsKeep.{not_both, same_or}
+use Rattle.run_refinement.proofs.StateTurn.{nursery_same}
+use Rattle.run_refinement.proofs.Left.{ended_blocks, over_task_state}
+use Rattle.run_refinement.proofs.OtherHomes.{mover_owned}
+use Rattle.run_refinement.proofs.OtherNurseries.{same_nursery}
+use Rattle.run_refinement.proofs.Found.{below_length}
+use Rattle.run_refinement.proofs.Parts.{begun_at}
+use Rattle.run_refinement.proofs.Found.{finds, puts}
+use Rattle.run_refinement.proofs.Told.{same_owner, Told, stays, tells, told}
+
+-- ---- a wake in another world
+
+-- one that fits does so where what the task waits for is settled still
+fits_still : (task_state : TaskState) (part : Part) (old new : NurseryBook) (wake : Wake) →
+    ((id : ℕ) → waits_of task_state ≡ Some id → HasNursery old id (λ n. is_settled n ≡ true) → HasNursery new id (λ n. is_settled n ≡ true)) →
+    WakesFrom task_state part old wake →
+    WakesFrom task_state part new wake
+fits_still (Awaits id since) part old new Settled over h = over id refl h
+fits_still _ part old new _ over h = h
+
+-- and is timely where the same is seen in the same tick
+timely_still : (old new : World) (scope : Option ℕ) (task_state : TaskState) (wake : Wake) → new.tick ≡ old.tick →
+    seen (outer_of new.scopes scope) new.tick ≡ seen (outer_of old.scopes scope) old.tick → IsTimely old scope task_state wake →
+    IsTimely new scope task_state wake
+timely_still old new scope (Asleep ticks since) Due tick same h = (h.0 ∙ sym tick, same ∙ h.1)
+timely_still old new scope (Asleep ticks since) Seen tick same h = (subst (λ (v : ℕ). since < v) (sym tick) h.0, same ∙ h.1)
+timely_still old new scope _ _ tick same h = h
+
+-- ---- a turn of another task
+
+-- what a task sees is the same after it
+pub seen_still : {k : Table} {job : Job} {input : List ℕ} {t m s : ℕ} {old new : RunState} {before after : Task} {stop : Stop} →
+    IsSettled k job input → GivesNamesOnce job → StartsInNurseries job →
+    (c : Refines k job input t m None old) → (T : Turning k job input t m s old new c.numbers before after stop c.interleaving) → (u : ℕ) → u < m →
+    u ≢ s → (task : Task) → old.task u ≡ Some task →
+    Follows new T.is.froms input t T.is.at (numbers_then c.numbers s m T.took.numbers_after) (leaving_by stop s) u task →
+    seen (outer_of new.world.scopes (scope_of task)) t ≡ seen (outer_of old.world.scopes (scope_of task)) t
+seen_still {k} {job} {input} {t} {m} {s} {old} {new} {before} {after} {stop} settled names starting c T u below differs task lives now =
+    seen_at (label_at new.world) T.is.froms (outer_of new.world.scopes (scope_of task)) (T.is.at u).places t now.stands.places
+    ∙ ap (λ (x : Started). seen (stack_at T.is.froms x.places) t) other
+    ∙ sym seen_after ∙ seen_before
+    ∙ sym (seen_at (label_at old.world) c.interleaving.froms (outer_of old.world.scopes (scope_of task)) q.places t
+    (c.follows u task lives).stands.places)
+  where
+    q : Started
+    q = c.interleaving.at u
+
+    other : T.is.at u ≡ q
+    other = T.of_other u below differs
+
+    IsOn : Table → List Started → Type 0
+    IsOn f qs = RunInvariant k f (follow k job input) qs × AllFrom k qs t × ((x : Started) → In x qs → AgreesOn t k f x.places)
+
+    on_before : IsOn c.interleaving.froms c.interleaving.tasks
+    on_before = runs_keep_invariant k job input settled names starting c.interleaving.froms t m c.interleaving.tasks c.interleaving.reached
+
+    on_after : IsOn T.is.froms T.is.tasks
+    on_after = runs_keep_invariant k job input settled names starting T.is.froms t (m + length T.move.begun) T.is.tasks T.is.reached
+
+    less : u < m + length T.move.begun
+    less = omega (arith, below)
+
+    seen_before : seen (stack_at k q.places) t ≡ seen (stack_at c.interleaving.froms q.places) t
+    seen_before =
+        seen_near (suc t) (stack_at k q.places) (stack_at c.interleaving.froms q.places) t
+        (near_places t k c.interleaving.froms q.places (on_before.2 q (c.interleaving.has u below).0)) (omega arith)
+
+    seen_after : seen (stack_at k q.places) t ≡ seen (stack_at T.is.froms q.places) t
+    seen_after =
+        seen_near (suc t) (stack_at k q.places) (stack_at T.is.froms q.places) t
+        (near_places t k T.is.froms q.places (on_after.2 q (subst (λ (x : Started). In x T.is.tasks) other (T.is.has u less).0)))
+        (omega arith)
+
+-- a task that may continue may still do so
+pub still_goes : {k : Table} {job : Job} {input : List ℕ} {t m s : ℕ} {old new : RunState} {before after : Task} {stop : Stop} →
+    IsSettled k job input → GivesNamesOnce job → StartsInNurseries job →
+    (c : Refines k job input t m None old) → (T : Turning k job input t m s old new c.numbers before after stop c.interleaving) → (u : ℕ) → u < m →
+    u ≢ s → (task : Task) → old.task u ≡ Some task →
+    Follows new T.is.froms input t T.is.at (numbers_then c.numbers s m T.took.numbers_after) (leaving_by stop s) u task → (wake : Wake) →
+    MayGo old.world task wake → MayGo new.world task wake
+still_goes {t = t} {old = old} {new = new} settled names starting c T u below differs task lives now wake may =
+    record {
+      fits = fits_still task.task_state task.part old.world.book new.world.book wake
+          (λ id e. same_nursery (λ n. is_settled n ≡ true) old.world.book new.world.book id
+          (nursery_same c T u task differs lives id (inr e))) may.fits;
+      timely = timely_still old.world new.world (scope_of task) task.task_state wake tick same may.timely;
+    }
+  where
+    tick : new.world.tick ≡ old.world.tick
+    tick = ap (λ (w : World). w.tick) T.world
+
+    same : seen (outer_of new.world.scopes (scope_of task)) new.world.tick ≡ seen (outer_of old.world.scopes (scope_of task)) old.world.tick
+    same =
+        ap (λ (v : ℕ). seen (outer_of new.world.scopes (scope_of task)) v) (tick ∙ c.tick)
+        ∙ seen_still settled names starting c T u below differs task lives now
+        ∙ ap (λ (v : ℕ). seen (outer_of old.world.scopes (scope_of task)) v) (sym c.tick)
+
+-- and a nursery of a task is as it was
+pub still_waits : {k : Table} {job : Job} {input : List ℕ} {t m s : ℕ} {old new : RunState} {before after : Task} {stop : Stop} →
+    (c : Refines k job input t m None old) →
+    Turning k job input t m s old new c.numbers before after stop c.interleaving → (u : ℕ) → u ≢ s → (task : Task) → old.task u ≡ Some task →
+    (P : Nursery → Type 0) → (id : ℕ) →
+    HasNurseryOf id (blocks_of task.frames.items) (waits_of task.task_state) → HasNursery old.world.book id P → HasNursery new.world.book id P
+still_waits {old = old} {new = new} c T u differs task lives P id has h =
+    same_nursery P old.world.book new.world.book id (nursery_same c T u task differs lives id has) h
+
+-- ---- homes after a turn
+
+-- after a turn each home is a nursery of its owner still, and the owner of a new child's is the mover
+pub homes_kept : {k : Table} {job : Job} {input : List ℕ} {t m s : ℕ} {old new : RunState} {before after : Task} {stop : Stop} →
+    (c : Refines k job input t m None old) →
+    (T : Turning k job input t m s old new c.numbers before after stop c.interleaving) → (parent next : ℕ → ℕ) →
+    ((p : ℕ) → p < m → next p ≡ parent p) →
+    ((i : ℕ) → i < length T.move.begun → next (m + i) ≡ s) → AreHomesOf old parent → AreHomesOf new next
+homes_kept {k} {job} {input} {t} {m} {s} {old} {new} {before} {after} {stop} c T parent next same born homes p x home lives at_home =
+    by_order (cases_lt p m)
+  where
+    -- the home of a task that was there
+    old_home : p < m → (task : Task) → old.task p ≡ Some task → task.home ≡ Some home → Keeps new (parent p) home.nursery
+    old_home below task was at = by_parent (same_or l.parent s)
+      where
+        l : LivesIn old c.interleaving.at c.numbers p home
+        l = subst (HasHome old c.interleaving.at c.numbers p) at (c.follows p task was).home
+
+        keeps : Keeps old (parent p) home.nursery
+        keeps = homes p task home was at
+
+        one : l.parent ≡ parent p
+        one = same_owner k job input t m None old c l.parent (parent p) l.starter keeps.task home.nursery l.lives keeps.lives l.owned
+            keeps.owned
+
+        by_parent : (l.parent ≡ s) ⊎ (l.parent ≢ s) → Keeps new (parent p) home.nursery
+        by_parent (inl e) = subst (λ (n : ℕ). Keeps new n home.nursery) (sym e ∙ one)
+            (record { task = after; lives = T.task_after; owned = (mover_owned c T p home l e).1 })
+        by_parent (inr differs) =
+            let low : l.parent < m = (let a : l.parent < p = l.earlier in omega (arith, a, below)) in
+            subst (λ (n : ℕ). Keeps new n home.nursery) one (record {
+              task = l.starter;
+              lives = T.other_after l.parent low differs
+                  ∙ l.lives;
+              owned = l.owned;
+            })
+
+    by_old : p < m → Keeps new (parent p) home.nursery
+    by_old below = by_mover (same_or p s)
+      where
+        by_mover : (p ≡ s) ⊎ (p ≢ s) → Keeps new (parent p) home.nursery
+        by_mover (inl e) =
+            let is : x ≡ after = one_of x after (sym lives ∙ (ap new.task e ∙ T.task_after)) in
+            old_home below before (ap old.task e ∙ T.task) (sym (ap (λ (z : Task). z.home) T.stays) ∙ ap (λ (z : Task). z.home) (sym is)
+            ∙ at_home)
+        by_mover (inr differs) = old_home below x (sym (T.other_after p below differs) ∙ lives) at_home
+
+    -- that of one that was started
+    new_home : (i : ℕ) → new.task (m + i) ≡ Some x → Keeps new (next (m + i)) home.nursery
+    new_home i e =
+        subst (λ (n : ℕ). Keeps new n home.nursery) (sym (born i (below_length T.move.begun i b.0 b.1)))
+        (record {
+          task = after;
+          lives = T.task_after;
+          owned = subst (λ (h : Home).
+              HasNurseryOf h.nursery (blocks_of after.frames.items) (waits_of after.task_state)) is b.2.owned;
+        })
+      where
+        b : (b : _) × (slice_get T.move.begun i ≡ Some b) × IsBegun T.took.numbers_after new.world.book (blocks_of after.frames.items)
+            (waits_of after.task_state) x b
+        b =
+            begun_at T.took.numbers_after new.world.book (blocks_of after.frames.items) (waits_of after.task_state) T.took.tasks T.move.begun
+            T.took.begun i x
+            (sym (T.child_after i) ∙ e)
+
+        is : b.2.home ≡ home
+        is = one_of b.2.home home (sym b.2.at_home ∙ at_home)
+
+    by_order : (p < m) ⊎ (m ≤ p) → Keeps new (next p) home.nursery
+    by_order (inl below) = subst (λ (n : ℕ). Keeps new n home.nursery) (sym (same p below)) (by_old below)
+    by_order (inr le) =
+        let e : m + (p - m) ≡ p = omega (arith, le) in
+        subst (λ (n : ℕ). Keeps new (next n) home.nursery) e (new_home (p - m) (ap new.task e ∙ lives))
+
+-- ---- a task leaves
+
+module _ (k : Table) (job : Job) (input : List ℕ) (t m s : ℕ) (old new : RunState) (task : Task) (exc : Option Exc)
+    (c : Refines k job input t m (Some s) old)
+    (l : Leaving t s old new (c.interleaving.at s) task exc) where
+  -- it had no nursery
+  no_nursery : (id : ℕ) (x : Task) → old.task s ≡ Some x → HasNurseryOf id (blocks_of x.frames.items) (waits_of x.task_state) → ⊥
+  no_nursery id x e h =
+      by_either
+      (subst (λ (w : Option ℕ). HasNurseryOf id [] w) waits
+      (subst (λ (bs : List Block). HasNurseryOf id bs (waits_of task.task_state)) blocks
+      (subst (λ (y : Task). HasNurseryOf id (blocks_of y.frames.items) (waits_of y.task_state)) is h)))
+    where
+      q : Started
+      q = c.interleaving.at s
+
+      it : Follows old c.interleaving.froms input t c.interleaving.at c.numbers (Some s) s task
+      it = c.follows s task l.was
+
+      blocks : blocks_of task.frames.items ≡ []
+      blocks = ended_blocks task (c.numbers s) q.places q.rest.stopped t exc it.stands.placed l.ended
+
+      waits : waits_of task.task_state ≡ None
+      waits = over_task_state (c.numbers s) old.world.book task.task_state t exc
+          (subst (λ (z : rest.Stopped). IsTaskState (c.numbers s) old.world.book task.task_state z) l.ended it.task_state)
+
+      is : x ≡ task
+      is = one_of x task (sym e ∙ l.was)
+
+      by_either : HasNurseryOf id [] None → ⊥
+      by_either (inl h) = h
+      by_either (inr e) = not_both refl e
+
+  -- so the home of each other task has its owner
+  pub homes_left : (parent : ℕ → ℕ) → AreHomesOf old parent → AreHomesOf new parent
+  homes_left parent homes p x home lives at_home =
+      record { task = keeps.task; lives = (l.others (parent p) parent_differs).0 ∙ keeps.lives; owned = keeps.owned }
+    where
+      differs : p ≢ s
+      differs e = not_both (ap new.task e ∙ l.left) lives
+
+      keeps : Keeps old (parent p) home.nursery
+      keeps = homes p x home (sym (l.others p differs).0 ∙ lives) at_home
+
+      parent_differs : parent p ≢ s
+      parent_differs e = no_nursery home.nursery keeps.task (ap old.task (sym e) ∙ keeps.lives) keeps.owned
+
+  settled_with : (es : List End) (place : ℕ) → list_all is_some es ≡ true → list_all is_some (slice_set es place (Some exc)) ≡ true
+  settled_with [] zero e = e
+  settled_with [] (suc place) e = e
+  settled_with (None ∷ es) place e = absurd (let f : false ≡ true = e in cc)
+  settled_with (Some x ∷ es) zero e = e
+  settled_with (Some x ∷ es) (suc place) e = settled_with es place e
+
+  -- a nursery that is settled is so after an end is recorded
+  still_settled : (id : ℕ) → HasNursery old.world.book id (λ n. is_settled n ≡ true) →
+      HasNursery new.world.book id (λ n. is_settled n ≡ true)
+  still_settled id h = by_told task.home (told old.world.book new.world.book task.home exc l.told id n.0 n.1)
+    where
+      n : (n : Nursery) × (nursery_at old.world.book id ≡ Some n) × (is_settled n ≡ true)
+      n = finds old.world.book id (λ n. is_settled n ≡ true) h
+
+      by_body : (b : Bool) (es : List End) (place : ℕ) → (b && list_all is_some es) ≡ true →
+          (b && list_all is_some (slice_set es place (Some exc))) ≡ true
+      by_body true es place e = settled_with es place e
+      by_body false es place e = e
+
+      by_told : (home : Option Home) → Told new.world.book exc id n.0 home → HasNursery new.world.book id (λ n. is_settled n ≡ true)
+      by_told _ (stays y e z) = puts new.world.book id n.0 (λ n. is_settled n ≡ true) e n.2
+      by_told _ (tells y z e) = puts new.world.book id (with_child y.place exc n.0) (λ n. is_settled n ≡ true) e
+          (by_body (is_some n.0.body) n.0.children y.place n.2)
+
+  -- and a task that may continue may still do so
+  pub goes_left : (x : Task) → (wake : Wake) → MayGo old.world x wake → MayGo new.world x wake
+  goes_left x wake may =
+      record {
+        fits = fits_still x.task_state x.part old.world.book new.world.book wake (λ id e. still_settled id) may.fits;
+        timely =
+            timely_still old.world new.world (scope_of x) x.task_state wake (ap (λ (w : World). w.tick) l.world)
+            (ap (λ (w : World). seen (outer_of w.scopes (scope_of x)) w.tick) l.world) may.timely;
+      }

@@ -1,0 +1,140 @@
+-- After a turn each child of the task's nurseries is the task of its serial number, or one that has ended.
+use Rattle.std.proofs.Common.{◌≡◌, ◌≢◌, ◌⊎◌, inl, inr, ℕ, ◌+◌, ◌-◌, ◌<◌, true, false, Option, Some, None, List, ◌++◌, length, refl, ap, sym, ◌∙◌, subst, arith}
+use Rattle.std.specs.Prelude.{slice_get}
+use Rattle.std.specs.Option.{option_map}
+use Rattle.nursery_book.specs.Nursery.{End, Nursery}
+use Rattle.nursery_book.specs.Book.{nursery_at, HasNursery}
+use Rattle.job_tree.specs.Tree.{Tree as Job}
+use Rattle.job_meaning.specs.Log.{Table}
+use Rattle.job_meaning.specs.Rest as rest
+use Rattle.turn_semantics.specs.Midway.{Begun}
+use Rattle.task_machine.specs.declared.stop.Stop.{Stop}
+use Rattle.task_machine.specs.declared.task.Home.{Home}
+use Rattle.task_machine.specs.declared.task.Task.{Task}
+use Rattle.task_machine.specs.Fitting.{blocks_of, waits_of}
+use Rattle.task_machine.specs.Standing.{HasBlock, HasNurseryOf, IsBegun, BeginsAt}
+use Rattle.interleavings.specs.Interleaving.{Started, live}
+use Rattle.interleavings.specs.Going.{turned}
+use Rattle.interleavings.proofs.Turning.{old_child, later_child}
+use Rattle.run_refinement.specs.RunState.{RunState, IsMember, HasMembers, Follows, Refines}
+use Rattle.run_refinement.specs.Turn.{Turning}
+use Rattle.run_refinement.proofs.ActsKeep.{not_both}
+use Rattle.run_refinement.proofs.Parts.{begun_at, BeginsThere, begins_there, numbered_on}
+use Rattle.run_refinement.proofs.RunStates.{gone_below, home_earlier}
+use Rattle.task_machine.proofs.Stacked.{one_of}
+use Rattle.run_refinement.proofs.Found.{below_length, got_first, finds, puts}
+use Rattle.run_refinement.proofs.LabelsApart.{below_of}
+
+module _ (k : Table) (job : Job) (input : List ℕ) (t m s : ℕ) (old new : RunState) (before after : Task) (stop : Stop)
+    (c : Refines k job input t m None old)
+    (T : Turning k job input t m s old new c.numbers before after stop c.interleaving) where
+  mover : Follows old c.interleaving.froms input t c.interleaving.at c.numbers None s before
+  mover = c.follows s before T.task
+
+  -- the task after its turn
+  abbrev pub moved_to : Started
+  moved_to = turned k t m (c.interleaving.at s) T.move T.stopped
+
+  -- a task in one of the task's nurseries is another task, and stays as it is
+  member_stays : (id place serial : ℕ) (x : End) → HasBlock id (blocks_of before.frames.items) →
+      IsMember old c.interleaving.at t id place serial (Some x) →
+      IsMember new T.is.at t id place serial (Some x)
+  member_stays id place serial None has h =
+      let below : serial < m = below_of c serial h.0 h.1 in
+      let later : s < serial = home_earlier k job input t m None old c serial h.0 h.1 id place h.2 s before T.task (inl has) in
+      (h.0, T.other_after serial below (λ e. omega (arith, later, e)) ∙ h.1, h.2)
+  member_stays id place serial (Some exc) has h = (
+    h.0,
+    T.gone_after serial ∙ h.1,
+    h.2,
+    ap (λ (q : Started). q.rest.stopped)
+        (T.of_other serial (gone_below k job input t m None old c serial h.0 h.1) differs) ∙ h.3,
+  )
+    where
+      lives : live (c.interleaving.at s).rest.stopped ≡ true
+      lives = mover.lives (λ e. not_both refl e)
+
+      differs : serial ≢ s
+      differs e =
+          let over : (c.interleaving.at s).rest.stopped ≡ rest.at_end h.0.end exc = sym (ap (λ (p : ℕ). (c.interleaving.at p).rest.stopped) e) ∙ h.3 in
+          let none : live (c.interleaving.at s).rest.stopped ≡ false = ap live over in
+          let clash : true ≡ false = sym lives ∙ none in
+          cc
+
+  -- a child with a number from before
+  old_member : (id place number : ℕ) (n : Nursery) → nursery_at new.world.book id ≡ Some n → HasBlock id (blocks_of before.frames.items) →
+      slice_get (c.numbers s id) place ≡ Some number →
+      (number < moved_to.count) × IsMember new T.is.at t id place (moved_to.child number) (slice_get n.children place)
+  old_member id place number n at has was =
+      let o = finds old.world.book id _ (mover.nurseries id (inl has)) in
+      let g = finds new.world.book id _ (T.took.grow id has o.0 o.1) in
+      let one = o.2.members place number was in
+      let below : number < (c.interleaving.at s).count = one.0 in
+      let longer : slice_get n.children place ≡ slice_get (o.0.children ++ g.2.more) place =
+      ap (λ (x : Nursery). slice_get x.children place) (one_of n g.0 (sym at ∙ g.1))
+      ∙ ap (λ (es : List End). slice_get es place) g.2.children in (
+        omega (arith, below),
+        subst (λ (z : ℕ). IsMember new T.is.at t id place z (slice_get n.children place))
+            (sym (old_child (c.interleaving.at s).count (c.interleaving.at s).child m number below))
+            (by_end (slice_get o.0.children place) refl one.1 o.0.children g.2.more n.children longer refl),
+      )
+    where
+      by_end : (e : Option End) → e ≡ e → IsMember old c.interleaving.at t id place ((c.interleaving.at s).child number) e →
+          (was_there more there : List End) →
+          slice_get there place ≡ slice_get (was_there ++ more) place → slice_get was_there place ≡ e →
+          IsMember new T.is.at t id place ((c.interleaving.at s).child number) (slice_get there place)
+      by_end None r h xs ys zs same e = absurd h
+      by_end (Some x) r h xs ys zs same e =
+          subst (λ (z : Option End). IsMember new T.is.at t id place ((c.interleaving.at s).child number) z)
+          (sym (same ∙ got_first xs ys place x e))
+          (member_stays id place ((c.interleaving.at s).child number) x has h)
+
+  -- where a child that was begun is at home
+  begun_there : (id place number : ℕ) (n : Nursery) → nursery_at new.world.book id ≡ Some n →
+      (r : BeginsThere id place number T.took.tasks T.move.begun) →
+      (b : Begun) → IsBegun T.took.numbers_after new.world.book (blocks_of after.frames.items) (waits_of after.task_state) r.task b →
+      slice_get n.children place ≡ Some None
+  begun_there id place number n at r b h =
+      let here : Some (h.home.nursery, h.home.place) ≡ Some (id, place) =
+      sym (ap (option_map (λ (x : Home). (x.nursery, x.place))) h.at_home) ∙ r.home in
+      let pair : (h.home.nursery, h.home.place) ≡ (id, place) = one_of (h.home.nursery, h.home.place) (id, place) here in
+      let o = finds new.world.book h.home.nursery _ h.nursery in
+      let same : Some o.0 ≡ Some n = sym o.1 ∙ (ap (λ (z : ℕ × ℕ). nursery_at new.world.book z.0) pair ∙ at) in
+      sym (ap (λ (x : Nursery). slice_get x.children h.home.place) (one_of o.0 n same) ∙ ap (λ (z : ℕ × ℕ). slice_get n.children z.1) pair)
+      ∙ o.2.1
+
+  new_member : (id place number : ℕ) (n : Nursery) → nursery_at new.world.book id ≡ Some n →
+      BeginsThere id place number T.took.tasks T.move.begun →
+      (number < moved_to.count) × IsMember new T.is.at t id place (moved_to.child number) (slice_get n.children place)
+  new_member id place number n at r =
+      let h = begun_at T.took.numbers_after new.world.book (blocks_of after.frames.items) (waits_of after.task_state) T.took.tasks T.move.begun
+      T.took.begun r.index r.task r.is in
+      let is : number ≡ (c.interleaving.at s).count + r.index =
+      sym r.number_is ∙ numbered_on (c.interleaving.at s).count T.move.made T.move.begun T.promise.starts r.index r.child r.begun in
+      let short : r.index < length T.move.begun = below_length T.move.begun r.index r.child r.begun in
+      let child : moved_to.child number ≡ m + (number - (c.interleaving.at s).count) =
+      later_child (c.interleaving.at s).count (c.interleaving.at s).child m number (omega (arith, is)) in
+      let serial : m + (number - (c.interleaving.at s).count) ≡ m + r.index = omega (arith, is) in (
+        omega (arith, is, short),
+        subst (λ (e : Option End). IsMember new T.is.at t id place (moved_to.child number) e)
+            (sym (begun_there id place number n at r h.0 h.2))
+            (r.task, ap new.task (child ∙ serial) ∙ (T.child_after r.index ∙ r.is), r.home),
+      )
+
+  -- Each nursery that the task has after its turn has these members.
+  pub members_after : (id : ℕ) → HasNurseryOf id (blocks_of after.frames.items) (waits_of after.task_state) →
+      HasNursery new.world.book id (λ n. HasMembers new T.is.at t T.took.numbers_after moved_to id n)
+  members_after id has = puts new.world.book id found.0 _ found.1 (record { long = found.2; members = members })
+    where
+      found : (n : Nursery) × (nursery_at new.world.book id ≡ Some n) × (length (T.took.numbers_after id) ≡ length n.children)
+      found = finds new.world.book id (λ n. length (T.took.numbers_after id) ≡ length n.children) (T.took.numbered id has)
+
+      members : (place number : ℕ) → slice_get (T.took.numbers_after id) place ≡ Some number →
+          (number < moved_to.count) × IsMember new T.is.at t id place (moved_to.child number) (slice_get found.0.children place)
+      members place number at = by_cover (T.took.covered id place number has at)
+        where
+          by_cover : (HasBlock id (blocks_of before.frames.items) × (slice_get (c.numbers s id) place ≡ Some number))
+              ⊎ BeginsAt id place number T.took.tasks T.move.begun →
+              (number < moved_to.count) × IsMember new T.is.at t id place (moved_to.child number) (slice_get found.0.children place)
+          by_cover (inl h) = old_member id place number found.0 found.1 h.0 h.1
+          by_cover (inr h) = new_member id place number found.0 found.1 (begins_there id place number T.took.tasks T.move.begun h)

@@ -1,0 +1,181 @@
+-- Each other task is tied to the one of the definitions after a turn, as it was before.
+use Rattle.std.proofs.Common.{◌≡◌, ◌≢◌, ◌⊎◌, inl, inr, ℕ, ◌<◌, true, false, Option, Some, None, List, length, refl, ap, sym, ◌∙◌, subst}
+use Rattle.std.specs.Prelude.{slice_get}
+use Rattle.std.specs.Option.{ForSome, IsSomeAnd}
+use Rattle.cancel_scopes.specs.Tree.{outer_of, IsOpen}
+use Rattle.nursery_book.specs.Nursery.{End, Nursery}
+use Rattle.nursery_book.specs.Book.{nursery_at, HasNursery}
+use Rattle.job_tree.specs.Tree.{Tree as Job}
+use Rattle.job_meaning.specs.Log.{Table}
+use Rattle.job_meaning.specs.Rest as rest
+use Rattle.task_machine.specs.declared.entry.ScopeFrom.{ScopeFrom}
+use Rattle.turn_semantics.specs.Turned.{Known}
+use Rattle.task_machine.specs.declared.stop.Stop.{Stop}
+use Rattle.task_machine.specs.declared.task.Own.{Own}
+use Rattle.task_machine.specs.declared.task.Task.{Task}
+use Rattle.task_machine.specs.Acts.{scoping_of}
+use Rattle.task_machine.specs.Fitting.{blocks_of, waits_of}
+use Rattle.task_machine.specs.Stacked.{AreAt}
+use Rattle.task_machine.specs.Standing.{HasNurseryOf, Stands}
+use Rattle.task_machine.specs.Tasks.{home_of, home_scope, scope_of}
+use Rattle.task_machine.specs.Worlds.{label_at}
+use Rattle.interleavings.specs.Interleaving.{Started, live}
+use Rattle.interleavings.specs.Rows.{entered_made}
+use Rattle.run_refinement.specs.RunState.{RunState, Tracks, CanGoOn, IsMember, HasMembers, Follows, Refines}
+use Rattle.run_refinement.specs.Turn.{IsEntered, numbers_then, Turning, leaving_by}
+use Rattle.run_refinement.proofs.ActsKeep.{not_both, same_or}
+use Rattle.run_refinement.proofs.RunStates.{Stood, follows_by, gone_below}
+use Rattle.run_refinement.proofs.StateTurn.{ActsOf, else_own, own_open, nursery_same}
+use Rattle.run_refinement.proofs.OtherHomes.{home_stays, home_open}
+use Rattle.run_refinement.proofs.OtherNurseries.{same_nursery, opened_stays, task_state_stays}
+use Rattle.run_refinement.proofs.OtherPlaces.{places_other}
+use Rattle.run_refinement.proofs.OtherScopes.{AreElse, tracks_other, scope_stays, first_stays}
+use Rattle.task_machine.proofs.Stacked.{one_of}
+use Rattle.run_refinement.proofs.Found.{same_got}
+use Rattle.run_refinement.proofs.Parts.{numbers_other}
+use Rattle.run_refinement.proofs.LabelsApart.{below_of}
+
+module _ (k : Table) (job : Job) (input : List ℕ) (t m s : ℕ) (old new : RunState) (before after : Task) (stop : Stop)
+    (c : Refines k job input t m None old)
+    (T : Turning k job input t m s old new c.numbers before after stop c.interleaving) where
+  -- ---- which tasks are in a nursery
+
+  -- a task that is in a nursery is there still, be it the mover or another
+  running_stays : (id place serial : ℕ) → IsMember old c.interleaving.at t id place serial (Some None) → (serial ≡ s) ⊎ (serial ≢ s) →
+      IsMember new T.is.at t id place serial (Some None)
+  running_stays id place serial h (inl e) =
+      let mine : h.0 ≡ before = one_of h.0 before (sym h.1 ∙ (ap old.task e ∙ T.task)) in
+      (after, ap new.task e ∙ T.task_after, ap (λ (z : Task). home_of z) T.stays ∙ (sym (ap (λ (z : Task). home_of z) mine) ∙ h.2))
+  running_stays id place serial h (inr differs) = (h.0, T.other_after serial (below_of c serial h.0 h.1) differs ∙ h.1, h.2)
+
+  -- what is a member stays one
+  member_stays : (id place serial : ℕ) (e : Option End) → IsMember old c.interleaving.at t id place serial e →
+      IsMember new T.is.at t id place serial e
+  member_stays id place serial None h = absurd h
+  member_stays id place serial (Some None) h = running_stays id place serial h (same_or serial s)
+  member_stays id place serial (Some (Some exc)) h = (
+    h.0,
+    T.gone_after serial ∙ h.1,
+    h.2,
+    ap (λ (q : Started). q.rest.stopped)
+        (T.of_other serial (gone_below k job input t m None old c serial h.0 h.1) differs) ∙ h.3,
+  )
+    where
+      lives : live (c.interleaving.at s).rest.stopped ≡ true
+      lives = (c.follows s before T.task).lives (λ e. not_both refl e)
+
+      differs : serial ≢ s
+      differs e =
+          let over : (c.interleaving.at s).rest.stopped ≡ rest.at_end h.0.end exc = sym (ap (λ (p : ℕ). (c.interleaving.at p).rest.stopped) e) ∙ h.3 in
+          let none : live (c.interleaving.at s).rest.stopped ≡ false = ap live over in
+          let clash : true ≡ false = sym lives ∙ none in
+          cc
+
+  -- ---- one other task
+
+  module _ (a : ActsOf c T) (u : ℕ) (below : u < m) (differs : u ≢ s) (task : Task) (is : old.task u ≡ Some task) where
+    was : Follows old c.interleaving.froms input t c.interleaving.at c.numbers None u task
+    was = c.follows u task is
+
+    same : T.is.at u ≡ c.interleaving.at u
+    same = T.of_other u below differs
+
+    others : AreElse task.own.items before.own.items
+    others = else_own c T u task differs is
+
+    opens : (o : Own) (i : ℕ) → slice_get task.own.items i ≡ Some o → IsOpen old.world.scopes o.id
+    opens = own_open c u task is
+
+    nursery : (id : ℕ) → HasNurseryOf id (blocks_of task.frames.items) (waits_of task.task_state) →
+        nursery_at new.world.book id ≡ nursery_at old.world.book id
+    nursery = nursery_same c T u task differs is
+
+    tracks : Tracks (IsEntered T.is.at) T.is.froms (scoping_of task new.world) (entered_made (c.interleaving.at u).made)
+    tracks =
+        subst (λ (f : Table). Tracks (IsEntered T.is.at) f (scoping_of task new.world) (entered_made (c.interleaving.at u).made)) (sym T.froms)
+        (tracks_other a (IsEntered c.interleaving.at) (IsEntered T.is.at) c.interleaving.froms task.own.items task.froms.items
+        (entered_made (c.interleaving.at u).made) others (λ l h. (u, h))
+        (λ l h. (u, subst (λ (q : Started). Known l (entered_made q.made)) (sym same) h)) was.tracks)
+
+    -- each of its scopes has the label that it had
+    label_same : (o : Own) (i : ℕ) → slice_get task.own.items i ≡ Some o → label_at new.world o.id ≡ label_at old.world o.id
+    label_same o i got =
+        let x = tracks.named o i got in
+        let y = was.tracks.named o i got in
+        x.2 ∙ (ap (λ (z : ScopeFrom). Some z.label) (same_got task.froms.items o.at x.0 y.0 x.1 y.1) ∙ sym y.2)
+
+    home : ForSome (home_scope task) (IsOpen new.world.scopes)
+    home = home_open c T a u task.home was.home
+
+    goes : CanGoOn task new.world
+    goes =
+        record {
+          in_range = was.goes.in_range;
+          starts = was.goes.starts;
+          home = home;
+          scope = scope_stays a (home_scope task) task.own.items others opens home;
+          first = first_stays a (home_scope task) task.own.items others opens was.goes.home was.goes.first;
+          froms = was.goes.froms;
+          opened =
+              opened_stays (label_at old.world) (label_at new.world) old.world.book new.world.book (blocks_of task.frames.items)
+              task.own.items (waits_of task.task_state) label_same nursery
+              was.goes.opened;
+        }
+
+    stands : Stands task.frames.items task new.world T.is.froms (c.numbers u) (Some (c.interleaving.at u).rest.stopped) (c.interleaving.at u).places
+    stands =
+        record {
+          places =
+              subst (λ (f : Table). AreAt (label_at new.world) f (outer_of new.world.scopes (scope_of task)) (c.interleaving.at u).places)
+              (sym T.froms)
+              (places_other c T a u task differs is);
+          numbered =
+              λ id has.
+              same_nursery (λ n. length (c.numbers u id) ≡ length n.children) old.world.book new.world.book id (nursery id (inl has))
+              (was.stands.numbered id has);
+          placed = was.stands.placed;
+          new = was.stands.new;
+          own = was.stands.own;
+        }
+
+    members : (id : ℕ) → HasNurseryOf id (blocks_of task.frames.items) (waits_of task.task_state) →
+        HasNursery new.world.book id (λ n. HasMembers new T.is.at t (c.numbers u) (c.interleaving.at u) id n)
+    members id has =
+        same_nursery (λ n. HasMembers new T.is.at t (c.numbers u) (c.interleaving.at u) id n) old.world.book new.world.book id (nursery id has)
+        (in_book (nursery_at old.world.book id) (was.nurseries id has))
+      where
+        in_book : (o : Option Nursery) → IsSomeAnd o (λ n. HasMembers old c.interleaving.at t (c.numbers u) (c.interleaving.at u) id n) →
+            IsSomeAnd o (λ n. HasMembers new T.is.at t (c.numbers u) (c.interleaving.at u) id n)
+        in_book None h = absurd h
+        in_book (Some n) h =
+            record {
+              long = h.long;
+              members =
+                  λ place number got.
+                  let one = h.members place number got in
+                  (one.0, member_stays id place ((c.interleaving.at u).child number) (slice_get n.children place) one.1);
+            }
+
+    stood : Stood new T.is.froms input t T.is.at (leaving_by stop s) u task (c.numbers u) (c.interleaving.at u)
+    stood =
+        record {
+          here = was.here;
+          input_is = was.input_is;
+          lives = λ stays. was.lives (λ e. not_both refl e);
+          frames = was.frames;
+          stands = stands;
+          task_state = task_state_stays (c.numbers u) old.world.book new.world.book task.task_state (c.interleaving.at u).rest.stopped
+              (λ id waits. nursery id (inr waits)) was.task_state;
+          in_range = was.in_range;
+          goes = goes;
+          notes = was.notes;
+          tracks = tracks;
+          nurseries = members;
+        }
+
+    -- Another task follows after the turn what it followed before.
+    pub others_follow : Follows new T.is.froms input t T.is.at (numbers_then c.numbers s m T.took.numbers_after) (leaving_by stop s) u task
+    others_follow =
+        follows_by new T.is.froms input t T.is.at (numbers_then c.numbers s m T.took.numbers_after) (leaving_by stop s) u task (c.numbers u)
+        (c.interleaving.at u)
+        (numbers_other c.numbers s m T.took.numbers_after u below differs) same stood (home_stays c T u task.home below was.home)

@@ -1,0 +1,173 @@
+-- All tasks of the program have ended: what is kept of them is what the job means.
+use Rattle.std.proofs.Common.{◌≡◌, ◌⊎◌, inl, inr, ℕ, suc, ◌<◌, ◌≤◌, Option, Some, None, List, [], ◌∷◌, map, refl, ap, sym, ◌∙◌, subst, arith}
+use Rattle.exc_groups.specs.Exceptions.{Exc}
+use Rattle.job_tree.specs.Tree.{Tree as Job}
+use Rattle.job_tree.specs.Names.{GivesNamesOnce}
+use Rattle.job_tree.specs.Starting.{StartsInNurseries}
+use Rattle.job_meaning.specs.Log.{Table}
+use Rattle.job_meaning.specs.Walk.{Here}
+use Rattle.job_meaning.specs.Meaning.{root_label, root_here, meaning_table, meaning_records, meaning_froms, meaning_end, froms_by}
+use Rattle.job_meaning.specs.Shown.{Shown, shown, shown_at}
+use Rattle.job_meaning.specs.Rest.{Event, noted, signs, enters, starts, Stopped, to_begin, asking, asleep, awaiting, at_end}
+use Rattle.turn_semantics.specs.Midway.{Begun}
+use Rattle.task_machine.specs.Standing.{shown_made}
+use Rattle.interleavings.specs.Interleaving.{Started, In}
+use Rattle.interleavings.specs.Going.{root_task, turned, children_from}
+use Rattle.interleavings.specs.Rows.{Row, entries_made, entered_made, children_made, StartsRows, HasRow, records_by, froms_in, DepthFirst}
+use Rattle.interleavings.specs.Runs.{Reached, begun, turn, jump}
+use Rattle.interleavings.proofs.Picking.{front_same}
+use Rattle.interleavings.proofs.Readings.{in_either}
+use Rattle.interleavings.proofs.Running.{runs_are_the_meaning}
+use Rattle.run_refinement.specs.RunState.{RunState, Gone, HasEnded, AreStarted, Refines}
+use Rattle.run_refinement.specs.Over.{ShowsRow, IsOver}
+
+-- ---- the root stays where it began
+
+children_later : (k : Table) (t m : ℕ) (bs : List Begun) (x : Started) → In x (children_from k t m bs) → m ≤ x.serial
+unfolding children_from
+children_later k t m [] x i = absurd i
+children_later k t m (b ∷ bs) x (inl e) = let f = ap (λ (y : Started). y.serial) e in omega (arith, f)
+children_later k t m (b ∷ bs) x (inr i) = let h = children_later k t (suc m) bs x i in omega (arith, h)
+
+-- the first task is the root of the job
+abbrev RootStays : Job → List ℕ → ℕ → List Started → Type 0
+RootStays job input m qs = (0 < m) × ((x : Started) → In x qs → x.serial ≡ 0 → x.here ≡ root_here job input)
+
+root_stays : (k : Table) (job : Job) (input : List ℕ) (f : Table) (t m : ℕ) (qs : List Started) → Reached k job input f t m qs →
+    RootStays job input m qs
+root_stays k job input _ _ _ _ (begun f) = (omega arith, by_in)
+  where
+    by_in : (x : Started) → In x (root_task k job input ∷ []) → x.serial ≡ 0 → x.here ≡ root_here job input
+    by_in x (inl e) z = ap (λ (y : Started). y.here) e
+    by_in x (inr i) z = absurd i
+root_stays k job input _ _ _ _ (turn f t m q qs others wake o s r front may goes stopped) =
+    let inner = root_stays k job input f t m qs r in (
+      let some = inner.0 in omega (arith, some),
+      λ x i z. by_part inner x z
+          (in_either x (turned k t m q o s ∷ children_from k t m o.begun) others i),
+    )
+  where
+    by_part : RootStays job input m qs → (x : Started) → x.serial ≡ 0 → In x (turned k t m q o s ∷ children_from k t m o.begun)
+        ⊎ In x others → x.here ≡ root_here job input
+    by_part inner x z (inl (inl e)) =
+        ap (λ (y : Started). y.here) e ∙ inner.1 q ((front_same q qs others front).back q (inl refl))
+        (sym (ap (λ (y : Started). y.serial) e) ∙ z)
+    by_part inner x z (inl (inr j)) = absurd (let h = children_later k t m o.begun x j in let some = inner.0 in omega (arith, h, some, z))
+    by_part inner x z (inr j) = inner.1 x ((front_same q qs others front).back x (inr j)) z
+root_stays k job input _ _ _ _ (jump f t u m qs r le blocked) = root_stays k job input f t m qs r
+
+-- ---- rows
+
+abbrev end_at : Stopped → ℕ
+end_at to_begin = 0
+end_at (asking kernel purpose) = 0
+end_at (asleep n since) = 0
+end_at (awaiting children ended exc) = 0
+end_at (at_end u e) = u
+
+abbrev exc_at : Stopped → Option Exc
+exc_at to_begin = None
+exc_at (asking kernel purpose) = None
+exc_at (asleep n since) = None
+exc_at (awaiting children ended exc) = None
+exc_at (at_end u e) = e
+
+-- the row of a task that was started in this tick
+abbrev row_at : Table → ℕ → Started → Row
+row_at f start q =
+    record {
+      label = q.here.task;
+      start = start;
+      end = end_at q.rest.stopped;
+      exc = exc_at q.rest.stopped;
+      entries = entries_made q.made;
+      froms = froms_by f (entered_made q.made);
+      children = children_made q.child q.made;
+    }
+
+shown_entries : (input : List ℕ) (es : List Event) → shown_made input es ≡ map (shown input) (entries_made es)
+shown_entries input [] = refl
+shown_entries input (noted t e ∷ es) = ap (λ (xs : List Shown). shown_at input t e ∷ xs) (shown_entries input es)
+shown_entries input (signs l t ∷ es) = shown_entries input es
+shown_entries input (enters l t d ∷ es) = shown_entries input es
+shown_entries input (starts i l t ∷ es) = shown_entries input es
+
+rows_started : (f : Table) (start : ℕ → ℕ) (at : ℕ → Started) (child : ℕ → ℕ) (es : List Event) → AreStarted start at child es →
+    StartsRows (λ p. row_at f (start p) (at p)) child es
+rows_started f start at child [] h = tt
+rows_started f start at child (noted t e ∷ es) h = rows_started f start at child es h
+rows_started f start at child (signs l t ∷ es) h = rows_started f start at child es h
+rows_started f start at child (enters l t d ∷ es) h = rows_started f start at child es h
+rows_started f start at child (starts i l t ∷ es) h = (h.0, h.1, rows_started f start at child es h.2)
+
+ended_row : (s : Stopped) (u : ℕ) (e : Option Exc) → s ≡ at_end u e → s ≡ at_end (end_at s) (exc_at s)
+ended_row s u e h = subst (λ (x : Stopped). x ≡ at_end (end_at x) (exc_at x)) (sym h) refl
+
+-- if every task of the program has ended, what is kept of them is what the job means
+pub state_over : (job : Job) (input : List ℕ) → GivesNamesOnce job → StartsInNurseries job → (t m : ℕ) (state : RunState) →
+    Refines (meaning_table job input) job input t m None state →
+    ((p : ℕ) → state.task p ≡ None) → IsOver job input m state
+state_over job input names starting t m state c none =
+    record {
+      rows = rows;
+      shows = shows;
+      records = λ taken d. (means taken d).0;
+      froms = λ taken d. (means taken d).1;
+      end = λ taken d. (means taken d).2;
+    }
+  where
+    k : Table
+    k = meaning_table job input
+
+    f : Table
+    f = c.interleaving.froms
+
+    rows : ℕ → Row
+    rows p = row_at f (state.start p) (c.interleaving.at p)
+
+    shows : (p : ℕ) → p < m → ShowsRow input state p (rows p)
+    shows p lt =
+        record {
+          gone = g.0;
+          is = g.1;
+          label = g.2.label;
+          start = refl;
+          end = sym (ap end_at g.2.stopped);
+          exc = sym (ap exc_at g.2.stopped);
+          entries = g.2.notes.shown ∙ shown_entries input (c.interleaving.at p).made;
+          slices = g.2.notes.slices;
+          froms = g.2.froms;
+          children = c.children p lt;
+        }
+      where
+        g : (g : Gone) × (state.gone p ≡ Some g) × HasEnded f input t (c.interleaving.at p) g
+        g = c.ended p lt (none p)
+
+    row_of_at : (p : ℕ) → p < m → HasRow f rows (c.interleaving.at p)
+    row_of_at p lt =
+        record {
+          ended = ended_row (c.interleaving.at p).rest.stopped g.0.end g.0.exc g.2.stopped ∙ ap (λ (r : Row). at_end r.end r.exc) is;
+          entries = ap (λ (r : Row). r.entries) (sym is);
+          froms = ap (λ (r : Row). r.froms) (sym is);
+          children = ap (λ (r : Row). r.children) (sym is);
+          starts = rows_started f state.start c.interleaving.at (c.interleaving.at p).child (c.interleaving.at p).made (c.started p lt);
+        }
+      where
+        is : rows p ≡ rows (c.interleaving.at p).serial
+        is = ap rows (sym (c.interleaving.has p lt).1)
+
+        g : (g : Gone) × (state.gone p ≡ Some g) × HasEnded f input t (c.interleaving.at p) g
+        g = c.ended p lt (none p)
+
+    has_row : (q : Started) → In q c.interleaving.tasks → HasRow f rows q
+    has_row q i = let h = c.interleaving.one q i in subst (HasRow f rows) (sym h.0) (row_of_at q.serial h.1)
+
+    label : (rows 0).label ≡ root_label job.name
+    label =
+        let at = c.interleaving.has 0 c.some in
+        ap (λ (h : Here). h.task) ((root_stays k job input f t m c.interleaving.tasks c.interleaving.reached).1 (c.interleaving.at 0) at.0 at.1)
+
+    means : (taken : List ℕ) → DepthFirst rows (0 ∷ []) taken →
+        (records_by rows taken ≡ meaning_records job input) × (froms_in rows taken ≡ meaning_froms job input)
+        × ((rows 0).end ≡ meaning_end job input)
+    means taken d = runs_are_the_meaning job input names starting f t m c.interleaving.tasks c.interleaving.reached rows has_row label c.begun taken d

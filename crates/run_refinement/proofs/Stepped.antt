@@ -1,0 +1,212 @@
+-- The tasks of the program after a turn of the code: they are those of the run after it, and what the stop
+-- says of the task is true.
+use Rattle.std.proofs.Common.{◌≡◌, ◌≢◌, ℕ, ◌+◌, ◌<◌, Option, Some, None, List, ◌++◌, length, refl, ap, sym, ◌∙◌, subst, arith}
+use Rattle.std.specs.Prelude.{IsSome}
+use Rattle.std.specs.Option.{IsSomeAnd}
+use Rattle.exc_groups.specs.Exceptions.{Exc}
+use Rattle.buffer_parts.specs.declared.part.Part.{Part}
+use Rattle.cancel_scopes.specs.Sight.{seen}
+use Rattle.line_kernels.specs.declared.kernel.Kernel.{Kernel}
+use Rattle.cancel_scopes.specs.Tree.{outer_of}
+use Rattle.job_tree.specs.Tree.{Tree as Job}
+use Rattle.job_tree.specs.Names.{GivesNamesOnce}
+use Rattle.job_tree.specs.Starting.{StartsInNurseries}
+use Rattle.job_meaning.specs.Follow.{IsSettled}
+use Rattle.job_meaning.specs.Log.{Table}
+use Rattle.job_meaning.specs.Rest.{Stopped, to_begin, asking, asleep, awaiting, at_end}
+use Rattle.nursery_book.specs.Nursery.{Nursery}
+use Rattle.nursery_book.specs.Book.{nursery_at}
+use Rattle.nursery_book.specs.declared.book.NurseryBook.{NurseryBook}
+use Rattle.turn_semantics.specs.Midway.{Place}
+use Rattle.turn_semantics.specs.Steps.{froms_after}
+use Rattle.turn_semantics.specs.Turned.{StopsAt}
+use Rattle.task_machine.specs.declared.stop.TaskState.{TaskState}
+use Rattle.task_machine.specs.declared.stop.TaskState.TheVariants.{ToBegin, Asked, Asleep, Awaits, Over}
+use Rattle.task_machine.specs.declared.stop.Stop.{Stop}
+use Rattle.task_machine.specs.declared.stop.Stop.TheVariants.{Ask, Sleep, Wait, Ended}
+use Rattle.task_machine.specs.declared.stop.Wake.{Wake}
+use Rattle.task_machine.specs.declared.task.Task.{Task}
+use Rattle.task_machine.specs.declared.world.World.{World}
+use Rattle.task_machine.specs.Stacked.{AreAt}
+use Rattle.task_machine.specs.Stops.{Numbers, IsTaskState, IsTold, StopsAs}
+use Rattle.task_machine.specs.Tasks.{scope_of}
+use Rattle.task_machine.specs.Waking.{wake_in, IsInRangeTaskState}
+use Rattle.task_machine.specs.Worlds.{label_at}
+use Rattle.task_machine.proofs.Stacked.{seen_at}
+use Rattle.interleavings.specs.Interleaving.{Started}
+use Rattle.interleavings.specs.Woken.{MayWake}
+use Rattle.run_refinement.specs.RunState.{RunState, Follows, Refines}
+use Rattle.run_refinement.specs.Turn.{numbers_then, Turning, leaving_by}
+use Rattle.run_refinement.specs.Step.{TakesTurn, StopSays, EndsAs, StoppedIn}
+use Rattle.run_refinement.proofs.StateFits.{state_fits}
+use Rattle.run_refinement.proofs.StateTurn.{acted}
+use Rattle.run_refinement.proofs.OthersFollow.{others_follow}
+use Rattle.run_refinement.proofs.Taken.{turning, tasks_long}
+use Rattle.run_refinement.proofs.Turned.{state_turned}
+
+-- ---- what a stop says
+
+-- where the task stopped corresponds to its blocked state and to what was returned, now
+pub record IsToldNow (numbers : Numbers) (book : NurseryBook) (part : Part) (stop : Stop) (task_state : TaskState) (t : ℕ) (froms : Table)
+    (ps : List Place) (s : Stopped) : Type 0 where
+  pub blocks_on : IsTaskState numbers book task_state s
+  pub told : IsTold part stop task_state s
+  pub now : StopsAt t froms (Some s) ps
+
+told_now : (numbers : Numbers) (book : NurseryBook) (part : Part) (stop : Stop) (task_state : TaskState) (t : ℕ) (froms : Table) (ps : List Place)
+    (o : Option Stopped) (s : Stopped) → o ≡ Some s →
+    StopsAs numbers book part stop task_state o → StopsAt t froms o ps → IsToldNow numbers book part stop task_state t froms ps s
+told_now numbers book part stop task_state t froms ps o s e stops now =
+    let both = subst (λ (x : Option Stopped). StopsAs numbers book part stop task_state x) e stops in
+    record { blocks_on = both.0; told = both.1; now = subst (λ (x : Option Stopped). StopsAt t froms x ps) e now }
+
+-- a task that ended did so now
+pub ends_now : (numbers : Numbers) (book : NurseryBook) (part : Part) (stop : Stop) (task_state : TaskState) (t : ℕ) (froms : Table) (ps : List Place)
+    (s : Stopped) →
+    IsToldNow numbers book part stop task_state t froms ps s → (q : Started) → q.rest.stopped ≡ s → EndsAs stop t q
+ends_now numbers book part (Ask request) task_state t froms ps s h q e = tt
+ends_now numbers book part (Sleep due) task_state t froms ps s h q e = tt
+ends_now numbers book part (Wait id) task_state t froms ps s h q e = tt
+ends_now numbers book part (Ended exc) ToBegin t froms ps s h q e = absurd h.told
+ends_now numbers book part (Ended exc) (Asked kernel purpose) t froms ps s h q e = absurd h.told
+ends_now numbers book part (Ended exc) (Asleep ticks since) t froms ps s h q e = absurd h.told
+ends_now numbers book part (Ended exc) (Awaits id since) t froms ps s h q e = absurd h.told
+ends_now numbers book part (Ended exc) Over t froms ps to_begin h q e = absurd h.told
+ends_now numbers book part (Ended exc) Over t froms ps (asking kernel purpose) h q e = absurd h.told
+ends_now numbers book part (Ended exc) Over t froms ps (asleep n since) h q e = absurd h.told
+ends_now numbers book part (Ended exc) Over t froms ps (awaiting children u x) h q e = absurd h.told
+ends_now numbers book part (Ended exc) Over t froms ps (at_end u x) h q e =
+    e ∙ (ap (λ (v : ℕ). at_end v x) h.now ∙ ap (λ (y : Option Exc). at_end t y) (sym h.told))
+
+some_there : (o : Option Nursery) (P : Nursery → Type 0) → IsSomeAnd o P → IsSome o
+some_there None P h = absurd h
+some_there (Some n) P h = refl
+
+-- and what the stop says is so
+says_now : (numbers : Numbers) (book : NurseryBook) (part : Part) (stop : Stop) (task_state : TaskState) (t : ℕ) (froms : Table) (ps : List Place)
+    (s : Stopped) →
+    IsToldNow numbers book part stop task_state t froms ps s → (world : World) (task : Task) → task.task_state ≡ task_state → task.part ≡ part →
+    world.tick ≡ t →
+    AreAt (label_at world) froms (outer_of world.scopes (scope_of task)) ps → IsInRangeTaskState task_state → book ≡ world.book →
+    StopSays world task stop
+says_now numbers book part (Ask request) ToBegin t froms ps s h world task e of tick at in_range held = absurd h.told
+says_now numbers book part (Ask request) (Asked kernel purpose) t froms ps s h world task e of tick at in_range held =
+    record { purpose = purpose; task_state = e ∙ ap (λ (k : Kernel). Asked k purpose) (sym h.told.0); part = h.told.1 ∙ sym of }
+says_now numbers book part (Ask request) (Asleep ticks since) t froms ps s h world task e of tick at in_range held = absurd h.told
+says_now numbers book part (Ask request) (Awaits id since) t froms ps s h world task e of tick at in_range held = absurd h.told
+says_now numbers book part (Ask request) Over t froms ps s h world task e of tick at in_range held = absurd h.told
+says_now numbers book part (Sleep due) ToBegin t froms ps s h world task e of tick at in_range held = absurd h.told
+says_now numbers book part (Sleep due) (Asked kernel purpose) t froms ps s h world task e of tick at in_range held = absurd h.told
+says_now numbers book part (Sleep due) (Asleep ticks since) t froms ps to_begin h world task e of tick at in_range held = absurd h.blocks_on
+says_now numbers book part (Sleep due) (Asleep ticks since) t froms ps (asking kernel purpose) h world task e of tick at in_range held =
+    absurd h.blocks_on
+says_now numbers book part (Sleep due) (Asleep ticks since) t froms ps (asleep n u) h world task e of tick at in_range held =
+    let is : since ≡ world.tick = h.blocks_on.1 ∙ (h.now.0 ∙ sym tick) in
+    let long : ticks ≡ n = h.blocks_on.0 in
+    let more : 0 < n = h.now.1 in
+    let told : due ≡ since + ticks = h.told in
+    record {
+      ticks = ticks;
+      task_state = e ∙ ap (λ (v : ℕ). Asleep ticks v) is;
+      short = in_range;
+      due_is = omega (arith, is, told);
+      later = omega (arith, is, told, long, more);
+      unseen =
+          ap (λ (v : ℕ). seen (outer_of world.scopes (scope_of task)) v) tick
+          ∙ (seen_at (label_at world) froms (outer_of world.scopes (scope_of task)) ps t at ∙ h.now.2);
+    }
+says_now numbers book part (Sleep due) (Asleep ticks since) t froms ps (awaiting children u x) h world task e of tick at in_range held =
+    absurd h.blocks_on
+says_now numbers book part (Sleep due) (Asleep ticks since) t froms ps (at_end u x) h world task e of tick at in_range held = absurd h.blocks_on
+says_now numbers book part (Sleep due) (Awaits id since) t froms ps s h world task e of tick at in_range held = absurd h.told
+says_now numbers book part (Sleep due) Over t froms ps s h world task e of tick at in_range held = absurd h.told
+says_now numbers book part (Wait id) ToBegin t froms ps s h world task e of tick at in_range held = absurd h.told
+says_now numbers book part (Wait id) (Asked kernel purpose) t froms ps s h world task e of tick at in_range held = absurd h.told
+says_now numbers book part (Wait id) (Asleep ticks since) t froms ps s h world task e of tick at in_range held = absurd h.told
+says_now numbers book part (Wait id) (Awaits key since) t froms ps to_begin h world task e of tick at in_range held = absurd h.blocks_on
+says_now numbers book part (Wait id) (Awaits key since) t froms ps (asking kernel purpose) h world task e of tick at in_range held =
+    absurd h.blocks_on
+says_now numbers book part (Wait id) (Awaits key since) t froms ps (asleep n u) h world task e of tick at in_range held = absurd h.blocks_on
+says_now numbers book part (Wait id) (Awaits key since) t froms ps (awaiting children u x) h world task e of tick at in_range held =
+    record {
+      since = since;
+      task_state = e ∙ ap (λ (n : ℕ). Awaits n since) (sym h.told);
+      there =
+          subst (λ (b : NurseryBook). IsSome (nursery_at b id)) held
+          (subst (λ (n : ℕ). IsSome (nursery_at book n)) (sym h.told) (some_there (nursery_at book key) (λ n. n.body ≡ Some x) h.blocks_on.2));
+    }
+says_now numbers book part (Wait id) (Awaits key since) t froms ps (at_end u x) h world task e of tick at in_range held = absurd h.blocks_on
+says_now numbers book part (Wait id) Over t froms ps s h world task e of tick at in_range held = absurd h.told
+says_now numbers book part (Ended exc) task_state t froms ps s h world task e of tick at in_range held = tt
+
+-- ---- a turn
+
+-- each other task follows as it did
+pub other_follows : (k : Table) (job : Job) (input : List ℕ) (t m s : ℕ) (old new : RunState) (before after : Task) (stop : Stop) →
+    IsSettled k job input → GivesNamesOnce job →
+    StartsInNurseries job → (c : Refines k job input t m None old) →
+    (T : Turning k job input t m s old new c.numbers before after stop c.interleaving) → (u : ℕ) → u < m → u ≢ s →
+    (task : Task) → old.task u ≡ Some task → Follows new T.is.froms input t T.is.at (numbers_then c.numbers s m T.took.numbers_after)
+    (leaving_by stop s) u task
+other_follows k job input t m s old new before after stop settled names starting c T u below differs task is =
+    others_follow k job input t m s old new before after stop c T (acted c T settled names starting) u below differs task is
+
+module _ (k : Table) (job : Job) (input : List ℕ) (t m s : ℕ) (old new : RunState) (before after : Task) (wake : Wake) (stop : Stop)
+    (settled : IsSettled k job input)
+    (names : GivesNamesOnce job) (starting : StartsInNurseries job) (c : Refines k job input t m None old)
+    (x : TakesTurn t m s old new before after wake stop)
+    (may : MayWake c.interleaving.froms c.interleaving.tasks t (c.interleaving.at s) (wake_in old.world.book before.task_state wake) (c.interleaving.at s).rest.stopped)
+  where
+    -- what the code says of it is all that is known of a turn
+    turn : Turning k job input t m s old new c.numbers before after stop c.interleaving
+    turn =
+        turning k job input t m s old new before after wake stop settled names starting c x.task x.stays x.world x.sound x.sound_after
+        x.none_left
+        (state_fits k job input t m None old c x.sound s before x.task) x.fits_after x.in_range x.goes.fits x.turn may x.task_after
+        x.child_after
+        x.other_after x.gone_after x.start_after
+        x.start_child x.more_children x.children_after x.no_children x.turns
+
+    -- and it began the tasks that wait in the world
+    pub turning_of : (T : Turning k job input t m s old new c.numbers before after stop c.interleaving)
+        × (length T.move.begun ≡ length new.world.started.items)
+    turning_of = (turn, sym (tasks_long turn) ∙ sym (ap (λ (ts : List Task). length ts) started))
+      where
+        started : new.world.started.items ≡ turn.took.tasks
+        started = turn.took.started ∙ ap (λ (ts : List Task). ts ++ turn.took.tasks) x.none_left
+
+    module _ (T : Turning k job input t m s old new c.numbers before after stop c.interleaving) where
+      told : IsToldNow T.took.numbers_after new.world.book before.part stop after.task_state t (froms_after c.interleaving.froms T.move.made)
+          T.move.places T.stopped
+      told =
+          told_now T.took.numbers_after new.world.book before.part stop after.task_state t (froms_after c.interleaving.froms T.move.made) T.move.places
+          T.move.stopped T.stopped T.stops T.took.moves.1
+          T.promise.stops
+
+      now : EndsAs stop t (T.is.at s)
+      now =
+          ends_now T.took.numbers_after new.world.book before.part stop after.task_state t (froms_after c.interleaving.froms T.move.made) T.move.places
+          T.stopped told (T.is.at s)
+          (ap (λ (q : Started). q.rest.stopped) T.of_task)
+
+      step : StoppedIn k job input t (m + length T.move.begun) s stop new
+      step =
+          let after = state_turned c T settled names starting
+          (other_follows k job input t m s old new before after stop settled names starting
+          c T) in
+          record { is = after.0; ended = subst (λ (at : ℕ → Started). EndsAs stop t (at s)) (sym after.1) now }
+
+      says : StopSays new.world after stop
+      says =
+          says_now T.took.numbers_after new.world.book before.part stop after.task_state t (froms_after c.interleaving.froms T.move.made) T.move.places
+          T.stopped told new.world after refl
+          (ap (λ (z : Task). z.part) T.stays) (ap (λ (w : World). w.tick) T.world ∙ c.tick) T.took.places T.in_range refl
+
+    -- After a task of the program took a turn, the tasks are one run with those that it started, in which that
+    -- task stopped so.
+    pub stepped : StoppedIn k job input t (m + length new.world.started.items) s stop new
+    stepped = let T = turning_of in subst (λ (n : ℕ). StoppedIn k job input t (m + n) s stop new) T.1 (step T.0)
+
+    -- And what the stop says of it is so.
+    pub stop_says : StopSays new.world after stop
+    stop_says = says turning_of.0

@@ -1,0 +1,55 @@
+use Rattle.run_refinement.proofs.Begun.{state_begun}
+use Rattle.run_refinement.proofs.Blocks.{state_blocked, state_in_time, state_sleeps, state_turns}
+use Rattle.run_refinement.proofs.StateFits.{state_fits}
+use Rattle.run_refinement.proofs.FewTasks.{state_few}
+use Rattle.run_refinement.proofs.Jumped.{state_jumps, state_takes}
+use Rattle.run_refinement.proofs.Going.{may_wake}
+use Rattle.run_refinement.proofs.Left.{state_left}
+use Rattle.run_refinement.proofs.Over.{state_over}
+use Rattle.run_refinement.proofs.Stepped.{stepped, stop_says}
+use Rattle.run_refinement.proofs.laws.law_states.Goals as goal
+
+pub returns-clause-begin : goal.returns-clause-begin
+returns-clause-begin c =
+    λ k job input state in_range names starting small h.
+    state_begun k job input state h.root in_range starting names small h.world h.is_root h.first h.others h.gone h.start h.children h.turns
+
+pub returns-clause-fit : goal.returns-clause-fit
+returns-clause-fit c = state_fits
+
+pub returns-clause-turn : goal.returns-clause-turn
+returns-clause-turn c =
+    λ k job input t m s old new before after wake stop settled names starting is x.
+    stepped k job input t m s old new before after wake stop settled names starting is x
+    (may_wake k job input t m old settled names starting is s before x.task wake x.goes)
+
+pub returns-clause-stop : goal.returns-clause-stop
+returns-clause-stop c =
+    λ k job input t m s old new before after wake stop settled names starting is x.
+    stop_says k job input t m s old new before after wake stop settled names starting is x
+    (may_wake k job input t m old settled names starting is s before x.task wake x.goes)
+
+pub returns-clause-leave : goal.returns-clause-leave
+returns-clause-leave c = state_left
+
+pub returns-clause-take : goal.returns-clause-take
+returns-clause-take c = state_takes
+
+pub returns-clause-jump : goal.returns-clause-jump
+returns-clause-jump c = λ k job input t u m old new le same world is stay.
+    state_jumps k job input t u m old new le same world is (state_blocked k job input t m old is u stay)
+
+pub returns-clause-sleep : goal.returns-clause-sleep
+returns-clause-sleep c = state_sleeps
+
+pub returns-clause-in_time : goal.returns-clause-in_time
+returns-clause-in_time c = state_in_time
+
+pub returns-clause-turns : goal.returns-clause-turns
+returns-clause-turns c = state_turns
+
+pub returns-clause-tasks : goal.returns-clause-tasks
+returns-clause-tasks c = state_few
+
+pub returns-clause-over : goal.returns-clause-over
+returns-clause-over c = state_over

@@ -1,0 +1,10 @@
+pub mod RunState
+pub mod Turn
+pub mod Leaving
+pub mod Begun
+pub mod Over
+pub mod Ready
+pub mod Step
+pub mod Moved
+pub mod Laws
+pub mod Sights

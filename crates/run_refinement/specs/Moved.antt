@@ -1,0 +1,17 @@
+-- The tasks of the program when the clock jumps, started tasks are taken from the world, or changed scopes are taken: nothing
+-- else changes.
+use Rattle.std.specs.Prelude.{◌≡◌, ℕ}
+use Rattle.task_machine.specs.declared.world.World.{World}
+use Rattle.run_refinement.specs.RunState.{RunState}
+
+-- the tasks before and after are the same, and so is what is kept of them
+pub record SameTasks (old new : RunState) : Type 0 where
+  pub turns : new.turns ≡ old.turns
+  pub task : (p : ℕ) → new.task p ≡ old.task p
+  pub gone : (p : ℕ) → new.gone p ≡ old.gone p
+  pub start : (p : ℕ) → new.start p ≡ old.start p
+  pub children : (p : ℕ) → new.children p ≡ old.children p
+
+-- the world with another tick, other tasks that were started and not taken, and other scopes marked as changed
+abbrev pub moved_world : World → ℕ → World → World
+moved_world w u x = record w { tick = u; started = x.started; scopes = record (w.scopes) { changed = x.scopes.changed } }

@@ -1,0 +1,214 @@
+-- The tasks of the program as the code holds them, and their relation to a run of the definitions.
+use Rattle.std.specs.Prelude.{◌≡◌, ◌≢◌, true, ℕ, ◌<◌, ◌≤◌, Option, Some, None, List, [], ◌∷◌, All, map, length, slice_get}
+use Rattle.std.specs.Option.{ForSome}
+use Rattle.std.specs.List.{last_or}
+use Rattle.exc_groups.specs.Exceptions.{Label, Exc}
+use Rattle.cancel_scopes.specs.Tree.{Stack, stack_of, IsOpen, own_from}
+use Rattle.nursery_book.specs.Nursery.{End, Nursery}
+use Rattle.nursery_book.specs.Book.{HasNursery}
+use Rattle.job_tree.specs.Tree.{Tree as Job}
+use Rattle.job_meaning.specs.Log.{Table}
+use Rattle.job_meaning.specs.Meaning.{froms_by}
+use Rattle.job_meaning.specs.Rest as rest
+use Rattle.job_meaning.specs.declared.limits.TheConstants.{MAX_INPUT}
+use Rattle.task_machine.specs.declared.entry.Entry.{Entry}
+use Rattle.task_machine.specs.declared.entry.ScopeFrom.{ScopeFrom}
+use Rattle.task_machine.specs.Noted.{entry_of, from_of, IsSlice}
+use Rattle.turn_semantics.specs.Turned.{Known}
+use Rattle.task_machine.specs.declared.task.Home.{Home}
+use Rattle.task_machine.specs.declared.task.Own.{Own}
+use Rattle.task_machine.specs.declared.task.Task.{Task}
+use Rattle.task_machine.specs.declared.world.World.{World}
+use Rattle.task_machine.specs.Acts.{Scoping, scoping_of}
+use Rattle.task_machine.specs.Fitting.{blocks_of, AreInRangeFrames, StartsFit, Opened, AreOthers, waits_of}
+use Rattle.task_machine.specs.Frames.{frames_of}
+use Rattle.task_machine.specs.Left.{OwnFirst}
+use Rattle.task_machine.specs.Standing.{here_of, shown_made, HasNurseryOf, Stands}
+use Rattle.task_machine.specs.Stops.{Numbers, IsTaskState}
+use Rattle.task_machine.specs.Tasks.{home_of, home_scope}
+use Rattle.task_machine.specs.Waking.{IsInRangeTaskState}
+use Rattle.task_machine.specs.Worlds.{label_at}
+use Rattle.interleavings.specs.Interleaving.{Started, In, live}
+use Rattle.interleavings.specs.Rows.{entered_made, children_made}
+use Rattle.interleavings.specs.Runs.{Reached, turns_taken}
+
+-- ---- a run of the definitions, and its tasks by their serial numbers
+
+-- no two tasks have the same serial number
+abbrev pub AreApart : List Started → Type 0
+AreApart [] = Unit {0}
+AreApart (q ∷ qs) = ((x : Started) → In x qs → x.serial ≢ q.serial) × AreApart qs
+
+-- A run reaches these froms and this tick with m tasks, whose serial numbers are those below m. The task at a number that no
+-- task has has done nothing.
+pub record Interleaving (k : Table) (job : Job) (input : List ℕ) (t m : ℕ) : Type 0 where
+  pub froms : Table
+  pub tasks : List Started
+  pub reached : Reached k job input froms t m tasks
+  pub at : ℕ → Started
+  pub has : (s : ℕ) → s < m → In (at s) tasks × ((at s).serial ≡ s)
+  pub one : (q : Started) → In q tasks → (q ≡ at q.serial) × (q.serial < m)
+  pub differ : AreApart tasks
+  pub none : (s : ℕ) → m ≤ s → (at s).made ≡ []
+
+-- ---- what the code holds
+
+-- what is kept of a task that has ended
+pub record Gone : Type 0 where
+  pub label : Label
+  pub end : ℕ
+  pub exc : Option Exc
+  pub entries : List Entry
+  pub froms : List ScopeFrom
+
+-- the world of a run, how many turns its tasks had, and by its serial number each task that has not ended, and what is kept of
+-- each that has, with the tick in which each was started, and the serial numbers of its children in order
+pub record RunState : Type 0 where
+  pub world : World
+  pub turns : ℕ
+  pub task : ℕ → Option Task
+  pub gone : ℕ → Option Gone
+  pub start : ℕ → ℕ
+  pub children : ℕ → List ℕ
+
+-- ---- one task
+
+-- what a task noted corresponds to its events, and each line is the slice of the input at its place
+pub record Notes (input : List ℕ) (made : List rest.Event) (entries : List Entry) : Type 0 where
+  pub shown : map entry_of entries ≡ shown_made input made
+  pub slices : All (IsSlice input) entries
+
+-- the scopes that a task opened and did not leave have different keys
+abbrev pub Differ : List Own → Type 0
+Differ [] = Unit {0}
+Differ (o ∷ own) = AreOthers o.id own × Differ own
+
+-- this index among the froms of a task is that of no scope that encloses it
+abbrev pub IsPast : ℕ → List Own → Type 0
+IsPast i own = All (λ (o : Own). o.at ≢ i) own
+
+-- The froms of a task are those of the labels that it entered. A scope that encloses it has its label at its index, and the
+-- label's from; and that of a scope that it left was kept, whose label no scope has now.
+pub record Tracks (known : Label → Type 0) (f : Table) (s : Scoping) (entered : List Label) : Type 0 where
+  pub labels : map (λ (x : ScopeFrom). x.label) s.froms ≡ entered
+  pub differ : Differ s.own
+  pub named : (o : Own) (i : ℕ) → slice_get s.own i ≡ Some o → (x : ScopeFrom) × (slice_get s.froms o.at ≡ Some x)
+      × (s.labels o.id ≡ Some x.label)
+  pub kept :
+      (o : Own) (i : ℕ) → slice_get s.own i ≡ Some o →
+      (st : Stack) × (l : Label) × (stack_of s.tree o.id ≡ Some st) × (s.labels o.id ≡ Some l) × (own_from st ≡ f l)
+  pub left :
+      (i : ℕ) (x : ScopeFrom) → slice_get s.froms i ≡ Some x → IsPast i s.own →
+      (x.seen ≡ f x.label) × ((key : ℕ) → s.labels key ≡ Some x.label → ⊥) × known x.label
+
+-- Between its turns a task can run what it has left, and its scopes and nurseries are open: all that a turn requires of it,
+-- except for the scopes of other tasks (`Fits`).
+pub record CanGoOn (task : Task) (world : World) : Type 0 where
+  pub in_range : AreInRangeFrames (frames_of (λ id. []) task.frames.items)
+  pub starts : StartsFit (frames_of (λ id. []) task.frames.items)
+  pub home : ForSome (home_scope task) (IsOpen world.scopes)
+  pub scope : ForSome (last_or (home_scope task) (map (λ (o : Own). o.id) task.own.items)) (IsOpen world.scopes)
+  pub first : OwnFirst world.scopes (home_scope task) task.own.items
+  pub froms : All (λ (o : Own). o.at < length task.froms.items) task.own.items
+  pub opened : Opened (label_at world) world.book (blocks_of task.frames.items) task.own.items (waits_of task.task_state)
+
+-- The home of a task that was started by another, which has not ended: one of the other's nurseries, in which this task runs at
+-- its place, as the child with this serial number.
+pub record LivesIn (state : RunState) (at : ℕ → Started) (numbers : ℕ → Numbers) (s : ℕ) (home : Home) : Type 0 where
+  pub parent : ℕ
+  pub starter : Task
+  pub lives : state.task parent ≡ Some starter
+  pub earlier : parent < s
+  pub owned : HasNurseryOf home.nursery (blocks_of starter.frames.items) (waits_of starter.task_state)
+  pub runs : HasNursery state.world.book home.nursery (λ n. (n.scope ≡ home.scope) × (slice_get n.children home.place ≡ Some None))
+  pub number : ℕ
+  pub stands : slice_get (numbers parent home.nursery) home.place ≡ Some number
+  pub below : number < (at parent).count
+  pub serial : (at parent).child number ≡ s
+
+-- only the root, which is the first task, has none
+abbrev pub HasHome : RunState → (ℕ → Started) → (ℕ → Numbers) → ℕ → Option Home → Type 0
+HasHome state at numbers s None = s ≡ 0
+HasHome state at numbers s (Some home) = LivesIn state at numbers s home
+
+-- a member of a nursery at a place: while it runs it is a task with that home, and afterwards one that has ended so
+abbrev pub IsMember : RunState → (ℕ → Started) → ℕ → ℕ → ℕ → ℕ → Option End → Type 0
+IsMember state at t id place serial None = ⊥
+IsMember state at t id place serial (Some None) = (c : Task) × (state.task serial ≡ Some c) × (home_of c ≡ Some (id, place))
+IsMember state at t id place serial (Some (Some exc)) =
+    (g : Gone) × (state.gone serial ≡ Some g) × (g.end ≤ t) × ((at serial).rest.stopped ≡ rest.at_end g.end exc)
+
+-- each nursery of a task has as many children as it has numbers there, and each is the task with its serial number
+pub record HasMembers (state : RunState) (at : ℕ → Started) (t : ℕ) (numbers : Numbers) (q : Started) (id : ℕ) (n : Nursery) : Type 0 where
+  pub long : length (numbers id) ≡ length n.children
+  pub members :
+      (place number : ℕ) → slice_get (numbers id) place ≡ Some number →
+      (number < q.count) × IsMember state at t id place (q.child number) (slice_get n.children place)
+
+-- A task that has not ended, or whose end is not recorded yet, and its relation to the task of the definitions with its serial
+-- number.
+pub record Follows (state : RunState) (f : Table) (input : List ℕ) (t : ℕ) (at : ℕ → Started) (numbers : ℕ → Numbers) (leaving : Option ℕ)
+    (s : ℕ) (task : Task) : Type 0
+  where
+    pub here : here_of task ≡ (at s).here
+    pub input_is : (at s).here.input ≡ input
+    pub lives : (leaving ≡ Some s → ⊥) → live (at s).rest.stopped ≡ true
+    pub frames : frames_of (numbers s) task.frames.items ≡ (at s).rest.frames
+    pub stands : Stands task.frames.items task state.world f (numbers s) (Some (at s).rest.stopped) (at s).places
+    pub task_state : IsTaskState (numbers s) state.world.book task.task_state (at s).rest.stopped
+    pub in_range : IsInRangeTaskState task.task_state
+    pub goes : CanGoOn task state.world
+    pub notes : Notes input (at s).made task.entries.items
+    pub tracks : Tracks (λ l. (p : ℕ) × Known l (entered_made (at p).made)) f (scoping_of task state.world) (entered_made (at s).made)
+    pub home : HasHome state at numbers s task.home
+    pub nurseries :
+        (id : ℕ) → HasNurseryOf id (blocks_of task.frames.items) (waits_of task.task_state) →
+        HasNursery state.world.book id (λ n. HasMembers state at t (numbers s) (at s) id n)
+
+-- one that has ended
+pub record HasEnded (f : Table) (input : List ℕ) (t : ℕ) (q : Started) (g : Gone) : Type 0 where
+  pub label : g.label ≡ q.here.task
+  pub stopped : q.rest.stopped ≡ rest.at_end g.end g.exc
+  pub before : g.end ≤ t
+  pub notes : Notes input q.made g.entries
+  pub froms : map from_of g.froms ≡ froms_by f (entered_made q.made)
+
+-- ---- all tasks
+
+-- each child that was started has the label and the start of its starter's event
+abbrev pub AreStarted : (ℕ → ℕ) → (ℕ → Started) → (ℕ → ℕ) → List rest.Event → Type 0
+AreStarted start at child [] = Unit {0}
+AreStarted start at child (rest.noted t e ∷ es) = AreStarted start at child es
+AreStarted start at child (rest.signs l t ∷ es) = AreStarted start at child es
+AreStarted start at child (rest.enters l t d ∷ es) = AreStarted start at child es
+AreStarted start at child (rest.starts i l t ∷ es) = ((at (child i)).here.task ≡ l) × (start (child i) ≡ t) × AreStarted start at child es
+
+-- a scope that a task opened and did not leave
+pub record OpenedBy (state : RunState) (key s : ℕ) : Type 0 where
+  pub task : Task
+  pub lives : state.task s ≡ Some task
+  pub place : ℕ
+  pub scope : Own
+  pub own : slice_get task.own.items place ≡ Some scope
+  pub is : scope.id ≡ key
+
+-- The tasks of the program are a run of the definitions in this tick with m tasks, where a table is followed. One task may have
+-- ended whose end is not recorded yet.
+pub record Refines (k : Table) (job : Job) (input : List ℕ) (t m : ℕ) (leaving : Option ℕ) (state : RunState) : Type 0 where
+  pub interleaving : Interleaving k job input t m
+  pub numbers : ℕ → Numbers
+  pub counted : turns_taken interleaving.reached ≡ state.turns
+  pub tick : state.world.tick ≡ t
+  pub small : length input ≤ MAX_INPUT
+  pub some : 0 < m
+  pub begun : state.start 0 ≡ 0
+  -- each task has ended, or has not
+  pub unborn : (s : ℕ) → m ≤ s → (state.task s ≡ None) × (state.gone s ≡ None)
+  pub ended : (s : ℕ) → s < m → state.task s ≡ None → (g : Gone) × (state.gone s ≡ Some g) × HasEnded interleaving.froms input t (interleaving.at s) g
+  pub follows : (s : ℕ) (task : Task) → state.task s ≡ Some task → Follows state interleaving.froms input t interleaving.at numbers leaving s task
+  -- each open scope belongs to exactly one task; it has a label, and no other scope has the same one
+  pub owned : (key : ℕ) → IsOpen state.world.scopes key → (s : ℕ) × OpenedBy state key s
+  pub apart : (key s u : ℕ) → OpenedBy state key s → OpenedBy state key u → s ≡ u
+  pub labelled : (key : ℕ) (l : Label) → label_at state.world key ≡ Some l → IsOpen state.world.scopes key
+  pub started : (s : ℕ) → s < m → AreStarted state.start interleaving.at (interleaving.at s).child (interleaving.at s).made
+  pub children : (s : ℕ) → s < m → state.children s ≡ children_made (interleaving.at s).child (interleaving.at s).made

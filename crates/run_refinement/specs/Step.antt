@@ -1,0 +1,101 @@
+-- A turn of one task of the program, as the code has it, without the definitions; and what its stop says.
+use Rattle.std.specs.Prelude.{◌≡◌, ◌≢◌, ℕ, ◌+◌, ◌<◌, ◌≤◌, ◌^◌, false, Some, IsSome, List, [], ◌++◌, length, slice_get}
+use Rattle.std.specs.Option.{option_map}
+use Rattle.exc_groups.specs.Held.{exc_of}
+use Rattle.cancel_scopes.specs.Sight.{seen}
+use Rattle.cancel_scopes.specs.Tree.{outer_of}
+use Rattle.line_kernels.specs.declared.request.Request.{Request}
+use Rattle.nursery_book.specs.Book.{nursery_at}
+use Rattle.job_tree.specs.Tree.{Tree as Job}
+use Rattle.job_meaning.specs.Log.{Table}
+use Rattle.job_meaning.specs.Rest as rest
+use Rattle.interleavings.specs.Interleaving.{Started}
+use Rattle.task_machine.specs.declared.stop.TaskState.TheVariants.{Asked, Asleep, Awaits}
+use Rattle.task_machine.specs.declared.stop.Purpose.{Purpose}
+use Rattle.task_machine.specs.declared.stop.Stop.{Stop}
+use Rattle.task_machine.specs.declared.stop.Stop.TheVariants.{Ask, Sleep, Wait, Ended}
+use Rattle.task_machine.specs.declared.stop.Wake.{Wake}
+use Rattle.task_machine.specs.declared.task.Task.{Task}
+use Rattle.task_machine.specs.declared.world.World.{World}
+use Rattle.task_machine.specs.Fitting.{Fits, waits_of}
+use Rattle.task_machine.specs.Standing.{TurnsAs}
+use Rattle.task_machine.specs.Tasks.{scope_of}
+use Rattle.task_machine.specs.Waking.{IsInRangeTaskState}
+use Rattle.run_refinement.specs.RunState.{RunState, Refines}
+use Rattle.run_refinement.specs.Turn.{IsSound, serials_from, leaving_by}
+use Rattle.run_refinement.specs.Ready.{MayGo}
+
+-- The task with this serial number, one of m, had its turn. What it started waits in the world, and has the next serial
+-- numbers.
+pub record TakesTurn (t m s : ℕ) (old new : RunState) (before after : Task) (wake : Wake) (stop : Stop) : Type 0 where
+  pub task : old.task s ≡ Some before
+  pub goes : MayGo old.world before wake
+  -- the task and the world
+  pub stays :
+      after ≡ record before { frames = after.frames; own = after.own; task_state = after.task_state; entries = after.entries; froms = after.froms }
+  pub world :
+      new.world ≡ record old.world {
+        scopes = new.world.scopes;
+        labels = new.world.labels;
+        book = new.world.book;
+        started =
+            new.world.started;
+      }
+  pub sound : IsSound old.world.scopes
+  pub sound_after : IsSound new.world.scopes
+  pub none_left : old.world.started.items ≡ []
+  pub fits_after : Fits after.frames.items after new.world (waits_of after.task_state)
+  pub in_range : IsInRangeTaskState after.task_state
+  pub turn : TurnsAs before after old.world new.world wake stop
+  -- the state
+  pub turns : new.turns ≡ old.turns + 1
+  pub task_after : new.task s ≡ Some after
+  pub child_after : (i : ℕ) → new.task (m + i) ≡ slice_get new.world.started.items i
+  pub other_after : (p : ℕ) → p < m → p ≢ s → new.task p ≡ old.task p
+  pub gone_after : (p : ℕ) → new.gone p ≡ old.gone p
+  pub start_after : (p : ℕ) → p < m → new.start p ≡ old.start p
+  pub start_child : (i : ℕ) → i < length new.world.started.items → new.start (m + i) ≡ t
+  pub more_children : new.children s ≡ old.children s ++ serials_from m (length new.world.started.items)
+  pub children_after : (p : ℕ) → p < m → p ≢ s → new.children p ≡ old.children p
+  pub no_children : (i : ℕ) → i < length new.world.started.items → new.children (m + i) ≡ []
+
+-- ---- what a stop says
+
+-- a task requests that on its part
+pub record Asks (task : Task) (request : Request) : Type 0 where
+  pub purpose : Purpose
+  pub task_state : task.task_state ≡ Asked request.kernel purpose
+  pub part : request.part ≡ task.part
+
+-- a task fell asleep in this tick: it sleeps until a later one, not too far away, and sees nothing now
+pub record FallsAsleep (world : World) (task : Task) (due : ℕ) : Type 0 where
+  pub ticks : ℕ
+  pub task_state : task.task_state ≡ Asleep ticks world.tick
+  pub short : ticks ≤ 2 ^ 40
+  pub due_is : due ≡ world.tick + ticks
+  pub later : world.tick < due
+  pub unseen : seen (outer_of world.scopes (scope_of task)) world.tick ≡ false
+
+-- a task waits for that nursery, whose body has ended
+pub record AwaitsNow (world : World) (task : Task) (id : ℕ) : Type 0 where
+  pub since : ℕ
+  pub task_state : task.task_state ≡ Awaits id since
+  pub there : IsSome (nursery_at world.book id)
+
+abbrev pub StopSays : World → Task → Stop → Type 0
+StopSays world task (Ask request) = Asks task request
+StopSays world task (Sleep due) = FallsAsleep world task due
+StopSays world task (Wait id) = AwaitsNow world task id
+StopSays world task (Ended exc) = Unit {0}
+
+-- the task of the definitions has ended, where the code's has
+abbrev pub EndsAs : Stop → ℕ → Started → Type 0
+EndsAs (Ask request) t q = Unit {0}
+EndsAs (Sleep due) t q = Unit {0}
+EndsAs (Wait id) t q = Unit {0}
+EndsAs (Ended exc) t q = q.rest.stopped ≡ rest.at_end t (option_map exc_of exc)
+
+-- The tasks of the program, where the task with this serial number stopped so, and its end is not recorded yet if it ended.
+pub record StoppedIn (k : Table) (job : Job) (input : List ℕ) (t m s : ℕ) (stop : Stop) (state : RunState) : Type 0 where
+  pub is : Refines k job input t m (leaving_by stop s) state
+  pub ended : EndsAs stop t (is.interleaving.at s)

@@ -1,4 +1,0 @@
-pub mod Apart
-pub mod Order
-pub mod Growth
-pub mod Rostering

@@ -1,0 +1,4 @@
+pub mod Apart
+pub mod Order
+pub mod Growth
+pub mod TaskTables

@@ -1,0 +1,207 @@
+-- The tasks of a run as the runner keeps them: the tasks that have not ended by their ids, and a row for each task
+-- ever started.
+use Rattle.std.specs.Prelude.{◌≡◌, ◌≢◌, ℕ, ◌+◌, ◌<◌, Option, Some, None, List, [], ◌∷◌, ◌++◌, length, slice_get}
+use Rattle.std.specs.Option.{option_map}
+use Rattle.exc_groups.specs.Held.{exc_of}
+use Rattle.exc_groups.specs.declared.exc.Exc as held
+use Rattle.batch_commit.specs.declared.live.Live.{Live}
+use Rattle.batch_commit.specs.Live.{live_at}
+use Rattle.task_machine.specs.declared.stop.Stop.{Stop}
+use Rattle.task_machine.specs.declared.stop.Wake.{Wake}
+use Rattle.task_machine.specs.declared.task.Task.{Task}
+use Rattle.task_machine.specs.declared.world.World.{World}
+use Rattle.task_machine.specs.Fitting.{Fits, waits_of}
+use Rattle.task_machine.specs.Frames.{unboxed_exc}
+use Rattle.task_machine.specs.Standing.{TurnsAs}
+use Rattle.task_machine.specs.Waking.{IsInRangeTaskState, WakesFrom}
+use Rattle.run_refinement.specs.RunState.{RunState, Gone}
+use Rattle.task_table.specs.declared.rows.Row.{Row}
+use Rattle.task_table.specs.declared.rows.Ended.{Ended}
+use Rattle.task_table.specs.declared.task_table.Running.{Running}
+use Rattle.task_table.specs.declared.task_table.TaskTable.{TaskTable}
+use Rattle.task_table.specs.Rows.{ChildrenAreApart}
+
+-- ---- what is kept of a task, by its row
+
+-- the task with an id
+abbrev pub running_at : TaskTable → ℕ → Option Running
+running_at r id = live_at r.live id
+
+abbrev pub row_at : TaskTable → ℕ → Option Row
+row_at r p = slice_get r.rows.items p
+
+-- how many tasks were started
+abbrev pub many : TaskTable → ℕ
+many r = length r.rows.items
+
+abbrev pub task_in : Option Running → Option Task
+task_in None = None
+task_in (Some x) = Some x.task
+
+-- the task of a row, if it has not ended
+abbrev pub task_unless : Option Ended → Option Running → Option Task
+task_unless None x = task_in x
+task_unless (Some e) x = None
+
+abbrev pub task_by : Live Running → Option Row → Option Task
+task_by live None = None
+task_by live (Some row) = task_unless row.end (live_at live row.task)
+
+-- what is kept of an end
+abbrev pub gone_from : Ended → Gone
+gone_from e = record { label = e.label; end = e.tick; exc = option_map exc_of (unboxed_exc e.exc); entries = e.entries.items; froms = e.froms.items }
+
+abbrev pub gone_by : Option Row → Option Gone
+gone_by None = None
+gone_by (Some row) = option_map gone_from row.end
+
+abbrev pub start_by : Option Row → ℕ
+start_by None = 0
+start_by (Some row) = row.start
+
+abbrev pub children_by : Option Row → List ℕ
+children_by None = []
+children_by (Some row) = row.children.items
+
+abbrev pub parent_by : Option Row → ℕ
+parent_by None = 0
+parent_by (Some row) = row.parent
+
+abbrev pub id_by : Option Row → ℕ
+id_by None = 0
+id_by (Some row) = row.task
+
+-- ---- the same by the number of the row, which is the task's serial number
+
+abbrev pub task_of : TaskTable → ℕ → Option Task
+task_of r p = task_by r.live (row_at r p)
+
+abbrev pub gone_of : TaskTable → ℕ → Option Gone
+gone_of r p = gone_by (row_at r p)
+
+abbrev pub start_of : TaskTable → ℕ → ℕ
+start_of r p = start_by (row_at r p)
+
+abbrev pub children_of : TaskTable → ℕ → List ℕ
+children_of r p = children_by (row_at r p)
+
+-- the row of the task that started it
+abbrev pub parent_of : TaskTable → ℕ → ℕ
+parent_of r p = parent_by (row_at r p)
+
+-- the id that it has, or had
+abbrev pub id_of : TaskTable → ℕ → ℕ
+id_of r p = id_by (row_at r p)
+
+-- the tasks of the program in this world, after the given number of turns
+abbrev pub state_of : TaskTable → World → ℕ → RunState
+state_of r world turns =
+    record { world = world; turns = turns; task = task_of r; gone = gone_of r; start = start_of r; children = children_of r }
+
+-- ---- rows and ids agree
+
+-- a row of a task that has not ended, which has this id
+pub record HasRow (r : TaskTable) (p id : ℕ) : Type 0 where
+  pub row : Row
+  pub is : row_at r p ≡ Some row
+  pub endless : row.end ≡ None
+  pub id_is : row.task ≡ id
+
+-- the task of the row has its id
+pub record Lives (r : TaskTable) (p : ℕ) (row : Row) : Type 0 where
+  pub running : Running
+  pub is : running_at r row.task ≡ Some running
+  pub row_is : running.row ≡ p
+
+-- Each task that has not ended has a row with its id, and each row of a task that has not ended has its task under
+-- its id.
+pub record IsTaskTable (r : TaskTable) : Type 0 where
+  pub rows : (id : ℕ) (x : Running) → running_at r id ≡ Some x → HasRow r x.row id
+  pub lives : (p : ℕ) (row : Row) → row_at r p ≡ Some row → row.end ≡ None → Lives r p row
+  pub tree : ChildrenAreApart r.rows.items
+
+-- ---- changes
+
+-- nothing but this task and what is kept of it changed
+pub record SameBut (old new : TaskTable) (s : ℕ) : Type 0 where
+  pub many : many new ≡ many old
+  pub task : (p : ℕ) → p ≢ s → task_of new p ≡ task_of old p
+  pub gone : (p : ℕ) → p ≢ s → gone_of new p ≡ gone_of old p
+  pub start : (p : ℕ) → start_of new p ≡ start_of old p
+  pub children : (p : ℕ) → children_of new p ≡ children_of old p
+  pub parent : (p : ℕ) → parent_of new p ≡ parent_of old p
+  pub id : (p : ℕ) → id_of new p ≡ id_of old p
+
+-- the root alone, in the first row, in tick 0
+pub record HasRoot (r : TaskTable) (root : Task) (id : ℕ) : Type 0 where
+  pub many : many r ≡ 1
+  pub lives : running_at r id ≡ Some (record { task = root; row = 0 })
+  pub others : (other : ℕ) → other ≢ id → running_at r other ≡ None
+  pub task : task_of r 0 ≡ Some root
+  pub none : (p : ℕ) → task_of r (p + 1) ≡ None
+  pub gone : (p : ℕ) → gone_of r p ≡ None
+  pub start : start_of r 0 ≡ 0
+  pub children : children_of r 0 ≡ []
+
+-- A task was started in that tick by the one of that row. It has the next row, and an id that no task had.
+pub record Starts (old new : TaskTable) (parent : ℕ) (started : Task) (tick id : ℕ) : Type 0 where
+  pub fresh : running_at old id ≡ None
+  pub lives : running_at new id ≡ Some (record { task = started; row = many old })
+  pub others : (other : ℕ) → other ≢ id → running_at new other ≡ running_at old other
+  pub more : many new ≡ many old + 1
+  pub task : task_of new (many old) ≡ Some started
+  pub start : start_of new (many old) ≡ tick
+  pub childless : children_of new (many old) ≡ []
+  pub parent_is : parent_of new (many old) ≡ parent
+  pub id_is : id_of new (many old) ≡ id
+  pub child : children_of new parent ≡ children_of old parent ++ many old ∷ []
+  pub same_task : (p : ℕ) → p < many old → task_of new p ≡ task_of old p
+  pub same_gone : (p : ℕ) → gone_of new p ≡ gone_of old p
+  pub same_start : (p : ℕ) → p < many old → start_of new p ≡ start_of old p
+  pub same_children : (p : ℕ) → p < many old → p ≢ parent → children_of new p ≡ children_of old p
+  pub same_parent : (p : ℕ) → p < many old → parent_of new p ≡ parent_of old p
+  pub same_id : (p : ℕ) → p < many old → id_of new p ≡ id_of old p
+
+-- a task may have a turn in this world
+pub record MayTurn (world : World) (task : Task) (from : Wake) : Type 0 where
+  pub fits : Fits task.frames.items task world (waits_of task.task_state)
+  pub in_range : IsInRangeTaskState task.task_state
+  pub wake : WakesFrom task.task_state task.part world.book from
+
+-- The task with an id had its turn, in which it stopped so. The others stay.
+pub record HasTurn (old new : TaskTable) (was now : World) (id : ℕ) (wake : Wake) (stop : Stop) : Type 0 where
+  pub row : ℕ
+  pub before : Task
+  pub after : Task
+  pub lived : running_at old id ≡ Some (record { task = before; row = row })
+  pub lives : running_at new id ≡ Some (record { task = after; row = row })
+  pub others : (other : ℕ) → other ≢ id → running_at new other ≡ running_at old other
+  pub task : task_of new row ≡ Some after
+  pub same : SameBut old new row
+  pub gone : gone_of new row ≡ gone_of old row
+  pub stays :
+      after ≡ record before { frames = after.frames; own = after.own; task_state = after.task_state; entries = after.entries; froms = after.froms }
+  pub world : now ≡ record was { scopes = now.scopes; labels = now.labels; book = now.book; started = now.started }
+  pub in_range : IsInRangeTaskState after.task_state
+  pub fits : Fits after.frames.items after now (waits_of after.task_state)
+  pub turn : TurnsAs before after was now wake stop
+
+-- The task with an id has ended in that tick, with this exception or none. Its row keeps what is left of it.
+pub record Ends (old new : TaskTable) (id tick : ℕ) (exc : Option held.Exc) : Type 0 where
+  pub row : ℕ
+  pub task : Task
+  pub lived : running_at old id ≡ Some (record { task = task; row = row })
+  pub gone : running_at new id ≡ None
+  pub others : (other : ℕ) → other ≢ id → running_at new other ≡ running_at old other
+  pub left : task_of new row ≡ None
+  pub kept :
+      gone_of new row
+      ≡ Some (record {
+        label = task.label;
+        end = tick;
+        exc = option_map exc_of exc;
+        entries = task.entries.items;
+        froms =
+            task.froms.items;
+      })
+  pub same : SameBut old new row

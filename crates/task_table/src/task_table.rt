@@ -1,0 +1,188 @@
+//! The tasks of a run: those that have not ended by their ids, and a row for each that was ever started.
+ghost use Rattle.std.specs.Prelude.{◌≡◌, ◌<◌, ◌≤◌, ◌^◌, ◌↔◌, [], None, Some, IsSome, IsTrue, IfOk, OnOk, OnErr, length};
+ghost use Rattle.std.specs.Option.{ForSome};
+ghost use Rattle.task_machine.specs.Tasks.{scope_of, home_of};
+ghost use Rattle.task_table.specs.TaskTable.{running_at, many, row_at, gone_of, id_of, parent_of, IsTaskTable, HasRoot, Starts, MayTurn, HasTurn, Ends};
+
+use crate::rows::{Ended, Row};
+use autojump_clock::TaskId;
+use batch_commit::Live;
+use cancel_scopes::ScopeId;
+use exc_groups::Exc;
+use nursery_book::{NurseryId, Place};
+use std::alloc::{AllocError, Global};
+use task_machine::{Stop, Task, Wake, World, box_exc};
+
+/// A task that has not ended.
+#[derive(Drop)]
+pub struct Running<'a> {
+    task: Task<'a>,
+    // Its row.
+    row: usize,
+}
+
+/// The task table: all tasks of a run. A task has its id until it ends, and its row forever.
+#[derive(Drop)]
+pub struct TaskTable<'a> {
+    alloc: Global,
+    live: Live<Running<'a>>,
+    // In the order of the starts.
+    rows: Vec<Row<'a>>,
+}
+
+impl<'a> TaskTable<'a> {
+    /// Returns a table of the root alone, which has the first row and was started in tick 0, and the id of the root. The
+    /// only error is that memory was refused.
+    pub fn of_root(alloc: Global, task: Task<'a>) -> Result<(TaskTable<'a>, TaskId), AllocError>
+        ensures root { IfOk result (λ r. HasRoot r.0 task.entry r.1) }
+        ensures agree { IfOk result (λ r. IsTaskTable r.0) }
+    {
+        let mut live = Live::new(alloc);
+        let id = live.put(Running { task, row: 0 })?;
+        let mut rows = Vec::new(alloc);
+        rows.push(begun(alloc, 0, id, 0))?;
+        Ok((TaskTable { alloc, live, rows }, id))
+    }
+
+    /// Adds a task that was started in that tick by the task of row `parent`, which must exist. It has the next row. Returns
+    /// its id. The only error is that memory was refused, after which the table can only be dropped.
+    pub fn start(&mut self, parent: usize, task: Task<'a>, tick: u64) -> Result<TaskId, AllocError>
+        requires agree { IsTaskTable self.old }
+        requires parent { parent < many self.old }
+        ensures started { IfOk result (λ id. Starts self.old self.new parent task.entry tick id) }
+        ensures agree { OnOk result (IsTaskTable self.new) }
+    {
+        let row = self.rows.len();
+        let id = self.live.put(Running { task, row })?;
+        self.rows[parent].children.push(row)?;
+        self.rows.push(begun(self.alloc, parent, id, tick))?;
+        Ok(id)
+    }
+
+    /// Executes a turn of the task with this id. The caller must ensure that it has not ended, that it may continue with
+    /// this wake, and that the tick of the world is at most 2 to the 62. The only error is that memory was refused, after
+    /// which the table and the world can only be dropped.
+    pub fn turn(
+        &mut self,
+        id: TaskId,
+        wake: Wake<'a>,
+        world: &mut World<'a>,
+    ) -> Result<Stop<'a>, AllocError>
+        requires agree { IsTaskTable self.old }
+        requires lives { IsSome (running_at self.old id) }
+        requires may { ForSome (running_at self.old id) (λ x. MayTurn world.old x.task wake) }
+        requires tick { world.old.tick ≤ 2 ^ 62 }
+        ensures turn { IfOk result (λ stop. HasTurn self.old self.new world.old world.new id wake.entry stop) }
+        ensures agree { OnOk result (IsTaskTable self.new) }
+    {
+        match self.live.get_mut(id) {
+            Some(running) => {
+                let stop = running.task.turn(id, wake, world)?;
+                Ok(stop)
+            }
+            None => unreachable!(),
+        }
+    }
+
+    /// Records that the task with this id ended in that tick, with this exception or none. Its row keeps what remains of it.
+    /// The caller must ensure that it has not ended before. The only error is that memory was refused, and then nothing has
+    /// changed.
+    pub fn end(&mut self, id: TaskId, tick: u64, exc: Option<Exc>) -> Result<(), AllocError>
+        requires agree { IsTaskTable self.old }
+        requires lives { IsSome (running_at self.old id) }
+        ensures ended { OnOk result (Ends self.old self.new id tick exc) }
+        ensures agree { OnOk result (IsTaskTable self.new) }
+        ensures err { OnErr result (self.new ≡ self.old) }
+    {
+        let in_box = box_exc(self.alloc, exc)?;
+        let Some(Running { task, row }) = self.live.take(id) else {
+            unreachable!()
+        };
+        let (label, entries, froms) = task.into_parts();
+        self.rows[row].end = Some(Ended {
+            label,
+            tick,
+            exc: in_box,
+            entries,
+            froms,
+        });
+        Ok(())
+    }
+
+    /// Returns the row of a task that has not ended.
+    pub fn row(&self, id: TaskId) -> usize
+        requires { IsSome (running_at self.now id) }
+        ensures { ForSome (running_at self.now id) (λ x. result ≡ x.row) }
+    {
+        match self.live.get(id) {
+            Some(running) => running.row,
+            None => unreachable!(),
+        }
+    }
+
+    /// Returns the innermost cancel scope that encloses a task that has not ended, or `None` if there is none.
+    pub fn scope(&self, id: TaskId) -> Option<ScopeId>
+        requires { IsSome (running_at self.now id) }
+        ensures { ForSome (running_at self.now id) (λ x. result ≡ scope_of x.task) }
+    {
+        match self.live.get(id) {
+            Some(running) => running.task.scope(),
+            None => unreachable!(),
+        }
+    }
+
+    /// Returns the nursery in which a task that has not ended was started, and its place there, or `None` for the root.
+    pub fn home(&self, id: TaskId) -> Option<(NurseryId, Place)>
+        requires { IsSome (running_at self.now id) }
+        ensures { ForSome (running_at self.now id) (λ x. result ≡ home_of x.task) }
+    {
+        match self.live.get(id) {
+            Some(running) => running.task.home(),
+            None => unreachable!(),
+        }
+    }
+
+    /// Returns the id of the task that started the task of this row (for the root its own). The caller must ensure that the
+    /// row and its parent exist.
+    pub fn parent(&self, row: usize) -> TaskId
+        requires row { row < many self.now }
+        requires parent { parent_of self.now row < many self.now }
+        ensures { result ≡ id_of self.now (parent_of self.now row) }
+    {
+        let parent = self.rows[row].parent;
+        self.rows[parent].task
+    }
+
+    /// Returns whether the root has ended. The caller must ensure that the table has a task.
+    pub fn is_over(&self) -> bool
+        requires { 0 < many self.now }
+        ensures { IsTrue result ↔ IsSome (gone_of self.now 0) }
+    {
+        self.rows[0].end.is_some()
+    }
+
+    /// Returns the rows, in the order of the starts.
+    pub fn into_rows(self) -> Vec<Row<'a>>
+        ensures { result ≡ self.entry.rows }
+    {
+        let TaskTable { rows, .. } = self;
+        rows
+    }
+}
+
+// The row of a task that was just started.
+fn begun<'a>(alloc: Global, parent: usize, task: TaskId, start: u64) -> Row<'a>
+    ensures parent { result.parent ≡ parent }
+    ensures task { result.task ≡ task }
+    ensures start { result.start ≡ start }
+    ensures children { result.children.items ≡ [] }
+    ensures end { result.end ≡ None }
+{
+    Row {
+        parent,
+        task,
+        start,
+        children: Vec::new(alloc),
+        end: None,
+    }
+}

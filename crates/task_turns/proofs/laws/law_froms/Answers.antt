@@ -1,8 +1,0 @@
-use Rattle.task_turns.proofs.laws.law_froms.Goals as goal
-use Rattle.task_turns.proofs.Froms.{from_lowered, from_opened}
-
-pub returns-clause-lowered : goal.returns-clause-lowered
-returns-clause-lowered c = from_lowered
-
-pub returns-clause-opened : goal.returns-clause-opened
-returns-clause-opened c = from_opened

@@ -1,0 +1,165 @@
+-- What events that are made one after another mean, and how the froms change by them.
+use Rattle.std.proofs.Common.{◌≡◌, inl, inr, ℕ, suc, ◌+◌, List, [], ◌∷◌, ◌++◌, length, refl, sym, subst, arith}
+use Rattle.exc_groups.specs.Exceptions.{Label}
+use Rattle.job_meaning.specs.Log.{Table}
+use Rattle.job_meaning.specs.Rest.{Event, noted, signs, enters, starts, ChildOutcomes, fill}
+use Rattle.turn_semantics.specs.Midway.{Place, Begun}
+use Rattle.turn_semantics.specs.Steps.{lowered, opened, froms_after}
+use Rattle.turn_semantics.specs.Turned.{AgreesOn, AgreesIn, Known, labels_of, AllKnown, known_after, MadeAt, Starts, BegunIn, weight_of_begun}
+use Rattle.turn_semantics.proofs.Agreeing.{SameFrom, agrees_lowered, agrees_opened, agrees_own}
+
+-- ---- labels that are known
+
+-- a label that is known is known among more
+pub known_more : (l m : Label) (ls : List Label) → Known l ls → Known l (m ∷ ls)
+known_more l m ls k = inr k
+
+-- what was known stays known
+pub known_stays : (l : Label) (es : List Event) (ls : List Label) → Known l ls → Known l (known_after ls es)
+known_stays l [] ls k = k
+known_stays l (noted t e ∷ es) ls k = known_stays l es ls k
+known_stays l (signs m t ∷ es) ls k = known_stays l es ls k
+known_stays l (enters m t d ∷ es) ls k = known_stays l es (m ∷ ls) (inr k)
+known_stays l (starts i m t ∷ es) ls k = known_stays l es ls k
+
+-- more labels known before, more after
+pub known_grows : (ls ms : List Label) → ((l : Label) → Known l ls → Known l ms) → (es : List Event) → (l : Label) →
+    Known l (known_after ls es) → Known l (known_after ms es)
+known_grows ls ms h [] l k = h l k
+known_grows ls ms h (noted t e ∷ es) l k = known_grows ls ms h es l k
+known_grows ls ms h (signs m t ∷ es) l k = known_grows ls ms h es l k
+known_grows ls ms h (enters m t d ∷ es) l k = known_grows (m ∷ ls) (m ∷ ms) grown es l k
+  where
+    grown : (l : Label) → Known l (m ∷ ls) → Known l (m ∷ ms)
+    grown l (inl e) = inl e
+    grown l (inr k) = inr (h l k)
+known_grows ls ms h (starts i m t ∷ es) l k = known_grows ls ms h es l k
+
+-- labels known after events, and more of them
+pub known_append : (es fs : List Event) (ls : List Label) → known_after ls (es ++ fs) ≡ known_after (known_after ls es) fs
+known_append [] fs ls = refl
+known_append (noted t e ∷ es) fs ls = known_append es fs ls
+known_append (signs m t ∷ es) fs ls = known_append es fs ls
+known_append (enters m t d ∷ es) fs ls = known_append es fs (m ∷ ls)
+known_append (starts i m t ∷ es) fs ls = known_append es fs ls
+
+-- each enclosing scope or nursery whose label was known is known where more labels are known
+pub all_grow : (ls ms : List Label) → ((l : Label) → Known l ls → Known l ms) → (ps : List Place) → AllKnown ps ls → AllKnown ps ms
+all_grow ls ms h [] a = tt
+all_grow ls ms h (p ∷ ps) a = (h p.label a.0, all_grow ls ms h ps a.1)
+
+-- enclosing scopes and nurseries are known by their own labels
+pub all_own : (ps : List Place) → AllKnown ps (labels_of ps)
+all_own [] = tt
+all_own (p ∷ ps) = (inl refl, all_grow (labels_of ps) (p.label ∷ labels_of ps) (λ l k. inr k) ps (all_own ps))
+
+-- a label of enclosing scopes and nurseries that are all known is known
+pub place_known : (ls : List Label) (ps : List Place) → AllKnown ps ls → (l : Label) → Known l (labels_of ps) → Known l ls
+place_known ls [] a l k = absurd k
+place_known ls (p ∷ ps) a l (inl e) = subst (λ (x : Label). Known x ls) (sym e) a.0
+place_known ls (p ∷ ps) a l (inr k) = place_known ls ps a.1 l k
+
+-- so is each enclosing scope or nursery of each child begun
+pub begun_grow : (ls ms : List Label) → ((l : Label) → Known l ls → Known l ms) → (bs : List Begun) → BegunIn ls bs → BegunIn ms bs
+begun_grow ls ms h [] a = tt
+begun_grow ls ms h (b ∷ bs) a = (all_grow ls ms h b.places a.0, a.1, begun_grow ls ms h bs a.2)
+
+-- children begun, and more of them
+pub begun_append : (ls : List Label) (bs cs : List Begun) → BegunIn ls bs → BegunIn ls cs → BegunIn ls (bs ++ cs)
+begun_append ls [] cs a b = b
+begun_append ls (x ∷ bs) cs a b = (a.0, a.1, begun_append ls bs cs a.2 b)
+
+-- ---- events made at one tick
+
+-- signs for labels that are known are for known ones of more
+pub made_grows : (t : ℕ) (ls ms : List Label) → ((l : Label) → Known l ls → Known l ms) → (es : List Event) → MadeAt t ls es →
+    MadeAt t ms es
+made_grows t ls ms h [] a = tt
+made_grows t ls ms h (noted u e ∷ es) a = (a.0, made_grows t ls ms h es a.1)
+made_grows t ls ms h (signs l u ∷ es) a = (a.0, h l a.1, made_grows t ls ms h es a.2)
+made_grows t ls ms h (enters m u d ∷ es) a = (a.0, made_grows t (m ∷ ls) (m ∷ ms) grown es a.1)
+  where
+    grown : (l : Label) → Known l (m ∷ ls) → Known l (m ∷ ms)
+    grown l (inl e) = inl e
+    grown l (inr k) = inr (h l k)
+made_grows t ls ms h (starts i l u ∷ es) a = (a.0, made_grows t ls ms h es a.1)
+
+-- events made, and more of them
+pub made_append : (t : ℕ) (es fs : List Event) (ls : List Label) → MadeAt t ls es → MadeAt t (known_after ls es) fs → MadeAt t ls (es ++ fs)
+made_append t [] fs ls a b = b
+made_append t (noted u e ∷ es) fs ls a b = (a.0, made_append t es fs ls a.1 b)
+made_append t (signs l u ∷ es) fs ls a b = (a.0, a.1, made_append t es fs ls a.2 b)
+made_append t (enters m u d ∷ es) fs ls a b = (a.0, made_append t es fs (m ∷ ls) a.1 b)
+made_append t (starts i l u ∷ es) fs ls a b = (a.0, made_append t es fs ls a.1 b)
+
+-- ---- starts
+
+-- starts of children, and more of them
+pub starts_append : (es fs : List Event) (n : ℕ) (bs cs : List Begun) → Starts n es bs → Starts (n + length bs) fs cs →
+    Starts n (es ++ fs) (bs ++ cs)
+starts_append [] fs n [] cs a b = subst (λ (k : ℕ). Starts k fs cs) (omega arith) b
+starts_append [] fs n (x ∷ bs) cs a b = absurd a
+starts_append (noted t e ∷ es) fs n bs cs a b = starts_append es fs n bs cs a b
+starts_append (signs m t ∷ es) fs n bs cs a b = starts_append es fs n bs cs a b
+starts_append (enters m t d ∷ es) fs n bs cs a b = starts_append es fs n bs cs a b
+starts_append (starts i l t ∷ es) fs n [] cs a b = absurd a
+starts_append (starts i l t ∷ es) fs n (x ∷ bs) cs a b =
+    (a.0, a.1, a.2, starts_append es fs (suc n) bs cs a.3 (subst (λ (k : ℕ). Starts k fs cs) (moved n (length bs)) b))
+  where
+    moved : (n k : ℕ) → n + suc k ≡ suc n + k
+    moved n k = omega arith
+
+-- weights of children add up
+pub weight_append : (bs cs : List Begun) → weight_of_begun (bs ++ cs) ≡ weight_of_begun bs + weight_of_begun cs
+weight_append [] cs = omega arith
+weight_append (b ∷ bs) cs = let e = weight_append bs cs in omega arith
+
+-- ---- froms
+
+-- the froms after events, and more of them
+pub froms_append : (es fs : List Event) (froms : Table) → froms_after froms (es ++ fs) ≡ froms_after (froms_after froms es) fs
+froms_append [] fs froms = refl
+froms_append (noted t e ∷ es) fs froms = froms_append es fs froms
+froms_append (signs l t ∷ es) fs froms = froms_append es fs (lowered froms l t)
+froms_append (enters l t d ∷ es) fs froms = froms_append es fs (opened froms l d)
+froms_append (starts i l t ∷ es) fs froms = froms_append es fs froms
+
+-- A table that agrees at t with the froms of known labels, and with the deadlines of those entered, agrees after the
+-- events too: a sign made at t acts from the next tick on.
+pub known_agree : (t : ℕ) (table : Table) (told : ChildOutcomes) (es : List Event) (ls : List Label) (froms : Table) → MadeAt t ls es →
+    AgreesIn t table (fill told es) →
+    ((l : Label) → Known l ls → SameFrom t table froms l) → (l : Label) → Known l (known_after ls es) →
+    SameFrom t table (froms_after froms es) l
+known_agree t table told [] ls froms a b h l k = h l k
+known_agree t table told (noted u e ∷ es) ls froms a b h l k = known_agree t table told es ls froms a.1 b h l k
+known_agree t table told (signs m u ∷ es) ls froms a b h l k =
+    known_agree t table told es ls (lowered froms m u) a.2 b
+    (λ x i. subst (λ (v : ℕ). SameFrom t table (lowered froms m v) x) (sym a.0) (agrees_lowered t table froms m x (h x i))) l k
+known_agree t table told (enters m u d ∷ es) ls froms a b h l k = known_agree t table told es (m ∷ ls) (opened froms m d) a.1 b.1 grown l k
+  where
+    grown : (x : Label) → Known x (m ∷ ls) → SameFrom t table (opened froms m d) x
+    grown x (inl e) = subst (λ (y : Label). SameFrom t table (opened froms m d) y) (sym e) (agrees_own t table froms m d b.0)
+    grown x (inr i) = agrees_opened t table froms m d x b.0 (h x i)
+known_agree t table told (starts i m u ∷ es) ls froms a b h l k = known_agree t table told es ls froms a.1 b h l k
+
+-- if tables agree on enclosing scopes and nurseries, they agree on each of their labels
+pub on_places : (t : ℕ) (table froms : Table) (ps : List Place) → AgreesOn t table froms ps → (l : Label) → Known l (labels_of ps) →
+    SameFrom t table froms l
+on_places t table froms [] a l k = absurd k
+on_places t table froms (p ∷ ps) a l (inl e) = subst (λ (x : Label). SameFrom t table froms x) (sym e) a.0
+on_places t table froms (p ∷ ps) a l (inr k) = on_places t table froms ps a.1 l k
+
+-- and if they agree on known labels, they agree on enclosing scopes and nurseries that are known
+pub by_known : (t : ℕ) (table froms : Table) (ls : List Label) → ((l : Label) → Known l ls → SameFrom t table froms l) → (ps : List Place) →
+    AllKnown ps ls → AgreesOn t table froms ps
+by_known t table froms ls h [] a = tt
+by_known t table froms ls h (p ∷ ps) a = (h p.label a.0, by_known t table froms ls h ps a.1)
+
+-- so a table agrees with the froms after the events, on enclosing scopes and nurseries that were there before or
+-- were entered
+pub agrees_after : (t : ℕ) (table : Table) (told : ChildOutcomes) (es : List Event) (ps qs : List Place) (froms : Table) →
+    MadeAt t (labels_of ps) es → AllKnown qs (known_after (labels_of ps) es) →
+    AgreesOn t table froms ps → AgreesIn t table (fill told es) → AgreesOn t table (froms_after froms es) qs
+agrees_after t table told es ps qs froms a k h b =
+    by_known t table (froms_after froms es) (known_after (labels_of ps) es)
+    (known_agree t table told es (labels_of ps) froms a b (on_places t table froms ps h)) qs k

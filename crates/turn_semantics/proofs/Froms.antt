@@ -1,0 +1,105 @@
+-- The froms of the world after a turn: lowered by just the signs made, and of a label entered in it, from its deadline.
+use Rattle.std.proofs.Common.{◌≡◌, inl, inr, ℕ, ◌+◌, Bool, true, false, Some, None, List, [], ◌∷◌, refl, ap, sym, ◌∙◌, subst, nat_lt, if◌then◌else◌, arith}
+use Rattle.std.proofs.lemmas.Bool.Decides.{nat_tests}
+use Rattle.exc_groups.specs.Exceptions.{Label}
+use Rattle.cancel_scopes.specs.Sight.{Tick, earlier, next}
+use Rattle.job_meaning.specs.Log.{Table, same_label, tick_if, from_by}
+use Rattle.job_meaning.specs.Rest.{Event, noted, signs, enters, starts}
+use Rattle.job_meaning.proofs.Touched.{earlier_never}
+use Rattle.job_meaning.proofs.Distinct.{same_label_equal, same_label_itself}
+use Rattle.turn_semantics.specs.Steps.{lowered, lowered_if, opened, opened_if, froms_after}
+use Rattle.turn_semantics.specs.Turned.{Known, MadeAt, made_sign, EntersIn, EntersOnceWith}
+
+-- the earliest of three ticks
+pub earlier_assoc : (a b c : Tick) → earlier (earlier a b) c ≡ earlier a (earlier b c)
+earlier_assoc None b c = refl
+earlier_assoc (Some x) None c = refl
+earlier_assoc (Some x) (Some y) None = refl
+earlier_assoc (Some x) (Some y) (Some z) = ap (λ (n : ℕ). Some n) (least x y z)
+  where
+    least : (x y z : ℕ) → (if nat_lt z (if nat_lt y x then y else x) then z else (if nat_lt y x then y else x))
+        ≡ (if nat_lt (if nat_lt z y then z else y) x then (if nat_lt z y then z else y) else x)
+    least x y z = grind (arith, nat_tests)
+
+next_earlier : (a b : Tick) → next (earlier a b) ≡ earlier (next a) (next b)
+next_earlier None b = refl
+next_earlier (Some x) None = refl
+next_earlier (Some x) (Some y) = ap (λ (n : ℕ). Some n) (one_more x y)
+  where
+    one_more : (x y : ℕ) → (if nat_lt y x then y else x) + 1 ≡ (if nat_lt (y + 1) (x + 1) then y + 1 else x + 1)
+    one_more x y = grind (arith, nat_tests)
+
+-- a from that is lowered by a sign, and then by others
+one_sign : (b : Bool) (u : ℕ) (d s : Tick) → from_by (lowered_if b u d) s ≡ from_by d (earlier (tick_if b u) s)
+one_sign true u d s = earlier_assoc d (next (Some u)) (next s) ∙ ap (λ (x : Tick). earlier d x) (sym (next_earlier (Some u) s))
+one_sign false u d s = refl
+
+same_differs : (l m : Label) → ((l ≡ m) → ⊥) → same_label l m ≡ false
+same_differs l m h = by_test (same_label l m) refl
+  where
+    by_test : (b : Bool) → same_label l m ≡ b → b ≡ false
+    by_test true e = absurd (h (same_label_equal l m e))
+    by_test false e = refl
+
+-- the from of a label that was not entered is lowered by just the signs made
+pub from_lowered : (es : List Event) (froms : Table) (l : Label) → (EntersIn l es → ⊥) →
+    froms_after froms es l ≡ from_by (froms l) (made_sign l es)
+from_lowered [] froms l h = sym (earlier_never (froms l))
+from_lowered (noted t e ∷ es) froms l h = from_lowered es froms l h
+from_lowered (signs m t ∷ es) froms l h = from_lowered es (lowered froms m t) l h ∙ one_sign (same_label l m) t (froms l) (made_sign l es)
+from_lowered (enters m t d ∷ es) froms l h =
+    from_lowered es (opened froms m d) l (λ i. h (inr i))
+    ∙ ap (λ (b : Bool). from_by (opened_if b d (froms l)) (made_sign l es)) (same_differs l m (λ e. h (inl e)))
+from_lowered (starts i m t ∷ es) froms l h = from_lowered es froms l h
+
+-- the from of a label that was entered once, and was not known before, is its deadline, lowered likewise
+pub from_opened : (t : ℕ) (es : List Event) (ls : List Label) (froms : Table) (l : Label) (d : Tick) → MadeAt t ls es → (Known l ls → ⊥) →
+    EntersOnceWith l d es →
+    froms_after froms es l ≡ from_by d (made_sign l es)
+from_opened t [] ls froms l d a k o = absurd o
+from_opened t (noted u e ∷ es) ls froms l d a k o = from_opened t es ls froms l d a.1 k o
+from_opened t (signs m u ∷ es) ls froms l d a k o =
+    from_opened t es ls (lowered froms m u) l d a.2 k o
+    ∙ ap (λ (b : Bool). from_by d (earlier (tick_if b u) (made_sign l es))) (sym (same_differs l m differs))
+  where
+    differs : (l ≡ m) → ⊥
+    differs e = k (subst (λ (x : Label). Known x ls) (sym e) a.1)
+from_opened t (enters m u c ∷ es) ls froms l d a k (inl o) =
+    from_lowered es (opened froms m c) l o.2
+    ∙ (ap (λ (b : Bool). from_by (opened_if b c (froms l)) (made_sign l es))
+    (ap (λ (x : Label). same_label l x) (sym o.0) ∙ same_label_itself l)
+    ∙ ap (λ (x : Tick). from_by x (made_sign l es)) (sym o.1))
+from_opened t (enters m u c ∷ es) ls froms l d a k (inr o) = from_opened t es (m ∷ ls) (opened froms m c) l d a.1 new o.1
+  where
+    new : Known l (m ∷ ls) → ⊥
+    new (inl e) = o.0 e
+    new (inr i) = k i
+from_opened t (starts i m u ∷ es) ls froms l d a k o = from_opened t es ls froms l d a.1 k o
+
+-- a sign that was made now is of this tick
+pub signed_now : (t : ℕ) (es : List Event) (ls : List Label) (l : Label) (u : ℕ) → MadeAt t ls es → made_sign l es ≡ Some u → u ≡ t
+signed_now t [] ls l u a e = cc
+signed_now t (noted v x ∷ es) ls l u a e = signed_now t es ls l u a.1 e
+signed_now t (signs m v ∷ es) ls l u a e = by_sign (same_label l m) (made_sign l es) (λ w f. signed_now t es ls l w a.2 f) e
+  where
+    by_sign : (b : Bool) (s : Tick) → ((w : ℕ) → s ≡ Some w → w ≡ t) → earlier (tick_if b v) s ≡ Some u → u ≡ t
+    by_sign false s h e = h u e
+    by_sign true None h e = let f : v ≡ u = cc in sym f ∙ a.0
+    by_sign true (Some w) h e = let i = h w refl in let j = a.0 in grind (arith, nat_tests)
+signed_now t (enters m v d ∷ es) ls l u a e = signed_now t es (m ∷ ls) l u a.1 e
+signed_now t (starts i m v ∷ es) ls l u a e = signed_now t es ls l u a.1 e
+
+-- and there is one only for a label that was known, or was entered
+pub unsigned : (t : ℕ) (es : List Event) (ls : List Label) (l : Label) → MadeAt t ls es → (Known l ls → ⊥) → (EntersIn l es → ⊥) →
+    made_sign l es ≡ None
+unsigned t [] ls l a k h = refl
+unsigned t (noted v x ∷ es) ls l a k h = unsigned t es ls l a.1 k h
+unsigned t (signs m v ∷ es) ls l a k h =
+    ap (λ (b : Bool). earlier (tick_if b v) (made_sign l es)) (same_differs l m (λ e. k (subst (λ (x : Label). Known x ls) (sym e) a.1)))
+    ∙ unsigned t es ls l a.2 k h
+unsigned t (enters m v d ∷ es) ls l a k h = unsigned t es (m ∷ ls) l a.1 new (λ i. h (inr i))
+  where
+    new : Known l (m ∷ ls) → ⊥
+    new (inl e) = h (inl e)
+    new (inr i) = k i
+unsigned t (starts i m v ∷ es) ls l a k h = unsigned t es ls l a.1 k h

@@ -1,0 +1,299 @@
+-- Each child that a task begins belongs to a nursery of the task, which keeps it until it is settled.
+use Rattle.std.proofs.Common.{◌≡◌, ◌⊎◌, inl, inr, ℕ, zero, suc, ◌+◌, ◌-◌, ◌<◌, Bool, true, false, IsTrue, Option, Some, None, List, [], ◌∷◌, ◌++◌, refl, ap, arith}
+use Rattle.job_tree.specs.Tree.{Step, sleep, checkpoint, forever, pace, find, head, longest, need, raise, cancel, scope, nursery, start, repeat, attempt, Steps, stop, step, Handled, unhandled, except, Cleaned, uncleaned, finally}
+use Rattle.job_tree.specs.Starting.{StartsIn, StartsAt}
+use Rattle.exc_groups.specs.Exceptions.{Exc}
+use Rattle.exc_groups.specs.Split.{named, keep, drop}
+use Rattle.cancel_scopes.specs.Sight.{seen}
+use Rattle.job_meaning.specs.Log.{Table}
+use Rattle.job_meaning.specs.Walk.{Here, far, paced}
+use Rattle.job_meaning.specs.Rest.{numbered, Frame, steps_left, in_scope, in_nursery, in_repeat, in_try, in_handler, in_cleanup, inside, Stopped, to_begin, asking, asleep, awaiting, at_end}
+use Rattle.job_meaning.specs.Asking.{Answer, lines, missing, counted, Purpose, shows, needs, paces}
+use Rattle.turn_semantics.specs.Midway.{Place, stack_at, Midway, Begun, Move}
+use Rattle.turn_semantics.specs.Steps.{sleeps, falls_asleep, with_started, begun_over, handler_if, step_try, step_on, step_steps, step_frames, step_of, begins_passes, step_pass}
+use Rattle.turn_semantics.specs.Wakes.{Wake, begins, sees, is_due, has_answer, settles, goes_on_with, with_answer, settled, wake_of, CanWake, from_start, from_asking, from_sleep, from_due, from_wait}
+use Rattle.turn_semantics.specs.Placed.{in_body, Placed, places_behind, IsAmong, HasChild, HasChildAfter, AllHoused}
+use Rattle.turn_semantics.proofs.Keeps.{last_or_before}
+
+among_left : (i : ℕ) (is js : List ℕ) → IsAmong i is → IsAmong i (is ++ js)
+among_left i [] js a = absurd a
+among_left i (k ∷ is) js (inl e) = inl e
+among_left i (k ∷ is) js (inr a) = inr (among_left i is js a)
+
+among_right : (i : ℕ) (is js : List ℕ) → IsAmong i js → IsAmong i (is ++ js)
+among_right i [] js a = a
+among_right i (k ∷ is) js a = inr (among_right i is js a)
+
+numbered_has : (first i k : ℕ) → i < k → IsAmong (first + i) (numbered first k)
+numbered_has first i zero lt = absurd (omega arith)
+numbered_has first i (suc k) lt = by_last (last_or_before i k lt) (λ l. numbered_has first i k l)
+  where
+    by_last : (i ≡ k) ⊎ (i < k) → (i < k → IsAmong (first + i) (numbered first k)) →
+        IsAmong (first + i) (numbered first k ++ (first + k) ∷ [])
+    by_last (inl e) more = among_right (first + i) (numbered first k) ((first + k) ∷ []) (inl (ap (λ (n : ℕ). first + n) e))
+    by_last (inr l) more = among_left (first + i) (numbered first k) ((first + k) ∷ []) (more l)
+
+-- a child of a task that continues is one of a nursery among its frames
+pub has_going : (i : ℕ) (home : List Place) (fs : List Frame) (ps : List Place) → HasChildAfter i home None fs ps → HasChild i home fs ps
+has_going i home fs ps (inl e) = absurd e
+has_going i home fs ps (inr h) = h
+
+-- children that are housed, and more of them
+pub housed_append : (bs cs : List Begun) (s : Option Stopped) (fs : List Frame) (ps : List Place) →
+    AllHoused bs s fs ps → AllHoused cs s fs ps → AllHoused (bs ++ cs) s fs ps
+housed_append [] cs s fs ps a b = b
+housed_append (x ∷ bs) cs s fs ps a b = (a.0, housed_append bs cs s fs ps a.1 b)
+
+-- children stay housed where each child stays
+pub housed_on : (fs : List Frame) (ps : List Place) (s : Option Stopped) (gs : List Frame) (qs : List Place) →
+    ((i : ℕ) (home : List Place) → HasChild i home fs ps → HasChildAfter i home s gs qs) →
+    (bs : List Begun) → AllHoused bs None fs ps → AllHoused bs s gs qs
+housed_on fs ps s gs qs h [] a = tt
+housed_on fs ps s gs qs h (b ∷ bs) a = (h b.number b.places (has_going b.number b.places fs ps a.0), housed_on fs ps s gs qs h bs a.1)
+
+-- ---- each step
+
+module _ (t : ℕ) (froms : Table) (here : Here) (i : ℕ) (home : List Place) where
+  -- the task has the child after a move
+  abbrev pub Stays : Move → Type 0
+  Stays o = HasChildAfter i home o.stopped o.frames o.places
+
+  stays_sleeps : (n : ℕ) (fs : List Frame) (ps : List Place) → HasChild i home fs ps → Stays (sleeps froms n t fs ps)
+  stays_sleeps n fs ps h = by_sight (seen (stack_at froms ps) t) n
+    where
+      by_sight : (b : Bool) (n : ℕ) → Stays (falls_asleep b n t fs ps)
+      by_sight true n = inr h
+      by_sight false zero = inr h
+      by_sight false (suc n) = inr h
+
+  stays_started : (more : List ℕ) (fs : List Frame) (ps : List Place) → HasChild i home fs ps → HasChild i home (with_started more fs) ps
+  stays_started more [] ps h = h
+  stays_started more (in_nursery children ∷ fs) [] h = h
+  stays_started more (in_nursery children ∷ fs) (p ∷ ps) (inl e) = inl (among_left i children more e.0, e.1)
+  stays_started more (in_nursery children ∷ fs) (p ∷ ps) (inr h) = inr h
+  stays_started more (steps_left ss ∷ fs) ps h = h
+  stays_started more (in_scope fail ∷ fs) ps h = h
+  stays_started more (in_repeat pass left again ∷ fs) ps h = h
+  stays_started more (in_try handler cleanup ∷ fs) ps h = h
+  stays_started more (in_handler rest cleanup ∷ fs) ps h = h
+  stays_started more (in_cleanup outcome ∷ fs) ps h = h
+
+  stays_passes : (m : ℕ) (body : Steps) (fs : List Frame) (ps : List Place) → HasChild i home fs ps → Stays (begins_passes m body fs ps)
+  stays_passes zero body fs ps h = inr h
+  stays_passes (suc m) body fs ps h = inr h
+
+  stays_pass : (pass left : ℕ) (body : Steps) (fs : List Frame) (ps : List Place) (exc : Option Exc) → HasChild i home fs ps →
+      Stays (step_pass pass left body fs ps exc)
+  stays_pass pass left body fs ps (Some e) h = inr h
+  stays_pass pass zero body fs ps None h = inr h
+  stays_pass pass (suc m) body fs ps None h = inr h
+
+  stays_step : (at : Here) (s : Step) (ss : Steps) (fs : List Frame) (ps : List Place) (n : ℕ) → HasChild i home fs ps →
+      Stays (step_on froms t at s ss fs ps n)
+  stays_step at (sleep m) ss fs ps n h = stays_sleeps m (steps_left ss ∷ fs) ps h
+  stays_step at checkpoint ss fs ps n h = stays_sleeps 0 (steps_left ss ∷ fs) ps h
+  stays_step at forever ss fs ps n h = stays_sleeps (far - t) (steps_left ss ∷ fs) ps h
+  stays_step at (pace m) ss fs ps n h = inr h
+  stays_step at (find text) ss fs ps n h = inr h
+  stays_step at (head m) ss fs ps n h = inr h
+  stays_step at longest ss fs ps n h = inr h
+  stays_step at (need text name) ss fs ps n h = inr h
+  stays_step at (raise name) ss fs ps n h = inr h
+  stays_step at (cancel name) ss fs ps n h = inr h
+  stays_step at (scope name d shield fail body) ss fs ps n h = inr h
+  stays_step at (nursery name d shield body) ss fs ps n h = inr (inr h)
+  stays_step at (start name None body) ss fs ps n h = inr (stays_started (n ∷ []) fs ps h)
+  stays_step at (start name (Some c) body) ss fs ps n h = inr (stays_started (numbered n c) fs ps h)
+  stays_step at (repeat m body) ss fs ps n h = stays_passes m body (steps_left ss ∷ fs) ps h
+  stays_step at (attempt body handler cleanup) ss fs ps n h = inr h
+
+  stays_steps : (ss : Steps) (fs : List Frame) (ps : List Place) (exc : Option Exc) (n : ℕ) → HasChild i home fs ps →
+      Stays (step_steps froms t here ss fs ps exc n)
+  stays_steps ss fs ps (Some e) n h = inr h
+  stays_steps stop fs ps None n h = inr h
+  stays_steps (step s ss) fs ps None n h = stays_step (inside fs here) s ss fs ps n h
+
+  stays_try : (handler : Handled) (cleanup : Cleaned) (fs : List Frame) (ps : List Place) (exc : Option Exc) → HasChild i home fs ps →
+      Stays (step_try handler cleanup fs ps exc)
+  stays_try unhandled uncleaned fs ps exc h = inr h
+  stays_try unhandled (finally body) fs ps exc h = inr h
+  stays_try (except name body) cleanup fs ps None h = inr h
+  stays_try (except name body) cleanup fs ps (Some e) h = by_match (keep (named name) e)
+    where
+      by_match : (o : Option Exc) → Stays (handler_if o (drop (named name) e) e body cleanup fs ps)
+      by_match None = inr h
+      by_match (Some x) = inr h
+
+  stays_frames : (fs : List Frame) (ps : List Place) (exc : Option Exc) (n : ℕ) → Placed fs ps → HasChild i home fs ps →
+      Stays (step_frames froms t here fs ps exc n)
+  stays_frames [] ps exc n p h = inr h
+  stays_frames (steps_left ss ∷ fs) ps exc n p h = stays_steps ss fs ps exc n h
+  stays_frames (in_scope fail ∷ fs) [] exc n p h = absurd p
+  stays_frames (in_scope fail ∷ fs) (q ∷ ps) exc n p h = inr h
+  stays_frames (in_nursery children ∷ fs) [] exc n p h = absurd p
+  stays_frames (in_nursery children ∷ fs) (q ∷ ps) exc n p (inl e) = inl e
+  stays_frames (in_nursery children ∷ fs) (q ∷ ps) exc n p (inr h) = inr h
+  stays_frames (in_repeat pass left body ∷ fs) ps exc n p h = stays_pass pass left body fs ps exc h
+  stays_frames (in_try handler cleanup ∷ fs) ps exc n p h = stays_try handler cleanup fs ps exc h
+  stays_frames (in_handler rest cleanup ∷ fs) ps exc n p h = inr h
+  stays_frames (in_cleanup outcome ∷ fs) ps exc n p h = inr h
+
+  -- one step
+  pub step_stays : (m : Midway) → Placed m.frames m.places → HasChild i home m.frames m.places → Stays (step_of froms t here m)
+  unfolding step_of
+  step_stays m p h = stays_frames m.frames m.places m.exc m.count p h
+
+  stays_answered : (a : Answer) (purpose : Purpose) (fs : List Frame) (ps : List Place) → HasChild i home fs ps →
+      Stays (goes_on_with froms t here a purpose fs ps)
+  stays_answered (lines ls) purpose fs ps h = inr h
+  stays_answered missing (needs name) fs ps h = inr h
+  stays_answered missing shows fs ps h = inr h
+  stays_answered missing (paces c) fs ps h = inr h
+  stays_answered (counted m) (paces c) fs ps h = stays_sleeps (paced m c) fs ps h
+  stays_answered (counted m) shows fs ps h = inr h
+  stays_answered (counted m) (needs name) fs ps h = inr h
+
+  -- a wake
+  pub wake_stays : {w : Wake} {s : Stopped} → CanWake w s → (fs : List Frame) (ps : List Place) →
+      HasChild i home fs (places_behind (Some s) ps) →
+      Stays (wake_of froms t here w s fs ps)
+  wake_stays from_start fs ps h = inr h
+  wake_stays (from_asking {a} {kernel} {purpose}) fs ps h = stays_answered a purpose fs ps h
+  wake_stays from_sleep fs ps h = inr h
+  wake_stays from_due fs ps h = inr h
+  wake_stays from_wait fs [] h = inr h
+  wake_stays from_wait fs (p ∷ ps) h = inr h
+
+-- ---- children begun
+
+over_housed : (name : List ℕ) (here : Here) (of : ℕ) (body : Steps) (ps : List Place) (first : ℕ) (fs : List Frame) (k : ℕ) →
+    ((i : ℕ) → i < k → HasChild (first + i) ps fs ps) → AllHoused (begun_over name here of body ps first k) None fs ps
+over_housed name here of body ps first fs zero h = tt
+over_housed name here of body ps first fs (suc k) h =
+    housed_append (begun_over name here of body ps first k) _ None fs ps
+    (over_housed name here of body ps first fs k (λ i lt. h i (below i lt))) (inr (h k (omega arith)), tt)
+  where
+    below : (i : ℕ) → i < k → i < suc k
+    below i lt = omega arith
+
+module _ (t : ℕ) (froms : Table) (here : Here) where
+  -- each child that a move begins is housed after it
+  abbrev pub Housed : Move → Type 0
+  Housed o = AllHoused o.begun o.stopped o.frames o.places
+
+  housed_sleeps : (n : ℕ) (fs : List Frame) (ps : List Place) → Housed (sleeps froms n t fs ps)
+  housed_sleeps n fs ps = by_sight (seen (stack_at froms ps) t) n
+    where
+      by_sight : (b : Bool) (n : ℕ) → Housed (falls_asleep b n t fs ps)
+      by_sight true n = tt
+      by_sight false zero = tt
+      by_sight false (suc n) = tt
+
+  housed_start : (at : Here) (name : List ℕ) (over : Option ℕ) (body ss : Steps) (fs : List Frame) (ps : List Place) (n : ℕ) →
+      IsTrue (in_body fs) → Placed fs ps →
+      Housed (step_on froms t at (start name over body) ss fs ps n)
+  housed_start at name None body ss (in_nursery children ∷ fs) (p ∷ ps) n b w =
+      (inr (inl (among_right n children (n ∷ []) (inl refl), refl)), tt)
+  housed_start at name (Some k) body ss (in_nursery children ∷ fs) (p ∷ ps) n b w =
+      over_housed name at k body (p ∷ ps) n (steps_left ss ∷ in_nursery (children ++ numbered n k) ∷ fs) k
+      (λ i lt. inl (among_right (n + i) children (numbered n k) (numbered_has n i k lt), refl))
+  housed_start at name over body ss (in_nursery children ∷ fs) [] n b w = absurd w
+  housed_start at name over body ss [] ps n b w = absurd (cc)
+  housed_start at name over body ss (steps_left more ∷ fs) ps n b w = absurd (cc)
+  housed_start at name over body ss (in_scope fail ∷ fs) ps n b w = absurd (cc)
+  housed_start at name over body ss (in_repeat pass left again ∷ fs) ps n b w = absurd (cc)
+  housed_start at name over body ss (in_try handler cleanup ∷ fs) ps n b w = absurd (cc)
+  housed_start at name over body ss (in_handler rest cleanup ∷ fs) ps n b w = absurd (cc)
+  housed_start at name over body ss (in_cleanup outcome ∷ fs) ps n b w = absurd (cc)
+
+  housed_passes : (m : ℕ) (body : Steps) (fs : List Frame) (ps : List Place) → Housed (begins_passes m body fs ps)
+  housed_passes zero body fs ps = tt
+  housed_passes (suc m) body fs ps = tt
+
+  housed_pass : (pass left : ℕ) (body : Steps) (fs : List Frame) (ps : List Place) (exc : Option Exc) →
+      Housed (step_pass pass left body fs ps exc)
+  housed_pass pass left body fs ps (Some e) = tt
+  housed_pass pass zero body fs ps None = tt
+  housed_pass pass (suc m) body fs ps None = tt
+
+  housed_step : (at : Here) (s : Step) (ss : Steps) (fs : List Frame) (ps : List Place) (n : ℕ) → StartsAt (in_body fs) s → Placed fs ps →
+      Housed (step_on froms t at s ss fs ps n)
+  housed_step at (sleep m) ss fs ps n b p = housed_sleeps m (steps_left ss ∷ fs) ps
+  housed_step at checkpoint ss fs ps n b p = housed_sleeps 0 (steps_left ss ∷ fs) ps
+  housed_step at forever ss fs ps n b p = housed_sleeps (far - t) (steps_left ss ∷ fs) ps
+  housed_step at (pace m) ss fs ps n b p = tt
+  housed_step at (find text) ss fs ps n b p = tt
+  housed_step at (head m) ss fs ps n b p = tt
+  housed_step at longest ss fs ps n b p = tt
+  housed_step at (need text name) ss fs ps n b p = tt
+  housed_step at (raise name) ss fs ps n b p = tt
+  housed_step at (cancel name) ss fs ps n b p = tt
+  housed_step at (scope name d shield fail body) ss fs ps n b p = tt
+  housed_step at (nursery name d shield body) ss fs ps n b p = tt
+  housed_step at (start name over body) ss fs ps n b p = housed_start at name over body ss fs ps n b.0 p
+  housed_step at (repeat m body) ss fs ps n b p = housed_passes m body (steps_left ss ∷ fs) ps
+  housed_step at (attempt body handler cleanup) ss fs ps n b p = tt
+
+  housed_steps : (ss : Steps) (fs : List Frame) (ps : List Place) (exc : Option Exc) (n : ℕ) → StartsIn (in_body fs) ss → Placed fs ps →
+      Housed (step_steps froms t here ss fs ps exc n)
+  housed_steps ss fs ps (Some e) n b p = tt
+  housed_steps stop fs ps None n b p = tt
+  housed_steps (step s ss) fs ps None n b p = housed_step (inside fs here) s ss fs ps n b.0 p
+
+  housed_try : (handler : Handled) (cleanup : Cleaned) (fs : List Frame) (ps : List Place) (exc : Option Exc) →
+      Housed (step_try handler cleanup fs ps exc)
+  housed_try unhandled uncleaned fs ps exc = tt
+  housed_try unhandled (finally body) fs ps exc = tt
+  housed_try (except name body) cleanup fs ps None = tt
+  housed_try (except name body) cleanup fs ps (Some e) = by_match (keep (named name) e)
+    where
+      by_match : (o : Option Exc) → Housed (handler_if o (drop (named name) e) e body cleanup fs ps)
+      by_match None = tt
+      by_match (Some x) = tt
+
+  housed_frames : (fs : List Frame) (ps : List Place) (exc : Option Exc) (n : ℕ) → Placed fs ps →
+      Housed (step_frames froms t here fs ps exc n)
+  housed_frames [] ps exc n p = tt
+  housed_frames (steps_left ss ∷ fs) ps exc n p = housed_steps ss fs ps exc n p.0 p.1
+  housed_frames (in_scope fail ∷ fs) [] exc n p = tt
+  housed_frames (in_scope fail ∷ fs) (q ∷ ps) exc n p = tt
+  housed_frames (in_nursery children ∷ fs) [] exc n p = tt
+  housed_frames (in_nursery children ∷ fs) (q ∷ ps) exc n p = tt
+  housed_frames (in_repeat pass left body ∷ fs) ps exc n p = housed_pass pass left body fs ps exc
+  housed_frames (in_try handler cleanup ∷ fs) ps exc n p = housed_try handler cleanup fs ps exc
+  housed_frames (in_handler rest cleanup ∷ fs) ps exc n p = tt
+  housed_frames (in_cleanup outcome ∷ fs) ps exc n p = tt
+
+  -- one step
+  pub step_housed : (m : Midway) → Placed m.frames m.places → Housed (step_of froms t here m)
+  unfolding step_of
+  step_housed m p = housed_frames m.frames m.places m.exc m.count p
+
+  housed_answered : (a : Answer) (purpose : Purpose) (fs : List Frame) (ps : List Place) →
+      Housed (goes_on_with froms t here a purpose fs ps)
+  housed_answered (lines ls) purpose fs ps = tt
+  housed_answered missing (needs name) fs ps = tt
+  housed_answered missing shows fs ps = tt
+  housed_answered missing (paces c) fs ps = tt
+  housed_answered (counted m) (paces c) fs ps = housed_sleeps (paced m c) fs ps
+  housed_answered (counted m) shows fs ps = tt
+  housed_answered (counted m) (needs name) fs ps = tt
+
+  housed_with : (a : Answer) (s : Stopped) (fs : List Frame) (ps : List Place) → Housed (with_answer froms t here a s fs ps)
+  housed_with a (asking kernel purpose) fs ps = housed_answered a purpose fs ps
+  housed_with a to_begin fs ps = tt
+  housed_with a (asleep m since) fs ps = tt
+  housed_with a (awaiting children ended exc) fs ps = tt
+  housed_with a (at_end u e) fs ps = tt
+
+  housed_settled : (exc : Option Exc) (fs : List Frame) (ps : List Place) → Housed (settled froms t exc fs ps)
+  housed_settled exc fs [] = tt
+  housed_settled exc fs (p ∷ ps) = tt
+
+  -- a wake begins none
+  pub wake_housed : (w : Wake) (s : Stopped) (fs : List Frame) (ps : List Place) → Housed (wake_of froms t here w s fs ps)
+  wake_housed begins s fs ps = tt
+  wake_housed sees s fs ps = tt
+  wake_housed is_due s fs ps = tt
+  wake_housed (has_answer a) s fs ps = housed_with a s fs ps
+  wake_housed (settles exc) s fs ps = housed_settled exc fs ps

@@ -1,0 +1,289 @@
+-- Each step of a turn leaves the result of the task unchanged.
+use Rattle.std.proofs.Common.{◌≡◌, ℕ, zero, suc, ◌+◌, ◌-◌, ◌<◌, Bool, true, false, IsTrue, ◌⊎◌, inl, inr, Option, Some, None, List, [], ◌∷◌, ◌++◌, refl, ap, sym, ◌∙◌, subst, nat_lt, arith}
+use Rattle.std.proofs.lemmas.Bool.Decides.{nat_tests}
+use Rattle.job_tree.specs.Tree.{Step, sleep, checkpoint, forever, pace, find, head, longest, need, raise, cancel, scope, nursery, start, repeat, attempt, Steps, stop, step, Handled, unhandled, except, Cleaned, uncleaned, finally}
+use Rattle.job_tree.specs.Starting.{StartsIn, StartsAt}
+use Rattle.buffer_parts.specs.Lines.{Span}
+use Rattle.buffer_parts.specs.Cuts.{cut_of}
+use Rattle.line_kernels.specs.Kernels.{needed_in}
+use Rattle.exc_groups.specs.Exceptions.{Label, Exc}
+use Rattle.exc_groups.specs.Split.{named, keep, drop}
+use Rattle.cancel_scopes.specs.Sight.{seen}
+use Rattle.job_meaning.specs.Log.{Log, Result, Table}
+use Rattle.job_meaning.specs.Walk.{by_table, Here, walk, walk_step, far, cancelling, sign_of, sign_if, home_of, signed, here_in, label_here, label_over, Kind, a_scope, left_with, done_at, sleeping, needing}
+use Rattle.job_meaning.specs.Rest.{fill, ChildOutcomes, told_members, Frame, steps_left, in_scope, in_nursery, in_repeat, in_try, in_handler, in_cleanup, inside, leaving_log, block_left, waited, finish}
+use Rattle.job_meaning.specs.Asking.{one_line, needs, answered}
+use Rattle.job_meaning.proofs.Clips.{followed_nil}
+use Rattle.job_meaning.proofs.Finish.{after, finish_after, finish_begin, finish_stop, finish_step, finish_raised, finish_scope, finish_nursery, finish_try, finish_handler, finish_unhandled, finish_no_handler, finish_uncleaned, finish_cleanup, finish_handled, finish_cleaned, finish_leave, finish_wait, finish_start, finish_start_over, finish_no_pass, finish_first_pass, finish_next_pass, finish_last_pass, finish_raised_pass}
+use Rattle.turn_semantics.specs.Midway.{Place, stack_at, Midway, Begun, Move, so_far, behind, going_to, left_after, left_of, none_told, begun_comes_to}
+use Rattle.turn_semantics.specs.Steps.{making, falls_asleep, sleeps, label_among, signs_to, signs_home, begun_one, begun_over, step_on, step_steps, leaves, handler_if, step_try, step_frames, step_of, begins_passes, step_pass}
+use Rattle.turn_semantics.specs.Placed.{in_body, Placed}
+use Rattle.turn_semantics.specs.Turned.{AgreesOn, AllTold}
+use Rattle.turn_semantics.proofs.Agreeing.{seen_alike, catches_alike, label_at_places, sleep_seen, sleep_none}
+
+-- ---- the log of what a step makes
+
+fill_signs_to : (told : ChildOutcomes) (o : Option Label) (t : ℕ) → fill told (signs_to o t) ≡ sign_of o t
+fill_signs_to told None t = refl
+fill_signs_to told (Some l) t = refl
+
+fill_home : (told : ChildOutcomes) (table : Table) (e : Option Exc) (ps : List Place) (t : ℕ) →
+    fill told (signs_home e ps t) ≡ sign_if e (home_of (stack_at table ps)) t
+fill_home told table None ps t = refl
+fill_home told table (Some e) [] t = refl
+fill_home told table (Some e) (p ∷ ps) t = refl
+
+-- a child's whole walk, as its starter's has it
+pub begun_walk : (table : Table) (t : ℕ) (b : Begun) →
+    begun_comes_to table t b ≡ signed (stack_at table b.places) (walk (by_table table) b.body b.here (stack_at table b.places) t)
+begun_walk table t b = finish_begin (by_table table) none_told b.body b.here (stack_at table b.places) t
+
+-- what is recorded of children is recorded of the first of them
+pub told_first : (t : ℕ) (table : Table) (told : ChildOutcomes) (bs cs : List Begun) → AllTold t table told (bs ++ cs) → AllTold t table told bs
+told_first t table told [] cs h = tt
+told_first t table told (b ∷ bs) cs h = (h.0, told_first t table told bs cs h.1)
+
+-- and of the others
+pub told_second : (t : ℕ) (table : Table) (told : ChildOutcomes) (bs cs : List Begun) → AllTold t table told (bs ++ cs) → AllTold t table told cs
+told_second t table told [] cs h = h
+told_second t table told (b ∷ bs) cs h = told_second t table told bs cs h.1
+
+-- a number below the next of k is k, or below it
+pub last_or_before : (i k : ℕ) → i < suc k → (i ≡ k) ⊎ (i < k)
+last_or_before i k lt = by_order (nat_lt i k) refl
+  where
+    by_order : (b : Bool) → nat_lt i k ≡ b → (i ≡ k) ⊎ (i < k)
+    by_order true e = inr (grind (arith, nat_tests))
+    by_order false e = inl (grind (arith, nat_tests))
+
+-- in a world with these froms, and by a table that agrees with them
+module _ (table froms : Table) (told : ChildOutcomes) (t : ℕ) (here : Here) where
+  -- the move leaves the result of the task unchanged
+  abbrev pub Keeps : List Frame → List Place → Option Exc → Move → Type 0
+  Keeps fs ps exc o = going_to table told here t fs ps exc ≡ behind told o.made (left_after table told here t o)
+
+  -- a step that opens no frame, by its result
+  first_step : (s : Step) (ss : Steps) (fs : List Frame) (ps : List Place) (r : Result) →
+      walk_step (by_table table) s (inside fs here) (stack_at table ps) t ≡ r →
+      going_to table told here t (steps_left (step s ss) ∷ fs) ps None
+      ≡ finish (by_table table) told (steps_left ss ∷ fs) here (stack_at table ps) r
+  first_step s ss fs ps r e =
+      finish_step fs (by_table table) told s ss here (stack_at table ps) t
+      ∙ ap (λ (x : Result). finish (by_table table) told (steps_left ss ∷ fs) here (stack_at table ps) x) e
+
+  -- what is left with a sleep to come
+  pub keeps_sleeps : (n : ℕ) (fs : List Frame) (ps : List Place) → AgreesOn t table froms ps →
+      finish (by_table table) told fs here (stack_at table ps) (sleeping (stack_at table ps) n t)
+      ≡ behind told (sleeps froms n t fs ps).made (left_after table told here t (sleeps froms n t fs ps))
+  keeps_sleeps n fs ps a = by_sight (seen (stack_at froms ps) t) (seen_alike t table froms ps a) n
+    where
+      by_sight : (b : Bool) → seen (stack_at table ps) t ≡ b → (n : ℕ) →
+          finish (by_table table) told fs here (stack_at table ps) (sleeping (stack_at table ps) n t)
+          ≡ behind told (falls_asleep b n t fs ps).made (left_after table told here t (falls_asleep b n t fs ps))
+      by_sight true e n = ap (λ (x : Result). finish (by_table table) told fs here (stack_at table ps) x)
+          (sleep_seen (stack_at table ps) n t e)
+      by_sight false e zero = ap (λ (x : Result). finish (by_table table) told fs here (stack_at table ps) x)
+          (sleep_none (stack_at table ps) t e)
+      by_sight false e (suc n) = refl
+
+  -- a sleep
+  keeps_sleep : (s : Step) (n : ℕ) (ss : Steps) (fs : List Frame) (ps : List Place) →
+      walk_step (by_table table) s (inside fs here) (stack_at table ps) t ≡ sleeping (stack_at table ps) n t → AgreesOn t table froms ps →
+      Keeps (steps_left (step s ss) ∷ fs) ps None (sleeps froms n t (steps_left ss ∷ fs) ps)
+  keeps_sleep s n ss fs ps e a = first_step s ss fs ps (sleeping (stack_at table ps) n t) e ∙ keeps_sleeps n (steps_left ss ∷ fs) ps a
+
+  -- a `cancel`
+  keeps_cancel : (name : List ℕ) (ss : Steps) (fs : List Frame) (ps : List Place) →
+      Keeps (steps_left (step (cancel name) ss) ∷ fs) ps None (making (signs_to (label_among name ps) t) (steps_left ss ∷ fs) ps)
+  unfolding walk cancelling
+  keeps_cancel name ss fs ps =
+      first_step (cancel name) ss fs ps (after (fill told (signs_to (label_among name ps) t)) (done_at t))
+      (ap (λ (x : Log). record (done_at t) { log = x })
+      (ap (λ (o : Option Label). sign_of o t) (label_at_places table name ps) ∙ sym (fill_signs_to told (label_among name ps) t)
+      ∙ sym (followed_nil (fill told (signs_to (label_among name ps) t)))))
+      ∙ finish_after (steps_left ss ∷ fs) (fill told (signs_to (label_among name ps) t)) (by_table table) told here (stack_at table ps)
+      (done_at t)
+
+  -- children of a `start .. over` are recorded by their numbers
+  over_told : (at : Here) (name : List ℕ) (of : ℕ) (body : Steps) (ps : List Place) (first k : ℕ) →
+      AllTold t table told (begun_over name at of body ps first k) →
+      (i : ℕ) → i < k →
+      told (first + i)
+      ≡ signed (stack_at table ps) (walk (by_table table) body (here_in (label_over name at i) (cut_of at.input at.part of i) at)
+      (stack_at table ps) t)
+  over_told at name of body ps first zero h i lt = absurd (omega arith)
+  over_told at name of body ps first (suc k) h i lt =
+      by_last (last_or_before i k lt) (λ l. over_told at name of body ps first k (told_first t table told front (one ∷ []) h) i l)
+    where
+      front : List Begun
+      front = begun_over name at of body ps first k
+
+      one : Begun
+      one = begun_one (first + k) (here_in (label_over name at k) (cut_of at.input at.part of k) at) body ps
+
+      Tells : ℕ → Type 0
+      Tells i =
+          told (first + i)
+          ≡ signed (stack_at table ps) (walk (by_table table) body (here_in (label_over name at i) (cut_of at.input at.part of i) at)
+          (stack_at table ps) t)
+
+      by_last : (i ≡ k) ⊎ (i < k) → (i < k → Tells i) → Tells i
+      by_last (inl e) more = subst Tells (sym e) ((told_second t table told front (one ∷ []) h).0 ∙ begun_walk table t one)
+      by_last (inr l) more = more l
+
+  -- a child, or several, are started
+  keeps_start : (name : List ℕ) (over : Option ℕ) (body ss : Steps) (fs : List Frame) (ps : List Place) (count : ℕ) → IsTrue (in_body fs) →
+      Placed fs ps →
+      AllTold t table told (step_on froms t (inside fs here) (start name over body) ss fs ps count).begun →
+      Keeps (steps_left (step (start name over body) ss) ∷ fs) ps None
+      (step_on froms t (inside fs here) (start name over body) ss fs ps count)
+  keeps_start name None body ss (in_nursery children ∷ fs) (p ∷ ps) count b w h =
+      finish_start fs (by_table table) told count name body ss children here
+      (record { label = p.label; shield = p.shield; from = table p.label })
+      (stack_at table ps) t
+      (h.0 ∙ begun_walk table t (begun_one count (here_in (label_here name (inside fs here)) here.part here) body (p ∷ ps)))
+  keeps_start name (Some k) body ss (in_nursery children ∷ fs) (p ∷ ps) count b w h =
+      finish_start_over fs (by_table table) told count k name body ss children here
+      (record { label = p.label; shield = p.shield; from = table p.label }) (stack_at table ps) t
+      (over_told (inside fs here) name k body (p ∷ ps) count k h)
+  keeps_start name over body ss (in_nursery children ∷ fs) [] count b w h = absurd w
+  keeps_start name over body ss [] ps count b w h = absurd (cc)
+  keeps_start name over body ss (steps_left more ∷ fs) ps count b w h = absurd (cc)
+  keeps_start name over body ss (in_scope fail ∷ fs) ps count b w h = absurd (cc)
+  keeps_start name over body ss (in_repeat pass left again ∷ fs) ps count b w h = absurd (cc)
+  keeps_start name over body ss (in_try handler cleanup ∷ fs) ps count b w h = absurd (cc)
+  keeps_start name over body ss (in_handler rest cleanup ∷ fs) ps count b w h = absurd (cc)
+  keeps_start name over body ss (in_cleanup outcome ∷ fs) ps count b w h = absurd (cc)
+
+  -- `need` asks for a line
+  keeps_need : (o : Option Span) (name : List ℕ) (ss : Steps) (fs : List Frame) (ps : List Place) →
+      finish (by_table table) told (steps_left ss ∷ fs) here (stack_at table ps) (needing o name here.task t)
+      ≡ finish (by_table table) told (steps_left ss ∷ fs) here (stack_at table ps)
+      (answered (one_line o) (needs name) here (stack_at table ps) t)
+  unfolding needing
+  keeps_need None name ss fs ps = refl
+  keeps_need (Some l) name ss fs ps = refl
+
+  -- the first pass of a `repeat`
+  keeps_passes : (n : ℕ) (body ss : Steps) (fs : List Frame) (ps : List Place) →
+      Keeps (steps_left (step (repeat n body) ss) ∷ fs) ps None (begins_passes n body (steps_left ss ∷ fs) ps)
+  keeps_passes zero body ss fs ps = finish_no_pass fs (by_table table) told body ss here (stack_at table ps) t
+  keeps_passes (suc k) body ss fs ps = finish_first_pass fs (by_table table) told k body ss here (stack_at table ps) t
+
+  -- a pass has ended
+  keeps_pass : (pass left : ℕ) (body : Steps) (fs : List Frame) (ps : List Place) (exc : Option Exc) →
+      Keeps (in_repeat pass left body ∷ fs) ps exc (step_pass pass left body fs ps exc)
+  keeps_pass pass left body fs ps (Some e) =
+      finish_raised_pass fs (by_table table) told pass left body here (stack_at table ps) (so_far (Some e) t) e
+  keeps_pass pass zero body fs ps None = finish_last_pass fs (by_table table) told pass body here (stack_at table ps) t
+  keeps_pass pass (suc k) body fs ps None = finish_next_pass fs (by_table table) told pass k body here (stack_at table ps) t
+
+  -- each kind of step
+  keeps_step : (s : Step) (ss : Steps) (fs : List Frame) (ps : List Place) (count : ℕ) → AgreesOn t table froms ps →
+      StartsAt (in_body fs) s → Placed fs ps →
+      AllTold t table told (step_on froms t (inside fs here) s ss fs ps count).begun →
+      Keeps (steps_left (step s ss) ∷ fs) ps None (step_on froms t (inside fs here) s ss fs ps count)
+  unfolding walk
+  keeps_step (sleep n) ss fs ps count a b w h = keeps_sleep (sleep n) n ss fs ps refl a
+  keeps_step checkpoint ss fs ps count a b w h = keeps_sleep checkpoint 0 ss fs ps refl a
+  keeps_step forever ss fs ps count a b w h = keeps_sleep forever (far - t) ss fs ps refl a
+  keeps_step (pace k) ss fs ps count a b w h = finish_step fs (by_table table) told (pace k) ss here (stack_at table ps) t
+  keeps_step (find text) ss fs ps count a b w h = finish_step fs (by_table table) told (find text) ss here (stack_at table ps) t
+  keeps_step (head n) ss fs ps count a b w h = finish_step fs (by_table table) told (head n) ss here (stack_at table ps) t
+  keeps_step longest ss fs ps count a b w h = finish_step fs (by_table table) told longest ss here (stack_at table ps) t
+  keeps_step (need text name) ss fs ps count a b w h =
+      finish_step fs (by_table table) told (need text name) ss here (stack_at table ps) t
+      ∙ keeps_need (needed_in here.input text here.part) name ss fs ps
+  keeps_step (raise name) ss fs ps count a b w h = finish_step fs (by_table table) told (raise name) ss here (stack_at table ps) t
+  keeps_step (cancel name) ss fs ps count a b w h = keeps_cancel name ss fs ps
+  keeps_step (scope name d shield fail body) ss fs ps count a b w h =
+      finish_scope fs table told name d shield fail body ss here (stack_at table ps) t
+  keeps_step (nursery name d shield body) ss fs ps count a b w h =
+      finish_nursery fs table told name d shield body ss here (stack_at table ps) t
+  keeps_step (start name over body) ss fs ps count a b w h = keeps_start name over body ss fs ps count b.0 w h
+  keeps_step (repeat n body) ss fs ps count a b w h = keeps_passes n body ss fs ps
+  keeps_step (attempt body handler cleanup) ss fs ps count a b w h =
+      finish_try fs (by_table table) told body handler cleanup ss here (stack_at table ps) t
+
+  -- steps of a block
+  keeps_steps : (ss : Steps) (fs : List Frame) (ps : List Place) (exc : Option Exc) (count : ℕ) → AgreesOn t table froms ps →
+      StartsIn (in_body fs) ss → Placed fs ps →
+      AllTold t table told (step_steps froms t here ss fs ps exc count).begun →
+      Keeps (steps_left ss ∷ fs) ps exc (step_steps froms t here ss fs ps exc count)
+  keeps_steps ss fs ps (Some e) count a b w h = finish_raised fs (by_table table) told ss here (stack_at table ps) (so_far (Some e) t) e
+  keeps_steps stop fs ps None count a b w h = finish_stop fs (by_table table) told here (stack_at table ps) t
+  keeps_steps (step s ss) fs ps None count a b w h = keeps_step s ss fs ps count a b.0 w h
+
+  -- a block is left, whatever made it end
+  pub block_leaves : (kind : Kind) (fs : List Frame) (p : Place) (ps : List Place) (exc : Option Exc) → AgreesOn t table froms (p ∷ ps) →
+      finish (by_table table) told fs here (stack_at table ps) (block_left kind
+      (record { label = p.label; shield = p.shield; from = table p.label }) (stack_at table ps) (so_far exc t))
+      ≡ behind told (leaves froms t kind fs p ps exc).made (left_after table told here t (leaves froms t kind fs p ps exc))
+  block_leaves kind fs p ps exc a =
+      ap (λ (b : Bool). finish (by_table table) told fs here (stack_at table ps)
+      (leaving_log kind p.label (left_with b exc) (so_far exc t))) (catches_alike t table froms p ps a)
+      ∙ finish_after fs (fill told (leaves froms t kind fs p ps exc).made) (by_table table) told here (stack_at table ps)
+      (so_far (leaves froms t kind fs p ps exc).exc t)
+
+  -- the body of a `try` has ended
+  keeps_try : (handler : Handled) (cleanup : Cleaned) (fs : List Frame) (ps : List Place) (exc : Option Exc) →
+      Keeps (in_try handler cleanup ∷ fs) ps exc (step_try handler cleanup fs ps exc)
+  keeps_try unhandled uncleaned fs ps exc = finish_uncleaned fs (by_table table) told here (stack_at table ps) (so_far exc t)
+  keeps_try unhandled (finally body) fs ps exc = finish_cleanup fs (by_table table) told body here (stack_at table ps) (so_far exc t)
+  keeps_try (except name body) cleanup fs ps None =
+      finish_no_handler fs (by_table table) told (except name body) cleanup here (stack_at table ps) (so_far None t)
+  keeps_try (except name body) cleanup fs ps (Some e) = by_match (keep (named name) e) refl
+    where
+      by_match : (o : Option Exc) → keep (named name) e ≡ o →
+          Keeps (in_try (except name body) cleanup ∷ fs) ps (Some e) (handler_if o (drop (named name) e) e body cleanup fs ps)
+      by_match None k = finish_unhandled fs (by_table table) told name body cleanup here (stack_at table ps) (so_far (Some e) t) e k
+      by_match (Some x) k = finish_handler fs (by_table table) told name body cleanup here (stack_at table ps) (so_far (Some e) t) e x k
+
+  -- a task with no frame left: it signs for its home nursery where it failed
+  keeps_end : (ps : List Place) (exc : Option Exc) (count : ℕ) → Keeps [] ps exc (step_frames froms t here [] ps exc count)
+  unfolding finish signed
+  keeps_end ps exc count =
+      ap (λ (x : Log). record (so_far exc t) { log = x }) (sym (fill_home told table exc ps t)
+      ∙ sym (followed_nil (fill told (signs_home exc ps t))))
+
+  -- the body of a nursery has ended
+  keeps_wait : (children : List ℕ) (fs : List Frame) (p : Place) (ps : List Place) (exc : Option Exc) (count : ℕ) →
+      Keeps (in_nursery children ∷ fs) (p ∷ ps) exc (step_frames froms t here (in_nursery children ∷ fs) (p ∷ ps) exc count)
+  keeps_wait children fs p ps exc count =
+      finish_wait fs (by_table table) told children here (record { label = p.label; shield = p.shield; from = table p.label })
+      (stack_at table ps) t exc
+      ∙ ap
+      (λ (x : Log).
+      after x
+      (finish (by_table table) told fs here (stack_at table ps)
+      (waited (told_members told children) t exc (record { label = p.label; shield = p.shield; from = table p.label })
+      (stack_at table ps))))
+      (sym (fill_home told table exc (p ∷ ps) t))
+
+  -- each kind of frame
+  keeps_frames : (fs : List Frame) (ps : List Place) (exc : Option Exc) (count : ℕ) → AgreesOn t table froms ps → Placed fs ps →
+      AllTold t table told (step_frames froms t here fs ps exc count).begun → Keeps fs ps exc (step_frames froms t here fs ps exc count)
+  keeps_frames [] ps exc count a w h = keeps_end ps exc count
+  keeps_frames (steps_left ss ∷ fs) ps exc count a w h = keeps_steps ss fs ps exc count a w.0 w.1 h
+  keeps_frames (in_scope fail ∷ fs) [] exc count a w h = absurd w
+  keeps_frames (in_scope fail ∷ fs) (p ∷ ps) exc count a w h =
+      finish_leave fs (by_table table) told fail here (record { label = p.label; shield = p.shield; from = table p.label })
+      (stack_at table ps) (so_far exc t)
+      ∙ block_leaves (a_scope fail) fs p ps exc a
+  keeps_frames (in_nursery children ∷ fs) [] exc count a w h = absurd w
+  keeps_frames (in_nursery children ∷ fs) (p ∷ ps) exc count a w h = keeps_wait children fs p ps exc count
+  keeps_frames (in_repeat pass left body ∷ fs) ps exc count a w h = keeps_pass pass left body fs ps exc
+  keeps_frames (in_try handler cleanup ∷ fs) ps exc count a w h = keeps_try handler cleanup fs ps exc
+  keeps_frames (in_handler rest cleanup ∷ fs) ps exc count a w h =
+      finish_handled fs (by_table table) told rest cleanup here (stack_at table ps) (so_far exc t)
+  keeps_frames (in_cleanup outcome ∷ fs) ps exc count a w h =
+      finish_cleaned fs (by_table table) told outcome here (stack_at table ps) (so_far exc t)
+
+  -- One step: for a table that agrees with the froms of the scopes and nurseries that enclose the task, and a record
+  -- of outcomes that fits the children begun, what is left of the task results in the events made, followed by the
+  -- result of what is left after the step.
+  pub step_keeps : (m : Midway) → AgreesOn t table froms m.places → Placed m.frames m.places →
+      AllTold t table told (step_of froms t here m).begun →
+      left_of table told here t m ≡ behind told (step_of froms t here m).made (left_after table told here t (step_of froms t here m))
+  unfolding step_of
+  step_keeps m a w h = keeps_frames m.frames m.places m.exc m.count a w h

@@ -1,0 +1,181 @@
+-- The children of a task's nurseries are numbered below its count.
+use Rattle.std.proofs.Common.{ℕ, zero, suc, ◌+◌, ◌-◌, ◌≤◌, Bool, true, false, Option, Some, None, List, [], ◌∷◌, ◌++◌, length, sym, subst, arith}
+use Rattle.job_tree.specs.Tree.{Step, sleep, checkpoint, forever, pace, find, head, longest, need, raise, cancel, scope, nursery, start, repeat, attempt, Steps, stop, step, Handled, unhandled, except, Cleaned, uncleaned, finally}
+use Rattle.exc_groups.specs.Exceptions.{Exc}
+use Rattle.exc_groups.specs.Split.{named, keep, drop}
+use Rattle.cancel_scopes.specs.Sight.{seen}
+use Rattle.job_meaning.specs.Log.{Table}
+use Rattle.job_meaning.specs.Walk.{Here, far, paced}
+use Rattle.job_meaning.specs.Rest.{numbered, Frame, steps_left, in_scope, in_nursery, in_repeat, in_try, in_handler, in_cleanup, inside, Stopped, to_begin, asking, asleep, awaiting, at_end}
+use Rattle.job_meaning.specs.Asking.{Answer, lines, missing, counted, Purpose, shows, needs, paces}
+use Rattle.turn_semantics.specs.Midway.{Place, stack_at, Midway, Move}
+use Rattle.turn_semantics.specs.Steps.{sleeps, falls_asleep, with_started, handler_if, step_try, step_on, step_steps, step_frames, step_of, begins_passes, step_pass}
+use Rattle.turn_semantics.specs.Wakes.{Wake, begins, sees, is_due, has_answer, settles, goes_on_with, with_answer, settled, wake_of}
+use Rattle.turn_semantics.specs.Placed.{AllBelow, KidsBelow, KidsAfter}
+use Rattle.turn_semantics.proofs.Cases.{over_length}
+
+all_grow : (n m : ℕ) → n ≤ m → (is : List ℕ) → AllBelow n is → AllBelow m is
+all_grow n m le [] a = tt
+all_grow n m le (i ∷ is) a = (let h = a.0 in omega arith, all_grow n m le is a.1)
+
+-- and below a greater count
+pub kids_grow : (n m : ℕ) → n ≤ m → (fs : List Frame) → KidsBelow n fs → KidsBelow m fs
+kids_grow n m le [] k = tt
+kids_grow n m le (steps_left ss ∷ fs) k = kids_grow n m le fs k
+kids_grow n m le (in_scope fail ∷ fs) k = kids_grow n m le fs k
+kids_grow n m le (in_nursery children ∷ fs) k = (all_grow n m le children k.0, kids_grow n m le fs k.1)
+kids_grow n m le (in_repeat pass left again ∷ fs) k = kids_grow n m le fs k
+kids_grow n m le (in_try handler cleanup ∷ fs) k = kids_grow n m le fs k
+kids_grow n m le (in_handler rest cleanup ∷ fs) k = kids_grow n m le fs k
+kids_grow n m le (in_cleanup outcome ∷ fs) k = kids_grow n m le fs k
+
+-- a step that begins no child
+same_kids : (n : ℕ) (fs : List Frame) → KidsBelow n fs → KidsBelow (n + 0) fs
+same_kids n fs k = kids_grow n (n + 0) (omega arith) fs k
+
+all_append : (n : ℕ) (is js : List ℕ) → AllBelow n is → AllBelow n js → AllBelow n (is ++ js)
+all_append n [] js a b = b
+all_append n (i ∷ is) js a b = (a.0, all_append n is js a.1 b)
+
+numbered_below : (first k : ℕ) → AllBelow (first + k) (numbered first k)
+numbered_below first zero = tt
+numbered_below first (suc k) =
+    all_append (first + suc k) (numbered first k) ((first + k) ∷ [])
+    (all_grow (first + k) (first + suc k) (omega arith) (numbered first k) (numbered_below first k)) (omega arith, tt)
+
+-- children that are started now are below the new count
+kids_started : (n m : ℕ) → n ≤ m → (more : List ℕ) → AllBelow m more → (fs : List Frame) → KidsBelow n fs →
+    KidsBelow m (with_started more fs)
+kids_started n m le more a [] k = tt
+kids_started n m le more a (in_nursery children ∷ fs) k =
+    (all_append m children more (all_grow n m le children k.0) a, kids_grow n m le fs k.1)
+kids_started n m le more a (steps_left ss ∷ fs) k = kids_grow n m le fs k
+kids_started n m le more a (in_scope fail ∷ fs) k = kids_grow n m le fs k
+kids_started n m le more a (in_repeat pass left again ∷ fs) k = kids_grow n m le fs k
+kids_started n m le more a (in_try handler cleanup ∷ fs) k = kids_grow n m le fs k
+kids_started n m le more a (in_handler rest cleanup ∷ fs) k = kids_grow n m le fs k
+kids_started n m le more a (in_cleanup outcome ∷ fs) k = kids_grow n m le fs k
+
+-- the children of the frames of a task that stopped
+pub kids_left : (n : ℕ) (s : Option Stopped) (fs : List Frame) → KidsAfter n s fs → KidsBelow n fs
+kids_left n None fs k = k
+kids_left n (Some to_begin) fs k = k
+kids_left n (Some (asking kernel purpose)) fs k = k
+kids_left n (Some (asleep m since)) fs k = k
+kids_left n (Some (awaiting children ended exc)) fs k = k.1
+kids_left n (Some (at_end u e)) fs k = k
+
+module _ (t : ℕ) (froms : Table) (here : Here) (n : ℕ) where
+  -- the children of the task after a move are below the count then
+  abbrev pub Kept : Move → Type 0
+  Kept o = KidsAfter (n + length o.begun) o.stopped o.frames
+
+  kids_sleeps : (ticks : ℕ) (fs : List Frame) (ps : List Place) → KidsBelow n fs → Kept (sleeps froms ticks t fs ps)
+  kids_sleeps ticks fs ps k = by_sight (seen (stack_at froms ps) t) ticks
+    where
+      by_sight : (b : Bool) (ticks : ℕ) → Kept (falls_asleep b ticks t fs ps)
+      by_sight true ticks = same_kids n fs k
+      by_sight false zero = same_kids n fs k
+      by_sight false (suc ticks) = same_kids n fs k
+
+  kids_passes : (m : ℕ) (body : Steps) (fs : List Frame) (ps : List Place) → KidsBelow n fs → Kept (begins_passes m body fs ps)
+  kids_passes zero body fs ps k = same_kids n fs k
+  kids_passes (suc m) body fs ps k = same_kids n fs k
+
+  kids_pass : (pass left : ℕ) (body : Steps) (fs : List Frame) (ps : List Place) (exc : Option Exc) → KidsBelow n fs →
+      Kept (step_pass pass left body fs ps exc)
+  kids_pass pass left body fs ps (Some e) k = same_kids n fs k
+  kids_pass pass zero body fs ps None k = same_kids n fs k
+  kids_pass pass (suc m) body fs ps None k = same_kids n fs k
+
+  kids_step : (at : Here) (s : Step) (ss : Steps) (fs : List Frame) (ps : List Place) → KidsBelow n fs →
+      Kept (step_on froms t at s ss fs ps n)
+  kids_step at (sleep m) ss fs ps k = kids_sleeps m (steps_left ss ∷ fs) ps k
+  kids_step at checkpoint ss fs ps k = kids_sleeps 0 (steps_left ss ∷ fs) ps k
+  kids_step at forever ss fs ps k = kids_sleeps (far - t) (steps_left ss ∷ fs) ps k
+  kids_step at (pace m) ss fs ps k = same_kids n fs k
+  kids_step at (find text) ss fs ps k = same_kids n fs k
+  kids_step at (head m) ss fs ps k = same_kids n fs k
+  kids_step at longest ss fs ps k = same_kids n fs k
+  kids_step at (need text name) ss fs ps k = same_kids n fs k
+  kids_step at (raise name) ss fs ps k = same_kids n fs k
+  kids_step at (cancel name) ss fs ps k = same_kids n fs k
+  kids_step at (scope name d shield fail body) ss fs ps k = same_kids n fs k
+  kids_step at (nursery name d shield body) ss fs ps k = (tt, same_kids n fs k)
+  kids_step at (start name None body) ss fs ps k = kids_started n (n + 1) (omega arith) (n ∷ []) (omega arith, tt) fs k
+  kids_step at (start name (Some c) body) ss fs ps k =
+      let e = over_length name at c body ps n c in
+      kids_started n (n + length (step_on froms t at (start name (Some c) body) ss fs ps n).begun) (omega arith) (numbered n c)
+      (subst (λ (z : ℕ). AllBelow (n + z) (numbered n c)) (sym e) (numbered_below n c)) fs k
+  kids_step at (repeat m body) ss fs ps k = kids_passes m body (steps_left ss ∷ fs) ps k
+  kids_step at (attempt body handler cleanup) ss fs ps k = same_kids n fs k
+
+  kids_steps : (ss : Steps) (fs : List Frame) (ps : List Place) (exc : Option Exc) → KidsBelow n fs →
+      Kept (step_steps froms t here ss fs ps exc n)
+  kids_steps ss fs ps (Some e) k = same_kids n fs k
+  kids_steps stop fs ps None k = same_kids n fs k
+  kids_steps (step s ss) fs ps None k = kids_step (inside fs here) s ss fs ps k
+
+  kids_try : (handler : Handled) (cleanup : Cleaned) (fs : List Frame) (ps : List Place) (exc : Option Exc) → KidsBelow n fs →
+      Kept (step_try handler cleanup fs ps exc)
+  kids_try unhandled uncleaned fs ps exc k = same_kids n fs k
+  kids_try unhandled (finally body) fs ps exc k = same_kids n fs k
+  kids_try (except name body) cleanup fs ps None k = same_kids n fs k
+  kids_try (except name body) cleanup fs ps (Some e) k = by_match (keep (named name) e)
+    where
+      by_match : (o : Option Exc) → Kept (handler_if o (drop (named name) e) e body cleanup fs ps)
+      by_match None = same_kids n fs k
+      by_match (Some x) = same_kids n fs k
+
+  kids_frames : (fs : List Frame) (ps : List Place) (exc : Option Exc) → KidsBelow n fs → Kept (step_frames froms t here fs ps exc n)
+  kids_frames [] ps exc k = tt
+  kids_frames (steps_left ss ∷ fs) ps exc k = kids_steps ss fs ps exc k
+  kids_frames (in_scope fail ∷ fs) [] exc k = same_kids n fs k
+  kids_frames (in_scope fail ∷ fs) (p ∷ ps) exc k = same_kids n fs k
+  kids_frames (in_nursery children ∷ fs) [] exc k = same_kids n fs k.1
+  kids_frames (in_nursery children ∷ fs) (p ∷ ps) exc k = same_kids n (in_nursery children ∷ fs) k
+  kids_frames (in_repeat pass left body ∷ fs) ps exc k = kids_pass pass left body fs ps exc k
+  kids_frames (in_try handler cleanup ∷ fs) ps exc k = kids_try handler cleanup fs ps exc k
+  kids_frames (in_handler rest cleanup ∷ fs) ps exc k = same_kids n fs k
+  kids_frames (in_cleanup outcome ∷ fs) ps exc k = same_kids n fs k
+
+  kids_answered : (a : Answer) (purpose : Purpose) (fs : List Frame) (ps : List Place) → KidsBelow n fs →
+      Kept (goes_on_with froms t here a purpose fs ps)
+  kids_answered (lines ls) purpose fs ps k = same_kids n fs k
+  kids_answered missing (needs name) fs ps k = same_kids n fs k
+  kids_answered missing shows fs ps k = same_kids n fs k
+  kids_answered missing (paces c) fs ps k = same_kids n fs k
+  kids_answered (counted m) (paces c) fs ps k = kids_sleeps (paced m c) fs ps k
+  kids_answered (counted m) shows fs ps k = same_kids n fs k
+  kids_answered (counted m) (needs name) fs ps k = same_kids n fs k
+
+  kids_with : (a : Answer) (s : Stopped) (fs : List Frame) (ps : List Place) → KidsBelow n fs → Kept (with_answer froms t here a s fs ps)
+  kids_with a (asking kernel purpose) fs ps k = kids_answered a purpose fs ps k
+  kids_with a to_begin fs ps k = same_kids n fs k
+  kids_with a (asleep m since) fs ps k = same_kids n fs k
+  kids_with a (awaiting children ended exc) fs ps k = same_kids n fs k
+  kids_with a (at_end u e) fs ps k = same_kids n fs k
+
+  kids_settled : (exc : Option Exc) (fs : List Frame) (ps : List Place) → KidsBelow n fs → Kept (settled froms t exc fs ps)
+  kids_settled exc fs [] k = same_kids n fs k
+  kids_settled exc fs (p ∷ ps) k = same_kids n fs k
+
+  kids_woken : (w : Wake) (s : Stopped) (fs : List Frame) (ps : List Place) → KidsBelow n fs → Kept (wake_of froms t here w s fs ps)
+  kids_woken begins s fs ps k = same_kids n fs k
+  kids_woken sees s fs ps k = same_kids n fs k
+  kids_woken is_due s fs ps k = same_kids n fs k
+  kids_woken (has_answer a) s fs ps k = kids_with a s fs ps k
+  kids_woken (settles exc) s fs ps k = kids_settled exc fs ps k
+
+-- one step
+pub step_kids : (t : ℕ) (froms : Table) (here : Here) (m : Midway) → KidsBelow m.count m.frames →
+    KidsAfter (m.count + length (step_of froms t here m).begun) (step_of froms t here m).stopped (step_of froms t here m).frames
+unfolding step_of
+step_kids t froms here m k = kids_frames t froms here m.count m.frames m.places m.exc k
+
+-- a wake
+pub wake_kids : (t : ℕ) (froms : Table) (here : Here) (w : Wake) (s : Stopped) (fs : List Frame) (ps : List Place) (n : ℕ) →
+    KidsAfter n (Some s) fs →
+    KidsAfter (n + length (wake_of froms t here w s fs ps).begun) (wake_of froms t here w s fs ps).stopped
+    (wake_of froms t here w s fs ps).frames
+wake_kids t froms here w s fs ps n k = kids_woken t froms here n w s fs ps (kids_left n (Some s) fs k)

@@ -1,0 +1,257 @@
+-- No scope is entered that has the name of an enclosing one: each step of a task keeps that.
+use Rattle.std.proofs.Common.{◌≡◌, inl, inr, ℕ, zero, suc, ◌+◌, Bool, true, false, Option, Some, None, List, [], ◌∷◌, ◌++◌, length, refl, subst}
+use Rattle.job_tree.specs.Tree.{Step, sleep, checkpoint, forever, pace, find, head, longest, need, raise, cancel, scope, nursery, start, repeat, attempt, Steps, stop, step, Handled, unhandled, except, Cleaned, uncleaned, finally, Tree}
+use Rattle.job_tree.specs.Names.{names_of, names_in, handled_names, cleaned_names, GivesNamesOnce}
+use Rattle.exc_groups.specs.Exceptions.{Exc}
+use Rattle.exc_groups.specs.Split.{named, keep, drop}
+use Rattle.cancel_scopes.specs.Sight.{seen}
+use Rattle.job_meaning.specs.Log.{Table}
+use Rattle.job_meaning.specs.Walk.{Here}
+use Rattle.job_meaning.specs.Rest.{Frame, steps_left, in_scope, in_nursery, in_repeat, in_try, in_handler, in_cleanup, inside, Stopped, awaiting, Rest}
+use Rattle.job_meaning.specs.Asking.{Answer, lines, missing, counted, Purpose, shows, needs, paces}
+use Rattle.job_meaning.proofs.Distinct.{Among, among_left, among_right, Distinct, distinct_left, distinct_right, distinct_by_bytes}
+use Rattle.turn_semantics.specs.Midway.{Place, stack_at, Midway, Begun, Move, moved, then_move}
+use Rattle.turn_semantics.specs.Wakes.{Wake, goes_on_with, settled, wake_of, turn_from, CanWake, from_start, from_sleep, from_due, from_asking, from_wait}
+use Rattle.turn_semantics.specs.Placed.{places_behind}
+use Rattle.turn_semantics.specs.Steps.{falls_asleep, sleeps, with_started, begun_over, step_on, step_steps, handler_if, step_try, step_frames, step_of, froms_after, turn_of, begins_passes, step_pass}
+use Rattle.turn_semantics.specs.Names.{IsName, names_at, OwnNames, AreNew, IsNew, IsNewHandler, IsNewCleanup, NewIn, AllNew, StaysNew}
+
+-- ---- steps whose names are given once
+
+-- no name of one list is in the other
+abbrev NoName : List (List ℕ) → List (List ℕ) → Type 0
+NoName ns round = (n : List ℕ) → Among n ns → IsName n round → ⊥
+
+more_round : (name : List ℕ) (ns round : List (List ℕ)) → (Among name ns → ⊥) → NoName ns round → NoName ns (name ∷ round)
+more_round name ns round d h n i (inl e) = d (subst (λ (x : List ℕ). Among x ns) e i)
+more_round name ns round d h n i (inr j) = h n i j
+
+mutual
+  -- steps that give each name once, and none of an enclosing scope, enter no scope that has the name of an enclosing
+  -- one
+  pub new_steps : (ss : Steps) (round : List (List ℕ)) → Distinct (names_of ss) → NoName (names_of ss) round → AreNew round ss
+  new_steps stop round d h = tt
+  new_steps (step s ss) round d h = (
+    new_step s round (distinct_left (names_in s) (names_of ss) d) (λ n i. h n (among_left n (names_in s) (names_of ss) i)),
+    new_steps ss round (distinct_right (names_in s) (names_of ss) d) (λ n i. h n (among_right n (names_in s) (names_of ss) i)),
+  )
+
+  -- the same of one step
+  pub new_step : (s : Step) (round : List (List ℕ)) → Distinct (names_in s) → NoName (names_in s) round → IsNew round s
+  new_step (sleep n) round d h = tt
+  new_step checkpoint round d h = tt
+  new_step forever round d h = tt
+  new_step (pace k) round d h = tt
+  new_step (find text) round d h = tt
+  new_step (head n) round d h = tt
+  new_step longest round d h = tt
+  new_step (need text name) round d h = tt
+  new_step (raise name) round d h = tt
+  new_step (cancel name) round d h = tt
+  new_step (scope name deadline shield fail body) round d h =
+      (h name (inl refl), new_steps body (name ∷ round) d.1 (more_round name (names_of body) round d.0 (λ n i. h n (inr i))))
+  new_step (nursery name deadline shield body) round d h =
+      (h name (inl refl), new_steps body (name ∷ round) d.1 (more_round name (names_of body) round d.0 (λ n i. h n (inr i))))
+  new_step (start name over body) round d h = new_steps body round d.1 (λ n i. h n (inr i))
+  new_step (repeat count body) round d h = new_steps body round d h
+  new_step (attempt body handler cleanup) round d h =
+      let front = distinct_left (names_of body ++ handled_names handler) (cleaned_names cleanup) d in (
+        new_steps body round (distinct_left (names_of body) (handled_names handler) front)
+            (λ n i. h n (among_left n (names_of body ++ handled_names handler) (cleaned_names cleanup)
+            (among_left n (names_of body) (handled_names handler) i))),
+        new_handler handler round (distinct_right (names_of body) (handled_names handler) front)
+            (λ n i. h n (among_left n (names_of body ++ handled_names handler) (cleaned_names cleanup)
+            (among_right n (names_of body) (handled_names handler) i))),
+        new_cleanup cleanup round (distinct_right (names_of body ++ handled_names handler) (cleaned_names cleanup) d)
+            (λ n i. h n (among_right n (names_of body ++ handled_names handler) (cleaned_names cleanup) i)),
+      )
+
+  new_handler : (x : Handled) (round : List (List ℕ)) → Distinct (handled_names x) → NoName (handled_names x) round → IsNewHandler round x
+  new_handler unhandled round d h = tt
+  new_handler (except name body) round d h = new_steps body round d h
+
+  new_cleanup : (x : Cleaned) (round : List (List ℕ)) → Distinct (cleaned_names x) → NoName (cleaned_names x) round → IsNewCleanup round x
+  new_cleanup uncleaned round d h = tt
+  new_cleanup (finally body) round d h = new_steps body round d h
+
+-- a job whose names are given once
+pub new_job : (job : Tree) → GivesNamesOnce job → NewIn (steps_left job.steps ∷ []) []
+new_job job once = (new_steps job.steps [] (distinct_by_bytes (job.name ∷ names_of job.steps) once).1 (λ n i j. j), tt)
+
+-- ---- steps of a task
+
+asleep_new : (b : Bool) (n t : ℕ) (fs : List Frame) (ps : List Place) → NewIn fs ps → OwnNames (names_at ps) →
+    StaysNew (falls_asleep b n t fs ps)
+asleep_new true n t fs ps h own = record { frames = h; own = own; begun = tt }
+asleep_new false zero t fs ps h own = record { frames = h; own = own; begun = tt }
+asleep_new false (suc n) t fs ps h own = record { frames = h; own = own; begun = tt }
+
+sleeps_new : (froms : Table) (n t : ℕ) (fs : List Frame) (ps : List Place) → NewIn fs ps → OwnNames (names_at ps) →
+    StaysNew (sleeps froms n t fs ps)
+sleeps_new froms n t fs ps h own = asleep_new (seen (stack_at froms ps) t) n t fs ps h own
+
+started_new : (more : List ℕ) (fs : List Frame) (ps : List Place) → NewIn fs ps → NewIn (with_started more fs) ps
+started_new more [] ps h = h
+started_new more (steps_left ss ∷ fs) ps h = h
+started_new more (in_scope fail ∷ fs) ps h = h
+started_new more (in_nursery children ∷ fs) [] h = h
+started_new more (in_nursery children ∷ fs) (p ∷ ps) h = h
+started_new more (in_repeat pass left again ∷ fs) ps h = h
+started_new more (in_try handler cleanup ∷ fs) ps h = h
+started_new more (in_handler rest cleanup ∷ fs) ps h = h
+started_new more (in_cleanup outcome ∷ fs) ps h = h
+
+all_new_append : (a b : List Begun) → AllNew a → AllNew b → AllNew (a ++ b)
+all_new_append [] b h k = k
+all_new_append (x ∷ a) b h k = (h.0, h.1, all_new_append a b h.2 k)
+
+over_new : (name : List ℕ) (here : Here) (of : ℕ) (body : Steps) (ps : List Place) (first k : ℕ) → AreNew (names_at ps) body →
+    OwnNames (names_at ps) →
+    AllNew (begun_over name here of body ps first k)
+over_new name here of body ps first zero h own = tt
+over_new name here of body ps first (suc k) h own =
+    all_new_append (begun_over name here of body ps first k) _ (over_new name here of body ps first k h own) (h, own, tt)
+
+passes_new : (n : ℕ) (body : Steps) (fs : List Frame) (ps : List Place) → AreNew (names_at ps) body → NewIn fs ps →
+    OwnNames (names_at ps) → StaysNew (begins_passes n body fs ps)
+passes_new zero body fs ps a h own = record { frames = h; own = own; begun = tt }
+passes_new (suc n) body fs ps a h own = record { frames = (a, (a, h)); own = own; begun = tt }
+
+pass_new : (pass left : ℕ) (body : Steps) (fs : List Frame) (ps : List Place) (exc : Option Exc) → AreNew (names_at ps) body →
+    NewIn fs ps → OwnNames (names_at ps) → StaysNew (step_pass pass left body fs ps exc)
+pass_new pass left body fs ps (Some e) a h own = record { frames = h; own = own; begun = tt }
+pass_new pass zero body fs ps None a h own = record { frames = h; own = own; begun = tt }
+pass_new pass (suc n) body fs ps None a h own = record { frames = (a, (a, h)); own = own; begun = tt }
+
+step_new : (froms : Table) (t : ℕ) (here : Here) (s : Step) (ss : Steps) (fs : List Frame) (ps : List Place) (count : ℕ) →
+    IsNew (names_at ps) s → AreNew (names_at ps) ss →
+    NewIn fs ps → OwnNames (names_at ps) → StaysNew (step_on froms t here s ss fs ps count)
+step_new froms t here (sleep n) ss fs ps count i a h own = sleeps_new froms n t (steps_left ss ∷ fs) ps (a, h) own
+step_new froms t here checkpoint ss fs ps count i a h own = sleeps_new froms 0 t (steps_left ss ∷ fs) ps (a, h) own
+step_new froms t here forever ss fs ps count i a h own = sleeps_new froms _ t (steps_left ss ∷ fs) ps (a, h) own
+step_new froms t here (pace k) ss fs ps count i a h own = record { frames = (a, h); own = own; begun = tt }
+step_new froms t here (find text) ss fs ps count i a h own = record { frames = (a, h); own = own; begun = tt }
+step_new froms t here (head n) ss fs ps count i a h own = record { frames = (a, h); own = own; begun = tt }
+step_new froms t here longest ss fs ps count i a h own = record { frames = (a, h); own = own; begun = tt }
+step_new froms t here (need text name) ss fs ps count i a h own = record { frames = (a, h); own = own; begun = tt }
+step_new froms t here (raise name) ss fs ps count i a h own = record { frames = (a, h); own = own; begun = tt }
+step_new froms t here (cancel name) ss fs ps count i a h own = record { frames = (a, h); own = own; begun = tt }
+step_new froms t here (scope name deadline shield fail body) ss fs ps count i a h own =
+    record { frames = (i.1, (a, h)); own = (i.0, own); begun = tt }
+step_new froms t here (nursery name deadline shield body) ss fs ps count i a h own =
+    record { frames = (i.1, (a, h)); own = (i.0, own); begun = tt }
+step_new froms t here (start name None body) ss fs ps count i a h own =
+    record { frames = (a, started_new (count ∷ []) fs ps h); own = own; begun = (i, own, tt) }
+step_new froms t here (start name (Some k) body) ss fs ps count i a h own =
+    record { frames = (a, started_new _ fs ps h); own = own; begun = over_new name here k body ps count k i own }
+step_new froms t here (repeat n body) ss fs ps count i a h own = passes_new n body (steps_left ss ∷ fs) ps i (a, h) own
+step_new froms t here (attempt body handler cleanup) ss fs ps count i a h own =
+    record { frames = (i.0, (i.1, i.2, (a, h))); own = own; begun = tt }
+
+steps_new : (froms : Table) (t : ℕ) (here : Here) (ss : Steps) (fs : List Frame) (ps : List Place) (exc : Option Exc) (count : ℕ) →
+    AreNew (names_at ps) ss →
+    NewIn fs ps → OwnNames (names_at ps) → StaysNew (step_steps froms t here ss fs ps exc count)
+steps_new froms t here ss fs ps (Some e) count a h own = record { frames = h; own = own; begun = tt }
+steps_new froms t here stop fs ps None count a h own = record { frames = h; own = own; begun = tt }
+steps_new froms t here (step s ss) fs ps None count a h own = step_new froms t (inside fs here) s ss fs ps count a.0 a.1 h own
+
+handler_new : (matched rest : Option Exc) (e : Exc) (body : Steps) (cleanup : Cleaned) (fs : List Frame) (ps : List Place) →
+    AreNew (names_at ps) body →
+    IsNewCleanup (names_at ps) cleanup → NewIn fs ps → OwnNames (names_at ps) → StaysNew (handler_if matched rest e body cleanup fs ps)
+handler_new None rest e body cleanup fs ps a c h own = record { frames = (tt, c, h); own = own; begun = tt }
+handler_new (Some m) rest e body cleanup fs ps a c h own = record { frames = (a, (c, h)); own = own; begun = tt }
+
+try_new : (handler : Handled) (cleanup : Cleaned) (fs : List Frame) (ps : List Place) (exc : Option Exc) →
+    IsNewHandler (names_at ps) handler →
+    IsNewCleanup (names_at ps) cleanup → NewIn fs ps → OwnNames (names_at ps) → StaysNew (step_try handler cleanup fs ps exc)
+try_new unhandled uncleaned fs ps exc a c h own = record { frames = h; own = own; begun = tt }
+try_new unhandled (finally body) fs ps exc a c h own = record { frames = (c, h); own = own; begun = tt }
+try_new (except name body) cleanup fs ps None a c h own = record { frames = (tt, c, h); own = own; begun = tt }
+try_new (except name body) cleanup fs ps (Some e) a c h own =
+    handler_new (keep (named name) e) (drop (named name) e) e body cleanup fs ps a c h own
+
+frames_new : (froms : Table) (t : ℕ) (here : Here) (fs : List Frame) (ps : List Place) (exc : Option Exc) (count : ℕ) → NewIn fs ps →
+    OwnNames (names_at ps) →
+    StaysNew (step_frames froms t here fs ps exc count)
+frames_new froms t here [] ps exc count h own = record { frames = tt; own = own; begun = tt }
+frames_new froms t here (steps_left ss ∷ fs) ps exc count h own = steps_new froms t here ss fs ps exc count h.0 h.1 own
+frames_new froms t here (in_scope fail ∷ fs) [] exc count h own = record { frames = h; own = own; begun = tt }
+frames_new froms t here (in_scope fail ∷ fs) (p ∷ ps) exc count h own = record { frames = h; own = own.1; begun = tt }
+frames_new froms t here (in_nursery children ∷ fs) [] exc count h own = record { frames = h; own = own; begun = tt }
+frames_new froms t here (in_nursery children ∷ fs) (p ∷ ps) exc count h own = record { frames = h; own = own; begun = tt }
+frames_new froms t here (in_repeat pass left body ∷ fs) ps exc count h own = pass_new pass left body fs ps exc h.0 h.1 own
+frames_new froms t here (in_try handler cleanup ∷ fs) ps exc count h own = try_new handler cleanup fs ps exc h.0 h.1 h.2 own
+frames_new froms t here (in_handler rest cleanup ∷ fs) ps exc count h own = record { frames = (tt, h.0, h.1); own = own; begun = tt }
+frames_new froms t here (in_cleanup outcome ∷ fs) ps exc count h own = record { frames = h; own = own; begun = tt }
+
+-- a step of a task keeps it
+pub step_stays_new : (froms : Table) (t : ℕ) (here : Here) (m : Midway) → NewIn m.frames m.places → OwnNames (names_at m.places) →
+    StaysNew (step_of froms t here m)
+unfolding step_of
+step_stays_new froms t here m h own = frames_new froms t here m.frames m.places m.exc m.count h own
+
+-- ---- a turn
+
+answer_new : (froms : Table) (t : ℕ) (here : Here) (a : Answer) (purpose : Purpose) (fs : List Frame) (ps : List Place) → NewIn fs ps →
+    OwnNames (names_at ps) →
+    StaysNew (goes_on_with froms t here a purpose fs ps)
+answer_new froms t here (lines ls) purpose fs ps h own = record { frames = h; own = own; begun = tt }
+answer_new froms t here missing shows fs ps h own = record { frames = h; own = own; begun = tt }
+answer_new froms t here missing (needs name) fs ps h own = record { frames = h; own = own; begun = tt }
+answer_new froms t here missing (paces k) fs ps h own = record { frames = h; own = own; begun = tt }
+answer_new froms t here (counted n) shows fs ps h own = record { frames = h; own = own; begun = tt }
+answer_new froms t here (counted n) (needs name) fs ps h own = record { frames = h; own = own; begun = tt }
+answer_new froms t here (counted n) (paces k) fs ps h own = sleeps_new froms _ t fs ps h own
+
+-- a nursery whose last member ended is left
+settled_new : (froms : Table) (t : ℕ) (exc : Option Exc) (children : List ℕ) (ended : ℕ) (e : Option Exc) (fs : List Frame)
+    (ps : List Place) →
+    NewIn fs (places_behind (Some (awaiting children ended e)) ps) → OwnNames (names_at ps) → StaysNew (settled froms t exc fs ps)
+settled_new froms t exc children ended e fs [] h own = record { frames = h; own = own; begun = tt }
+settled_new froms t exc children ended e fs (p ∷ ps) h own = record { frames = h; own = own.1; begun = tt }
+
+wake_new : (froms : Table) (t : ℕ) (here : Here) {w : Wake} {s : Stopped} → CanWake w s → (fs : List Frame) (ps : List Place) →
+    NewIn fs (places_behind (Some s) ps) →
+    OwnNames (names_at ps) → StaysNew (wake_of froms t here w s fs ps)
+wake_new froms t here from_start fs ps h own = record { frames = h; own = own; begun = tt }
+wake_new froms t here (from_asking {a} {kernel} {purpose}) fs ps h own = answer_new froms t here a purpose fs ps h own
+wake_new froms t here (from_sleep {n} {since}) fs ps h own = record { frames = h; own = own; begun = tt }
+wake_new froms t here (from_due {n} {since}) fs ps h own = record { frames = h; own = own; begun = tt }
+wake_new froms t here (from_wait {exc} {children} {ended} {e}) fs ps h own = settled_new froms t exc children ended e fs ps h own
+
+then_new : (s : Option Stopped) (o q : Move) → o.stopped ≡ s → StaysNew o → (s ≡ None → StaysNew q) → StaysNew (then_move s o q)
+then_new (Some s) o q e h k = h
+then_new None o q e h k = let g =
+    k refl in record { frames = g.frames; own = g.own; begun = all_new_append o.begun q.begun h.begun g.begun }
+
+-- the frames of a task that did not stop
+not_stopped : (o : Move) → o.stopped ≡ None → NewIn o.frames (places_behind o.stopped o.places) → NewIn o.frames o.places
+not_stopped o e h = subst (λ (s : Option Stopped). NewIn o.frames (places_behind s o.places)) e h
+
+turn_new : (n : ℕ) (froms : Table) (t : ℕ) (here : Here) (m : Midway) → NewIn m.frames m.places → OwnNames (names_at m.places) →
+    StaysNew (turn_of n froms t here m)
+unfolding turn_of
+turn_new zero froms t here m h own = record { frames = h; own = own; begun = tt }
+turn_new (suc n) froms t here m h own =
+    let o = step_of froms t here m in
+    let one : StaysNew o = step_stays_new froms t here m h own in
+    then_new o.stopped o (turn_of n (froms_after froms o.made) t here (moved m o)) refl one
+    (λ e. turn_new n (froms_after froms o.made) t here (moved m o) (not_stopped o e one.frames) one.own)
+
+-- a whole turn keeps it
+pub turn_stays_new : (n t : ℕ) (here : Here) (froms : Table) (w : Wake) (rest : Rest) (ps : List Place) (count : ℕ) →
+    CanWake w rest.stopped →
+    NewIn rest.frames (places_behind (Some rest.stopped) ps) → OwnNames (names_at ps) →
+    StaysNew (turn_from n froms t here w rest.stopped rest.frames ps count)
+unfolding turn_from
+turn_stays_new n t here froms w rest ps count c h own =
+    let o = wake_of froms t here w rest.stopped rest.frames ps in
+    let one : StaysNew o = wake_new froms t here c rest.frames ps h own in
+    then_new o.stopped o _ refl one
+    (λ e. turn_new n (froms_after froms o.made) t here (record {
+      frames = o.frames;
+      places = o.places;
+      exc = o.exc;
+      count =
+          count + length o.begun;
+    }) (not_stopped o e one.frames) one.own)

@@ -1,0 +1,53 @@
+-- Whole turns: from stop to stop, and the beginnings.
+use Rattle.std.proofs.Common.{◌≡◌, ℕ, false, Option, Some, List, [], ◌∷◌, ◌++◌, ap, sym, ◌∙◌}
+use Rattle.job_tree.specs.Tree.{Steps}
+use Rattle.job_tree.specs.Starting.{StartsIn}
+use Rattle.exc_groups.specs.Exceptions.{Label}
+use Rattle.job_meaning.specs.Log.{Result, Table}
+use Rattle.job_meaning.specs.Walk.{by_table, Here}
+use Rattle.job_meaning.specs.Rest.{Event, ChildOutcomes, fill, steps_left, Stopped, to_begin, Rest, rest_comes_to, task_comes_to, rest_at_start}
+use Rattle.job_meaning.proofs.Finish.{finish_begin}
+use Rattle.turn_semantics.specs.Midway.{Place, stack_at, Begun, Move, behind, left_after, stop_comes_to, begun_comes_to, none_told}
+use Rattle.turn_semantics.specs.Placed.{PlacedStop}
+use Rattle.turn_semantics.specs.Wakes.{Wake, WakesBy}
+use Rattle.turn_semantics.specs.Turned.{AgreesOn, AgreesAhead, AllTold, BegunIn, TurnsOver}
+use Rattle.turn_semantics.proofs.Turns.{behind_append}
+
+-- A whole turn leaves the result of the task unchanged: what it did before, its stop and its frames before the turn
+-- have the same result as what it has done, its stop and its frames after it.
+pub turn_comes_to : (u t : ℕ) (here : Here) (froms : Table) (w : Wake) (rest : Rest) (ps : List Place) (count : ℕ) (o : Move)
+    (made : List Event) (s : Stopped) →
+    TurnsOver u t here froms w rest ps count o → o.stopped ≡ Some s → (table : Table) (told : ChildOutcomes) →
+    WakesBy table told here u t w rest.stopped ps →
+    AgreesOn t table froms ps →
+    AgreesAhead t table (fill told o.made) (rest_comes_to (by_table table) told rest here (stack_at table ps) u).log →
+    AllTold t table told o.begun →
+    task_comes_to (by_table table) told made rest here (stack_at table ps) u
+    ≡ task_comes_to (by_table table) told (made ++ o.made) (record { stopped = s; frames = o.frames }) here (stack_at table o.places) t
+turn_comes_to u t here froms w rest ps count o made s x e table told g a b h =
+    ap (λ (r : Result). behind told made r) (x.keeps table told g a b h)
+    ∙ (sym (behind_append told made o.made (left_after table told here t o))
+    ∙ ap (λ (z : Option Stopped). behind told (made ++ o.made) (stop_comes_to z table told here t o.frames o.places o.exc)) e)
+
+-- a task that was started, and whose block is no nursery's body, may begin inside any scopes and nurseries
+pub start_placed : (body : Steps) (ps : List Place) → StartsIn false body →
+    PlacedStop (rest_at_start body).stopped (rest_at_start body).frames ps
+start_placed body ps h = (h, tt)
+
+-- each of these children may begin
+abbrev pub AllPlaced : List Begun → Type 0
+AllPlaced [] = Unit {0}
+AllPlaced (b ∷ bs) = PlacedStop to_begin (steps_left b.body ∷ []) b.places × AllPlaced bs
+
+-- each child that is begun inside known scopes and nurseries may begin
+pub begun_placed : (ls : List Label) (bs : List Begun) → BegunIn ls bs → AllPlaced bs
+begun_placed ls [] a = tt
+begun_placed ls (b ∷ bs) a = ((a.1, tt), begun_placed ls bs a.2)
+
+-- the result of a child, before it began: the same whatever is recorded of the children, and the result of its
+-- block's walk
+pub begun_final_result : (table : Table) (told : ChildOutcomes) (t : ℕ) (b : Begun) →
+    task_comes_to (by_table table) told [] (rest_at_start b.body) b.here (stack_at table b.places) t ≡ begun_comes_to table t b
+begun_final_result table told t b =
+    finish_begin (by_table table) told b.body b.here (stack_at table b.places) t
+    ∙ sym (finish_begin (by_table table) none_told b.body b.here (stack_at table b.places) t)

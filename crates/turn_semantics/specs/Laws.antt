@@ -1,0 +1,74 @@
+-- The laws of steps and turns. Each is the contract of a function that does nothing.
+use Rattle.std.specs.Prelude.{◌≡◌, ℕ, ◌<◌, Some, List, [], ◌∷◌, ◌++◌}
+use Rattle.job_tree.specs.Tree.{Tree}
+use Rattle.job_tree.specs.Names.{GivesNamesOnce}
+use Rattle.exc_groups.specs.Exceptions.{Label}
+use Rattle.cancel_scopes.specs.Sight.{Tick}
+use Rattle.job_meaning.specs.Log.{Table, from_by}
+use Rattle.job_meaning.specs.Walk.{by_table, Here}
+use Rattle.job_meaning.specs.Rest.{steps_left, Event, ChildOutcomes, fill, Stopped, Rest, rest_comes_to, task_comes_to}
+use Rattle.turn_semantics.specs.Midway.{Place, stack_at, Midway, Move}
+use Rattle.turn_semantics.specs.Steps.{froms_after, step_of}
+use Rattle.turn_semantics.specs.Placed.{Placed, PlacedStop, places_behind}
+use Rattle.turn_semantics.specs.Wakes.{Wake, wake_of, turn_from, WakesBy, CanWake}
+use Rattle.turn_semantics.specs.Turned.{AgreesOn, AgreesAhead, AllTold, Known, MadeAt, made_sign, EntersIn, EntersOnceWith, IsSome, Goes, TurnsOver}
+use Rattle.turn_semantics.specs.Bound.{frames_length}
+use Rattle.turn_semantics.specs.Names.{names_at, OwnNames, NewIn, StaysNew}
+
+-- each step keeps the promise
+abbrev pub EachStepGoes : Type 0
+EachStepGoes = (t : ℕ) (here : Here) (froms : Table) (m : Midway) → Placed m.frames m.places → Goes t here froms m (step_of froms t here m)
+
+-- each turn keeps it, from the wake to the next stop, and comes to a stop
+abbrev pub EachTurnKeeps : Type 0
+EachTurnKeeps =
+    (n u t : ℕ) (here : Here) (froms : Table) (w : Wake) (rest : Rest) (ps : List Place) (count : ℕ) → CanWake w rest.stopped →
+    PlacedStop rest.stopped rest.frames ps →
+    TurnsOver u t here froms w rest ps count (turn_from n froms t here w rest.stopped rest.frames ps count)
+
+abbrev pub EachTurnStops : Type 0
+EachTurnStops =
+    (n t : ℕ) (here : Here) (froms : Table) (w : Wake) (rest : Rest) (ps : List Place) (count : ℕ) →
+    frames_length (wake_of froms t here w rest.stopped rest.frames ps).frames < n →
+    IsSome (turn_from n froms t here w rest.stopped rest.frames ps count).stopped
+
+-- A turn that keeps the promise leaves the result of the task unchanged: what it did before, its stop and its frames
+-- before the turn have the same result as what it has done, its stop and its frames after it.
+abbrev pub TaskComesToTheSame : Type 0
+TaskComesToTheSame =
+    (u t : ℕ) (here : Here) (froms : Table) (w : Wake) (rest : Rest) (ps : List Place) (count : ℕ) (o : Move) (made : List Event)
+    (s : Stopped) →
+    TurnsOver u t here froms w rest ps count o → o.stopped ≡ Some s → (table : Table) (told : ChildOutcomes) →
+    WakesBy table told here u t w rest.stopped ps →
+    AgreesOn t table froms ps →
+    AgreesAhead t table (fill told o.made) (rest_comes_to (by_table table) told rest here (stack_at table ps) u).log →
+    AllTold t table told o.begun →
+    task_comes_to (by_table table) told made rest here (stack_at table ps) u
+    ≡ task_comes_to (by_table table) told (made ++ o.made) (record { stopped = s; frames = o.frames }) here (stack_at table o.places) t
+
+-- the from of a label that was not entered is lowered by exactly the signs made for it
+abbrev pub FromsAreLowered : Type 0
+FromsAreLowered = (es : List Event) (froms : Table) (l : Label) → (EntersIn l es → ⊥) →
+    froms_after froms es l ≡ from_by (froms l) (made_sign l es)
+
+-- and that of a label that was entered once, and was none of those before, starts as its deadline
+abbrev pub FromsAreOpened : Type 0
+FromsAreOpened =
+    (t : ℕ) (es : List Event) (ls : List Label) (froms : Table) (l : Label) (d : Tick) → MadeAt t ls es → (Known l ls → ⊥) →
+    EntersOnceWith l d es →
+    froms_after froms es l ≡ from_by d (made_sign l es)
+
+-- in a job whose names are given once, none is the name of an enclosing scope
+abbrev pub JobsBeginNew : Type 0
+JobsBeginNew = (job : Tree) → GivesNamesOnce job → NewIn (steps_left job.steps ∷ []) []
+
+-- and each step and each turn keep that, so the scopes that enclose a task have different labels
+abbrev pub EachStepStaysNew : Type 0
+EachStepStaysNew = (froms : Table) (t : ℕ) (here : Here) (m : Midway) → NewIn m.frames m.places → OwnNames (names_at m.places) →
+    StaysNew (step_of froms t here m)
+
+abbrev pub EachTurnStaysNew : Type 0
+EachTurnStaysNew =
+    (n t : ℕ) (here : Here) (froms : Table) (w : Wake) (rest : Rest) (ps : List Place) (count : ℕ) → CanWake w rest.stopped →
+    NewIn rest.frames (places_behind (Some rest.stopped) ps) → OwnNames (names_at ps) →
+    StaysNew (turn_from n froms t here w rest.stopped rest.frames ps count)

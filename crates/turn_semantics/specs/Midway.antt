@@ -1,0 +1,90 @@
+-- A task in the middle of a turn, what a step of it does, and the task's result.
+use Rattle.std.specs.Prelude.{ℕ, ◌+◌, Bool, Option, Some, None, List, [], ◌∷◌, ◌++◌, length}
+use Rattle.job_tree.specs.Tree.{Steps}
+use Rattle.exc_groups.specs.Exceptions.{Label, Exc}
+use Rattle.job_meaning.specs.Log.{nil, followed_by, Result, Table}
+use Rattle.job_meaning.specs.Walk.{Stack, by_table, Here, done_at}
+use Rattle.job_meaning.specs.Rest.{Event, ChildOutcomes, fill, Frame, Stopped, finish, finished_from, rest_comes_to, rest_at_start}
+
+-- a scope or nursery that encloses a task; its from is in the world's table
+pub record Place : Type 0 where
+  pub label : Label
+  pub shield : Bool
+
+-- the stack of a task with these enclosing scopes and nurseries, with the froms of a table
+abbrev pub stack_at : Table → List Place → Stack
+stack_at froms [] = []
+stack_at froms (p ∷ ps) = record { label = p.label; shield = p.shield; from = froms p.label } ∷ stack_at froms ps
+
+-- A task in the middle of a turn: the frames that it has not finished and the scopes and nurseries that enclose it,
+-- both innermost first, its exception so far, and how many children it started.
+pub record Midway : Type 0 where
+  pub frames : List Frame
+  pub places : List Place
+  pub exc : Option Exc
+  pub count : ℕ
+
+-- a child that a turn started, by its number among its starter's; the scopes and nurseries that enclose it are those
+-- that enclosed its starter at the start
+pub record Begun : Type 0 where
+  pub number : ℕ
+  pub here : Here
+  pub places : List Place
+  pub body : Steps
+
+-- The effect of a step, or of several of one turn, on a task: its frames, enclosing scopes and nurseries and
+-- exception afterwards, the events and the children begun on the way, and where it stopped, if it did.
+pub record Move : Type 0 where
+  pub frames : List Frame
+  pub places : List Place
+  pub exc : Option Exc
+  pub made : List Event
+  pub begun : List Begun
+  pub stopped : Option Stopped
+
+-- the task after a move
+abbrev pub moved : Midway → Move → Midway
+moved m o = record { frames = o.frames; places = o.places; exc = o.exc; count = m.count + length o.begun }
+
+-- no move
+abbrev pub unmoved : Midway → Move
+unmoved m = record { frames = m.frames; places = m.places; exc = m.exc; made = []; begun = []; stopped = None }
+
+-- one move, and another one after it; a task that stopped does not continue
+abbrev pub then_move : Option Stopped → Move → Move → Move
+then_move None o q =
+    record { frames = q.frames; places = q.places; exc = q.exc; made = o.made ++ q.made; begun = o.begun ++ q.begun; stopped = q.stopped }
+then_move (Some s) o q = o
+
+-- a result so far, in this tick
+abbrev pub so_far : Option Exc → ℕ → Result
+so_far exc t = record { end = t; exc = exc; members = []; log = nil }
+
+-- a result, with these events before it
+abbrev pub behind : ChildOutcomes → List Event → Result → Result
+behind told es r = record r { log = followed_by (fill told es) r.log }
+
+-- the result of what is left of a task in the middle of a turn, with these frames, enclosing scopes and nurseries,
+-- and exception
+abbrev pub going_to : Table → ChildOutcomes → Here → ℕ → List Frame → List Place → Option Exc → Result
+going_to table told here t fs ps exc = finish (by_table table) told fs here (stack_at table ps) (so_far exc t)
+
+abbrev pub stop_comes_to : Option Stopped → Table → ChildOutcomes → Here → ℕ → List Frame → List Place → Option Exc → Result
+stop_comes_to None table told here t fs ps exc = going_to table told here t fs ps exc
+stop_comes_to (Some s) table told here t fs ps exc = finished_from (by_table table) told s fs here (stack_at table ps) t
+
+-- the result of what is left of a task after a move
+abbrev pub left_after : Table → ChildOutcomes → Here → ℕ → Move → Result
+left_after table told here t o = stop_comes_to o.stopped table told here t o.frames o.places o.exc
+
+-- the result of what is left of a task in the middle of a turn
+abbrev pub left_of : Table → ChildOutcomes → Here → ℕ → Midway → Result
+left_of table told here t m = going_to table told here t m.frames m.places m.exc
+
+-- nothing is recorded of the children of a task that has none
+abbrev pub none_told : ChildOutcomes
+none_told i = done_at 0
+
+-- the result of a child that began in tick t, following a table from its start
+abbrev pub begun_comes_to : Table → ℕ → Begun → Result
+begun_comes_to table t b = rest_comes_to (by_table table) none_told (rest_at_start b.body) b.here (stack_at table b.places) t

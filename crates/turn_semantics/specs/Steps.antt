@@ -1,0 +1,209 @@
+-- One step of a task in the middle of a turn, and a whole turn.
+use Rattle.std.specs.Prelude.{ℕ, zero, suc, ◌+◌, ◌-◌, Bool, true, false, Option, Some, None, List, [], ◌∷◌, ◌++◌}
+use Rattle.std.specs.Str.{bytes_eq}
+use Rattle.job_tree.specs.Tree.{Step, sleep, checkpoint, forever, pace, find, head, longest, need, raise, cancel, scope, nursery, start, repeat, attempt, Steps, stop, step, Handled, unhandled, except, Cleaned, uncleaned, finally}
+use Rattle.buffer_parts.specs.Cuts.{cut_of}
+use Rattle.exc_groups.specs.Exceptions.{Label, Exc, cancelled, raised}
+use Rattle.exc_groups.specs.Split.{named, keep, drop}
+use Rattle.cancel_scopes.specs.Sight.{Tick, earlier, next, seen, catches}
+use Rattle.job_meaning.specs.Log.{Table, same_label}
+use Rattle.job_meaning.specs.Walk.{Here, far, due, label_here, label_over, label_if, here_in, Kind, a_scope, left_as, left_with, exc_after, handler_exc, outcome_after}
+use Rattle.job_meaning.specs.Rest.{Event, noted, signs, enters, starts, starts_over, numbered, Frame, steps_left, in_scope, in_nursery, in_repeat, in_try, in_handler, in_cleanup, inside, Stopped, asking, asleep, awaiting, at_end}
+use Rattle.job_meaning.specs.Asking.{shows, needs, paces}
+use Rattle.job_meaning.specs.Asking as ask
+use Rattle.turn_semantics.specs.Midway.{Place, stack_at, Midway, Begun, Move, moved, unmoved, then_move}
+
+-- ---- the froms of the world
+
+-- a label is cancelled in a tick, which is seen from the next one on
+abbrev pub lowered_if : Bool → ℕ → Tick → Tick
+lowered_if true t from = earlier from (next (Some t))
+lowered_if false t from = from
+
+abbrev pub lowered : Table → Label → ℕ → Table
+lowered froms label t l = lowered_if (same_label l label) t (froms l)
+
+-- a label is entered: its from is its deadline at first
+abbrev pub opened_if : Bool → Tick → Tick → Tick
+opened_if true deadline from = deadline
+opened_if false deadline from = from
+
+abbrev pub opened : Table → Label → Tick → Table
+opened froms label deadline l = opened_if (same_label l label) deadline (froms l)
+
+-- the froms after these events
+abbrev pub froms_after : Table → List Event → Table
+froms_after froms [] = froms
+froms_after froms (noted t e ∷ es) = froms_after froms es
+froms_after froms (signs l t ∷ es) = froms_after (lowered froms l t) es
+froms_after froms (enters l t d ∷ es) = froms_after (opened froms l d) es
+froms_after froms (starts i l t ∷ es) = froms_after froms es
+
+-- ---- what a step does
+
+-- the task continues, with these frames and this outcome so far
+abbrev pub onward : List Frame → List Place → Option Exc → Move
+onward fs ps exc = record { frames = fs; places = ps; exc = exc; made = []; begun = []; stopped = None }
+
+-- the task stops, with nothing raised
+abbrev pub blocks_on : Stopped → List Frame → List Place → Move
+blocks_on s fs ps = record { frames = fs; places = ps; exc = None; made = []; begun = []; stopped = Some s }
+
+-- the task makes these events and continues, with nothing raised
+abbrev pub making : List Event → List Frame → List Place → Move
+making es fs ps = record { frames = fs; places = ps; exc = None; made = es; begun = []; stopped = None }
+
+-- A sleep is a checkpoint: if a cancellation is seen now, it raises at once. A sleep of no tick continues.
+abbrev pub falls_asleep : (seen_now : Bool) → ℕ → ℕ → List Frame → List Place → Move
+falls_asleep true n t fs ps = onward fs ps (Some cancelled)
+falls_asleep false zero t fs ps = onward fs ps None
+falls_asleep false (suc n) t fs ps = blocks_on (asleep (suc n) t) fs ps
+
+abbrev pub sleeps : Table → ℕ → ℕ → List Frame → List Place → Move
+sleeps froms n t fs ps = falls_asleep (seen (stack_at froms ps) t) n t fs ps
+
+-- the label of the scope or nursery of this name that encloses the task
+abbrev pub label_among : List ℕ → List Place → Option Label
+label_among name [] = None
+label_among name (p ∷ ps) = label_if (bytes_eq name p.label.name) p.label (label_among name ps)
+
+abbrev pub signs_to : Option Label → ℕ → List Event
+signs_to None t = []
+signs_to (Some l) t = signs l t ∷ []
+
+-- a task or body that ends with an exception signs for the innermost enclosing nursery: a nursery's body for its own
+-- nursery, and a task, which has left all its own scopes and nurseries, for its home nursery
+abbrev pub signs_home : Option Exc → List Place → ℕ → List Event
+signs_home None ps t = []
+signs_home (Some e) [] t = []
+signs_home (Some e) (p ∷ ps) t = signs p.label t ∷ []
+
+-- children are started in the nursery whose body the task is in
+abbrev pub with_started : List ℕ → List Frame → List Frame
+with_started more (in_nursery children ∷ fs) = in_nursery (children ++ more) ∷ fs
+with_started more fs = fs
+
+-- a child with this number, on its part
+abbrev pub begun_one : ℕ → Here → Steps → List Place → Begun
+begun_one i here body ps = record { number = i; here = here; places = ps; body = body }
+
+-- children 0 to k - 1 of a `start .. over` of `of` cuts, numbered from `first` on
+abbrev pub begun_over : List ℕ → Here → ℕ → Steps → List Place → ℕ → ℕ → List Begun
+begun_over name here of body ps first zero = []
+begun_over name here of body ps first (suc k) =
+    begun_over name here of body ps first k
+    ++ begun_one (first + k) (here_in (label_over name here k) (cut_of here.input here.part of k) here) body ps ∷ []
+
+-- a scope or nursery is entered: its body comes first, then its exit
+abbrev pub enters_block : Label → Bool → Tick → ℕ → Steps → Frame → List Frame → List Place → Move
+enters_block label shield deadline t body exit fs ps =
+    making (enters label t deadline ∷ []) (steps_left body ∷ exit ∷ fs) (record { label = label; shield = shield } ∷ ps)
+
+-- the first pass of a `repeat`, if it has one, before what comes after it
+abbrev pub begins_passes : ℕ → Steps → List Frame → List Place → Move
+begins_passes zero body fs ps = onward fs ps None
+begins_passes (suc k) body fs ps = onward (steps_left body ∷ in_repeat 0 k body ∷ fs) ps None
+
+-- One step of a block, at this point of the job, with nothing raised; the steps ss of the block come after it, and the
+-- frames fs after them.
+abbrev pub step_on : Table → ℕ → Here → Step → Steps → List Frame → List Place → ℕ → Move
+step_on froms t here (sleep n) ss fs ps count = sleeps froms n t (steps_left ss ∷ fs) ps
+step_on froms t here checkpoint ss fs ps count = sleeps froms 0 t (steps_left ss ∷ fs) ps
+step_on froms t here forever ss fs ps count = sleeps froms (far - t) t (steps_left ss ∷ fs) ps
+step_on froms t here (pace k) ss fs ps count = blocks_on (asking ask.count (paces k)) (steps_left ss ∷ fs) ps
+step_on froms t here (find text) ss fs ps count = blocks_on (asking (ask.find text) shows) (steps_left ss ∷ fs) ps
+step_on froms t here (head n) ss fs ps count = blocks_on (asking (ask.head n) shows) (steps_left ss ∷ fs) ps
+step_on froms t here longest ss fs ps count = blocks_on (asking ask.longest shows) (steps_left ss ∷ fs) ps
+step_on froms t here (need text name) ss fs ps count = blocks_on (asking (ask.need text) (needs name)) (steps_left ss ∷ fs) ps
+step_on froms t here (raise name) ss fs ps count = onward (steps_left ss ∷ fs) ps (Some (raised name here.task t))
+step_on froms t here (cancel name) ss fs ps count = making (signs_to (label_among name ps) t) (steps_left ss ∷ fs) ps
+step_on froms t here (scope name deadline shield fail body) ss fs ps count =
+    enters_block (label_here name here) shield (due deadline t) t body (in_scope fail) (steps_left ss ∷ fs) ps
+step_on froms t here (nursery name deadline shield body) ss fs ps count =
+    enters_block (label_here name here) shield (due deadline t) t body (in_nursery []) (steps_left ss ∷ fs) ps
+step_on froms t here (start name None body) ss fs ps count =
+    record {
+      frames = steps_left ss ∷ with_started (count ∷ []) fs;
+      places = ps;
+      exc = None;
+      made = starts count (label_here name here) t ∷ [];
+      begun = begun_one count (here_in (label_here name here) here.part here) body ps ∷ [];
+      stopped = None;
+    }
+step_on froms t here (start name (Some k) body) ss fs ps count =
+    record {
+      frames = steps_left ss ∷ with_started (numbered count k) fs;
+      places = ps;
+      exc = None;
+      made = starts_over name here t count k;
+      begun = begun_over name here k body ps count k;
+      stopped = None;
+    }
+step_on froms t here (repeat n body) ss fs ps count = begins_passes n body (steps_left ss ∷ fs) ps
+step_on froms t here (attempt body handler cleanup) ss fs ps count =
+    onward (steps_left body ∷ in_try handler cleanup ∷ steps_left ss ∷ fs) ps None
+
+-- the steps of a block: an exception skips what is left of them
+abbrev pub step_steps : Table → ℕ → Here → Steps → List Frame → List Place → Option Exc → ℕ → Move
+step_steps froms t here ss fs ps (Some e) count = onward fs ps (Some e)
+step_steps froms t here stop fs ps None count = onward fs ps None
+step_steps froms t here (step s ss) fs ps None count = step_on froms t (inside fs here) s ss fs ps count
+
+-- a scope or nursery is left: it catches or not, and notes that
+abbrev pub leaves : Table → ℕ → Kind → List Frame → Place → List Place → Option Exc → Move
+leaves froms t kind fs p ps exc =
+    let left = left_with (catches (froms p.label) p.shield (stack_at froms ps) t) exc in
+    record {
+      frames = fs;
+      places = ps;
+      exc = exc_after kind p.label t left;
+      made = noted t (left_as kind p.label left.caught) ∷ [];
+      begun = [];
+      stopped = None;
+    }
+
+-- a handler runs if the exception has leaves of its name
+abbrev pub handler_if : Option Exc → Option Exc → Exc → Steps → Cleaned → List Frame → List Place → Move
+handler_if None rest e body cleanup fs ps = onward (in_try unhandled cleanup ∷ fs) ps (Some e)
+handler_if (Some matched) rest e body cleanup fs ps = onward (steps_left body ∷ in_handler rest cleanup ∷ fs) ps None
+
+-- the body of a `try` has ended: its handler, or its cleanup, or what comes after it
+abbrev pub step_try : Handled → Cleaned → List Frame → List Place → Option Exc → Move
+step_try unhandled uncleaned fs ps exc = onward fs ps exc
+step_try unhandled (finally body) fs ps exc = onward (steps_left body ∷ in_cleanup exc ∷ fs) ps None
+step_try (except name body) cleanup fs ps None = onward (in_try unhandled cleanup ∷ fs) ps None
+step_try (except name body) cleanup fs ps (Some e) = handler_if (keep (named name) e) (drop (named name) e) e body cleanup fs ps
+
+-- a pass has ended: the next one begins, if it ended without an exception and there is one
+abbrev pub step_pass : ℕ → ℕ → Steps → List Frame → List Place → Option Exc → Move
+step_pass pass left body fs ps (Some e) = onward fs ps (Some e)
+step_pass pass zero body fs ps None = onward fs ps None
+step_pass pass (suc k) body fs ps None = onward (steps_left body ∷ in_repeat (suc pass) k body ∷ fs) ps None
+
+-- a task that stops after this outcome: its last event is its sign, if it failed
+abbrev pub ends_as : Stopped → Option Exc → ℕ → List Frame → List Place → Move
+ends_as s exc t fs ps = record { frames = fs; places = ps; exc = None; made = signs_home exc ps t; begun = []; stopped = Some s }
+
+-- One step by the innermost frame. A task with no frame left ends, and one whose nursery's body has ended waits.
+abbrev pub step_frames : Table → ℕ → Here → List Frame → List Place → Option Exc → ℕ → Move
+step_frames froms t here [] ps exc count = ends_as (at_end t exc) exc t [] ps
+step_frames froms t here (steps_left ss ∷ fs) ps exc count = step_steps froms t here ss fs ps exc count
+step_frames froms t here (in_scope fail ∷ fs) [] exc count = onward fs [] exc
+step_frames froms t here (in_scope fail ∷ fs) (p ∷ ps) exc count = leaves froms t (a_scope fail) fs p ps exc
+step_frames froms t here (in_nursery children ∷ fs) [] exc count = onward fs [] exc
+step_frames froms t here (in_nursery children ∷ fs) (p ∷ ps) exc count = ends_as (awaiting children t exc) exc t fs (p ∷ ps)
+step_frames froms t here (in_repeat pass left body ∷ fs) ps exc count = step_pass pass left body fs ps exc
+step_frames froms t here (in_try handler cleanup ∷ fs) ps exc count = step_try handler cleanup fs ps exc
+step_frames froms t here (in_handler rest cleanup ∷ fs) ps exc count = onward (in_try unhandled cleanup ∷ fs) ps (handler_exc exc rest)
+step_frames froms t here (in_cleanup outcome ∷ fs) ps exc count = onward fs ps (outcome_after outcome exc)
+
+-- one step of a task in tick t of a world with these froms
+unfoldable pub step_of : Table → ℕ → Here → Midway → Move
+step_of froms t here m = step_frames froms t here m.frames m.places m.exc m.count
+
+-- a turn: steps until the task stops, at most the given number; each reads the froms that the steps before it left
+unfoldable pub turn_of : ℕ → Table → ℕ → Here → Midway → Move
+turn_of zero froms t here m = unmoved m
+turn_of (suc n) froms t here m =
+    let o = step_of froms t here m in
+    then_move o.stopped o (turn_of n (froms_after froms o.made) t here (moved m o))
