@@ -21,7 +21,7 @@ use Rattle.json_tables.specs.Sweeps.{value_json, sweep_json}
 use Rattle.json_tables.specs.Races.{difference_json, differences_json, race_line_json, races_json}
 use Rattle.json_tables.specs.Lints.{name_or_null, warning_json, lints_json}
 
--- ---- what becomes of a job
+-- ---- the outcome of a job
 
 labels_have_none : (ls : List Label) → items_have_float (items_of (map label_json ls)) ≡ false
 labels_have_none [] = refl

@@ -1,4 +1,4 @@
--- The values of lines, with the text of the step as it was given on.
+-- The values of lines, with the text of the step as it was passed on.
 use Rattle.std.proofs.Common.{◌≡◌, ℕ, List, ap, ◌∙◌}
 use Rattle.serde_json.specs.Data.{Data}
 use Rattle.exc_groups.specs.Exceptions.{Label}

@@ -1,4 +1,4 @@
--- Worked documents, by computing.
+-- Worked documents, proved by computing.
 use Rattle.std.specs.Prelude.{◌≡◌, ℕ, true, false, Some, None, List, [], ◌∷◌, ◌++◌, codes, refl}
 use Rattle.std.specs.Fmt.{digits}
 use Rattle.json.specs.Print.{escape_byte}
@@ -20,8 +20,8 @@ use Rattle.json_tables.specs.Sweeps.{sweep_json}
 use Rattle.json_tables.specs.Races.{races_json}
 use Rattle.json_tables.specs.Lints.{lints_json}
 
--- A fault that is lost, one that leaves a task asleep and is not reached, and a text that is refused. A backslash of a step is doubled as in a
--- report, and once more by JSON.
+-- A fault whose exception is lost, one that leaves a task asleep and is not reached, and a text that is refused. A backslash of a
+-- step is doubled as in a report, and once more by JSON.
 pub faults_are_written :
     document (faults_json 50 (ended 3 (Some cancelled) [] [] false)
     (told 7 11 (wait.Sleep 3) Fails true
@@ -39,7 +39,7 @@ pub faults_are_written :
 unfolding digits escape_byte
 faults_are_written = refl
 
--- neighbours do not share a line
+-- each value has a line of its own
 pub sweep_is_written :
     document (sweep_json 50 (ended 3 None [] [] false)
     (value 1 (ended 3 None [] [] false) ∷ value 2 (ended 3 None [] [] false) ∷ value 3 (stuck []) ∷ value 4 refused ∷ []))
@@ -68,7 +68,7 @@ pub races_are_written :
 unfolding digits escape_byte
 races_are_written = refl
 
--- with the places in this text, of two lines
+-- with the places in this text, which has two lines
 pub lints_are_written :
     document (lints_json (codes "nursery 1\njob x { forever; sleep 1; }")
     (record { at = 26; lint = Unreachable; name = None } ∷ record { at = 18; lint = IdleScope; name = Some (codes "s") } ∷ []))

@@ -1,4 +1,4 @@
--- What becomes of a job with each fault, as a JSON value.
+-- The outcomes of a job with each fault, as a JSON value.
 use Rattle.std.specs.Prelude.{ℕ, List, length, map, codes}
 use Rattle.serde_json.specs.Data.{Data, boolean, object, member, no_members}
 use Rattle.fault_text.specs.JobOutcomes.{JobOutcome, is_stuck, has_cut, has_lost, is_refused}
@@ -21,7 +21,7 @@ fault_counts_json ls =
     (member (codes "refused") (integer (count (λ l. is_refused l.job_outcome) ls)) (member (codes "stuck") (integer (count (λ l. is_stuck l.job_outcome) ls))
     no_members))))))
 
--- the job as it is, the counts, and each fault
+-- the outcome of the job as it is, the counts, and the outcome with each fault
 abbrev pub faults_json : ℕ → JobOutcome → List Line → Data
 faults_json limit first ls =
     object (member (codes "as_it_is") (first_json limit first) (member (codes "counts") (fault_counts_json ls)

@@ -8,7 +8,7 @@ use Rattle.job_lint.specs.declared.warning.Lint.TheVariants.{Unreachable, Expose
 use Rattle.job_lint.specs.declared.warning.Warning.{Warning}
 use Rattle.json_report.specs.Values.{integer, word, list_of, text_json}
 
--- the kind of a mistake, in a word
+-- the kind of a mistake, in one word
 abbrev pub kind_word : Lint → List ℕ
 kind_word Unreachable = codes "unreachable"
 kind_word ExposedWait = codes "exposed_wait"
@@ -32,7 +32,7 @@ warning_json text w =
 abbrev pub warning_counts_json : List Warning → Data
 warning_counts_json ws = object (member (codes "warnings") (integer (length ws)) no_members)
 
--- the count, and each warning on the job of a text
+-- the count, and each warning about the job of a text
 abbrev pub lints_json : List ℕ → List Warning → Data
 lints_json text ws =
     object (member (codes "counts") (warning_counts_json ws) (member (codes "lines") (list_of (map (warning_json text) ws)) no_members))

@@ -1,4 +1,4 @@
--- The places of a job that its outcome hangs on by a hair, as a JSON value.
+-- The places of a job on which its outcome depends by a hair, as a JSON value.
 use Rattle.std.specs.Prelude.{ℕ, true, List, [], ◌∷◌, length, map, codes}
 use Rattle.serde_json.specs.Data.{Data, boolean, object, member, no_members}
 use Rattle.exc_groups.specs.Exceptions.{Label}
@@ -16,7 +16,7 @@ difference_json (otherwise task before after) =
 difference_json (inside task) =
     object (member (codes "entries_differ") (boolean true) (member (codes "task") (label_json task) no_members))
 
--- all differences: none where the text is refused
+-- all differences, or none where the text is refused
 abbrev pub differences_json : Found → List Data
 differences_json refused = []
 differences_json (differs tasks) = map difference_json tasks
@@ -41,7 +41,7 @@ copies_json line column one other tick step =
     (member (codes "step") (text_json step) (member (codes "tasks") (list_of (label_json one ∷ label_json other ∷ []))
     (member (codes "tick") (integer tick) no_members))))))
 
--- a line, with what stands at its place
+-- a line, with the text of the step at its place
 abbrev pub race_line_json : Line → Data
 race_line_json (finer found) = finer_json found
 race_line_json (moved line column moment hair found) = moved_json line column hair found (step_text (moved line column moment hair found))
@@ -54,7 +54,7 @@ race_counts_json hairs ls =
     object (member (codes "hairs") (integer hairs) (member (codes "races") (integer (length (only is_race ls)))
     (member (codes "refused") (integer (length (only is_refused ls))) no_members)))
 
--- the counts, and the lines of which something is to be told
+-- the counts, and the lines that are shown
 abbrev pub races_json : ℕ → List Line → Data
 races_json hairs ls =
     object (member (codes "counts") (race_counts_json hairs ls)

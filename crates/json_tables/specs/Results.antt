@@ -1,11 +1,11 @@
--- What becomes of a job by a limit, as a JSON value. The members of an object stand in the order of their keys.
+-- The outcome of a job that runs up to a limit, as a JSON value. The members of an object are in the order of their keys.
 use Rattle.std.specs.Prelude.{ℕ, Option, Some, None, List, map, codes}
 use Rattle.serde_json.specs.Data.{Data, null, boolean, object, member, no_members}
 use Rattle.exc_groups.specs.Exceptions.{Exc, cancelled}
 use Rattle.fault_text.specs.JobOutcomes.{JobOutcome, refused, stuck, ended}
 use Rattle.json_report.specs.Values.{integer, word, list_of, label_json, exc_json}
 
--- how a job ends, in a word: well, with one `Cancelled` outside any group, or with another exception
+-- how a job ends, in one word: without an exception, with one `Cancelled` outside any group, or with another exception
 abbrev pub end_word : Option Exc → List ℕ
 end_word None = codes "done"
 end_word (Some cancelled) = codes "cancelled"
@@ -27,6 +27,6 @@ result_json limit (ended end exc labels cut lost) =
     (member (codes "end") (integer end) (member (codes "exception") (exc_or_null exc) (member (codes "lost") (boolean lost)
     (member (codes "outcome") (word (end_word exc)) no_members))))))
 
--- what becomes of the job as it is: `{"result":RESULT}`
+-- the outcome of the job as it is: `{"result":RESULT}`
 abbrev pub first_json : ℕ → JobOutcome → Data
 first_json limit first = object (member (codes "result") (result_json limit first) no_members)

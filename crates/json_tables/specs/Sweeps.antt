@@ -1,4 +1,4 @@
--- What becomes of a job for each value of a number, as a JSON value.
+-- The outcomes of a job for each value of a number, as a JSON value.
 use Rattle.std.specs.Prelude.{ℕ, List, length, map, codes}
 use Rattle.serde_json.specs.Data.{Data, object, member, no_members}
 use Rattle.fault_text.specs.JobOutcomes.{JobOutcome, is_stuck, has_cut, is_refused}
@@ -17,7 +17,7 @@ value_counts_json vs =
     object (member (codes "cut") (integer (count has_cut vs)) (member (codes "refused") (integer (count is_refused vs))
     (member (codes "stuck") (integer (count is_stuck vs)) (member (codes "values") (integer (length vs)) no_members))))
 
--- the job as it is, the counts, and each value
+-- the outcome of the job as it is, the counts, and the outcome for each value
 abbrev pub sweep_json : ℕ → JobOutcome → List Value → Data
 sweep_json limit first vs =
     object (member (codes "as_it_is") (first_json limit first) (member (codes "counts") (value_counts_json vs)

@@ -13,8 +13,9 @@ use json_report::{document, text_value};
 use serde_json::{Value, json};
 use std::alloc::{AllocError, Global};
 
-/// What becomes of a job, as one JSON document in compact form and with a newline: as it is (`first`), with each fault, and how many faults are of
-/// each kind. The limit is the last tick at which the job may end. Want of memory is the only error.
+/// Returns one JSON document with the outcome of a job as it is (`first`), its outcome with each fault, and how many faults are
+/// of each kind. The document is compact and ends with a newline. `limit` is the last tick at which the job may end. Returns
+/// `AllocError` if memory is refused.
 #[tactic(auto, using(crate::proofs::Integers::faults_without_float))]
 pub fn faults_json(
     alloc: Global,
@@ -28,7 +29,7 @@ pub fn faults_json(
     document(alloc, &value)
 }
 
-// The same as a JSON object.
+// Returns the same as a JSON object.
 fn faults_value(
     alloc: Global,
     limit: u64,
@@ -43,7 +44,7 @@ fn faults_value(
     json!(in alloc; {"as_it_is": as_it_is, "counts": counts, "lines": values})
 }
 
-// What becomes of a job with each fault, as JSON objects.
+// Returns the outcomes of a job with each fault, as JSON objects.
 fn line_values(alloc: Global, limit: u64, lines: &[Line]) -> Result<Vec<Value>, AllocError>
     ensures { IfOk result (λ values. map view values.items ≡ map (fault_line_json limit) (map line_held lines.now)) }
 {
@@ -55,7 +56,7 @@ fn line_values(alloc: Global, limit: u64, lines: &[Line]) -> Result<Vec<Value>, 
     Ok(values)
 }
 
-// What becomes of a job with a fault, as a JSON object.
+// Returns the outcome of a job with a fault, as a JSON object.
 fn line_value(alloc: Global, limit: u64, line: &Line) -> Result<Value, AllocError>
     ensures { IfOk result (λ value. view value ≡ fault_line_json limit (line_held line.now)) }
 {
@@ -71,7 +72,7 @@ fn line_value(alloc: Global, limit: u64, line: &Line) -> Result<Value, AllocErro
     })
 }
 
-// The step of a line.
+// Returns the text of the step of a line.
 fn step_value(alloc: Global, line: &Line) -> Result<Value, AllocError>
     ensures { IfOk result (λ value. view value ≡ text_json (step_text (line_held line.now))) }
 {
@@ -80,7 +81,7 @@ fn step_value(alloc: Global, line: &Line) -> Result<Value, AllocError>
     text_value(alloc, text.as_slice())
 }
 
-// The name of a fault.
+// Returns the name of a fault.
 fn fault_word(fault: Fault) -> &'static str
     ensures { result.now ≡ fault_text fault }
 {
@@ -93,7 +94,7 @@ fn fault_word(fault: Fault) -> &'static str
     }
 }
 
-// How many faults are of each kind.
+// Returns how many faults are of each kind.
 fn counts_value(alloc: Global, lines: &[Line]) -> Result<Value, AllocError>
     ensures { IfOk result (λ value. view value ≡ fault_counts_json (map line_held lines.now)) }
 {
@@ -107,14 +108,14 @@ fn counts_value(alloc: Global, lines: &[Line]) -> Result<Value, AllocError>
     })
 }
 
-// How many faults there are.
+// Returns how many faults there are.
 fn count_of(lines: &[Line]) -> usize
     ensures { result ≡ length (map line_held lines.now) }
 {
     lines.len()
 }
 
-// How many jobs do not end by the limit.
+// Returns with how many faults the job does not end by the limit.
 fn stuck_in(lines: &[Line]) -> usize
     ensures { result ≡ count (λ l. is_stuck l.job_outcome) (map line_held lines.now) }
 {
@@ -124,7 +125,7 @@ fn stuck_in(lines: &[Line]) -> usize
         .count()
 }
 
-// How many jobs cut a cleanup.
+// Returns with how many faults the job cuts a cleanup.
 fn cut_in(lines: &[Line]) -> usize
     ensures { result ≡ count (λ l. has_cut l.job_outcome) (map line_held lines.now) }
 {
@@ -134,7 +135,7 @@ fn cut_in(lines: &[Line]) -> usize
         .count()
 }
 
-// How many jobs lose the fault's exception.
+// Returns with how many faults the exception of the fault is lost.
 fn lost_in(lines: &[Line]) -> usize
     ensures { result ≡ count (λ l. has_lost l.job_outcome) (map line_held lines.now) }
 {
@@ -144,14 +145,14 @@ fn lost_in(lines: &[Line]) -> usize
         .count()
 }
 
-// How many faults are not reached.
+// Returns how many faults are not reached.
 fn unreached_in(lines: &[Line]) -> usize
     ensures { result ≡ count is_unreached (map line_held lines.now) }
 {
     lines.iter().filter(|line| line.is_unreached()).count()
 }
 
-// How many texts are refused.
+// Returns with how many faults the text is refused.
 fn refused_in(lines: &[Line]) -> usize
     ensures { result ≡ count (λ l. is_refused l.job_outcome) (map line_held lines.now) }
 {

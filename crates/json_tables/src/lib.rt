@@ -1,9 +1,9 @@
-//! What becomes of a job with faults, for values of a number and by a hair, and what is probably wrong in it, each as one JSON document.
+//! The outcomes of a job with faults and for values of a number, its races, and the warnings about it, each as one JSON document.
 //!
-//! The layer promises that `faults_json`, `sweep_json`, `races_json` and `lints_json` give the JSON text of a definition over the same lines that the
-//! text tables tell (`specs/`). Bytes of a job text and of names are shown as in a report, so a backslash is doubled and a byte that is not printable
-//! ASCII is escaped. It stands on `fault_text`, `sweep_text`, `race_text` and `job_lint` for the lines, and on `json_report` for the values of labels,
-//! exceptions and bytes.
+//! The layer promises that `faults_json`, `sweep_json`, `races_json` and `lints_json` return the JSON text of a definition over
+//! the same lines that the text tables have (`specs/`). Bytes of a job text and of names are shown as in a report, so a backslash
+//! is doubled and a byte that is not printable ASCII is escaped. It uses `fault_text`, `sweep_text`, `race_text` and `job_lint`
+//! for the lines, and `json_report` for the values of labels, exceptions and bytes.
 #![tactic(auto)]
 
 mod fault_lines;

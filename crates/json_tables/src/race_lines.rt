@@ -16,9 +16,9 @@ use race_text::{Found, Line, races_in, refused_in, step_of};
 use serde_json::{Value, json};
 use std::alloc::{AllocError, Global};
 
-/// What is told of a job with one of its places moved by a hair, as one JSON document in compact form and with a newline: each line of which
-/// something is to be told, in their order, with all differences; and how many hairs were tried, and how many lines are races. Want of memory is
-/// the only error.
+/// Returns one JSON document with each line of the table of races that is shown, in their order and with all differences, and
+/// with how many hairs were tried, how many lines are races, and how many texts were refused. The document is compact and ends
+/// with a newline. Returns `AllocError` if memory is refused.
 #[tactic(auto, using(crate::proofs::Integers::races_without_float))]
 pub fn races_json(alloc: Global, hairs: usize, lines: &[Line]) -> Result<Vec<u8>, AllocError>
     ensures { IfOk result (λ bytes. bytes.items ≡ document (races_json hairs (map line_held lines.now))) }
@@ -27,7 +27,7 @@ pub fn races_json(alloc: Global, hairs: usize, lines: &[Line]) -> Result<Vec<u8>
     document(alloc, &value)
 }
 
-// The same as a JSON object.
+// Returns the same as a JSON object.
 fn races_value(alloc: Global, hairs: usize, lines: &[Line]) -> Result<Value, AllocError>
     ensures { IfOk result (λ value. view value ≡ races_json hairs (map line_held lines.now)) }
 {
@@ -36,7 +36,7 @@ fn races_value(alloc: Global, hairs: usize, lines: &[Line]) -> Result<Value, All
     json!(in alloc; {"counts": counts, "lines": values})
 }
 
-// How many hairs were tried, how many lines are races, and how many texts were refused.
+// Returns how many hairs were tried, how many lines are races, and how many texts were refused.
 fn counts_value(alloc: Global, hairs: usize, lines: &[Line]) -> Result<Value, AllocError>
     ensures { IfOk result (λ value. view value ≡ race_counts_json hairs (map line_held lines.now)) }
 {
@@ -47,7 +47,7 @@ fn counts_value(alloc: Global, hairs: usize, lines: &[Line]) -> Result<Value, Al
     })
 }
 
-// The lines of which something is to be told, as JSON objects.
+// Returns the lines that are shown, as JSON objects.
 fn line_values(alloc: Global, lines: &[Line]) -> Result<Vec<Value>, AllocError>
     ensures { IfOk result (λ values. map view values.items ≡ map race_line_json (only is_shown (map line_held lines.now))) }
 {
@@ -58,7 +58,7 @@ fn line_values(alloc: Global, lines: &[Line]) -> Result<Vec<Value>, AllocError>
     Ok(values)
 }
 
-// Pushes a line, if something is to be told of it. The clause has the lines that a loop pushes later, `others`, on both sides.
+// Appends a line, if it is shown. The contract has the lines that a loop appends later, `others`, on both sides.
 fn push_if_shown(values: &mut Vec<Value>, alloc: Global, line: &Line) -> Result<(), AllocError>
     ensures { OnOk result ((others : List told.Line) →
         map view values.new.items ++ map race_line_json others
@@ -72,7 +72,7 @@ fn push_if_shown(values: &mut Vec<Value>, alloc: Global, line: &Line) -> Result<
     Ok(())
 }
 
-// A line as a JSON object.
+// Returns a line as a JSON object.
 #[tactic(auto, using(crate::proofs::Raced::of_moved, crate::proofs::Raced::of_copies))]
 fn line_value(alloc: Global, line: &Line) -> Result<Value, AllocError>
     ensures { IfOk result (λ value. view value ≡ race_line_json (line_held line.now)) }
@@ -104,7 +104,7 @@ fn line_value(alloc: Global, line: &Line) -> Result<Value, AllocError>
     }
 }
 
-// The text in finer ticks.
+// Returns the line of the text in finer ticks.
 fn finer_value(alloc: Global, found: &Found) -> Result<Value, AllocError>
     ensures { IfOk result (λ value. view value ≡ finer_json (found_held found.now)) }
 {
@@ -112,7 +112,7 @@ fn finer_value(alloc: Global, found: &Found) -> Result<Value, AllocError>
     json!(in alloc; {"hair": "finer", "refused": found.is_refused(), "differences": differences})
 }
 
-// A place that is moved, with its step.
+// Returns the line of a place that is moved, with its step.
 fn moved_value(
     alloc: Global,
     line: usize,
@@ -135,7 +135,7 @@ fn moved_value(
     })
 }
 
-// Copies that meet, with the step that starts them.
+// Returns the line of copies that meet, with the step that starts them.
 fn copies_value(
     alloc: Global,
     line: usize,
@@ -159,7 +159,7 @@ fn copies_value(
     })
 }
 
-// Two tasks.
+// Returns the labels of two tasks.
 fn pair_value(alloc: Global, one: &Label, other: &Label) -> Result<Value, AllocError>
     ensures { IfOk result (λ value. view value ≡ list_of (label_json one.now ∷ label_json other.now ∷ [])) }
 {
@@ -168,7 +168,7 @@ fn pair_value(alloc: Global, one: &Label, other: &Label) -> Result<Value, AllocE
     json!(in alloc; [first, second])
 }
 
-// The direction of a hair, in a word.
+// Returns the direction of a hair, in one word.
 fn hair_word(hair: Hair) -> &'static str
     ensures { result.now ≡ hair_name hair }
 {
@@ -178,7 +178,7 @@ fn hair_word(hair: Hair) -> &'static str
     }
 }
 
-// What differs, as JSON objects.
+// Returns what differs, as JSON objects.
 fn difference_values(alloc: Global, found: &Found) -> Result<Vec<Value>, AllocError>
     ensures { IfOk result (λ values. map view values.items ≡ differences_json (found_held found.now)) }
 {
@@ -188,7 +188,7 @@ fn difference_values(alloc: Global, found: &Found) -> Result<Vec<Value>, AllocEr
     }
 }
 
-// Differences as JSON objects.
+// Returns differences as JSON objects.
 fn values_of(alloc: Global, tasks: &[Difference]) -> Result<Vec<Value>, AllocError>
     ensures { IfOk result (λ values. map view values.items ≡ map difference_json (map difference_held tasks.now)) }
 {
@@ -200,7 +200,7 @@ fn values_of(alloc: Global, tasks: &[Difference]) -> Result<Vec<Value>, AllocErr
     Ok(values)
 }
 
-// A task that differs, as a JSON object.
+// Returns a task that differs, as a JSON object.
 fn difference_value(alloc: Global, difference: &Difference) -> Result<Value, AllocError>
     ensures { IfOk result (λ value. view value ≡ difference_json (difference_held difference.now)) }
 {

@@ -12,7 +12,8 @@ use json_report::{exc_value, label_value};
 use serde_json::{Value, json};
 use std::alloc::{AllocError, Global};
 
-/// What becomes of a job by a limit in ticks, as a JSON object. Want of memory is the only error.
+/// Returns the outcome of a job that runs up to `limit`, which is the last tick at which it may end, as a JSON object. Returns
+/// `AllocError` if memory is refused.
 pub fn result_value(
     alloc: Global,
     limit: u64,
@@ -48,7 +49,7 @@ pub fn result_value(
     }
 }
 
-// What becomes of the job as it is.
+// Returns the outcome of the job as it is, as a JSON object.
 pub(crate) fn first_value(
     alloc: Global,
     limit: u64,
@@ -60,7 +61,7 @@ pub(crate) fn first_value(
     json!(in alloc; {"result": result})
 }
 
-// How a job ends, in a word.
+// Returns how a job ends, in one word.
 fn end_word(exc: &Option<Exc>) -> &'static str
     ensures { result.now ≡ end_word (option_map exc_of exc.now) }
 {
@@ -70,7 +71,7 @@ fn end_word(exc: &Option<Exc>) -> &'static str
     exc_word(exc)
 }
 
-// With what exception a job ends, in a word: a cancellation, or another.
+// Returns with what exception a job ends, in one word: a cancellation, or another exception.
 fn exc_word(exc: &Exc) -> &'static str
     ensures { result.now ≡ end_word (Some (exc_of exc.now)) }
 {
@@ -80,7 +81,7 @@ fn exc_word(exc: &Exc) -> &'static str
     }
 }
 
-// The exception that a job ends with, or `null`.
+// Returns the exception with which a job ends, or `null` if it ends without one.
 fn exception_value(alloc: Global, exc: &Option<Exc>) -> Result<Value, AllocError>
     ensures { IfOk result (λ value. view value ≡ exc_or_null (option_map exc_of exc.now)) }
 {
@@ -90,7 +91,7 @@ fn exception_value(alloc: Global, exc: &Option<Exc>) -> Result<Value, AllocError
     }
 }
 
-// Labels as JSON strings.
+// Returns labels as JSON strings.
 fn label_values(alloc: Global, labels: &[Label]) -> Result<Vec<Value>, AllocError>
     ensures { IfOk result (λ values. map view values.items ≡ map label_json labels.now) }
 {

@@ -14,8 +14,9 @@ use serde_json::{Value, json};
 use std::alloc::{AllocError, Global};
 use sweep_text::Value as Swept;
 
-/// What becomes of a job, as one JSON document in compact form and with a newline: as it is (`first`), for each value of a number in their order,
-/// ticks included, and how many values are of each kind. The limit is the last tick at which the job may end. Want of memory is the only error.
+/// Returns one JSON document with the outcome of a job as it is (`first`), its outcome for each value of a number in their order,
+/// including the ticks, and how many values are of each kind. The document is compact and ends with a newline. `limit` is the
+/// last tick at which the job may end. Returns `AllocError` if memory is refused.
 #[tactic(auto, using(crate::proofs::Integers::sweep_without_float))]
 pub fn sweep_json(
     alloc: Global,
@@ -29,7 +30,7 @@ pub fn sweep_json(
     document(alloc, &value)
 }
 
-// The same as a JSON object.
+// Returns the same as a JSON object.
 fn sweep_value(
     alloc: Global,
     limit: u64,
@@ -44,7 +45,7 @@ fn sweep_value(
     json!(in alloc; {"as_it_is": as_it_is, "counts": counts, "lines": lines})
 }
 
-// What becomes of a job for each value, as JSON objects.
+// Returns the outcomes of a job for each value, as JSON objects.
 fn line_values(alloc: Global, limit: u64, values: &[Swept]) -> Result<Vec<Value>, AllocError>
     ensures { IfOk result (λ lines. map view lines.items ≡ map (value_json limit) (map value_held values.now)) }
 {
@@ -56,7 +57,7 @@ fn line_values(alloc: Global, limit: u64, values: &[Swept]) -> Result<Vec<Value>
     Ok(lines)
 }
 
-// What becomes of a job for a value, as a JSON object.
+// Returns the outcome of a job for a value, as a JSON object.
 fn line_value(alloc: Global, limit: u64, value: &Swept) -> Result<Value, AllocError>
     ensures { IfOk result (λ line. view line ≡ value_json limit (value_held value.now)) }
 {
@@ -64,7 +65,7 @@ fn line_value(alloc: Global, limit: u64, value: &Swept) -> Result<Value, AllocEr
     json!(in alloc; {"value": value.value, "result": result})
 }
 
-// How many values are of each kind.
+// Returns how many values are of each kind.
 fn counts_value(alloc: Global, values: &[Swept]) -> Result<Value, AllocError>
     ensures { IfOk result (λ value. view value ≡ value_counts_json (map value_held values.now)) }
 {
@@ -76,28 +77,28 @@ fn counts_value(alloc: Global, values: &[Swept]) -> Result<Value, AllocError>
     })
 }
 
-// How many values there are.
+// Returns how many values there are.
 fn count_of(values: &[Swept]) -> usize
     ensures { result ≡ length (map value_held values.now) }
 {
     values.len()
 }
 
-// For how many values the job does not end by the limit.
+// Returns for how many values the job does not end by the limit.
 fn stuck_in(values: &[Swept]) -> usize
     ensures { result ≡ count is_stuck (map value_held values.now) }
 {
     values.iter().filter(|v| v.job_outcome.is_stuck()).count()
 }
 
-// For how many values the job cuts a cleanup.
+// Returns for how many values the job cuts a cleanup.
 fn cut_in(values: &[Swept]) -> usize
     ensures { result ≡ count has_cut (map value_held values.now) }
 {
     values.iter().filter(|v| v.job_outcome.has_cut()).count()
 }
 
-// For how many values the text is refused.
+// Returns for how many values the text is refused.
 fn refused_in(values: &[Swept]) -> usize
     ensures { result ≡ count is_refused (map value_held values.now) }
 {

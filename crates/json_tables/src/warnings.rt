@@ -11,8 +11,9 @@ use nursery_app::{column_of, line_of};
 use serde_json::{Value, json};
 use std::alloc::{AllocError, Global};
 
-/// The probable mistakes in a job text, as one JSON document in compact form and with a newline: how many there are, and each with its place in
-/// bytes, its line and column, its kind, the name that it is about and a sentence. Want of memory is the only error.
+/// Returns one JSON document with the warnings about a job text: how many there are, and each with its place in bytes, its line
+/// and column, its kind, the name that it is about, and a sentence. The document is compact and ends with a newline. Returns
+/// `AllocError` if memory is refused.
 #[tactic(auto, using(crate::proofs::Integers::lints_without_float))]
 pub fn lints_json(
     alloc: Global,
@@ -25,7 +26,7 @@ pub fn lints_json(
     document(alloc, &value)
 }
 
-// The same as a JSON object.
+// Returns the same as a JSON object.
 fn lints_value(alloc: Global, job_text: &[u8], warnings: &[Warning]) -> Result<Value, AllocError>
     ensures { IfOk result (λ value. view value ≡ lints_json job_text.now warnings.now) }
 {
@@ -34,14 +35,14 @@ fn lints_value(alloc: Global, job_text: &[u8], warnings: &[Warning]) -> Result<V
     json!(in alloc; {"counts": counts, "lines": lines})
 }
 
-// How many warnings there are.
+// Returns how many warnings there are.
 fn counts_value(alloc: Global, warnings: &[Warning]) -> Result<Value, AllocError>
     ensures { IfOk result (λ value. view value ≡ warning_counts_json warnings.now) }
 {
     json!(in alloc; {"warnings": warnings.len()})
 }
 
-// Warnings as JSON objects.
+// Returns warnings as JSON objects.
 fn warning_values(
     alloc: Global,
     job_text: &[u8],
@@ -57,7 +58,7 @@ fn warning_values(
     Ok(values)
 }
 
-// A warning as a JSON object.
+// Returns a warning as a JSON object.
 fn warning_value(alloc: Global, job_text: &[u8], warning: &Warning) -> Result<Value, AllocError>
     ensures { IfOk result (λ value. view value ≡ warning_json job_text.now warning.now) }
 {
@@ -73,7 +74,7 @@ fn warning_value(alloc: Global, job_text: &[u8], warning: &Warning) -> Result<Va
     })
 }
 
-// The sentence of a warning.
+// Returns the sentence of a warning.
 fn sentence_value(alloc: Global, warning: &Warning) -> Result<Value, AllocError>
     ensures { IfOk result (λ value. view value ≡ text_json (sentence_of warning.now)) }
 {
@@ -81,7 +82,7 @@ fn sentence_value(alloc: Global, warning: &Warning) -> Result<Value, AllocError>
     text_value(alloc, said.as_slice())
 }
 
-// A name, or `null`.
+// Returns a name, or `null` if there is none.
 fn name_value(alloc: Global, name: &Option<Name>) -> Result<Value, AllocError>
     ensures { IfOk result (λ value. view value ≡ name_or_null name.now) }
 {
@@ -91,7 +92,7 @@ fn name_value(alloc: Global, name: &Option<Name>) -> Result<Value, AllocError>
     }
 }
 
-// The kind of a mistake, in a word.
+// Returns the kind of a mistake, in one word.
 fn kind_word(lint: Lint) -> &'static str
     ensures { result.now ≡ kind_word lint }
 {

@@ -1,4 +1,4 @@
--- The documents of lines, by the lines and the limit as they were given on.
+-- The documents of lines, from the lines and the limit as they were passed on.
 use Rattle.std.proofs.Common.{◌≡◌, ℕ, ◌<◌, Bool, List, [], ◌∷◌, length, map, ap, subst, ◌∙◌, arith}
 use Rattle.std.specs.Prelude.{if◌then◌else◌}
 use Rattle.job_tree.specs.Tree.{Tree}

@@ -1,4 +1,4 @@
--- What `faults_json` answers: what becomes of a job with each fault, or the refusal of its text.
+-- What `faults_json` writes: the outcome of a job with each fault, or the refusal of its text.
 use Rattle.std.specs.Prelude.{◌≡◌, ℕ, ◌<◌, Option, List, length, take}
 use Rattle.std.specs.Io.KnownBytes.{Appends}
 use Rattle.job_tree.specs.Tree.{Tree}
@@ -15,7 +15,8 @@ use Rattle.json_report.specs.Values.{document}
 use Rattle.json_app.specs.Answers.{refusal_json}
 use Rattle.json_tables.specs.Faults.{faults_json}
 
--- These bytes tell of the job that the text spells, as it is and with each fault; and these lines of the text table are denied.
+-- These bytes are the document of the job that the text spells, as it is and with each fault; and these lines of the text table
+-- are denied.
 pub record IsDocument (text input : List ℕ) (limit : ℕ) (name : List ℕ) (deny : Deny) (bytes denied : List ℕ) : Type 0 where
   pub job : Tree
   pub spells : Spells text job
@@ -31,7 +32,7 @@ IsVerdict text input limit name deny (Told denied) bytes = IsDocument text input
 IsVerdict text input limit name deny (JobRefused fault) bytes =
     IsRefused text fault.kind fault.at × (bytes ≡ document (refusal_json text fault))
 
--- The verdict's bytes were sent, all of them.
+-- All bytes of the verdict were sent.
 abbrev pub IsSent : List ℕ → List ℕ → ℕ → List ℕ → Deny → Option (List ℕ) → Option (List ℕ) → FaultsVerdict → Type 0
 IsSent text input limit name deny before after verdict =
     (bytes : List ℕ) × IsVerdict text input limit name deny verdict bytes × Appends before after bytes

@@ -1,4 +1,4 @@
--- What `lints_json` answers: the probable mistakes in a job text, or its refusal.
+-- What `lints_json` writes: the probable mistakes in a job text, or its refusal.
 use Rattle.std.specs.Prelude.{◌≡◌, ℕ, ◌<◌, Option, List, [], length, take}
 use Rattle.std.specs.Io.KnownBytes.{Appends}
 use Rattle.job_grammar.specs.Refusals.{IsRefused}
@@ -12,7 +12,7 @@ use Rattle.json_tables.specs.Lints.{lints_json}
 use Rattle.json_tables_app.specs.declared.verdict.LintsVerdict.{LintsVerdict}
 use Rattle.json_tables_app.specs.declared.verdict.LintsVerdict.TheVariants.{Clean, Warned, JobRefused}
 
--- these bytes tell of the warnings of the job that the text spells
+-- these bytes are the document of the warnings about the job that the text spells
 pub record IsDocument (text : List ℕ) (found : List Warning) (bytes : List ℕ) : Type 0 where
   pub found_are : AreWarnings text found
   pub document_is : bytes ≡ document (lints_json text found)
@@ -23,7 +23,7 @@ IsVerdict text Clean bytes = IsDocument text [] bytes
 IsVerdict text Warned bytes = (found : List Warning) × (0 < length found) × IsDocument text found bytes
 IsVerdict text (JobRefused fault) bytes = IsRefused text fault.kind fault.at × (bytes ≡ document (refusal_json text fault))
 
--- The verdict's bytes were sent, all of them.
+-- All bytes of the verdict were sent.
 abbrev pub IsSent : List ℕ → Option (List ℕ) → Option (List ℕ) → LintsVerdict → Type 0
 IsSent text before after verdict = (bytes : List ℕ) × IsVerdict text verdict bytes × Appends before after bytes
 

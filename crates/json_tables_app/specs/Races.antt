@@ -1,4 +1,5 @@
--- What `races_json` answers: which places of a job its outcome hangs on by a hair, or the refusal of its text, or why nothing is told.
+-- What `races_json` writes: the places of a job on which its outcome depends by a hair, or the refusal of its text, or the limit,
+-- or nothing.
 use Rattle.std.specs.Prelude.{◌≡◌, ℕ, ◌<◌, Bool, if◌then◌else◌, Option, List, [], length, take}
 use Rattle.std.specs.Io.KnownBytes.{Appends}
 use Rattle.job_tree.specs.Tree.{Tree}
@@ -15,12 +16,12 @@ use Rattle.json_report.specs.Values.{document}
 use Rattle.json_app.specs.Answers.{refusal_json, limit_json}
 use Rattle.json_tables.specs.Races.{races_json}
 
--- these bytes tell of lines for so many hairs; and these lines of the text table are denied
+-- these bytes are the document of these lines and this number of hairs; and these lines of the text table are denied
 pub record IsDocumentOf (deny : Bool) (hairs : ℕ) (lines : List Line) (denied bytes : List ℕ) : Type 0 where
   pub document_is : bytes ≡ document (races_json hairs lines)
   pub denied_are : denied ≡ (if deny then denied_text lines else [])
 
--- these bytes tell of each hair of each place of the text; and these lines of the text table are denied
+-- these bytes are the document of each hair of each place of the text; and these lines of the text table are denied
 abbrev pub IsDocument : List ℕ → List ℕ → ℕ → Bool → Tree → List ℕ → List ℕ → Type 0
 IsDocument text input limit deny job denied bytes =
     (hairs : ℕ) × (lines : List Line) × AreRaceLines text input limit job hairs lines × IsDocumentOf deny hairs lines denied bytes
@@ -39,7 +40,7 @@ IsVerdict text input limit deny (JobRefused fault) bytes =
 IsVerdict text input limit deny verdict bytes =
     (job : Tree) × Spells text job × IsJobVerdict text job input limit deny verdict bytes
 
--- The verdict's bytes were sent, all of them.
+-- All bytes of the verdict were sent.
 abbrev pub IsSent : List ℕ → List ℕ → ℕ → Bool → Option (List ℕ) → Option (List ℕ) → RacesVerdict → Type 0
 IsSent text input limit deny before after verdict =
     (bytes : List ℕ) × IsVerdict text input limit deny verdict bytes × Appends before after bytes

@@ -1,4 +1,5 @@
--- What `sweep_json` answers: what becomes of a job for each value of a number, or the refusal of its text, or that it has no such number.
+-- What `sweep_json` writes: the outcome of a job for each value of a number, or the refusal of its text, or nothing where it has
+-- no such number.
 use Rattle.std.specs.Prelude.{◌≡◌, ℕ, ◌<◌, Option, List, [], length, take}
 use Rattle.std.specs.Io.KnownBytes.{Appends}
 use Rattle.job_tree.specs.Tree.{Tree}
@@ -15,7 +16,7 @@ use Rattle.json_report.specs.Values.{document}
 use Rattle.json_app.specs.Answers.{refusal_json}
 use Rattle.json_tables.specs.Sweeps.{sweep_json}
 
--- these bytes tell what becomes of the job as it is, and for each value of the number that is meant
+-- these bytes are the document of the outcome of the job as it is, and for each value of the number that the target names
 pub record IsDocument (text : List ℕ) (job : Tree) (input : List ℕ) (limit : ℕ) (target : Target) (values bytes : List ℕ) : Type 0 where
   pub first : JobOutcome
   pub vs : List Value
@@ -35,7 +36,7 @@ IsVerdict text input limit target values (JobRefused fault) bytes =
 IsVerdict text input limit target values verdict bytes =
     (job : Tree) × Spells text job × IsJobVerdict text job input limit target values verdict bytes
 
--- The verdict's bytes were sent, all of them.
+-- All bytes of the verdict were sent.
 abbrev pub IsSent : List ℕ → List ℕ → ℕ → Target → List ℕ → Option (List ℕ) → Option (List ℕ) → SweepVerdict → Type 0
 IsSent text input limit target values before after verdict =
     (bytes : List ℕ) × IsVerdict text input limit target values verdict bytes × Appends before after bytes

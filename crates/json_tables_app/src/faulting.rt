@@ -15,14 +15,17 @@ use nursery_app::{Gate, ServeFault};
 use std::alloc::{AllocError, Global};
 use std::thread::Threads;
 
-/// Writes what becomes of a job over an input as one JSON document: as it is, and with each fault of each of its waiting steps, in the order of the
-/// steps' places; and how many faults are of each kind. It tells of the same lines as `faults` does, and has the same verdict, with the denied lines as
-/// they stand in the text table. A step that fails raises an exception of the given name. A job text that is refused has its refusal written, as a JSON
-/// document too.
+/// Writes one JSON document with the outcome of a job over an input as it is, its outcome with each fault of each of its waiting
+/// steps, in the order of the steps' places, and how many faults are of each kind. The lines are those of `faults`, and so is the
+/// verdict, which has the denied lines as they are in the text table. A step that fails raises an exception with the name `name`.
+/// If the job text is refused, the JSON document of the refusal is written. The caller must ensure that the input has at most
+/// 16,777,216 bytes (`MAX_INPUT`).
 ///
-/// The settings' number of workers is the number of threads among which the faults are split; the gate is called around each fault, with its
-/// place among the lines, by the thread that works on it. Neither changes a byte. All bytes are built before the first is sent, so after `NoMemory`
-/// nothing was sent; after `Send` the writer failed, and took the front of the bytes.
+/// The number of workers in `settings` is the number of threads that run the faults. The gate is called before and after each
+/// fault, with the place of the fault among the lines, by the thread that works on it. Neither changes a byte.
+///
+/// Returns a `ServeFault` if the writer failed (`Send`), which then took the first of the bytes, or if memory was refused. All
+/// bytes are built before the first is sent, so after `NoMemory` nothing was sent.
 pub fn faults_json<R: Threads + Sync, G: Gate + Sync, W: Out>(
     rt: &R,
     alloc: Global,
@@ -37,11 +40,11 @@ pub fn faults_json<R: Threads + Sync, G: Gate + Sync, W: Out>(
     requires input { length input.now ≤ MAX_INPUT }
     requires countable { W.failed out.old < 18446744073709551615 }
 
-    // The bytes written tell of each fault, or are the refusal of the text.
+    // The bytes written are the document of all faults, or that of the refusal of the text.
     ensures sent { IfOk result (IsSent job_text.now input.now settings.limit name deny (W.contents out.old) (W.contents out.new)) }
     ensures well { OnOk result (W.failed out.new ≡ W.failed out.old) }
 
-    // A writer that failed took the front of those bytes; after want of memory nothing was sent.
+    // A writer that failed took the first of those bytes. If memory was refused, nothing was sent.
     ensures fault { IfErr result (IsFaultsFault job_text.now input.now settings.limit name deny (W.contents out.old) (W.contents out.new)) }
     ensures counted { IfErr result (CountsFailure (W.failed out.old) (W.failed out.new)) }
 {
@@ -50,7 +53,7 @@ pub fn faults_json<R: Threads + Sync, G: Gate + Sync, W: Out>(
     Ok(verdict)
 }
 
-// The verdict and all its bytes.
+// Returns the verdict and all its bytes.
 fn answer<R: Threads + Sync, G: Gate + Sync>(
     rt: &R,
     alloc: Global,
@@ -78,7 +81,7 @@ fn answer<R: Threads + Sync, G: Gate + Sync>(
     }
 }
 
-// The lines that are denied, and the bytes of the document.
+// Returns the lines that are denied, and the bytes of the document.
 #[tactic(auto, using(crate::proofs::Documents::of_faults))]
 fn document_and_denied<R: Threads + Sync, G: Gate + Sync>(
     rt: &R,

@@ -11,9 +11,11 @@ use json_tables::lints_json as lints_document;
 use nursery_app::ServeFault;
 use std::alloc::{AllocError, Global};
 
-/// Writes the probable mistakes in a job text as one JSON document, in the order of the keywords that they are about, and how many there are. A job text
-/// that is refused has its refusal written, as a JSON document too. All bytes are built before the first is sent, so after `NoMemory` nothing was sent;
-/// after `Send` the writer failed, and took the front of the bytes.
+/// Writes one JSON document with the probable mistakes in a job text, in the order of the keywords that they are about, and how
+/// many there are. If the job text is refused, the JSON document of the refusal is written.
+///
+/// Returns a `ServeFault` if the writer failed (`Send`), which then took the first of the bytes, or if memory was refused. All
+/// bytes are built before the first is sent, so after `NoMemory` nothing was sent.
 pub fn lints_json<W: Out>(
     alloc: Global,
     job_text: &[u8],
@@ -21,11 +23,11 @@ pub fn lints_json<W: Out>(
 ) -> Result<LintsVerdict, ServeFault>
     requires countable { W.failed out.old < 18446744073709551615 }
 
-    // The bytes written tell of each warning, or are the refusal of the text.
+    // The bytes written are the document of all warnings, or that of the refusal of the text.
     ensures sent { IfOk result (IsSent job_text.now (W.contents out.old) (W.contents out.new)) }
     ensures well { OnOk result (W.failed out.new ≡ W.failed out.old) }
 
-    // A writer that failed took the front of those bytes; after want of memory nothing was sent.
+    // A writer that failed took the first of those bytes. If memory was refused, nothing was sent.
     ensures fault { IfErr result (IsLintsFault job_text.now (W.contents out.old) (W.contents out.new)) }
     ensures counted { IfErr result (CountsFailure (W.failed out.old) (W.failed out.new)) }
 {
@@ -34,7 +36,7 @@ pub fn lints_json<W: Out>(
     Ok(verdict)
 }
 
-// The verdict and all its bytes.
+// Returns the verdict and all its bytes.
 fn answer(alloc: Global, job_text: &[u8]) -> Result<(LintsVerdict, Vec<u8>), AllocError>
     ensures { IfOk result (λ r. IsVerdict job_text.now r.0 r.1.items) }
 {
@@ -50,7 +52,7 @@ fn answer(alloc: Global, job_text: &[u8]) -> Result<(LintsVerdict, Vec<u8>), All
     }
 }
 
-// The verdict on a text with these warnings, and all its bytes.
+// Returns the verdict on a text with these warnings, and all its bytes.
 #[tactic(auto, using(crate::proofs::Documents::of_none, crate::proofs::Documents::of_some))]
 fn answer_for_warnings(
     alloc: Global,

@@ -15,15 +15,18 @@ use race_app::{RaceAnswer, RaceLines, RacesVerdict, denied_if, race_lines};
 use std::alloc::{AllocError, Global};
 use std::thread::Threads;
 
-/// Writes what becomes of a job over an input where any one place of its text takes a hair more or less time, as one JSON document: each line of which
-/// something is to be told, with all differences, and the counts. It tells of the same lines as `races` does, and has the same verdict, with the
-/// denied lines as they stand in the text table where races are denied. Where the job does not end by the settings' limit, the limit is written; a job
-/// text that is refused has its refusal written, both as JSON documents too; where some number of ticks is too large to be made finer, nothing is
-/// written.
+/// Writes one JSON document about how the outcome of a job over an input changes if a single place of its text takes a hair more
+/// or less time: each line that is shown, with all differences, and the counts. The lines are those of `races`, and so is the
+/// verdict, which has the denied lines as they are in the text table if `deny` is true. If the job does not end by the limit of
+/// `settings`, the JSON document of the limit is written. If the job text is refused, the JSON document of the refusal is
+/// written. If a number of ticks is too large to be made finer, nothing is written. The caller must ensure that the input has at
+/// most 16,777,216 bytes (`MAX_INPUT`).
 ///
-/// The settings' number of workers is the number of threads among which the hairs are split; the gate is called around each, with its place
-/// among them, by the thread that works on it. Neither changes a byte. All bytes are built before the first is sent, so after `NoMemory` nothing was
-/// sent; after `Send` the writer failed, and took the front of the bytes.
+/// The number of workers in `settings` is the number of threads that run the hairs. The gate is called before and after each
+/// hair, with the place of the hair among them, by the thread that works on it. Neither changes a byte.
+///
+/// Returns a `ServeFault` if the writer failed (`Send`), which then took the first of the bytes, or if memory was refused. All
+/// bytes are built before the first is sent, so after `NoMemory` nothing was sent.
 pub fn races_json<R: Threads + Sync, G: Gate + Sync, W: Out>(
     rt: &R,
     alloc: Global,
@@ -37,11 +40,11 @@ pub fn races_json<R: Threads + Sync, G: Gate + Sync, W: Out>(
     requires input { length input.now ≤ MAX_INPUT }
     requires countable { W.failed out.old < 18446744073709551615 }
 
-    // The bytes written tell of each hair, or are the refusal of the text or the limit, or are none.
+    // The bytes written are the document of all hairs, or that of the refusal of the text or of the limit, or there are none.
     ensures sent { IfOk result (IsSent job_text.now input.now settings.limit deny (W.contents out.old) (W.contents out.new)) }
     ensures well { OnOk result (W.failed out.new ≡ W.failed out.old) }
 
-    // A writer that failed took the front of those bytes; after want of memory nothing was sent.
+    // A writer that failed took the first of those bytes. If memory was refused, nothing was sent.
     ensures fault { IfErr result (IsRacesFault job_text.now input.now settings.limit deny (W.contents out.old) (W.contents out.new)) }
     ensures counted { IfErr result (CountsFailure (W.failed out.old) (W.failed out.new)) }
 {
@@ -50,7 +53,7 @@ pub fn races_json<R: Threads + Sync, G: Gate + Sync, W: Out>(
     Ok(verdict)
 }
 
-// The verdict and all its bytes.
+// Returns the verdict and all its bytes.
 fn answer<R: Threads + Sync, G: Gate + Sync>(
     rt: &R,
     alloc: Global,
@@ -75,7 +78,7 @@ fn answer<R: Threads + Sync, G: Gate + Sync>(
     }
 }
 
-// The verdict on a text that spells a job, and all its bytes.
+// Returns the verdict on a text that spells a job, and all its bytes.
 fn answer_for_job<R: Threads + Sync, G: Gate + Sync>(
     rt: &R,
     alloc: Global,
@@ -100,7 +103,7 @@ fn answer_for_job<R: Threads + Sync, G: Gate + Sync>(
     }
 }
 
-// The lines that are denied, and the bytes of the document.
+// Returns the lines that are denied, and the bytes of the document.
 #[tactic(auto, using(crate::proofs::Documents::of_races))]
 fn document_and_denied(
     alloc: Global,

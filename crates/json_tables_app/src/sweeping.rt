@@ -15,14 +15,17 @@ use std::alloc::{AllocError, Global};
 use std::thread::Threads;
 use sweep_app::{SweepAnswer, SweepVerdict, sweep_values};
 
-/// Writes what becomes of a job over an input as one JSON document: as it is, and for each of these values of one of its numbers, in their order; and
-/// how many values are of each kind. It tells of the same values as `sweep` does, each on a line of its own with its ticks, and has the same verdict.
-/// A value that the text cannot have there is told as refused. A job text that is refused has its refusal written, as a JSON document too. Where the
-/// text does not have the number that is meant, nothing is written.
+/// Writes one JSON document with the outcome of a job over an input as it is, its outcome for each of these values of one of its
+/// numbers, in their order, and how many values are of each kind. The values are those of `sweep`, each on its own with its
+/// ticks, and the verdict is that of `sweep`. A value that the text cannot have at that place is shown as refused. If the job
+/// text is refused, the JSON document of the refusal is written. If the text does not have the number that `target` names,
+/// nothing is written. The caller must ensure that the input has at most 16,777,216 bytes (`MAX_INPUT`).
 ///
-/// The settings' number of workers is the number of threads among which the values are split; the gate is called around each value, with its
-/// place among them, by the thread that works on it. Neither changes a byte. All bytes are built before the first is sent, so after `NoMemory`
-/// nothing was sent; after `Send` the writer failed, and took the front of the bytes.
+/// The number of workers in `settings` is the number of threads that run the values. The gate is called before and after each
+/// value, with the place of the value among them, by the thread that works on it. Neither changes a byte.
+///
+/// Returns a `ServeFault` if the writer failed (`Send`), which then took the first of the bytes, or if memory was refused. All
+/// bytes are built before the first is sent, so after `NoMemory` nothing was sent.
 pub fn sweep_json<R: Threads + Sync, G: Gate + Sync, W: Out>(
     rt: &R,
     alloc: Global,
@@ -37,11 +40,11 @@ pub fn sweep_json<R: Threads + Sync, G: Gate + Sync, W: Out>(
     requires input { length input.now ≤ MAX_INPUT }
     requires countable { W.failed out.old < 18446744073709551615 }
 
-    // The bytes written tell of each value, or are the refusal of the text, or are none.
+    // The bytes written are the document of all values, or that of the refusal of the text, or there are none.
     ensures sent { IfOk result (IsSent job_text.now input.now settings.limit target values.now (W.contents out.old) (W.contents out.new)) }
     ensures well { OnOk result (W.failed out.new ≡ W.failed out.old) }
 
-    // A writer that failed took the front of those bytes; after want of memory nothing was sent.
+    // A writer that failed took the first of those bytes. If memory was refused, nothing was sent.
     ensures fault { IfErr result (IsSweepFault job_text.now input.now settings.limit target values.now (W.contents out.old) (W.contents out.new)) }
     ensures counted { IfErr result (CountsFailure (W.failed out.old) (W.failed out.new)) }
 {
@@ -50,7 +53,7 @@ pub fn sweep_json<R: Threads + Sync, G: Gate + Sync, W: Out>(
     Ok(verdict)
 }
 
-// The verdict and all its bytes.
+// Returns the verdict and all its bytes.
 fn answer<R: Threads + Sync, G: Gate + Sync>(
     rt: &R,
     alloc: Global,
@@ -78,7 +81,7 @@ fn answer<R: Threads + Sync, G: Gate + Sync>(
     }
 }
 
-// The verdict on a text that spells a job, and all its bytes.
+// Returns the verdict on a text that spells a job, and all its bytes.
 #[tactic(auto, using(crate::proofs::Documents::of_values))]
 fn answer_for_job<R: Threads + Sync, G: Gate + Sync>(
     rt: &R,

@@ -6,16 +6,17 @@ use job_grammar::JobFault;
 /// What `lints_json` wrote.
 #[derive(Debug, Drop)]
 pub enum LintsVerdict {
-    /// That nothing is probably wrong.
+    /// The document of a job text without warnings.
     Clean,
-    /// What is probably wrong, of which there is something.
+    /// The document of a job text with at least one warning.
     Warned,
-    /// The refusal of the job text.
+    /// The document of the refusal of the job text.
     JobRefused(JobFault),
 }
 
 impl LintsVerdict {
-    /// The exit status of the program that wrote this: 0 where nothing is probably wrong, 1 where something is, 2 where the job text was refused.
+    /// Returns the exit status of the program: 0 if there is no warning, 1 if there is at least one, and 2 if the job text was
+    /// refused.
     pub fn status(&self) -> u8
         ensures { result ≡ lints_status_of self.now }
     {

@@ -37,7 +37,7 @@ impl SleepSlots {
     ghost use Rattle.sleepers.specs.Sleeping.{scope_at};
     ghost use Rattle.sleepers.specs.Kept.{HasNone, IsEmpty, IsSame, Puts};
 
-    // No task sleeps.
+    // Creates the table in which no task sleeps.
     pub(crate) fn new(alloc: Global) -> SleepSlots
         ensures { HasNone result }
     {

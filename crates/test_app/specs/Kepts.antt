@@ -1,4 +1,4 @@
--- What clauses read of a writer that keeps its bytes.
+-- What contracts see of a writer that keeps its bytes.
 use Rattle.std.specs.Prelude.{ℕ, List}
 use Rattle.test_app.specs.declared.kept.Kept.{Kept}
 

@@ -12,7 +12,7 @@ use Rattle.expect_text.specs.Expectations.{Expected, present, absent, no_races, 
 use Rattle.test_app.specs.declared.met.Met.{Met}
 use Rattle.test_app.specs.declared.met.Met.TheVariants.{Yes, Found, Missing, Denied, Untold}
 
--- it is met; a line meets a pattern that none may meet; no line meets the pattern; these lines are denied; nothing is known
+-- it is met; a line matches a pattern that none may match; no line matches the pattern; these lines are denied; nothing is known
 pub data Answer : Type 0 where
   yes : Answer
   found : (in_story : Bool) → (number : ℕ) → Answer
@@ -27,19 +27,19 @@ answer_of Missing = missing
 answer_of (Denied lines) = denied lines.items
 answer_of Untold = untold
 
--- by the first lines of the report and of the story that meet a pattern which some line is to meet
+-- the answer from the first lines of the report and of the story that match a pattern that some line must match
 abbrev pub present_answer : (report story : Option ℕ) → Answer
 present_answer (Some n) story = yes
 present_answer None (Some n) = yes
 present_answer None None = missing
 
--- by those that meet a pattern which no line is to meet
+-- the answer from the first lines that match a pattern that no line may match
 abbrev pub absent_answer : (report story : Option ℕ) → Answer
 absent_answer (Some n) story = found false n
 absent_answer None (Some n) = found true n
 absent_answer None None = yes
 
--- by the lines that are denied
+-- the answer from the lines that are denied
 abbrev pub denied_answer : List ℕ → Answer
 denied_answer [] = yes
 denied_answer (b ∷ bs) = denied (b ∷ bs)
@@ -54,18 +54,18 @@ abbrev pub faults_answer : FaultsVerdict → Answer
 faults_answer (told_faults.Told lines) = denied_answer lines.items
 faults_answer (told_faults.JobRefused fault) = untold
 
--- the answer of what `races` tells of a job text over an input, where races are denied
+-- the answer from the verdict of `races` on a job text over an input, where races are denied
 abbrev pub IsRacesMet : (text input : List ℕ) → (limit : ℕ) → Answer → Type 0
 IsRacesMet text input limit answer =
     (verdict : RacesVerdict) × (bytes : List ℕ) × races.IsVerdict text input limit true verdict bytes × (answer ≡ races_answer verdict)
 
--- the answer of what `faults` tells, where these kinds are denied
+-- the answer from the verdict of `faults`, where these kinds are denied
 abbrev pub IsFaultsMet : (text input : List ℕ) → (limit : ℕ) → Deny → Answer → Type 0
 IsFaultsMet text input limit kinds answer =
     (verdict : FaultsVerdict) × (bytes : List ℕ) × faults.IsVerdict text input limit (codes "Fault") kinds verdict bytes
     × (answer ≡ faults_answer verdict)
 
--- the answer of an expectation of a job text over an input that has this report and this story
+-- the answer for an expectation of a job text over an input that has this report and this story
 abbrev pub IsMet : (text input : List ℕ) → (limit : ℕ) → Expected → (report story : List ℕ) → Answer → Type 0
 IsMet text input limit (present pattern) report story answer =
     answer ≡ present_answer (first_match pattern report) (first_match pattern story)

@@ -18,7 +18,7 @@ use Rattle.test_app.specs.declared.outputs.Output.TheVariants.{Report, Story, Ch
 abbrev pub all_outputs : List Output
 all_outputs = Report ∷ Story ∷ Chart ∷ Faults ∷ Races ∷ []
 
--- the report of the job's meaning, or the refusal or the line of the limit that stands for it
+-- the report of the job's meaning, or the refusal or the line of the limit in its place
 abbrev pub IsReport : (text input : List ℕ) → (limit : ℕ) → (bytes : List ℕ) → Type 0
 IsReport text input limit bytes = (verdict : Verdict) × reports.IsVerdict text input limit verdict bytes
 
@@ -30,11 +30,11 @@ IsStory text input limit bytes = (verdict : StoryVerdict) × stories.IsVerdict t
 abbrev pub IsChart : (text input : List ℕ) → (limit : ℕ) → (bytes : List ℕ) → Type 0
 IsChart text input limit bytes = (verdict : Verdict) × charts.IsVerdict (Text 80) text input limit verdict bytes
 
--- what becomes of the job with each fault, where a step that fails raises `Fault`
+-- the outcome of the job with each fault, where a step that fails raises `Fault`
 abbrev pub IsFaults : (text input : List ℕ) → (limit : ℕ) → (bytes : List ℕ) → Type 0
 IsFaults text input limit bytes = (verdict : FaultsVerdict) × faults.IsVerdict text input limit (codes "Fault") no_kind verdict bytes
 
--- what the outcome hangs on by a hair
+-- the places on which the outcome of the job depends by a hair
 abbrev pub IsRaces : (text input : List ℕ) → (limit : ℕ) → (bytes : List ℕ) → Type 0
 IsRaces text input limit bytes = (verdict : RacesVerdict) × races.IsVerdict text input limit false verdict bytes
 
@@ -46,7 +46,7 @@ IsOutput text input limit Chart bytes = IsChart text input limit bytes
 IsOutput text input limit Faults bytes = IsFaults text input limit bytes
 IsOutput text input limit Races bytes = IsRaces text input limit bytes
 
--- the extension of the file that keeps it
+-- the extension of the file in which an output is kept
 abbrev pub extension_text : Output → List ℕ
 extension_text Report = codes "report"
 extension_text Story = codes "story"

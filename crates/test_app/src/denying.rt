@@ -12,7 +12,7 @@ use race_app::{RacesVerdict, races};
 use std::alloc::{AllocError, Global};
 use std::thread::Threads;
 
-// The name of the exception that a step raises which fails.
+// Returns the name of the exception that a failing step raises.
 pub(crate) fn fault_name() -> Name
     ensures { result ≡ codes "Fault" }
 {
@@ -22,7 +22,7 @@ pub(crate) fn fault_name() -> Name
     }
 }
 
-// Whether `races` denies nothing.
+// Returns whether `races` denies nothing.
 pub(crate) fn no_races<R: Threads + Sync>(
     rt: &R,
     alloc: Global,
@@ -45,7 +45,7 @@ pub(crate) fn no_races<R: Threads + Sync>(
     }
 }
 
-// Whether `faults` denies nothing of these kinds.
+// Returns whether `faults` denies nothing of these kinds.
 pub(crate) fn no_faults<R: Threads + Sync>(
     rt: &R,
     alloc: Global,
@@ -68,7 +68,7 @@ pub(crate) fn no_faults<R: Threads + Sync>(
     }
 }
 
-// The lines that are denied, if there are any.
+// Returns that these lines are denied, or that the expectation is met if there are none.
 fn denied_or_yes(denied: Vec<u8>) -> Met
     ensures { answer_of result ≡ denied_answer denied.items }
 {

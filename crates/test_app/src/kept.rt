@@ -3,7 +3,7 @@ ghost use Rattle.std.specs.Prelude.{◌≡◌, []};
 use job_report::{Out, PutFault};
 use std::alloc::Global;
 
-// A writer that keeps what it is given, in memory that grows. It fails only where memory is refused.
+// A writer that keeps the bytes written to it, in memory that grows. It fails only if memory is refused.
 #[derive(Drop)]
 pub(crate) struct Kept {
     bytes: Vec<u8>,
@@ -13,7 +13,7 @@ pub(crate) struct Kept {
 impl Kept {
     ghost use Rattle.test_app.specs.Kepts.{faults_of, held_by};
 
-    // A writer that holds nothing yet.
+    // Creates a writer that has no bytes yet.
     pub(crate) fn new(alloc: Global) -> Kept
         ensures empty { held_by result ≡ [] }
         ensures well { faults_of result ≡ 0 }
@@ -24,7 +24,7 @@ impl Kept {
         }
     }
 
-    // The bytes that were taken.
+    // Returns the bytes that were written.
     pub(crate) fn into_bytes(self) -> Vec<u8>
         ensures { result.items ≡ held_by self }
     {

@@ -1,9 +1,10 @@
-//! What a feed that was kept with its outputs is tested by: the outputs of a job text over an input, and whether an expectation is met.
+//! What is needed to test a feed that was kept with its outputs: the outputs of a job text over an input, and whether an
+//! expectation is met.
 //!
-//! The layer promises that `output_of` gives the bytes that the command in question writes, for every number of workers, as that command's
-//! own definitions have them; and that `meets` answers of an expectation what the lines of the report and the story, or the verdicts of
-//! `races` and `faults`, say of it (`specs/Mets.antt`). It stands on `nursery_app`, `story_app`, `chart_app`, `fault_app` and `race_app`
-//! for the outputs and on `expect_text` for patterns and expectations.
+//! The layer promises that `output_of` returns the bytes that the command in question writes, for every number of workers, by
+//! that command's own definitions; and that `meets` returns what the lines of the report and the story, or the verdicts of
+//! `races` and `faults`, say of an expectation (`specs/Mets.antt`). It uses `nursery_app`, `story_app`, `chart_app`, `fault_app`
+//! and `race_app` for the outputs, and `expect_text` for patterns and expectations.
 #![tactic(auto)]
 
 mod denying;

@@ -6,7 +6,7 @@ use crate::met::Met;
 use expect_text::first_match;
 use std::alloc::{AllocError, Global};
 
-// Whether some line of the report or the story meets a pattern.
+// Returns whether at least one line of the report or the story matches a pattern.
 pub(crate) fn some_line(
     alloc: Global,
     pattern: &[u8],
@@ -25,7 +25,7 @@ pub(crate) fn some_line(
     }
 }
 
-// Whether no line of the report or the story meets a pattern.
+// Returns whether no line of the report or the story matches a pattern.
 pub(crate) fn no_line(
     alloc: Global,
     pattern: &[u8],

@@ -11,9 +11,10 @@ use job_runner::Settings;
 use std::alloc::{AllocError, Global};
 use std::thread::Threads;
 
-/// Whether an expectation of a job text over an input is met. Patterns are looked for in the lines of the report and the story that are
-/// given, as `output_of` makes them; races and faults are those that `races` and `faults` tell with these settings, where a step that fails
-/// raises `Fault`. The error is want of memory.
+/// Returns whether an expectation of a job text over an input is met. Patterns are searched for in the lines of `report` and
+/// `story`, which are the outputs that `output_of` returns. Races and faults are those that `races` and `faults` compute with
+/// these settings, where a step that fails raises `Fault`. The caller must ensure that the input has at most 16,777,216 bytes
+/// (`MAX_INPUT`). Returns `AllocError` if memory is refused.
 pub fn meets<R: Threads + Sync>(
     rt: &R,
     alloc: Global,

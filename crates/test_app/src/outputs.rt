@@ -1,7 +1,7 @@
 ghost use Rattle.std.specs.Prelude.{◌≡◌};
 ghost use Rattle.test_app.specs.Outputs.{all_outputs, extension_text};
 
-/// What a run of a feed can be compared in.
+/// An output of a feed that can be kept and compared.
 #[derive(Clone, Copy, Debug, PartialEq, Eq)]
 pub enum Output {
     /// The report, as `run` writes it.
@@ -10,9 +10,9 @@ pub enum Output {
     Story,
     /// The chart as a text of 80 columns, as `chart` writes it.
     Chart,
-    /// What becomes of the job with each fault, as `faults` writes it; a step that fails raises `Fault`.
+    /// The outcome of the job with each fault, as `faults` writes it, where a step that fails raises `Fault`.
     Faults,
-    /// What the job's outcome hangs on by a hair, as `races` writes it.
+    /// The places on which the outcome of the job depends by a hair, as `races` writes them.
     Races,
 }
 
@@ -30,7 +30,7 @@ impl Output {
         ]
     }
 
-    /// The extension of the file that keeps such an output, without the dot.
+    /// Returns the extension of the file in which such an output is kept, without the dot.
     pub fn extension(self) -> &'static str
         ensures { result.now ≡ extension_text self }
     {

@@ -14,9 +14,10 @@ use std::alloc::{AllocError, Global};
 use std::thread::Threads;
 use story_app::explain;
 
-/// The bytes that a command writes for a job text over an input: the report, the story of all tasks, the chart as a text of 80 columns, what
-/// becomes of the job with each fault, where a step that fails raises `Fault`, or what hangs on a hair. A job text that is refused has its
-/// refusal written by each. The settings' number of workers changes no byte. The error is want of memory.
+/// Returns the bytes that a command writes for a job text over an input: the report, the story of all tasks, the chart as a text
+/// of 80 columns, the outcome of the job with each fault, where a step that fails raises `Fault`, or the races. For a job text
+/// that is refused, each is the refusal. The number of workers in `settings` changes no byte. The caller must ensure that the
+/// input has at most 16,777,216 bytes (`MAX_INPUT`). Returns `AllocError` if memory is refused.
 pub fn output_of<R: Threads + Sync>(
     rt: &R,
     alloc: Global,
@@ -37,7 +38,7 @@ pub fn output_of<R: Threads + Sync>(
     }
 }
 
-// The bytes that `run` writes.
+// Returns the bytes that `run` writes.
 fn report_of<R: Threads + Sync>(
     rt: &R,
     alloc: Global,
@@ -64,7 +65,7 @@ fn report_of<R: Threads + Sync>(
     }
 }
 
-// The bytes that `explain` writes of all tasks.
+// Returns the bytes that `explain` writes of all tasks.
 fn story_of<R: Threads + Sync>(
     rt: &R,
     alloc: Global,
@@ -92,7 +93,7 @@ fn story_of<R: Threads + Sync>(
     }
 }
 
-// The bytes that `chart` writes as a text of 80 columns.
+// Returns the bytes that `chart` writes as a text of 80 columns.
 fn chart_of<R: Threads + Sync>(
     rt: &R,
     alloc: Global,
@@ -121,7 +122,7 @@ fn chart_of<R: Threads + Sync>(
     }
 }
 
-// The bytes that `faults` writes where nothing is denied.
+// Returns the bytes that `faults` writes if nothing is denied.
 fn faults_of<R: Threads + Sync>(
     rt: &R,
     alloc: Global,
@@ -147,7 +148,7 @@ fn faults_of<R: Threads + Sync>(
     }
 }
 
-// The bytes that `races` writes where nothing is denied.
+// Returns the bytes that `races` writes if nothing is denied.
 fn races_of<R: Threads + Sync>(
     rt: &R,
     alloc: Global,

@@ -43,7 +43,7 @@ at_other a b apart =
       | inr (inr more) ↦ rw (cmp-greater a b more) refl
     ]
 
--- a tick with a key is not found under another key tick, and by no other key
+-- a tick with a key is not found under another tick or another key
 at_other_tick : (tick key later other : ℕ) → later ≢ tick → is_at (pair_cmp (tick, key)) (later, other) ≡ false
 at_other_tick tick key later other apart =
     elim (cases_cmp tick later) [
