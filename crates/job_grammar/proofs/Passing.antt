@@ -11,7 +11,7 @@ use Rattle.job_tree.specs.Tree.{Tree}
 use Rattle.job_tree.specs.InRange.{most_steps}
 use Rattle.job_tokens.specs.declared.token.Token.{Token}
 use Rattle.job_tokens.specs.Shapes.{shapes_of}
-use Rattle.job_tokens.proofs.GrammarCheck.{Lexes-unique}
+use Rattle.job_tokens.proofs.LeftToRight.{Lexes-unique}
 use Rattle.job_tree.specs.Names.{size_of}
 use Rattle.job_syntax.specs.declared.role.Role.{Role}
 use Rattle.job_syntax.specs.Pieces.{shapes_in, job_pieces}

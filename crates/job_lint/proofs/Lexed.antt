@@ -3,7 +3,7 @@ use Rattle.std.proofs.Common.{◌≡◌, ℕ, Option, Some, None, List, [], leng
 use Rattle.job_tree.specs.Tree.{Tree}
 use Rattle.job_tokens.specs.declared.token.Token.{Token}
 use Rattle.job_tokens.specs.Lexing.{Lexes}
-use Rattle.job_tokens.proofs.GrammarCheck.{Lexes-unique}
+use Rattle.job_tokens.proofs.LeftToRight.{Lexes-unique}
 use Rattle.job_syntax.specs.declared.keyword.Keyword.{Keyword}
 use Rattle.job_checks.specs.Reserved.{reserved_in}
 use Rattle.job_grammar.specs.Refusals.{Spells, HasTokens, roles_of}

@@ -1,4 +1,4 @@
-pub mod Course
+pub mod LeftToRight
 pub mod Numbers
 pub mod Units
 pub mod Round_bytes

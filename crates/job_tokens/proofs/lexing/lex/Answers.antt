@@ -1,6 +1,6 @@
 use Rattle.std.proofs.Common.{sym, arith, false-eqb}
 use Rattle.std.proofs.lemmas.Bool.{eqb-true}
-use Rattle.job_tokens.proofs.Course.{stops, is_done}
+use Rattle.job_tokens.proofs.LeftToRight.{stops, is_done}
 use Rattle.job_tokens.proofs.lexing.lex.Goals as goal
 
 pub returns-in_default : goal.returns-in_default

@@ -1,5 +1,5 @@
 use Rattle.std.proofs.Common.{◌≤◌, length}
-use Rattle.job_tokens.proofs.Course.{LexesOn}
+use Rattle.job_tokens.proofs.LeftToRight.{LexesOn}
 use Rattle.job_tokens.proofs.lexing.lex.Given as goal
 
 abbrev pub invariant-loop-rest : goal.invariant-loop-rest
