@@ -352,7 +352,7 @@ fn gives_ids_again(alloc: Global) -> Result<bool, AllocError> {
 }
 
 #[test]
-fn ids_are_given_out_again(rt: HostRuntime) -> Result<(), Fail> {
+fn ids_are_reused(rt: HostRuntime) -> Result<(), Fail> {
     assert!(rt; gives_ids_again(rt.alloc())?);
     Ok(())
 }

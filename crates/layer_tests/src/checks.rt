@@ -125,14 +125,14 @@ fn a_scope_is_cancelled_across_a_start(rt: HostRuntime) -> Result<(), Fail> {
 }
 
 #[test]
-fn a_scope_beside_a_cancel_is_not_round_it(rt: HostRuntime) -> Result<(), Fail> {
+fn a_scope_beside_a_cancel_does_not_enclose_it(rt: HostRuntime) -> Result<(), Fail> {
     let steps = behind_a_scope(rt.alloc())?;
     assert!(rt; place_of_stray(&steps, b"s")? == Some(9));
     Ok(())
 }
 
 #[test]
-fn tasks_are_not_cancelled(rt: HostRuntime) -> Result<(), Fail> {
+fn a_cancel_cannot_name_a_task(rt: HostRuntime) -> Result<(), Fail> {
     let steps = in_a_child(rt.alloc())?;
     assert!(rt; place_of_stray(&steps, b"t")? == Some(9));
     let steps = block(rt.alloc(), Step::Cancel(word(b"main")?))?;
@@ -159,7 +159,7 @@ const RESERVED: &[(&'static [u8], Role, Option<usize>)] = &[
 ];
 
 #[test]
-fn reserved_names() -> Result<(), Fail> {
+fn reserved_names_are_refused_by_their_role() -> Result<(), Fail> {
     for i in 0..RESERVED.len() {
         let (text, role, wanted) = RESERVED[i];
         if place_of_reserved(text, role)? != wanted {
@@ -203,7 +203,7 @@ fn size_in(body: &Body) -> u64 {
 }
 
 #[test]
-fn sizes(rt: HostRuntime) -> Result<(), Fail> {
+fn copies_are_counted_up_to_the_maximum_u64(rt: HostRuntime) -> Result<(), Fail> {
     assert!(rt; size_in(&three_nurseries(rt.alloc())?) == 532_609);
     assert!(rt; size_in(&many_children(rt.alloc())?) == u64::MAX);
     assert!(rt; size_in(&attempt_and_checkpoint(rt.alloc())?) == 5);

@@ -42,7 +42,7 @@ fn draw_none(alloc: Global) -> Result<bool, Fail> {
 }
 
 #[test]
-fn nothing_is_left_of_no_request(rt: HostRuntime) -> Result<(), Fail> {
+fn there_is_nothing_to_claim_of_no_requests(rt: HostRuntime) -> Result<(), Fail> {
     assert!(rt; draw_none(rt.alloc())?);
     Ok(())
 }

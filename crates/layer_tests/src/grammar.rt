@@ -78,7 +78,7 @@ const REFUSALS: &[Row] = &[
 ];
 
 #[test]
-fn refusals(rt: HostRuntime) -> Result<(), Fail> {
+fn refused_texts_have_their_kind_and_place(rt: HostRuntime) -> Result<(), Fail> {
     are_answered(rt.alloc(), REFUSALS)
 }
 
@@ -105,7 +105,7 @@ const NAMES: &[Row] = &[
 ];
 
 #[test]
-fn refusals_of_names(rt: HostRuntime) -> Result<(), Fail> {
+fn refused_names_have_their_kind_and_place(rt: HostRuntime) -> Result<(), Fail> {
     are_answered(rt.alloc(), NAMES)
 }
 
@@ -117,7 +117,7 @@ const LARGE: &[Row] = &[(
 )];
 
 #[test]
-fn too_large(rt: HostRuntime) -> Result<(), Fail> {
+fn a_job_with_too_many_steps_is_refused(rt: HostRuntime) -> Result<(), Fail> {
     are_answered(rt.alloc(), LARGE)
 }
 
@@ -138,7 +138,7 @@ const JOBS: &[Row] = &[
 ];
 
 #[test]
-fn accepted(rt: HostRuntime) -> Result<(), Fail> {
+fn texts_at_the_limits_of_the_rules_are_read(rt: HostRuntime) -> Result<(), Fail> {
     are_answered(rt.alloc(), JOBS)
 }
 
@@ -195,7 +195,7 @@ fn nested_scopes(alloc: Global) -> Result<Vec<u8>, AllocError> {
 }
 
 #[test]
-fn depth(rt: HostRuntime) -> Result<(), Fail> {
+fn blocks_nested_more_than_32_deep_are_refused(rt: HostRuntime) -> Result<(), Fail> {
     depths_are_answered(rt.alloc())?;
     let scopes = nested_scopes(rt.alloc())?;
     assert!(rt; is_answered(rt.alloc(), scopes.as_slice(), 7, 404)?);
@@ -224,7 +224,7 @@ fn lengths_are_answered(alloc: Global) -> Result<(), Fail> {
 }
 
 #[test]
-fn too_long(rt: HostRuntime) -> Result<(), Fail> {
+fn a_text_of_more_than_65536_bytes_is_refused(rt: HostRuntime) -> Result<(), Fail> {
     lengths_are_answered(rt.alloc())
 }
 
@@ -255,7 +255,7 @@ fn prefixes_are_answered(alloc: Global) -> Result<(), Fail> {
 }
 
 #[test]
-fn prefixes(rt: HostRuntime) -> Result<(), Fail> {
+fn each_prefix_of_a_job_text_is_refused(rt: HostRuntime) -> Result<(), Fail> {
     prefixes_are_answered(rt.alloc())
 }
 
@@ -329,12 +329,12 @@ const CANONICAL: &[Pair] = &[
 ];
 
 #[test]
-fn canonical_texts(rt: HostRuntime) -> Result<(), Fail> {
+fn jobs_are_written_as_their_canonical_texts(rt: HostRuntime) -> Result<(), Fail> {
     are_canonical(rt.alloc(), CANONICAL, false)
 }
 
 #[test]
-fn parts_of_a_job(rt: HostRuntime) -> Result<(), Fail> {
+fn a_job_has_its_name_format_and_size(rt: HostRuntime) -> Result<(), Fail> {
     let text =
         b"trio-job 1\njob main { sleep 1; nursery n { start p over 3 { sleep 1; } } }".as_slice();
     assert!(rt; is_named(rt.alloc(), text, b"main")?);
@@ -343,7 +343,7 @@ fn parts_of_a_job(rt: HostRuntime) -> Result<(), Fail> {
 }
 
 #[test]
-fn line_of_a_refusal(rt: HostRuntime) -> Result<(), Fail> {
+fn a_refusal_is_printed_as_one_line(rt: HostRuntime) -> Result<(), Fail> {
     let fault = JobFault {
         at: 27,
         kind: JobKind::Syntax,
@@ -376,7 +376,7 @@ const FORMATS: &[Row] = &[
 ];
 
 #[test]
-fn two_formats(rt: HostRuntime) -> Result<(), Fail> {
+fn each_format_has_its_own_rules(rt: HostRuntime) -> Result<(), Fail> {
     are_answered(rt.alloc(), FORMATS)
 }
 
@@ -384,7 +384,7 @@ fn two_formats(rt: HostRuntime) -> Result<(), Fail> {
 const PASSES: &[u8] = b"trio-job 2\njob main { repeat 1000 { repeat 100 { } } }";
 
 #[test]
-fn a_job_of_format_2(rt: HostRuntime) -> Result<(), Fail> {
+fn passes_are_counted_and_written_in_format_2(rt: HostRuntime) -> Result<(), Fail> {
     assert!(rt; numbers(rt.alloc(), PASSES)? == (2, 1, 102_001));
     let shortest = b"trio-job 2\njob main{repeat 1000{repeat 100{}}}";
     assert!(rt; is_canonical(rt.alloc(), PASSES, shortest, false)?);
@@ -404,7 +404,7 @@ const UPGRADES: &[Pair] = &[
 ];
 
 #[test]
-fn upgrades(rt: HostRuntime) -> Result<(), Fail> {
+fn upgraded_jobs_are_written_in_format_2(rt: HostRuntime) -> Result<(), Fail> {
     assert!(rt; numbers(rt.alloc(), PLAIN)?.0 == 1);
     assert!(rt; format_of_upgraded(rt.alloc(), PLAIN)? == 2);
     are_canonical(rt.alloc(), UPGRADES, true)

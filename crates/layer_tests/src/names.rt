@@ -39,7 +39,7 @@ const BYTES: &[(u8, bool, bool, bool)] = &[
 ];
 
 #[test]
-fn bytes_of_words_are_told() -> Result<(), Fail> {
+fn letters_digits_and_underscores_are_word_bytes() -> Result<(), Fail> {
     for i in 0..BYTES.len() {
         let (byte, letter, digit, in_word) = BYTES[i];
         if is_letter(byte) != letter || is_digit(byte) != digit || is_word_byte(byte) != in_word {
@@ -98,7 +98,7 @@ fn blocks_keep_their_steps(rt: HostRuntime) -> Result<(), Fail> {
 }
 
 #[test]
-fn formats(rt: HostRuntime) {
+fn each_format_has_its_number_and_maximum_size(rt: HostRuntime) {
     assert!(rt; Format::One.number() == 1 && Format::One.most_steps() == 100_000);
     assert!(rt; Format::Two.number() == 2 && Format::Two.most_steps() == 1_000_000);
 }

@@ -116,7 +116,7 @@ fn handed_out(alloc: Global) -> Result<([Option<ScopeId>; 4], ScopeId, ScopeId),
 }
 
 #[test]
-fn lowered_scopes_are_handed_out_once(rt: HostRuntime) -> Result<(), Fail> {
+fn lowered_scopes_are_returned_once(rt: HostRuntime) -> Result<(), Fail> {
     let (found, outer, inner) = handed_out(rt.alloc())?;
     assert!(rt; found == [Some(inner), None, Some(outer), None]);
     Ok(())
@@ -152,7 +152,7 @@ fn three_scopes(alloc: Global) -> Result<([ScopeId; 3], [Option<Option<ScopeId>>
 }
 
 #[test]
-fn scopes_stand_under_their_parents(rt: HostRuntime) -> Result<(), Fail> {
+fn scopes_have_their_parents(rt: HostRuntime) -> Result<(), Fail> {
     let ([outer, middle, inner], parents) = three_scopes(rt.alloc())?;
     assert!(rt; parents == [Some(None), Some(Some(outer)), Some(Some(middle))]);
     assert!(rt; inner.key() != outer.key());
@@ -171,7 +171,7 @@ fn closed_and_opened(alloc: Global) -> Result<(Option<u64>, bool, Option<ScopeId
 }
 
 #[test]
-fn a_closed_scope_is_not_handed_out(rt: HostRuntime) -> Result<(), Fail> {
+fn a_closed_scope_is_not_returned(rt: HostRuntime) -> Result<(), Fail> {
     assert!(rt; closed_and_opened(rt.alloc())? == (Some(5), true, None));
     Ok(())
 }

@@ -29,7 +29,7 @@ fn is_job(alloc: Global, text: &[u8]) -> Result<bool, Fail> {
 }
 
 #[test]
-fn a_job_is_followed_to_its_end(rt: HostRuntime) -> Result<(), Fail> {
+fn the_grammar_check_reaches_the_end_of_a_job(rt: HostRuntime) -> Result<(), Fail> {
     let text = b"job main { sleep 3; }";
     assert!(rt; is_followed(rt.alloc(), text)?);
     assert!(rt; is_job(rt.alloc(), text)?);

@@ -147,7 +147,7 @@ fn has_started(alloc: Global) -> bool {
 }
 
 #[test]
-fn a_new_world_stands_at_tick_0(rt: HostRuntime) {
+fn a_new_world_is_at_tick_0(rt: HostRuntime) {
     assert!(rt; ticks(rt.alloc()) == (0, 7));
     assert!(rt; !has_started(rt.alloc()));
 }

@@ -67,7 +67,7 @@ fn tokens_end_where_none_can_be_read(rt: HostRuntime) -> Result<(), Fail> {
 }
 
 #[test]
-fn a_shape_tells_what_it_is(rt: HostRuntime) {
+fn a_shape_returns_what_it_is(rt: HostRuntime) {
     let number = Shape::Number(Some(7));
     assert!(rt; number.number() == Some(7));
     assert!(rt; number.word().is_none() && number.text().is_none());

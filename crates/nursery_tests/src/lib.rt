@@ -7,48 +7,48 @@
 #![tactic(auto)]
 
 #[cfg(test)]
-mod again;
+mod batch_by_batch;
 #[cfg(test)]
-mod batchwise;
+mod calls_made_again;
 #[cfg(test)]
-mod charted;
+mod charts;
 #[cfg(test)]
-mod explained;
+mod command_words;
 #[cfg(test)]
-mod faulty;
+mod fault_tables;
 #[cfg(test)]
 mod fixtures;
 #[cfg(test)]
-mod formatted;
+mod formatting;
 #[cfg(test)]
-mod jsons;
+mod job_sizes;
 #[cfg(test)]
-mod linted;
+mod json_documents;
 #[cfg(test)]
-mod nested;
+mod large_jobs;
 #[cfg(test)]
-mod orders;
+mod lint_warnings;
 #[cfg(test)]
-mod raced;
+mod nested_jobs;
 #[cfg(test)]
-mod refused;
+mod orders_and_workers;
+#[cfg(test)]
+mod race_tables;
+#[cfg(test)]
+mod readers_and_writers;
+#[cfg(test)]
+mod refusal_texts;
+#[cfg(test)]
+mod refusals;
 #[cfg(test)]
 mod reports;
 #[cfg(test)]
-mod scale;
-#[cfg(test)]
-mod sizes;
+mod snapshots;
 #[cfg(test)]
 mod stories;
 #[cfg(test)]
-mod streams;
+mod sweep_tables;
 #[cfg(test)]
-mod swept;
+mod upgrades;
 #[cfg(test)]
-mod tested;
-#[cfg(test)]
-mod upgraded;
-#[cfg(test)]
-mod words;
-#[cfg(test)]
-mod worked;
+mod worked_jobs;

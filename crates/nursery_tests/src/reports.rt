@@ -4,7 +4,7 @@ use crate::fixtures::{
     FORMAT_1, FORMAT_2, TWO_LINES, assert_answers, assert_rows, assert_rows_in_both_formats,
     job_text, run_of, served,
 };
-use crate::worked::{HANDLERS, NURSERIES, OF_FORMAT_2, PARTS, PLAIN, SCOPES};
+use crate::worked_jobs::{HANDLERS, NURSERIES, OF_FORMAT_2, PARTS, PLAIN, SCOPES};
 use job_grammar::read_job;
 use job_report::{Out, report};
 use job_runner::{Forward, NoGate};
@@ -76,7 +76,7 @@ const ENDS: &[(&str, u8, &[u8])] = &[
 ];
 
 #[test]
-fn serve_tells_how_the_job_ended(rt: HostRuntime) -> Result<(), Fail> {
+fn serve_returns_how_the_job_ended(rt: HostRuntime) -> Result<(), Fail> {
     for &(text, status, expected) in ENDS {
         assert_answers(&rt, text, TWO_LINES, status, expected)?;
     }
@@ -108,7 +108,7 @@ task a.10 0 1 raised A(a.10@1)
 ";
 
 #[test]
-fn a_cancelled_handler_is_shown_beside_what_it_left(rt: HostRuntime) -> Result<(), Fail> {
+fn a_cancelled_handler_is_shown_with_the_rest(rt: HostRuntime) -> Result<(), Fail> {
     let text = job_text(rt.alloc(), FORMAT_1, CANCELLED_HANDLERS)?;
     let (status, out) = served(&rt, text.as_slice(), b"", 1, &mut Forward)?;
     assert_eq!(rt; status, 1);

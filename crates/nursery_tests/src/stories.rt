@@ -120,7 +120,7 @@ const STORIES: &[(&str, Option<&[u8]>, u8, &[u8])] = &[
 ];
 
 #[test]
-fn explain_tells_the_story(rt: HostRuntime) -> Result<(), Fail> {
+fn explain_writes_the_story(rt: HostRuntime) -> Result<(), Fail> {
     for &(text, task, status, expected) in STORIES {
         let (told, out) = story(&rt, text.as_bytes(), task, 1, &mut Forward)?;
         assert_eq!(rt; told, status);
@@ -158,7 +158,7 @@ fn the_nearest_task_is_named(rt: HostRuntime) -> Result<(), Fail> {
 }
 
 #[test]
-fn a_writer_that_fails_has_the_front_of_a_story(rt: HostRuntime) -> Result<(), Fail> {
+fn a_writer_that_fails_has_the_beginning_of_a_story(rt: HostRuntime) -> Result<(), Fail> {
     let settings = Settings::new(1, LIMIT).ok_or("settings")?;
     let mut out = MemOut::new(rt.alloc(), 10, 7, None)?;
     let stopped = explained(
@@ -175,7 +175,7 @@ fn a_writer_that_fails_has_the_front_of_a_story(rt: HostRuntime) -> Result<(), F
 }
 
 #[test]
-fn what_still_runs_at_the_limit_is_told(rt: HostRuntime) -> Result<(), Fail> {
+fn what_still_runs_at_the_limit_is_listed(rt: HostRuntime) -> Result<(), Fail> {
     let settings = Settings::new(1, 1).ok_or("settings")?;
     let text = FAILS.as_bytes();
     let lines = running_at_limit(&rt, rt.alloc(), text, b"", settings, &mut Forward, &NoGate)?;

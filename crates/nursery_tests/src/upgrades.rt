@@ -2,8 +2,8 @@
 //! upgraded.
 
 use crate::fixtures::{Asked, FORMAT_1, Row, assert_written, job_text, served, written};
-use crate::nested::{nested, push_down};
-use crate::worked::{HANDLERS, NURSERIES, PARTS, PLAIN, SCOPES};
+use crate::nested_jobs::{nested, push_down};
+use crate::worked_jobs::{HANDLERS, NURSERIES, PARTS, PLAIN, SCOPES};
 use job_report::{MemOut, Out};
 use job_runner::Forward;
 use std::process::Abort;

@@ -62,7 +62,7 @@ fn sending_may_stop_at_each_put(rt: HostRuntime) -> Result<(), Fail> {
 }
 
 #[test]
-fn nothing_is_sent_where_no_room_is_left(rt: HostRuntime) -> Result<(), Fail> {
+fn nothing_is_sent_if_no_room_is_left(rt: HostRuntime) -> Result<(), Fail> {
     let mut out = MemOut::new(rt.alloc(), 47, 5, None)?;
     assert_sends(&rt, TEXT, &mut out, None, 0);
     assert_sends(&rt, b"", &mut out, None, 0);
@@ -112,7 +112,7 @@ fn faults_of_writers_have_their_texts(rt: HostRuntime) -> Result<(), Fail> {
 }
 
 #[test]
-fn a_writer_that_fails_took_the_front(rt: HostRuntime) -> Result<(), Fail> {
+fn a_writer_that_fails_took_the_beginning(rt: HostRuntime) -> Result<(), Fail> {
     let settings = Settings::new(1, LIMIT).ok_or("settings")?;
     let mut out = MemOut::new(rt.alloc(), 10, 4, None)?;
     let text = job_text(rt.alloc(), FORMAT_1, b"find \"er\";")?;

@@ -148,7 +148,7 @@ fn a_drawing_is_an_svg_document(rt: HostRuntime) -> Result<(), Fail> {
 const FRONT: &[u8] = b"          ";
 
 #[test]
-fn a_writer_that_fails_has_the_front_of_a_chart(rt: HostRuntime) -> Result<(), Fail> {
+fn a_writer_that_fails_has_the_beginning_of_a_chart(rt: HostRuntime) -> Result<(), Fail> {
     let settings = Settings::new(1, LIMIT).ok_or("settings")?;
     let mut out = MemOut::new(rt.alloc(), 10, 7, None)?;
     let form = Form::Text { width: 80 };

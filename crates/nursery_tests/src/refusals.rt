@@ -1,8 +1,8 @@
 //! Job texts that are refused: the line of the refusal, what `check` and `upgrade` write, and how `refusal_message` shows the
 //! place.
 
-use crate::explained::{EXPECTED, HELPED, Row, WRONG};
 use crate::fixtures::{Asked, assert_answers, assert_written, written, written_again};
+use crate::refusal_texts::{EXPECTED, HELPED, Row, WRONG};
 use job_grammar::{JobFault, JobKind, read_job};
 use job_report::MemOut;
 use nursery_app::CheckVerdict;
@@ -55,7 +55,7 @@ const LINES: &[(&str, &[u8])] = &[
 ];
 
 #[test]
-fn a_refusal_is_told_by_a_line(rt: HostRuntime) -> Result<(), Fail> {
+fn a_refusal_is_reported_in_one_line(rt: HostRuntime) -> Result<(), Fail> {
     for &(text, line) in LINES {
         assert_answers(&rt, text, b"", 2, line)?;
     }
@@ -105,7 +105,7 @@ fn upgrade_writes_the_job_in_format_2(rt: HostRuntime) -> Result<(), Fail> {
 }
 
 #[test]
-fn check_tells_the_fault_of_a_refused_text(rt: HostRuntime) -> Result<(), Fail> {
+fn check_reports_the_fault_of_a_refused_text(rt: HostRuntime) -> Result<(), Fail> {
     let mut out = MemOut::new(rt.alloc(), 100, 100, None)?;
     let CheckVerdict::JobRefused(fault) = written_again(
         &rt,
@@ -152,17 +152,17 @@ fn assert_told(rt: &(impl Abort + AllocGlobal), rows: &[Row]) -> Result<(), Fail
 }
 
 #[test]
-fn syntax_is_told_by_what_was_expected(rt: HostRuntime) -> Result<(), Fail> {
+fn a_syntax_fault_says_what_was_expected(rt: HostRuntime) -> Result<(), Fail> {
     assert_told(&rt, EXPECTED)
 }
 
 #[test]
-fn other_refusals_are_told_by_what_is_wrong(rt: HostRuntime) -> Result<(), Fail> {
+fn other_refusals_say_what_is_wrong(rt: HostRuntime) -> Result<(), Fail> {
     assert_told(&rt, WRONG)
 }
 
 #[test]
-fn a_refusal_ends_with_what_may_help(rt: HostRuntime) -> Result<(), Fail> {
+fn a_refusal_ends_with_a_hint(rt: HostRuntime) -> Result<(), Fail> {
     for &(text, last) in HELPED {
         let told = told_of(rt.alloc(), text.as_bytes())?;
         assert!(rt; told.as_str().ends_with(last), "{text}");
@@ -175,7 +175,7 @@ const CUT: &str =
     "f:1:201: blocks are nested more than 32 deep\nxxxxxxxxxxxxxxxxxxxxxxxxxxxxxxxxxxxxxxxxxxxxxxxxxxxxxxxxxxxxxxxxxxxxxxxxxxxxxxxxxxxxxxxxxxxxxxxxxxxx\n                                                            ^\n";
 
 #[test]
-fn a_long_line_is_cut_round_the_place(rt: HostRuntime) -> Result<(), Fail> {
+fn a_long_line_is_cut_around_the_place(rt: HostRuntime) -> Result<(), Fail> {
     let text = [b'x'; 300];
     let fault = JobFault {
         at: 200,

@@ -185,7 +185,7 @@ const REASONS: &[(&str, Asked, &str)] = &[
 ];
 
 #[test]
-fn a_missing_number_has_its_reason(rt: HostRuntime) -> Result<(), Fail> {
+fn a_missing_number_is_refused_with_the_reason(rt: HostRuntime) -> Result<(), Fail> {
     for &(text, asked, reason) in REASONS {
         let found = reason_of(&rt, text, asked)?;
         assert_eq!(rt; found.as_str(), reason);

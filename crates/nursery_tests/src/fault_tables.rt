@@ -89,7 +89,7 @@ const TABLES: &[(&str, u8, &[u8])] = &[
 ];
 
 #[test]
-fn faults_are_told_in_the_order_of_their_places(rt: HostRuntime) -> Result<(), Fail> {
+fn faults_are_listed_in_the_order_of_their_places(rt: HostRuntime) -> Result<(), Fail> {
     for &(text, status, expected) in TABLES {
         for workers in [1, 3, 64] {
             let mut out = MemOut::new(rt.alloc(), 100_000, 7, None)?;
@@ -102,7 +102,7 @@ fn faults_are_told_in_the_order_of_their_places(rt: HostRuntime) -> Result<(), F
 }
 
 #[test]
-fn denied_lines_are_told_as_they_stand(rt: HostRuntime) -> Result<(), Fail> {
+fn denied_lines_are_reported_unchanged(rt: HostRuntime) -> Result<(), Fail> {
     let mut out = MemOut::new(rt.alloc(), 100_000, 7, None)?;
     let FaultsVerdict::Told { denied } = told(&rt, FAILS.as_bytes(), 1, &mut out)? else {
         return Err(Fail::from("a refusal"));

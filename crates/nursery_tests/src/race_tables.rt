@@ -117,7 +117,7 @@ const TABLES: &[(&str, u8, &[u8])] = &[
 ];
 
 #[test]
-fn races_are_told_in_the_order_of_their_places(rt: HostRuntime) -> Result<(), Fail> {
+fn races_are_listed_in_the_order_of_their_places(rt: HostRuntime) -> Result<(), Fail> {
     for &(text, status, expected) in TABLES {
         for workers in [1, 3, 64] {
             let mut out = MemOut::new(rt.alloc(), 100_000, 7, None)?;
@@ -130,7 +130,7 @@ fn races_are_told_in_the_order_of_their_places(rt: HostRuntime) -> Result<(), Fa
 }
 
 #[test]
-fn denied_races_are_told_without_the_counts(rt: HostRuntime) -> Result<(), Fail> {
+fn denied_races_are_reported_without_the_counts(rt: HostRuntime) -> Result<(), Fail> {
     let mut out = MemOut::new(rt.alloc(), 100_000, 7, None)?;
     let RacesVerdict::Told { denied } = told(&rt, MEETS.as_bytes(), 2, &mut out)? else {
         return Err(Fail::from("no table"));

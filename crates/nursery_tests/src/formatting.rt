@@ -51,7 +51,7 @@ fn formatted(alloc: Global, text: &[u8]) -> Result<Vec<u8>, Fail> {
 }
 
 #[test]
-fn each_step_stands_in_a_line_and_short_blocks_in_one(rt: HostRuntime) -> Result<(), Fail> {
+fn each_step_has_its_line_and_short_blocks_one(rt: HostRuntime) -> Result<(), Fail> {
     for &(text, expected) in TEXTS {
         let bytes = formatted(rt.alloc(), text.as_bytes())?;
         assert_eq!(rt; bytes.as_slice(), expected.as_bytes());

@@ -188,7 +188,7 @@ fn handlers_of_what_nothing_raises(rt: HostRuntime) -> Result<(), Fail> {
 }
 
 #[test]
-fn warnings_stand_in_the_order_of_the_text(rt: HostRuntime) -> Result<(), Fail> {
+fn warnings_are_listed_in_the_order_of_the_text(rt: HostRuntime) -> Result<(), Fail> {
     are_found(rt.alloc(), SEVERAL)
 }
 
@@ -201,7 +201,7 @@ fn refusal_of(alloc: Global, text: &[u8]) -> Result<JobFault, Fail> {
 }
 
 #[test]
-fn a_text_of_no_job_is_refused(rt: HostRuntime) -> Result<(), Fail> {
+fn a_text_that_is_not_a_job_is_refused(rt: HostRuntime) -> Result<(), Fail> {
     let fault = refusal_of(rt.alloc(), b"trio-job 1\njob m{slep 1;}")?;
     if fault.at != 17 || fault.kind != JobKind::Syntax {
         return Err("another refusal")?;

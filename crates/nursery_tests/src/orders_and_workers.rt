@@ -3,7 +3,7 @@
 ghost use Rattle.std.specs.Prelude.{◌<◌};
 
 use crate::fixtures::{FORMAT_1, HALVES, LIMIT, assert_written, job_text, run_of, serve_into};
-use crate::nested::nested;
+use crate::nested_jobs::nested;
 use job_grammar::read_job;
 use job_report::MemOut;
 use job_runner::{
@@ -163,7 +163,7 @@ fn is_from(from: Option<&ScopeFrom>, name: &[u8], seen: Option<u64>) -> bool {
 }
 
 #[test]
-fn a_run_tells_from_when_its_scopes_were_cancelled(rt: HostRuntime) -> Result<(), Fail> {
+fn a_run_has_the_ticks_from_which_its_scopes_were_cancelled(rt: HostRuntime) -> Result<(), Fail> {
     for &(text, froms) in FROMS {
         let job = read_job(rt.alloc(), text)?;
         let done = run_of(&rt, &job, b"", 1, &mut Forward, &NoGate)?;

@@ -48,12 +48,12 @@ fn help_of(alloc: Global, line: &str) -> Result<String, CommandFault> {
 fn word_of(command: &Command) -> &'static str {
     match command {
         Command::Feed => "feed",
-        Command::Run { .. } => "run",
-        Command::Explain { .. } => "explain",
-        Command::Chart { .. } => "chart",
-        Command::Faults { .. } => "faults",
-        Command::Races { .. } => "races",
-        Command::Sweep { .. } => "sweep",
+        Command::Run(_) => "run",
+        Command::Explain(_) => "explain",
+        Command::Chart(_) => "chart",
+        Command::Faults(_) => "faults",
+        Command::Races(_) => "races",
+        Command::Sweep(_) => "sweep",
         Command::Fmt { .. } => "fmt",
         Command::Lint { .. } => "lint",
         Command::Test { .. } => "test",
@@ -70,12 +70,12 @@ fn word_of(command: &Command) -> &'static str {
 fn text_of(command: &Command) -> &str {
     match command {
         Command::Feed => "",
-        Command::Run { job, .. } => job.as_str(),
-        Command::Explain { job, .. } => job.as_str(),
-        Command::Chart { job, .. } => job.as_str(),
-        Command::Faults { job, .. } => job.as_str(),
-        Command::Races { job, .. } => job.as_str(),
-        Command::Sweep { job, .. } => job.as_str(),
+        Command::Run(args) => args.job.as_str(),
+        Command::Explain(args) => args.job.as_str(),
+        Command::Chart(args) => args.job.as_str(),
+        Command::Faults(args) => args.job.as_str(),
+        Command::Races(args) => args.job.as_str(),
+        Command::Sweep(args) => args.job.as_str(),
         Command::Fmt { job, .. } => job.as_str(),
         Command::Lint { job, .. } => job.as_str(),
         Command::Test { paths, .. } => first_of(paths.as_slice()),
@@ -142,7 +142,7 @@ const NAMED: &[(&str, &str, &str)] = &[
 ];
 
 #[test]
-fn words_name_a_command_and_its_job(rt: HostRuntime) -> Result<(), Fail> {
+fn words_are_read_as_a_command_and_its_job(rt: HostRuntime) -> Result<(), Fail> {
     for &(line, word, text) in NAMED {
         let command = command_of(rt.alloc(), line)?;
         assert!(rt; word_of(&command) == word, "{line}");
@@ -154,15 +154,9 @@ fn words_name_a_command_and_its_job(rt: HostRuntime) -> Result<(), Fail> {
 // Whether a command runs the job `j` over the input `i` with these settings.
 fn is_run(command: &Command, wanted: (usize, Order, u64)) -> bool {
     match command {
-        Command::Run {
-            job,
-            input,
-            settings,
-            order,
-            ..
-        } => {
-            let found = (settings.workers(), *order, settings.limit());
-            job.as_str() == "j" && input.as_str() == "i" && found == wanted
+        Command::Run(args) => {
+            let found = (args.settings.workers(), args.order, args.settings.limit());
+            args.job.as_str() == "j" && args.input.as_str() == "i" && found == wanted
         }
         _other => false,
     }
@@ -191,7 +185,7 @@ fn runs_have_their_settings(rt: HostRuntime) -> Result<(), Fail> {
 // Whether a command varies a number of the job `j` by these values.
 fn is_sweep(command: &Command, wanted: &[u64]) -> bool {
     match command {
-        Command::Sweep { job, values, .. } => job.as_str() == "j" && values.as_slice() == wanted,
+        Command::Sweep(args) => args.job.as_str() == "j" && args.values.as_slice() == wanted,
         _other => false,
     }
 }

@@ -1,7 +1,7 @@
 //! Large jobs: blocks as deep as they are allowed, and thousands of tasks.
 
 use crate::fixtures::{FORMAT_1, FORMAT_2, assert_serves, job_text, served};
-use crate::nested::{nested, push_down, push_each, push_up};
+use crate::nested_jobs::{nested, push_down, push_each, push_up};
 use job_report::Out;
 use job_runner::Forward;
 use std::process::Abort;
@@ -30,7 +30,7 @@ fn thirty_one_nested_scopes(rt: HostRuntime) -> Result<(), Fail> {
 }
 
 #[test]
-fn thirty_one_nested_nurseries_round_a_raise(rt: HostRuntime) -> Result<(), Fail> {
+fn thirty_one_nested_nurseries_around_a_raise(rt: HostRuntime) -> Result<(), Fail> {
     let steps = nested(rt.alloc(), b"nursery n", b"raise A;")?;
     let mut report = Vec::from_slice(rt.alloc(), b"job main 0\ntask main 0 0 raised ")?;
     push_up(&mut report, b"n", b"[")?;
