@@ -14,7 +14,7 @@ use nursery_app::{
     CheckVerdict, Forward, MAX_INPUT, NoGate, Pick, Reverse, Settings, Turn, Verdict, WriteOut,
     check, send, serve, split_feed, upgrade,
 };
-use nursery_cli::{DEFAULT_LIMIT, Order};
+use nursery_cli::{DEFAULT_LIMIT, ExplainArgs, Order, RunArgs};
 use refusal_text::refusal_message;
 use std::alloc::{AllocError, Global};
 use std::io::{self, IsTerminal};
@@ -78,21 +78,23 @@ pub(crate) fn read_both<R: Files + Input + AllocGlobal>(
     })
 }
 
+/// The word that a command was given, if it was given one.
+pub(crate) fn word_of(word: &Option<String>) -> Option<&str> {
+    word.as_ref().map(|name| name.as_str())
+}
+
 /// Runs a job file over an input file, and returns the status.
 pub(crate) fn run_job<R: Files + Input + Print + Eprint + Threads + Sync + AllocGlobal>(
     rt: &R,
-    job: &str,
-    input: &str,
-    settings: Settings,
-    order: Order,
-    json: bool,
+    args: &RunArgs,
 ) -> Result<u8, Stop> {
-    let given = read_both(rt, job, Some(input))?;
-    if json {
-        return run_as_json(rt, job, &given, settings, order);
+    let (job, settings) = (args.job.as_str(), args.settings);
+    let given = read_both(rt, job, Some(args.input.as_str()))?;
+    if args.json {
+        return run_as_json(rt, job, &given, settings, args.order);
     }
     let (text, input) = (given.text.as_slice(), given.input.as_slice());
-    match order {
+    match args.order {
         Order::Forward => run_text(rt, job, text, input, settings, &mut Forward),
         Order::Reverse => run_text(rt, job, text, input, settings, &mut Reverse),
         Order::Turn => run_text(rt, job, text, input, settings, &mut Turn { calls: 0 }),
@@ -102,19 +104,16 @@ pub(crate) fn run_job<R: Files + Input + Print + Eprint + Threads + Sync + Alloc
 /// Writes the story of a job file over an input file, or over no input, and returns the status.
 pub(crate) fn explain_job<R: Files + Input + Print + Eprint + Threads + Sync + AllocGlobal>(
     rt: &R,
-    job: &str,
-    input: Option<&str>,
-    task: Option<&str>,
-    settings: Settings,
-    order: Order,
-    json: bool,
+    args: &ExplainArgs,
 ) -> Result<u8, Stop> {
-    let given = read_both(rt, job, input)?;
-    if json {
-        return explain_as_json(rt, job, &given, task, settings, order);
+    let (job, settings) = (args.job.as_str(), args.settings);
+    let task = word_of(&args.task);
+    let given = read_both(rt, job, word_of(&args.input))?;
+    if args.json {
+        return explain_as_json(rt, job, &given, task, settings, args.order);
     }
     let (text, input) = (given.text.as_slice(), given.input.as_slice());
-    match order {
+    match args.order {
         Order::Forward => explain_text(rt, job, text, input, task, settings, &mut Forward),
         Order::Reverse => explain_text(rt, job, text, input, task, settings, &mut Reverse),
         Order::Turn => explain_text(rt, job, text, input, task, settings, &mut Turn { calls: 0 }),

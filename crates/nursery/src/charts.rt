@@ -2,11 +2,11 @@ ghost use Rattle.std.specs.Prelude.{◌≤◌, length, IfOk};
 ghost use Rattle.job_meaning.specs.declared.limits.TheConstants.{MAX_INPUT};
 ghost use Rattle.nursery.specs.Statuses.{TellsChart};
 
-use crate::answers::{read_both, tell_refusal, tell_running};
+use crate::answers::{read_both, tell_refusal, tell_running, word_of};
 use crate::stop::Stop;
 use chart_app::{Form, chart};
 use nursery_app::{Forward, NoGate, Settings, Verdict, WriteOut};
-use nursery_cli::{LEAST_WIDTH, MAX_WIDTH};
+use nursery_cli::{ChartArgs, LEAST_WIDTH, MAX_WIDTH};
 use std::rt::{Env, Files};
 use std::thread::Threads;
 use std::{env, io};
@@ -20,16 +20,13 @@ const USUAL_SVG_WIDTH: usize = 400;
 /// Draws the run of a job file over an input file, or over no input, and returns the status.
 pub(crate) fn chart_job<R: Files + Env + Input + Print + Eprint + Threads + Sync + AllocGlobal>(
     rt: &R,
-    job: &str,
-    input: Option<&str>,
-    width: Option<usize>,
-    svg: bool,
-    settings: Settings,
+    args: &ChartArgs,
 ) -> Result<u8, Stop> {
-    let given = read_both(rt, job, input)?;
+    let job = args.job.as_str();
+    let given = read_both(rt, job, word_of(&args.input))?;
     let (text, input) = (given.text.as_slice(), given.input.as_slice());
-    let form = form_of(rt, width, svg);
-    chart_text(rt, job, text, input, form, settings)
+    let form = form_of(rt, args.width, args.svg);
+    chart_text(rt, job, text, input, form, args.settings)
 }
 
 // The form of a chart, with the requested width, or else the usual one.

@@ -2,13 +2,13 @@ ghost use Rattle.std.specs.Prelude.{◌≤◌, length, IfOk};
 ghost use Rattle.job_meaning.specs.declared.limits.TheConstants.{MAX_INPUT};
 ghost use Rattle.nursery.specs.Statuses.{TellsFaults};
 
-use crate::answers::{read_both, tell_refusal};
+use crate::answers::{read_both, tell_refusal, word_of};
 use crate::progress::Progress;
 use crate::stop::Stop;
 use crate::tables::faults_as_json;
-use fault_app::{Deny, FaultsVerdict, faults};
-use job_grammar::Name;
-use nursery_app::{Settings, WriteOut};
+use fault_app::{FaultsVerdict, faults};
+use nursery_app::WriteOut;
+use nursery_cli::FaultsArgs;
 use std::io;
 use std::rt::Files;
 use std::thread::Threads;
@@ -18,36 +18,28 @@ use std::time::Clock;
 /// is that of the exception that a faulty step raises. Progress is shown if standard error is a terminal.
 pub(crate) fn faults_job<R: Files + Input + Print + Eprint + Clock + Threads + Sync + AllocGlobal>(
     rt: &R,
-    job: &str,
-    input: Option<&str>,
-    name: Name,
-    deny: Deny,
-    settings: Settings,
-    json: bool,
+    args: &FaultsArgs,
     at_terminal: bool,
 ) -> Result<u8, Stop> {
-    let given = read_both(rt, job, input)?;
+    let given = read_both(rt, args.job.as_str(), word_of(&args.input))?;
     let progress = Progress::new(rt, at_terminal);
     let (text, input) = (given.text.as_slice(), given.input.as_slice());
-    if json {
-        return faults_as_json(rt, job, text, input, settings, name, deny, &progress);
+    if args.json {
+        return faults_as_json(rt, args, text, input, &progress);
     }
-    faults_text(rt, job, text, input, settings, name, deny, &progress)
+    faults_text(rt, args, text, input, &progress)
 }
 
 // Writes the outcome of a job text over an input with each fault of it, and returns the status.
 fn faults_text<R: Print + Eprint + Clock + Threads + Sync + AllocGlobal>(
     rt: &R,
-    job: &str,
+    args: &FaultsArgs,
     text: &[u8],
     input: &[u8],
-    settings: Settings,
-    name: Name,
-    deny: Deny,
     progress: &Progress<'_, R>,
 ) -> Result<u8, Stop>
     requires { length input.now ≤ MAX_INPUT }
-    ensures { IfOk result (TellsFaults text.now input.now settings.limit name deny) }
+    ensures { IfOk result (TellsFaults text.now input.now args.now.settings.limit args.now.name args.now.deny) }
 {
     let mut out = WriteOut::new(io::writer(rt));
     let told = faults(
@@ -55,16 +47,16 @@ fn faults_text<R: Print + Eprint + Clock + Threads + Sync + AllocGlobal>(
         rt.alloc(),
         text,
         input,
-        settings,
-        name,
-        deny,
+        args.settings,
+        args.name,
+        args.deny,
         progress,
         &mut out,
     );
     progress.clear();
     let verdict = told?;
     let status = verdict.status();
-    conclude_faults(rt, job, text, verdict);
+    conclude_faults(rt, args.job.as_str(), text, verdict);
     Ok(status)
 }
 

@@ -65,97 +65,12 @@ where
     let words = words(rt)?;
     match read_command(rt.alloc(), words.as_slice()) {
         Ok(Command::Feed) => run_feed(rt),
-        Ok(
-            Command::Run {
-                job,
-                input,
-                settings,
-                order,
-                json,
-            },
-        ) => run_job(rt, job.as_str(), input.as_str(), settings, order, json),
-        Ok(
-            Command::Explain {
-                job,
-                input,
-                task,
-                settings,
-                order,
-                json,
-            },
-        ) => {
-            let input = input.as_ref().map(|name| name.as_str());
-            let task = task.as_ref().map(|label| label.as_str());
-            explain_job(rt, job.as_str(), input, task, settings, order, json)
-        }
-        Ok(
-            Command::Chart {
-                job,
-                input,
-                width,
-                svg,
-                settings,
-            },
-        ) => {
-            let input = input.as_ref().map(|name| name.as_str());
-            chart_job(rt, job.as_str(), input, width, svg, settings)
-        }
-        Ok(
-            Command::Faults {
-                job,
-                input,
-                name,
-                deny,
-                settings,
-                json,
-            },
-        ) => {
-            let input = input.as_ref().map(|name| name.as_str());
-            faults_job(
-                rt,
-                job.as_str(),
-                input,
-                name,
-                deny,
-                settings,
-                json,
-                at_terminal,
-            )
-        }
-        Ok(
-            Command::Races {
-                job,
-                input,
-                deny,
-                settings,
-                json,
-            },
-        ) => {
-            let input = input.as_ref().map(|name| name.as_str());
-            races_job(rt, job.as_str(), input, deny, settings, json, at_terminal)
-        }
-        Ok(
-            Command::Sweep {
-                job,
-                input,
-                target,
-                values,
-                settings,
-                json,
-            },
-        ) => {
-            let input = input.as_ref().map(|name| name.as_str());
-            sweep_job(
-                rt,
-                job.as_str(),
-                input,
-                target,
-                values.as_slice(),
-                settings,
-                json,
-                at_terminal,
-            )
-        }
+        Ok(Command::Run(args)) => run_job(rt, &args),
+        Ok(Command::Explain(args)) => explain_job(rt, &args),
+        Ok(Command::Chart(args)) => chart_job(rt, &args),
+        Ok(Command::Faults(args)) => faults_job(rt, &args, at_terminal),
+        Ok(Command::Races(args)) => races_job(rt, &args, at_terminal),
+        Ok(Command::Sweep(args)) => sweep_job(rt, &args, at_terminal),
         Ok(Command::Fmt { job, mode }) => format_job_file(rt, job.as_str(), mode),
         Ok(Command::Lint { job, json }) => lint_job(rt, job.as_str(), json),
         Ok(

@@ -2,12 +2,13 @@ ghost use Rattle.std.specs.Prelude.{◌≤◌, length, IfOk};
 ghost use Rattle.job_meaning.specs.declared.limits.TheConstants.{MAX_INPUT};
 ghost use Rattle.nursery.specs.Statuses.{TellsRaces};
 
-use crate::answers::{read_both, tell_refusal, tell_running};
+use crate::answers::{read_both, tell_refusal, tell_running, word_of};
 use crate::faults::tell_denied;
 use crate::progress::Progress;
 use crate::stop::Stop;
 use crate::tables::races_as_json;
 use nursery_app::{Forward, Settings, WriteOut};
+use nursery_cli::RacesArgs;
 use race_app::{RacesVerdict, races};
 use std::io;
 use std::rt::Files;
@@ -22,34 +23,28 @@ const NO_FINER_TICKS: &str =
 /// status. Progress is shown if standard error is a terminal.
 pub(crate) fn races_job<R: Files + Input + Print + Eprint + Clock + Threads + Sync + AllocGlobal>(
     rt: &R,
-    job: &str,
-    input: Option<&str>,
-    deny: bool,
-    settings: Settings,
-    json: bool,
+    args: &RacesArgs,
     at_terminal: bool,
 ) -> Result<u8, Stop> {
-    let given = read_both(rt, job, input)?;
+    let given = read_both(rt, args.job.as_str(), word_of(&args.input))?;
     let progress = Progress::new(rt, at_terminal);
     let (text, input) = (given.text.as_slice(), given.input.as_slice());
-    if json {
-        return races_as_json(rt, job, text, input, deny, settings, &progress);
+    if args.json {
+        return races_as_json(rt, args, text, input, &progress);
     }
-    races_text(rt, job, text, input, deny, settings, &progress)
+    races_text(rt, args, text, input, &progress)
 }
 
 // Writes the places of a job text, run over an input, where a hair changes the outcome, and returns the status.
 fn races_text<R: Print + Eprint + Clock + Threads + Sync + AllocGlobal>(
     rt: &R,
-    job: &str,
+    args: &RacesArgs,
     text: &[u8],
     input: &[u8],
-    deny: bool,
-    settings: Settings,
     progress: &Progress<'_, R>,
 ) -> Result<u8, Stop>
     requires { length input.now ≤ MAX_INPUT }
-    ensures { IfOk result (TellsRaces text.now input.now settings.limit deny) }
+    ensures { IfOk result (TellsRaces text.now input.now args.now.settings.limit args.now.deny) }
 {
     let mut out = WriteOut::new(io::writer(rt));
     let told = races(
@@ -57,15 +52,15 @@ fn races_text<R: Print + Eprint + Clock + Threads + Sync + AllocGlobal>(
         rt.alloc(),
         text,
         input,
-        settings,
-        deny,
+        args.settings,
+        args.deny,
         progress,
         &mut out,
     );
     progress.clear();
     let verdict = told?;
     let status = verdict.status();
-    conclude_races(rt, job, text, input, settings, verdict);
+    conclude_races(rt, args.job.as_str(), text, input, args.settings, verdict);
     Ok(status)
 }
 

@@ -2,14 +2,15 @@ ghost use Rattle.std.specs.Prelude.{◌≤◌, length, IfOk};
 ghost use Rattle.job_meaning.specs.declared.limits.TheConstants.{MAX_INPUT};
 ghost use Rattle.nursery.specs.Statuses.{TellsSweep};
 
-use crate::answers::{read_both, tell_refusal};
+use crate::answers::{read_both, tell_refusal, word_of};
 use crate::progress::Progress;
 use crate::stop::Stop;
 use crate::tables::sweep_as_json;
 use job_edits::Target;
 use job_files::shown_name;
 use job_tree::Name;
-use nursery_app::{Settings, WriteOut};
+use nursery_app::WriteOut;
+use nursery_cli::SweepArgs;
 use refusal_text::pointed_message;
 use std::alloc::{AllocError, Global};
 use std::io;
@@ -22,36 +23,28 @@ use sweep_app::{Missing, SweepVerdict, sweep};
 /// returns the status. Progress is shown if standard error is a terminal.
 pub(crate) fn sweep_job<R: Files + Input + Print + Eprint + Clock + Threads + Sync + AllocGlobal>(
     rt: &R,
-    job: &str,
-    input: Option<&str>,
-    target: Target,
-    values: &[u64],
-    settings: Settings,
-    json: bool,
+    args: &SweepArgs,
     at_terminal: bool,
 ) -> Result<u8, Stop> {
-    let given = read_both(rt, job, input)?;
+    let given = read_both(rt, args.job.as_str(), word_of(&args.input))?;
     let progress = Progress::new(rt, at_terminal);
     let (text, input) = (given.text.as_slice(), given.input.as_slice());
-    if json {
-        return sweep_as_json(rt, job, text, input, settings, target, values, &progress);
+    if args.json {
+        return sweep_as_json(rt, args, text, input, &progress);
     }
-    sweep_text(rt, job, text, input, settings, target, values, &progress)
+    sweep_text(rt, args, text, input, &progress)
 }
 
 // Writes the outcome of a job text over an input for each value, and returns the status.
 fn sweep_text<R: Print + Eprint + Clock + Threads + Sync + AllocGlobal>(
     rt: &R,
-    job: &str,
+    args: &SweepArgs,
     text: &[u8],
     input: &[u8],
-    settings: Settings,
-    target: Target,
-    values: &[u64],
     progress: &Progress<'_, R>,
 ) -> Result<u8, Stop>
     requires { length input.now ≤ MAX_INPUT }
-    ensures { IfOk result (TellsSweep text.now input.now settings.limit target values.now) }
+    ensures { IfOk result (TellsSweep text.now input.now args.now.settings.limit args.now.target args.now.values.items) }
 {
     let mut out = WriteOut::new(io::writer(rt));
     let told = sweep(
@@ -59,16 +52,16 @@ fn sweep_text<R: Print + Eprint + Clock + Threads + Sync + AllocGlobal>(
         rt.alloc(),
         text,
         input,
-        settings,
-        target,
-        values,
+        args.settings,
+        args.target,
+        args.values.as_slice(),
         progress,
         &mut out,
     );
     progress.clear();
     let verdict = told?;
     let status = verdict.status();
-    conclude_sweep(rt, job, text, &target, verdict);
+    conclude_sweep(rt, args.job.as_str(), text, &args.target, verdict);
     Ok(status)
 }
 

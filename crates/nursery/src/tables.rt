@@ -8,11 +8,9 @@ use crate::progress::Progress;
 use crate::races::conclude_races;
 use crate::stop::Stop;
 use crate::sweep::conclude_sweep;
-use fault_app::Deny;
-use job_edits::Target;
-use job_grammar::Name;
 use json_tables_app::{LintsVerdict, faults_json, lints_json, races_json, sweep_json};
-use nursery_app::{Settings, WriteOut};
+use nursery_app::WriteOut;
+use nursery_cli::{FaultsArgs, RacesArgs, SweepArgs};
 use std::io;
 use std::thread::Threads;
 use std::time::Clock;
@@ -20,16 +18,13 @@ use std::time::Clock;
 /// Writes the outcome of a job text over an input with each fault of it as a JSON document, and returns the status.
 pub(crate) fn faults_as_json<R: Print + Eprint + Clock + Threads + Sync + AllocGlobal>(
     rt: &R,
-    job: &str,
+    args: &FaultsArgs,
     text: &[u8],
     input: &[u8],
-    settings: Settings,
-    name: Name,
-    deny: Deny,
     progress: &Progress<'_, R>,
 ) -> Result<u8, Stop>
     requires { length input.now ≤ MAX_INPUT }
-    ensures { IfOk result (TellsJsonFaults text.now input.now settings.limit name deny) }
+    ensures { IfOk result (TellsJsonFaults text.now input.now args.now.settings.limit args.now.name args.now.deny) }
 {
     let mut out = WriteOut::new(io::writer(rt));
     let written = faults_json(
@@ -37,16 +32,16 @@ pub(crate) fn faults_as_json<R: Print + Eprint + Clock + Threads + Sync + AllocG
         rt.alloc(),
         text,
         input,
-        settings,
-        name,
-        deny,
+        args.settings,
+        args.name,
+        args.deny,
         progress,
         &mut out,
     );
     progress.clear();
     let verdict = written?;
     let status = verdict.status();
-    conclude_faults(rt, job, text, verdict);
+    conclude_faults(rt, args.job.as_str(), text, verdict);
     Ok(status)
 }
 
@@ -54,15 +49,13 @@ pub(crate) fn faults_as_json<R: Print + Eprint + Clock + Threads + Sync + AllocG
 /// returns the status.
 pub(crate) fn races_as_json<R: Print + Eprint + Clock + Threads + Sync + AllocGlobal>(
     rt: &R,
-    job: &str,
+    args: &RacesArgs,
     text: &[u8],
     input: &[u8],
-    deny: bool,
-    settings: Settings,
     progress: &Progress<'_, R>,
 ) -> Result<u8, Stop>
     requires { length input.now ≤ MAX_INPUT }
-    ensures { IfOk result (TellsJsonRaces text.now input.now settings.limit deny) }
+    ensures { IfOk result (TellsJsonRaces text.now input.now args.now.settings.limit args.now.deny) }
 {
     let mut out = WriteOut::new(io::writer(rt));
     let written = races_json(
@@ -70,15 +63,15 @@ pub(crate) fn races_as_json<R: Print + Eprint + Clock + Threads + Sync + AllocGl
         rt.alloc(),
         text,
         input,
-        settings,
-        deny,
+        args.settings,
+        args.deny,
         progress,
         &mut out,
     );
     progress.clear();
     let verdict = written?;
     let status = verdict.status();
-    conclude_races(rt, job, text, input, settings, verdict);
+    conclude_races(rt, args.job.as_str(), text, input, args.settings, verdict);
     Ok(status)
 }
 
@@ -86,16 +79,13 @@ pub(crate) fn races_as_json<R: Print + Eprint + Clock + Threads + Sync + AllocGl
 /// status.
 pub(crate) fn sweep_as_json<R: Print + Eprint + Clock + Threads + Sync + AllocGlobal>(
     rt: &R,
-    job: &str,
+    args: &SweepArgs,
     text: &[u8],
     input: &[u8],
-    settings: Settings,
-    target: Target,
-    values: &[u64],
     progress: &Progress<'_, R>,
 ) -> Result<u8, Stop>
     requires { length input.now ≤ MAX_INPUT }
-    ensures { IfOk result (TellsJsonSweep text.now input.now settings.limit target values.now) }
+    ensures { IfOk result (TellsJsonSweep text.now input.now args.now.settings.limit args.now.target args.now.values.items) }
 {
     let mut out = WriteOut::new(io::writer(rt));
     let written = sweep_json(
@@ -103,16 +93,16 @@ pub(crate) fn sweep_as_json<R: Print + Eprint + Clock + Threads + Sync + AllocGl
         rt.alloc(),
         text,
         input,
-        settings,
-        target,
-        values,
+        args.settings,
+        args.target,
+        args.values.as_slice(),
         progress,
         &mut out,
     );
     progress.clear();
     let verdict = written?;
     let status = verdict.status();
-    conclude_sweep(rt, job, text, &target, verdict);
+    conclude_sweep(rt, args.job.as_str(), text, &args.target, verdict);
     Ok(status)
 }
 

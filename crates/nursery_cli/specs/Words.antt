@@ -34,12 +34,12 @@ IsWritten job modes.Check = Unit {0}
 -- in place is not standard input, and there is something to test.
 abbrev pub IsFit : Command → Type 0
 IsFit Feed = Unit {0}
-IsFit (Run job input settings order json) = Unit {0}
-IsFit (Explain job input task settings order json) = Unit {0}
-IsFit (Chart job input width svg settings) = IsWidth width
-IsFit (Faults job input name deny settings json) = IsTrue (may_be_raised name)
-IsFit (Races job input deny settings json) = Unit {0}
-IsFit (Sweep job input target values settings json) = AreValues values.items
+IsFit (Run args) = Unit {0}
+IsFit (Explain args) = Unit {0}
+IsFit (Chart args) = IsWidth args.width
+IsFit (Faults args) = IsTrue (may_be_raised args.name)
+IsFit (Races args) = Unit {0}
+IsFit (Sweep args) = AreValues args.values.items
 IsFit (Fmt job mode) = IsWritten (string_bytes job) mode
 IsFit (Lint job json) = Unit {0}
 IsFit (Test paths accept settings) = 1 ≤ length paths.items

@@ -1,23 +1,10 @@
 ghost use Rattle.std.specs.Prelude.{◌≡◌};
 ghost use Rattle.nursery_cli.specs.declared.command.CommandFault.TheVariants.{NoMemory};
 
-use fault_text::Deny;
-use job_edits::Target;
+use crate::arguments::{ChartArgs, ExplainArgs, FaultsArgs, RacesArgs, RunArgs, SweepArgs};
 use job_runner::Settings;
-use job_tree::Name;
 use std::alloc::AllocError;
 use thiserror::Error;
-
-/// The order in which the ready tasks of a batch get their turns.
-#[derive(Clone, Copy, Debug, PartialEq, Eq)]
-pub enum Order {
-    /// Always the first of those that are left.
-    Forward,
-    /// Always the last of those that are left.
-    Reverse,
-    /// One after the other, by the number of picks so far.
-    Turn,
-}
 
 /// What is done with the formatted text of a job.
 #[derive(Clone, Copy, Debug, PartialEq, Eq)]
@@ -48,90 +35,17 @@ pub enum Command {
     Feed,
     /// Runs a job over an input. Each is named by its file, or `-` for standard input; at most one of them is standard
     /// input.
-    Run {
-        /// The job file.
-        job: String,
-        /// The input file.
-        input: String,
-        /// The number of workers, and the last tick at which the job may end.
-        settings: Settings,
-        /// The order in which ready tasks get their turns.
-        order: Order,
-        /// Whether the output is one JSON document.
-        json: bool,
-    },
+    Run(RunArgs),
     /// Prints the story of a job over an input: why each task ended as it did.
-    Explain {
-        /// The job file, or `-` for standard input.
-        job: String,
-        /// The input file, or `-` for standard input. `None` is an empty input.
-        input: Option<String>,
-        /// The label of the only task that the story is about. `None` is all tasks.
-        task: Option<String>,
-        /// The number of workers, and the last tick of the story.
-        settings: Settings,
-        /// The order in which ready tasks get their turns.
-        order: Order,
-        /// Whether the output is one JSON document.
-        json: bool,
-    },
+    Explain(ExplainArgs),
     /// Draws a picture of the run of a job over an input.
-    Chart {
-        /// The job file, or `-` for standard input.
-        job: String,
-        /// The input file, or `-` for standard input. `None` is an empty input.
-        input: Option<String>,
-        /// The maximum width of the chart, in columns of text, from `LEAST_WIDTH` to `MAX_WIDTH`. `None` is the
-        /// default.
-        width: Option<usize>,
-        /// Whether the output is an SVG document instead of a text.
-        svg: bool,
-        /// The number of workers, and the last tick of the chart.
-        settings: Settings,
-    },
+    Chart(ChartArgs),
     /// Prints the outcome of a job over an input with each fault of its waiting steps.
-    Faults {
-        /// The job file, or `-` for standard input.
-        job: String,
-        /// The input file, or `-` for standard input. `None` is an empty input.
-        input: Option<String>,
-        /// The name of the exception that a faulty step raises. It is a name that a step may raise.
-        name: Name,
-        /// The outcomes that are denied.
-        deny: Deny,
-        /// The number of threads, and the last tick at which a job may end.
-        settings: Settings,
-        /// Whether the output is one JSON document.
-        json: bool,
-    },
+    Faults(FaultsArgs),
     /// Prints the places of a job on which its outcome over an input depends by a hair.
-    Races {
-        /// The job file, or `-` for standard input.
-        job: String,
-        /// The input file, or `-` for standard input. `None` is an empty input.
-        input: Option<String>,
-        /// Whether races are denied.
-        deny: bool,
-        /// The number of threads, and the last tick at which a job may end.
-        settings: Settings,
-        /// Whether the output is one JSON document.
-        json: bool,
-    },
+    Races(RacesArgs),
     /// Prints the outcome of a job over an input for each value of one of its numbers.
-    Sweep {
-        /// The job file, or `-` for standard input.
-        job: String,
-        /// The input file, or `-` for standard input. `None` is an empty input.
-        input: Option<String>,
-        /// The number that takes the values.
-        target: Target,
-        /// The values, 1 to 100,000 of them, in increasing order.
-        values: Vec<u64>,
-        /// The number of threads, and the last tick at which a job may end.
-        settings: Settings,
-        /// Whether the output is one JSON document.
-        json: bool,
-    },
+    Sweep(SweepArgs),
     /// Formats a job: two spaces for each level, and one step on each line.
     Fmt {
         /// The job file, or `-` for standard input, which `FormatMode::Write` excludes.

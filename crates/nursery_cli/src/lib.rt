@@ -5,6 +5,7 @@
 //! uses `clap` to read the words and to print the help. Which words are refused, and with which message, is tested.
 #![tactic(auto)]
 
+mod arguments;
 mod command;
 mod common;
 mod examples;
@@ -12,6 +13,7 @@ mod parser;
 mod reading;
 mod sweeping;
 
-pub use command::{Command, CommandFault, FormatMode, Order, Shell};
+pub use arguments::{ChartArgs, ExplainArgs, FaultsArgs, Order, RacesArgs, RunArgs, SweepArgs};
+pub use command::{Command, CommandFault, FormatMode, Shell};
 pub use parser::{DEFAULT_LIMIT, LEAST_WIDTH, MAX_WIDTH, command_line};
 pub use reading::{help_text, read_command};

@@ -3,7 +3,8 @@ ghost use Rattle.std.specs.Str.{bytes_eq};
 ghost use Rattle.nursery_cli.specs.declared.command.Command.TheVariants.{Feed};
 ghost use Rattle.nursery_cli.specs.Words.{IsFit, IsAsked, IsWidth, may_be_raised};
 
-use crate::command::{Command, CommandFault, FormatMode, Order, Shell};
+use crate::arguments::{ChartArgs, ExplainArgs, FaultsArgs, Order, RacesArgs, RunArgs, SweepArgs};
+use crate::command::{Command, CommandFault, FormatMode, Shell};
 use crate::common::{OUT_OF_RANGE, owned, refusal, settings_of};
 use crate::parser::{DEFAULT_FAULT, LEAST_WIDTH, MAX_WIDTH, command_line};
 use crate::sweeping::{target_of, values_of};
@@ -167,13 +168,13 @@ fn run_command(alloc: Global, job: &str, matches: &ArgMatches<'_>) -> Result<Com
         return Err(refusal(alloc, "error: name the input file\n"));
     };
     let settings = settings_of(alloc, job, Some(input), matches)?;
-    Ok(Command::Run {
+    Ok(Command::Run(RunArgs {
         job: String::from_str(alloc, job)?,
         input: String::from_str(alloc, input)?,
         settings,
         order: order_named(matches.get_str("order")),
         json: matches.get_flag("json"),
-    })
+    }))
 }
 
 // Returns the command `explain` with its settings.
@@ -186,14 +187,14 @@ fn explain_command(
 {
     let input = matches.get_str("input");
     let settings = settings_of(alloc, job, input, matches)?;
-    Ok(Command::Explain {
+    Ok(Command::Explain(ExplainArgs {
         job: String::from_str(alloc, job)?,
         input: owned(alloc, input)?,
         task: owned(alloc, matches.get_str("task"))?,
         settings,
         order: order_named(matches.get_str("order")),
         json: matches.get_flag("json"),
-    })
+    }))
 }
 
 // Returns the command `chart` with its settings.
@@ -210,13 +211,13 @@ fn chart_command(
     if !is_width(width) {
         return Err(refusal(alloc, OUT_OF_RANGE));
     }
-    Ok(Command::Chart {
+    Ok(Command::Chart(ChartArgs {
         job: String::from_str(alloc, job)?,
         input: owned(alloc, input)?,
         width,
         svg: matches.get_flag("svg"),
         settings,
-    })
+    }))
 }
 
 // Returns whether a chart may have this width. `None` is allowed.
@@ -241,14 +242,14 @@ fn faults_command(
     let settings = settings_of(alloc, job, input, matches)?;
     let name = raised_name(alloc, matches.get_str("name").unwrap_or(DEFAULT_FAULT))?;
     let deny = denied_kinds(alloc, matches.get_str("deny").unwrap_or(""))?;
-    Ok(Command::Faults {
+    Ok(Command::Faults(FaultsArgs {
         job: String::from_str(alloc, job)?,
         input: owned(alloc, input)?,
         name,
         deny,
         settings,
         json: matches.get_flag("json"),
-    })
+    }))
 }
 
 // Returns the command `races` with its settings.
@@ -261,13 +262,13 @@ fn races_command(
 {
     let input = matches.get_str("input");
     let settings = settings_of(alloc, job, input, matches)?;
-    Ok(Command::Races {
+    Ok(Command::Races(RacesArgs {
         job: String::from_str(alloc, job)?,
         input: owned(alloc, input)?,
         deny: matches.get_flag("deny"),
         settings,
         json: matches.get_flag("json"),
-    })
+    }))
 }
 
 // Returns the command `sweep` with its settings.
@@ -282,14 +283,14 @@ fn sweep_command(
     let settings = settings_of(alloc, job, input, matches)?;
     let target = target_of(alloc, matches.get_str("of"), matches.get_str("at"))?;
     let values = values_of(alloc, matches.get_str("values").unwrap_or(""))?;
-    Ok(Command::Sweep {
+    Ok(Command::Sweep(SweepArgs {
         job: String::from_str(alloc, job)?,
         input: owned(alloc, input)?,
         target,
         values,
         settings,
         json: matches.get_flag("json"),
-    })
+    }))
 }
 
 // Returns the command `test` with its settings.

@@ -1,0 +1,112 @@
+use fault_text::Deny;
+use job_edits::Target;
+use job_runner::Settings;
+use job_tree::Name;
+
+/// The order in which the ready tasks of a batch get their turns.
+#[derive(Clone, Copy, Debug, PartialEq, Eq)]
+pub enum Order {
+    /// Always the first of those that are left.
+    Forward,
+    /// Always the last of those that are left.
+    Reverse,
+    /// One after the other, by the number of picks so far.
+    Turn,
+}
+
+/// The arguments of `run`.
+#[derive(Drop)]
+pub struct RunArgs {
+    /// The job file.
+    pub job: String,
+    /// The input file.
+    pub input: String,
+    /// The number of workers, and the last tick at which the job may end.
+    pub settings: Settings,
+    /// The order in which ready tasks get their turns.
+    pub order: Order,
+    /// Whether the output is one JSON document.
+    pub json: bool,
+}
+
+/// The arguments of `explain`.
+#[derive(Drop)]
+pub struct ExplainArgs {
+    /// The job file, or `-` for standard input.
+    pub job: String,
+    /// The input file, or `-` for standard input. `None` is an empty input.
+    pub input: Option<String>,
+    /// The label of the only task that the story is about. `None` is all tasks.
+    pub task: Option<String>,
+    /// The number of workers, and the last tick of the story.
+    pub settings: Settings,
+    /// The order in which ready tasks get their turns.
+    pub order: Order,
+    /// Whether the output is one JSON document.
+    pub json: bool,
+}
+
+/// The arguments of `chart`.
+#[derive(Drop)]
+pub struct ChartArgs {
+    /// The job file, or `-` for standard input.
+    pub job: String,
+    /// The input file, or `-` for standard input. `None` is an empty input.
+    pub input: Option<String>,
+    /// The maximum width of the chart, in columns of text, from `LEAST_WIDTH` to `MAX_WIDTH`. `None` is the
+    /// default.
+    pub width: Option<usize>,
+    /// Whether the output is an SVG document instead of a text.
+    pub svg: bool,
+    /// The number of workers, and the last tick of the chart.
+    pub settings: Settings,
+}
+
+/// The arguments of `faults`.
+#[derive(Drop)]
+pub struct FaultsArgs {
+    /// The job file, or `-` for standard input.
+    pub job: String,
+    /// The input file, or `-` for standard input. `None` is an empty input.
+    pub input: Option<String>,
+    /// The name of the exception that a faulty step raises. It is a name that a step may raise.
+    pub name: Name,
+    /// The outcomes that are denied.
+    pub deny: Deny,
+    /// The number of threads, and the last tick at which a job may end.
+    pub settings: Settings,
+    /// Whether the output is one JSON document.
+    pub json: bool,
+}
+
+/// The arguments of `races`.
+#[derive(Drop)]
+pub struct RacesArgs {
+    /// The job file, or `-` for standard input.
+    pub job: String,
+    /// The input file, or `-` for standard input. `None` is an empty input.
+    pub input: Option<String>,
+    /// Whether races are denied.
+    pub deny: bool,
+    /// The number of threads, and the last tick at which a job may end.
+    pub settings: Settings,
+    /// Whether the output is one JSON document.
+    pub json: bool,
+}
+
+/// The arguments of `sweep`.
+#[derive(Drop)]
+pub struct SweepArgs {
+    /// The job file, or `-` for standard input.
+    pub job: String,
+    /// The input file, or `-` for standard input. `None` is an empty input.
+    pub input: Option<String>,
+    /// The number that takes the values.
+    pub target: Target,
+    /// The values, 1 to 100,000 of them, in increasing order.
+    pub values: Vec<u64>,
+    /// The number of threads, and the last tick at which a job may end.
+    pub settings: Settings,
+    /// Whether the output is one JSON document.
+    pub json: bool,
+}
