@@ -11,9 +11,8 @@ pub enum ReadFault {
     /// The reader has more bytes than are allowed.
     #[error("input too long")]
     TooLong,
-    /// A read returned an error, of any kind. The reader may be any reader, although the text of
-    /// this error names the input file.
-    #[error("cannot read the input file")]
+    /// A read returned an error, of any kind.
+    #[error("a read failed")]
     Device,
     /// Memory was refused.
     #[error("no memory")]
