@@ -37,7 +37,7 @@ job_hints 'a job text has no comments' '# wait'
 job_hints 'a job text has no comments' '// wait'
 job_hints 'times are whole ticks: choose a smaller tick, and multiply every number' 'sleep 0.5;'
 job_hints 'times are whole ticks: choose a smaller tick, and multiply every number' 'sleep .5;'
-dots='Trio'\''s names stand here without `trio.`: `sleep 1;`, `scope NAME after 5 { .. }`, `nursery NAME { .. }`'
+dots='Trio'\''s names are written here without `trio.`: `sleep 1;`, `scope NAME after 5 { .. }`, `nursery NAME { .. }`'
 job_hints "$dots" 'trio.sleep 1;'
 job_hints "$dots" 'await trio.sleep(1);'
 job_hints 'a string is written in double quotes, as in `find "error";`' "find 'er';"

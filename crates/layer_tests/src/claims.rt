@@ -49,21 +49,21 @@ fn there_is_nothing_to_claim_of_no_requests(rt: HostRuntime) -> Result<(), Fail>
 
 /// A worker's ticket and the number that it drew.
 #[derive(Drop)]
-struct Station {
+struct Worker {
     pass: Pass,
     number: Option<usize>,
 }
 
-fn claim_in_two_threads<R: Threads + Sync>(rt: &R, claims: &Claims, stations: &mut [Station])
-    requires { All (λ station. IsPassOf claims.now station.pass × (was_told station.pass ≡ false)) stations.old }
+fn claim_in_two_threads<R: Threads + Sync>(rt: &R, claims: &Claims, workers: &mut [Worker])
+    requires { All (λ worker. IsPassOf claims.now worker.pass × (was_told worker.pass ≡ false)) workers.old }
 {
     thread::for_each_mut(
         rt,
-        stations,
+        workers,
         2,
-        &|_: usize, station: &mut Station|
-            requires { IsPassOf claims.now station.old.pass × (was_told station.old.pass ≡ false) }
-        { station.number = claims.claim(&mut station.pass) },
+        &|_: usize, worker: &mut Worker|
+            requires { IsPassOf claims.now worker.old.pass × (was_told worker.old.pass ≡ false) }
+        { worker.number = claims.claim(&mut worker.pass) },
     );
 }
 
@@ -76,18 +76,18 @@ fn two_threads_draw_two_numbers(rt: HostRuntime) -> Result<(), Fail> {
     let Some(first) = passes.pop() else {
         panic!(rt; "there are two passes")
     };
-    let mut stations = [
-        Station {
+    let mut workers = [
+        Worker {
             pass: first,
             number: None,
         },
-        Station {
+        Worker {
             pass: second,
             number: None,
         },
     ];
-    claim_in_two_threads(&rt, &claims, &mut stations);
-    let drawn = (stations[0].number, stations[1].number);
+    claim_in_two_threads(&rt, &claims, &mut workers);
+    let drawn = (workers[0].number, workers[1].number);
     assert!(rt; drawn == (Some(0), Some(1)) || drawn == (Some(1), Some(0)));
     Ok(())
 }

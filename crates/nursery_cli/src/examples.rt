@@ -136,7 +136,7 @@ Example: two tasks act in the same tick, and one of them cancels the other.
 Exit status: 0, or 1 where races are denied and there is one; the others are those of `run`.";
 
 pub(crate) const SWEEP_EXAMPLE: &str =
-    "Neighbouring values share a line where the same becomes of the job, apart from ticks. A value that the
+    "Neighbouring values share a line if the outcome of the job is the same, apart from ticks. A value that the
 job text cannot have is told as `refused`.
 
 Example: how long a deadline do these two calls need?

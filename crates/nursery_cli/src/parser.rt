@@ -130,7 +130,7 @@ fn faults_parser<'a>(alloc: Global) -> Result<Command<'a>, AllocError> {
         );
     Command::new(alloc, "faults")
         .about(
-            "Tells what becomes of a job where any one of its waiting steps fails, hangs or is cancelled",
+            "Shows the outcome of a job if any one of its waiting steps fails, hangs or is cancelled",
         )
         .after_help(FAULTS_EXAMPLE)
         .arg(job_argument(alloc))?
@@ -150,7 +150,7 @@ fn races_parser<'a>(alloc: Global) -> Result<Command<'a>, AllocError> {
         .action(ArgAction::SetTrue);
     Command::new(alloc, "races")
         .about(
-            "Tells where the outcome of a job changes if one step takes a hair more or less time",
+            "Shows where the outcome of a job changes if one step takes a hair more or less time",
         )
         .after_help(RACES_EXAMPLE)
         .arg(job_argument(alloc))?
@@ -182,7 +182,7 @@ fn sweep_parser<'a>(alloc: Global) -> Result<Command<'a>, AllocError> {
         )
         .required(true);
     Command::new(alloc, "sweep")
-        .about("Tells what becomes of a job for each value of one of its numbers")
+        .about("Shows the outcome of a job for each value of one of its numbers")
         .after_help(SWEEP_EXAMPLE)
         .arg(job_argument(alloc))?
         .arg(optional_input(alloc))?
@@ -218,7 +218,7 @@ fn fmt_parser<'a>(alloc: Global) -> Result<Command<'a>, AllocError> {
 // Returns the parser of the words after `lint`.
 fn lint_parser<'a>(alloc: Global) -> Result<Command<'a>, AllocError> {
     Command::new(alloc, "lint")
-        .about("Tells what is probably a mistake in a job, with its place")
+        .about("Reports what is probably a mistake in a job, with its place")
         .after_help(LINT_EXAMPLE)
         .arg(job_argument(alloc))?
         .arg(json_option(alloc))

@@ -265,7 +265,7 @@ const HELP: &[Row] = &[
     ),
     ("-h", "$ nursery run first.job log.txt\n    job main 0\n"),
     ("help", "  line 0+5 error\n"),
-    ("--help", " Tells what becomes of a job for each value"),
+    ("--help", " Shows the outcome of a job for each value"),
     ("sweep --help", "3:21 --values 7..8"),
     ("run --help", "Usage: nursery run [OPTIONS] <JOB> <INPUT>"),
     ("run --help", "--workers <N>"),

@@ -17,7 +17,7 @@ token_sentence (Some b) =
 
 -- what the grammar expects at a place; `None` is the end of the text
 abbrev pub expected_sentence : Option Nonterminal → List ℕ
-expected_sentence None = codes "expected the text's end: nothing may check_grammar the job's `}`"
+expected_sentence None = codes "expected the text's end: nothing may follow the job's `}`"
 expected_sentence (Some nonterminal.Job) = codes "expected `job NAME { .. }`"
 expected_sentence (Some nonterminal.Steps) = codes "expected a step, as `sleep 1;`, or `}` (a `start` is allowed only directly inside a nursery)"
 expected_sentence (Some nonterminal.Items) = codes "expected a step, as `sleep 1;`, a `start NAME { .. }` or `}`"

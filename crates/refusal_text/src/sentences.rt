@@ -54,7 +54,7 @@ fn expected_sentence(nonterminal: Option<Nonterminal>) -> &'static str
     ensures { result.now ≡ expected_sentence nonterminal }
 {
     match nonterminal {
-        None => "expected the text's end: nothing may check_grammar the job's `}`",
+        None => "expected the text's end: nothing may follow the job's `}`",
         Some(Nonterminal::Job) => "expected `job NAME { .. }`",
         Some(Nonterminal::Steps) => {
             "expected a step, as `sleep 1;`, or `}` (a `start` is allowed only directly inside a nursery)"
