@@ -1,5 +1,5 @@
 pub mod Outcomes
 pub mod Summaries
-pub mod JobOutcomed
+pub mod OutcomeLemmas
 pub mod Lexed
 pub mod Tabled

@@ -235,14 +235,14 @@ took_sleep frames before after world goes froms numbers stopped ps ticks stands 
     let gs = frames_of numbers before.frames.items in
     let alone : LeavesAlone (sleeps froms ticks world.tick gs ps) gs ps = falls_alone _ ticks world.tick gs ps in
     took_task_states frames before after world goes froms numbers stopped ps (sleeps froms ticks world.tick gs ps) stands
-    (task_stateed before after stays) (ap (λ
+    (only_task_state before after stays) (ap (λ
     (t : Task). blocks_of t.frames.items) stays ∙ same)
     (alone.frames ∙ ap (λ (t : Task). frames_of numbers t.frames.items) (sym stays)) alone.places alone.made alone.begun alone.waits
     (sleep stands.places)
   where
-    task_stateed : (before after : Task) → after ≡ record before { task_state = after.task_state } →
+    only_task_state : (before after : Task) → after ≡ record before { task_state = after.task_state } →
         after ≡ record before { frames = after.frames; task_state = after.task_state }
-    task_stateed before after e = e ∙ ap (λ (t : Task). record before { frames = t.frames; task_state = after.task_state }) (sym e)
+    only_task_state before after e = e ∙ ap (λ (t : Task). record before { frames = t.frames; task_state = after.task_state }) (sym e)
 
 -- ---- scopes that are signed
 
