@@ -2,3 +2,4 @@ pub mod Statuses
 pub mod Stories
 pub mod Tellings
 pub mod Running
+pub mod Laws

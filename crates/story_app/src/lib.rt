@@ -9,6 +9,7 @@
 
 mod about;
 mod explaining;
+mod laws;
 mod running;
 mod table;
 mod telling;
@@ -16,6 +17,7 @@ mod text;
 mod verdict;
 
 pub use explaining::explain;
+pub use laws::law_texts_agree;
 pub use running::running_at_limit;
 pub use table::table_of;
 pub use telling::told_until;
