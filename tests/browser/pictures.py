@@ -19,7 +19,7 @@ import tempfile
 
 ROOT = os.path.join(os.path.dirname(os.path.abspath(__file__)), "..", "..")
 
-# What each picture has: its rows in order, its crosses, dots and arrows, and titles that stand somewhere in it.
+# What each picture has: its rows in order, its crosses, dots and arrows, and titles that are somewhere in it.
 WANTED = {
     "supervisor": (
         ["supervisor", "nursery workers", "reader", "scope flush", "writer"],

@@ -305,7 +305,7 @@ name='nursery sweep with 100000 values'
 printf 'as it is   raised TooSlow(limit), ends 5\n1..7       raised TooSlow(limit), ends 1..7\n8..100000  done, ends 7\n100000 values: 0 stuck, 0 cut a cleanup\n' | cmp -s - out || fail "standard output: $(cat out)"
 cases=$((cases + 1))
 
-# ---- 2: a refused job, told with its place
+# ---- 2: a refused job, printed with its place
 
 # refuses TEXT LINE TOLD: the job text is refused by all six commands, with that line and that text after `bad.job:`.
 refuses() {
@@ -357,7 +357,7 @@ shows out 'refused J7 Depth at '
 shows err ': blocks are nested more than 32 deep'
 cases=$((cases + 1))
 
-# A file's name with a control character is told escaped, on one line.
+# A file's name with a control character is printed escaped, on one line.
 odd=$(printf 'odd\nname.job')
 printf 'trio-job 1\njob main { sleep }\n' > "$odd"
 wants 2 'refused J6 Syntax at 28\n' '"odd\\nname.job":2:18: expected a number\njob main { sleep }\n                 ^\n' check "$odd"

@@ -8,7 +8,7 @@ COLUMNS = 80
 
 def formatted(text):
     """Formats a job text: its first line, and then a line for each step, with two spaces for each block around it. A block that is empty or holds
-    one step without a block stands in one line where it ends at column 80 or before."""
+    one step without a block is in one line if it ends at column 80 or before."""
     first, _, rest = text.partition("\n")
     lines, _ = block_of(TOKEN.findall(rest), 0, 0)
     return "\n".join([first] + lines) + "\n"

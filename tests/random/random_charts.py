@@ -3,7 +3,7 @@
 
     python3 tests/random/random_charts.py PROGRAM [JOBS [SEED]]
 
-PROGRAM is the built executable. It wants Python 3.10 or later. Each job's text chart is drawn here from what `nursery explain` tells and the order
+PROGRAM is the built executable. It needs Python 3.10 or later. Each job's text chart is drawn here from what `nursery explain` prints and the order
 of tasks in its report, at several widths, and has to be the same to the byte. The SVG document is read by Python's XML parser: its
 rows have to be the report's tasks, and below each its scopes and nurseries, with their outcomes; no number in it may be out of its view.
 """
@@ -29,7 +29,7 @@ class Wrong(Exception):
 
 
 class Bar:
-    """A row: its name, when it starts and ends (None where that is not told), what became of it, and the ticks of its crosses and dots."""
+    """A row: its name, when it starts and ends (None if that is not printed), its outcome, and the ticks of its crosses and dots."""
 
     def __init__(self, kind, label, start):
         self.kind, self.label, self.start, self.end = kind, label, start, None

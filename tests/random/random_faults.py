@@ -1,5 +1,5 @@
 #!/usr/bin/env python3
-"""Compares what `nursery faults` tells of random jobs with runs of texts that this script changes itself.
+"""Compares what `nursery faults` prints for random jobs with runs of texts that this script changes itself.
 
     python3 tests/random/random_faults.py PROGRAM [JOBS [SEED]]
     python3 tests/random/random_faults.py PROGRAM --table JOB [INPUT]
@@ -58,7 +58,7 @@ def names(title, tasks):
 
 
 def first_part(what):
-    """What a handler handles, where what it leaves is told after that and a comma. Commas stand between the parts of a group, too."""
+    """What a handler handles, if what it leaves is printed after that and a comma. There are commas between the parts of a group, too."""
     depth = 0
     for at, byte in enumerate(what):
         depth += (byte == "[") - (byte == "]")
@@ -200,7 +200,7 @@ def main():
             print(wrong)
             pool.shutdown(cancel_futures=True)
             return 1
-    print(f"random_faults.py: {lines} faults, none told otherwise")
+    print(f"random_faults.py: {lines} faults, none differs")
     return 0
 
 

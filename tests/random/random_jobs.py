@@ -246,7 +246,7 @@ def examined_cut(path, cut):
 
 
 def examined(path, seed):
-    """The status of one text. What is wrong is told with the text and its input."""
+    """The status of one text. What is wrong is printed with the text and its input."""
     dice = random.Random(seed)
     text, data = text_of(dice, seed), input_of(dice)
     with tempfile.TemporaryDirectory() as folder:

@@ -102,7 +102,7 @@ def compare_story(document, text):
         raise Wrong(f"{len(document['events'])} events, and {len(events)} in the story")
     for event, (tick, task, sentence) in zip(document["events"], events):
         if (event["tick"], event["task"]) != (tick, task) or not sentence.startswith(WORDS[event["event"]]):
-            raise Wrong(f"{event} is told as: tick {tick}, {task} {sentence}")
+            raise Wrong(f"{event} is printed as: tick {tick}, {task} {sentence}")
         for key in ("scope", "nursery", "name", "by"):
             named = event.get(key)
             if named and not re.search(rf"(?<!\S){re.escape(named)}(?![\w.])", sentence) and event["event"] != "ends":
@@ -123,7 +123,7 @@ def try_job(program, folder, seed):
         if status == 2:
             refusal = f"refused {document['refused']} {document['name']} at {document['at']}\n"
             if refusal != text:
-                raise Wrong(f"the refusal is told as {document}")
+                raise Wrong(f"the refusal is printed as {document}")
         elif (f"limit {document['limit']}\n" if status == 3 else report_of(document)) != text:
             raise Wrong("the report says something else")
         status, text = run(program, "explain", *words)

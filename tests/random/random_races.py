@@ -1,5 +1,5 @@
 #!/usr/bin/env python3
-"""Compares what `nursery races` tells of random jobs with runs of texts that this script changes itself.
+"""Compares what `nursery races` prints for random jobs with runs of texts that this script changes itself.
 
     python3 tests/random/random_races.py PROGRAM [JOBS [SEED]]
     python3 tests/random/random_races.py PROGRAM --table JOB [INPUT]
@@ -80,7 +80,7 @@ class Shown:
 
 
 def compared(before, after, root):
-    """What a line tells, or nothing where both show the same."""
+    """What a line says, or nothing if both show the same."""
     if before.refused or after.refused:
         return "refused"
     if before.stuck or after.stuck:
@@ -98,7 +98,7 @@ def compared(before, after, root):
 
 
 def copies_of(tokens):
-    """Each `start .. over`: its place, its name, its number of copies, how many indices stand before theirs, and the tasks below it."""
+    """Each `start .. over`: its place, its name, its number of copies, how many indices come before theirs, and the tasks below it."""
     depth, loops, opened = 0, [], []
     found = []
     for n, (token, at) in enumerate(tokens):
@@ -230,7 +230,7 @@ def main():
             print(wrong)
             pool.shutdown(cancel_futures=True)
             return 1
-    print(f"random_races.py: {sum(n for n, _ in found)} hairs, {sum(race for _, race in found)} jobs with a race, none told otherwise")
+    print(f"random_races.py: {sum(n for n, _ in found)} hairs, {sum(race for _, race in found)} jobs with a race, none differs")
     return 0
 
 

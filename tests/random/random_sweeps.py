@@ -1,5 +1,5 @@
 #!/usr/bin/env python3
-"""Compares what `nursery sweep` tells of random jobs with runs of texts that this script changes itself.
+"""Compares what `nursery sweep` prints for random jobs with runs of texts that this script changes itself.
 
     python3 tests/random/random_sweeps.py PROGRAM [JOBS [SEED]]
 
@@ -20,7 +20,7 @@ from random_faults import LIMIT, TOKEN, Runs, Wrong, replaced
 
 
 def told(runs, text):
-    """What is told of a text without ticks, and the tick at which its job ends, or none."""
+    """The outcome of a text without ticks, and the tick at which its job ends, or None."""
     fate, of = runs.fate(text, None, True)
     if of in ("refused", "stuck"):
         return fate, "", None
@@ -104,7 +104,7 @@ def main():
             print(wrong)
             pool.shutdown(cancel_futures=True)
             return 1
-    print(f"random_sweeps.py: {values} values, none told otherwise")
+    print(f"random_sweeps.py: {values} values, none differs")
     return 0
 
 

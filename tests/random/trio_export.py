@@ -6,7 +6,7 @@
 
 PROGRAM is the built executable. It wants Python 3.11 and Trio 0.22 or newer, and is no part of the gate. The jobs are those of examples/, jobs
 that are nested as deep as they may be, jobs whose names are those that a program uses, and random ones. Each program has to be one of Python 3.8
-too. It is run under eight seeds of Trio's scheduler, and no run may raise what the job does not name. What it tells, how each task ends and
+too. It is run under eight seeds of Trio's scheduler, and no run may raise what the job does not name. What it prints, how each task ends and
 the lines that it shows, has to be what races_in_trio.py sees of a random job in Trio, where each has one outcome; and what `nursery run`
 reports of the others. Counted are the random jobs without a race, which should have one outcome too, and how often it is that
 of `nursery run`. The second form shows one random job with its program and outcomes, by its number.
@@ -71,7 +71,7 @@ if trio.__version__.startswith("0.22."):
 
 
 def parts_of(text):
-    """The parts of a group's text, between commas that stand in no other group."""
+    """The parts of a group's text, between commas that are in no other group."""
     depth, part = 0, ""
     for c in text:
         depth += (c == "[") - (c == "]")
@@ -103,7 +103,7 @@ def line(text):
 
 
 def of_report(report):
-    """What a report says that a program tells too."""
+    """What a report says that a program prints too."""
     for told in report.splitlines()[1:]:
         if told.startswith("task "):
             _, label, _, _, ending = told.split(" ", 4)
@@ -113,7 +113,7 @@ def of_report(report):
 
 
 def of_program(rows):
-    """The same of what a program tells."""
+    """The same of what a program prints."""
     for told in rows.splitlines():
         if told.startswith("task "):
             yield row(*told.split(" ", 2)[1:])

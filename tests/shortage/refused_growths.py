@@ -7,7 +7,7 @@ PROGRAM is the built executable, CRATES the folder of the crates with their buil
 refuses (tests/shortage/refuse_growth.c), and Python 3.10. Of each job, with 1 and with 3 workers, the growth 0, 1, 2 and so on is
 refused until a run meets none: each time the program gives the job's own bytes and status, or `no memory`, status 5 and nothing on
 standard output. Where the growth that is refused is one of the system's for a thread, the others do its work, and the answer is the
-job's own; where it is one for the sentence that explains a refused text on standard error, the refusal stands without it.
+job's own; where it is one for the sentence that explains a refused text on standard error, the refusal is printed without it.
 
 With CRATES the same is done with each crate's tests, each growth of each but one test's: each time a test passes, or ends with want of
 memory. The growths of a test are refused by several processes beside one another.
@@ -24,7 +24,7 @@ from concurrent.futures import ProcessPoolExecutor
 HERE = os.path.dirname(os.path.abspath(__file__))
 sys.path.insert(0, os.path.join(HERE, "..", "random"))
 
-from formats import formatted  # noqa: E402: it stands beside the random jobs
+from formats import formatted  # noqa: E402: it is in the folder of the random jobs
 
 TEN_BYTES = b"aa\nb\ncccc\n"
 
@@ -98,7 +98,7 @@ class Shim:
 
 
 def refuse_each(shim, words, status, right, told):
-    """Refuses each growth of one run, which tells something on standard error or not. Gives how many were refused, and how many of
+    """Refuses each growth of one run, which prints something on standard error or not. Returns how many were refused, and how many of
     those runs had no memory."""
     growth, without = 0, 0
     while True:
@@ -158,7 +158,7 @@ FAULTS = {
     b"2:12  sleep 101  cancelled   1 done\n4 faults: 2 stuck, 0 cut a cleanup, 0 lost, 1 not reached\n",
 }
 
-# Where the outcome of some of them hangs on a hair. The start of copies has the story told, too.
+# Jobs with races. The start of copies has its story explained, too.
 RACES = {
     "kernels on parts": b"1 hairs: no race\n",
     "a handler's group": b"2:30  start a  later  main: raised *[C(main), n[B(b)]] -> raised n[B(b)]; a: raised A(a) -> cancelled\n"
@@ -260,7 +260,7 @@ def documents_of(program, name, job, data):
 
 
 def runs_of_program(program, folder):
-    """The runs of the program: what is shown of each, its words, its status, its bytes, and whether it tells something."""
+    """The runs of the program: what is shown of each, its words, its status, its bytes, and whether it prints something."""
     for number, (name, steps, buffer, status, right) in enumerate(ROWS):
         job = written(folder, f"job_{number}", b"trio-job 1\njob main { " + steps + b" }")
         data = written(folder, f"input_{number}", buffer)
