@@ -1,12 +1,10 @@
 -- The message for a refusal.
 use Rattle.std.proofs.Common.{◌≡◌, ℕ, zero, suc, ◌-◌, List, [], ◌∷◌, ◌++◌, refl, length, take, drop, min, map, ap, subst, ◌∙◌, append_assoc}
-use Rattle.std.specs.Prelude.{IfOk, Option, None, Result, Ok, Err, slice_get}
+use Rattle.std.specs.Prelude.{Option, None, slice_get}
 use Rattle.std.specs.List.{before_first}
 use Rattle.std.proofs.lemmas.List.{take_min, drop_min}
-use Rattle.std.specs.declared.alloc.AllocError.{AllocError}
 use Rattle.job_tree.specs.declared.format.Format.{Format}
 use Rattle.job_tokens.specs.declared.token.Token.{Token}
-use Rattle.job_tokens.specs.Lexing.{Lexes}
 use Rattle.job_tokens.specs.declared.token.Shape.{Shape}
 use Rattle.job_syntax.specs.declared.role.Role.{Role}
 use Rattle.job_syntax.specs.Syntax.{fault_at, roles_at, whole_job}
@@ -17,21 +15,15 @@ use Rattle.refusal_text.specs.declared.advice.Advice.{Advice}
 use Rattle.refusal_text.specs.declared.hinting.Hint.{Hint}
 use Rattle.refusal_text.specs.Expecting.{expected_in, IsExpected}
 use Rattle.refusal_text.specs.Scanning.{shape_at, last_before}
-use Rattle.refusal_text.specs.Hinting.{advised, reserved_advice, syntax_hint, twice_hint, IsTwiceHint}
+use Rattle.refusal_text.specs.Hinting.{advised, reserved_advice, syntax_hint, twice_hint, IsSyntaxHint, IsTwiceHint}
 use Rattle.refusal_text.specs.Explaining.{headed, shown_byte, is_newline, last_of, width_before, before, after, most_before, most_after}
 
 -- what the grammar expects after the tokens is what it expects in the text
-pub expects : (format : Format) (text body : List ℕ) (tokens given : List Token) (fault : Option ℕ)
-    (r : Result (Option Nonterminal) AllocError) →
-    format ≡ format_of text → body ≡ drop 11 text → Lexes (length text) body tokens fault → given ≡ tokens
-    → IfOk r (λ nonterminal. nonterminal ≡ expected_in format whole_job given) → IfOk r (IsExpected text)
-expects format text body tokens given fault (Ok s) of is lexes same found = (
-  tokens,
-  fault,
-  subst (λ (b : List ℕ). Lexes (length text) b tokens fault) is lexes,
-  found ∙ ap (expected_in format whole_job) same ∙ ap (λ (f : Format). expected_in f whole_job tokens) of,
-)
-expects format text body tokens given fault (Err e) of is lexes same found = found
+pub expects : (format : Format) (text : List ℕ) (tokens given : List Token) (fault : Option ℕ) (asked : Option Nonterminal) →
+    format ≡ format_of text → HasTokens text tokens fault → given ≡ tokens → asked ≡ expected_in format whole_job given
+    → IsExpected text asked
+expects format text tokens given fault asked of has same is =
+    (tokens, fault, has, is ∙ ap (expected_in format whole_job) same ∙ ap (λ (f : Format). expected_in f whole_job tokens) of)
 
 -- the first bytes, cut at a place that may lie after the end
 pub cut_front : (bytes front : List ℕ) (n m : ℕ) → front ≡ take m bytes → m ≡ min n (length bytes) → front ≡ take n bytes
@@ -100,20 +92,26 @@ pieces head front back newline spaces caret h0 h1 h2 h3 h4 h5 is0 is1 is2 is3 is
     is4 ∙ ap (λ (x : List ℕ). x ++ spaces) three ∙ append_assoc head ((front ++ back) ++ newline) spaces in
     is5 ∙ ap (λ (x : List ℕ). x ++ caret) four ∙ append_assoc head (((front ++ back) ++ newline) ++ spaces) caret
 
--- what holds of the tokens that `lex` returns holds of the tokens of the text
-pub of_tokens : (text body : List ℕ) (tokens given : List Token) (fault : Option ℕ) (Says : List Token → Type 0) → body ≡ drop 11 text
-    → Lexes (length text) body tokens fault → given ≡ tokens → Says given
+-- what holds of the tokens that were lexed holds of the tokens of the text
+pub of_tokens : (text : List ℕ) (tokens given : List Token) (fault : Option ℕ) (Says : List Token → Type 0) →
+    HasTokens text tokens fault → given ≡ tokens → Says given
     → (ts : List Token) × (f : Option ℕ) × HasTokens text ts f × Says ts
-of_tokens text body tokens given fault Says is lexes same said =
-    (tokens, fault, subst (λ (b : List ℕ). Lexes (length text) b tokens fault) is lexes, subst Says same said)
+of_tokens text tokens given fault Says has same said = (tokens, fault, has, subst Says same said)
 
 -- the hint where tokens leave the grammar
-pub helps : (format : Format) (text : List ℕ) (at : ℕ) (given : List Token) (before shape : Option Shape) (h : Option Hint) →
-    format ≡ format_of text → before ≡ last_before at None given → shape ≡ shape_at at given → h ≡ syntax_hint format given before shape
-    → h ≡ syntax_hint (format_of text) given (last_before at None given) (shape_at at given)
-helps format text at given before shape h of before_is shape_is is =
+pub helps : (format : Format) (at : ℕ) (tokens given : List Token) (before shape : Option Shape) (h : Option Hint) →
+    given ≡ tokens → before ≡ last_before at None given → shape ≡ shape_at at given → h ≡ syntax_hint format given before shape
+    → h ≡ syntax_hint format tokens (last_before at None tokens) (shape_at at tokens)
+helps format at tokens given before shape h same before_is shape_is is =
     is ∙ ap (syntax_hint format given before) shape_is ∙ ap (λ (b : Option Shape). syntax_hint format given b (shape_at at given)) before_is
-    ∙ ap (λ (f : Format). syntax_hint f given (last_before at None given) (shape_at at given)) of
+    ∙ ap (λ (ts : List Token). syntax_hint format ts (last_before at None ts) (shape_at at ts)) same
+
+-- the same in the text with these tokens
+pub helps_text : (format : Format) (text : List ℕ) (at : ℕ) (tokens : List Token) (fault : Option ℕ) (h : Option Hint) →
+    format ≡ format_of text → HasTokens text tokens fault
+    → h ≡ syntax_hint format tokens (last_before at None tokens) (shape_at at tokens) → IsSyntaxHint text at h
+helps_text format text at tokens fault h of has is =
+    (tokens, fault, has, is ∙ ap (λ (f : Format). syntax_hint f tokens (last_before at None tokens) (shape_at at tokens)) of)
 
 -- the hint where a name is reserved
 pub helps_reserved : (at : ℕ) (given : List Token) (before shape : Option Shape) (a : Option Advice) (h : Option Hint) →
@@ -124,17 +122,17 @@ helps_reserved at given before shape a h before_is shape_is a_is is =
     ∙ ap (λ (b : Option Shape). reserved_advice b (shape_at at given)) before_is)
 
 -- the hint where a name is given twice, found by the tokens of the text and their roles
-pub helps_twice : (format : Format) (text body : List ℕ) (tokens given : List Token) (roles shown : List Role) (fault stop : Option ℕ)
+pub helps_twice : (format : Format) (text : List ℕ) (tokens given : List Token) (roles shown : List Role) (fault stop : Option ℕ)
     (at : ℕ)
-    (shape : Option Shape) (h : Option Hint) → format ≡ format_of text → body ≡ drop 11 text → Lexes (length text) body tokens fault
+    (shape : Option Shape) (h : Option Hint) → format ≡ format_of text → HasTokens text tokens fault
     → given ≡ tokens → shown ≡ roles → stop ≡ fault_at format (length text) whole_job given →
     (stop ≡ None → roles ≡ roles_at format whole_job given)
     → shape ≡ shape_at at given → h ≡ twice_hint given shown shape → IsTwiceHint text at h
-helps_twice format text body tokens given roles shown fault stop at shape h of is lexes same shown_is stop_is roles_are shape_is h_is = (
+helps_twice format text tokens given roles shown fault stop at shape h of has same shown_is stop_is roles_are shape_is h_is = (
   tokens,
   fault,
   roles,
-  subst (λ (b : List ℕ). Lexes (length text) b tokens fault) is lexes,
+  has,
   (λ whole. roles_are (stop_is ∙ ap (fault_at format (length text) whole_job) same
       ∙ ap (λ (f : Format). fault_at f (length text) whole_job tokens) of ∙ whole)
       ∙ ap (roles_at format whole_job) same ∙ ap (λ (f : Format). roles_at f whole_job tokens) of),

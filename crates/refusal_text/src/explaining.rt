@@ -6,9 +6,8 @@ ghost use Rattle.job_syntax.specs.Keywords.{spelling};
 ghost use Rattle.refusal_text.specs.Scopes.{names_held};
 ghost use Rattle.nursery_app.specs.Places.{line_of, column_of};
 
-use crate::expecting::asked;
-use crate::hinting::{Hint, hint_for};
-use crate::scopes::listed_names;
+use crate::findings::{Findings, findings_of};
+use crate::hinting::Hint;
 use crate::sentences::sentence_of;
 use itoa::Buffer;
 use job_grammar::JobFault;
@@ -34,12 +33,12 @@ pub fn refusal_message(
 ) -> Result<String, AllocError>
     ensures { IfOk result (λ message. Tells job.now text.now fault (string_bytes message)) }
 {
-    let asked = asked(alloc, text, fault.kind)?;
+    let Findings { asked, hint, names } = findings_of(alloc, text, fault)?;
     let (_, rest) = text.split_at(fault.at.min(text.len()));
     let sentence = sentence_of(fault.kind, rest.first().copied(), asked);
     let mut message = pointed_message(alloc, job, text, fault.at, sentence)?;
-    push_help(&mut message, job, text, hint_for(alloc, text, fault)?)?;
-    push_names(&mut message, &listed_names(alloc, text, fault.kind)?)?;
+    push_help(&mut message, job, text, hint)?;
+    push_names(&mut message, &names)?;
     Ok(message)
 }
 

@@ -1,17 +1,19 @@
-ghost use Rattle.std.specs.Prelude.{◌≡◌, ◌-◌, IfOk, slice_get};
-ghost use Rattle.refusal_text.specs.Hinting.{IsHint, IsTokenHint, IsSyntaxHint, IsTwiceHint, IsReservedHint, IsSizeHint, advised, token_advice, called_or_byte, nearly, meant_by, is_newer, or_nearly, nonterminal_advice, unnamed_after, order_advice, word_advice, keyword_in, is_head_word, is_head, is_named, gives_name, reserved_advice, syntax_hint, twice_hint};
+ghost use Rattle.std.specs.Prelude.{◌≡◌, ◌-◌, None, IfOk, slice_get};
+ghost use Rattle.refusal_text.specs.Expecting.{expected_in};
+ghost use Rattle.refusal_text.specs.Scanning.{last_before, shape_at};
+ghost use Rattle.refusal_text.specs.Hinting.{IsTokenHint, IsTwiceHint, IsReservedHint, advised, token_advice, called_or_byte, nearly, meant_by, is_newer, or_nearly, nonterminal_advice, unnamed_after, order_advice, word_advice, keyword_in, is_head_word, is_head, is_named, gives_name, reserved_advice, syntax_hint, twice_hint};
 ghost use Rattle.job_tree.specs.declared.format.Format.TheVariants.{Two};
 ghost use Rattle.job_syntax.specs.Nonterminals.{next};
+ghost use Rattle.job_syntax.specs.Syntax.{whole_job};
 
 use crate::advice::{Advice, trio_advice};
-use crate::by_bytes::{ascii_advice, byte_advice, feed_advice, version_advice};
-use crate::expecting::expected_at;
+use crate::by_bytes::{byte_advice, feed_advice};
+use crate::lexed_text::LexedText;
 use crate::nearness::meant;
 use crate::scanning::{first_given, innermost_open, last_before, shape_at};
-use crate::size::size_hint;
-use job_grammar::{FIRST_LINE_LENGTH, Format, JobFault, JobKind, format_of};
+use job_grammar::Format;
 use job_syntax::{Keyword, Nonterminal, Role, check_grammar};
-use job_tokens::{Shape, Token, lex};
+use job_tokens::{Shape, Token};
 use std::alloc::{AllocError, Global};
 
 /// A hint that is added to the sentence of a refusal.
@@ -29,29 +31,8 @@ pub(crate) enum Hint {
     Size(u64),
 }
 
-// Returns the hint for a refused text, if there is one.
-pub(crate) fn hint_for(
-    alloc: Global,
-    text: &[u8],
-    fault: JobFault,
-) -> Result<Option<Hint>, AllocError>
-    ensures { IfOk result (IsHint fault.kind text.now fault.at) }
-{
-    match fault.kind {
-        JobKind::TooLong => Ok(advised(feed_advice(text, fault.at))),
-        JobKind::NotAscii => Ok(advised(ascii_advice(text, fault.at))),
-        JobKind::Version => Ok(advised(version_advice(text))),
-        JobKind::Token => token_hint(alloc, text, fault.at),
-        JobKind::Syntax => syntax_hint(alloc, text, fault.at),
-        JobKind::Twice => twice_hint(alloc, text, fault.at),
-        JobKind::Reserved => reserved_hint(alloc, text, fault.at),
-        JobKind::TooLarge => size_hint(alloc, text),
-        JobKind::Number | JobKind::Depth | JobKind::NotEnclosing | JobKind::NoMemory => Ok(None),
-    }
-}
-
 // Returns a sentence as a hint.
-fn advised(advice: Option<Advice>) -> Option<Hint>
+pub(crate) fn advised(advice: Option<Advice>) -> Option<Hint>
     ensures { result ≡ advised advice }
 {
     match advice {
@@ -61,11 +42,10 @@ fn advised(advice: Option<Advice>) -> Option<Hint>
 }
 
 // Returns the hint for a place where no token begins.
-fn token_hint(alloc: Global, text: &[u8], at: usize) -> Result<Option<Hint>, AllocError>
+pub(crate) fn token_hint(alloc: Global, text: &[u8], at: usize) -> Result<Option<Hint>, AllocError>
     ensures { IfOk result (IsTokenHint text.now at) }
 {
-    let (_, body) = text.split_at(FIRST_LINE_LENGTH.min(text.len()));
-    let lexed = lex(alloc, body, text.len())?;
+    let lexed = LexedText::new(alloc, text)?;
     let before = last_before(lexed.tokens.as_slice(), at);
     Ok(advised(token_advice(text, at, before)))
 }
@@ -107,16 +87,28 @@ fn word_advice(shape: Option<Shape>) -> Option<Advice>
     trio_advice(word)
 }
 
-// Returns the hint for a syntax fault: what is allowed there in format 2, a word that is nearly one of those that are
-// allowed there, or, at the end of the text, the block that is not closed.
-fn syntax_hint(alloc: Global, text: &[u8], at: usize) -> Result<Option<Hint>, AllocError>
-    ensures { IfOk result (IsSyntaxHint text.now at) }
+// Returns the hint for a syntax fault, where the grammar expects `asked`: what is allowed there in format 2, a word that is
+// nearly one of those that are allowed there, or, at the end of the text, the block that is not closed.
+pub(crate) fn syntax_hint(
+    alloc: Global,
+    lexed: &LexedText,
+    asked: Option<Nonterminal>,
+    at: usize,
+) -> Result<Option<Hint>, AllocError>
+    requires { asked ≡ expected_in lexed.now.format whole_job lexed.now.tokens.items }
+    ensures { IfOk result (λ hint. hint ≡ syntax_hint lexed.now.format lexed.now.tokens.items
+        (last_before at None lexed.now.tokens.items) (shape_at at lexed.now.tokens.items)) }
 {
-    let (_, body) = text.split_at(FIRST_LINE_LENGTH.min(text.len()));
-    let lexed = lex(alloc, body, text.len())?;
     let tokens = lexed.tokens.as_slice();
     let before = last_before(tokens, at);
-    let hint = hint_at(alloc, format_of(text), tokens, before, shape_at(tokens, at))?;
+    let hint = hint_at(
+        alloc,
+        lexed.format,
+        tokens,
+        asked,
+        before,
+        shape_at(tokens, at),
+    )?;
     Ok(hint)
 }
 
@@ -125,16 +117,15 @@ fn hint_at(
     alloc: Global,
     format: Format,
     tokens: &[Token],
+    asked: Option<Nonterminal>,
     before: Option<Shape>,
     shape: Option<Shape>,
 ) -> Result<Option<Hint>, AllocError>
+    requires { asked ≡ expected_in format whole_job tokens.now }
     ensures { IfOk result (λ hint. hint ≡ syntax_hint format tokens.now before shape) }
 {
     match shape {
-        Some(shape) => {
-            let nonterminal = expected_at(alloc, format, tokens)?;
-            Ok(meant_by(format, nonterminal, before, &shape))
-        }
+        Some(shape) => Ok(meant_by(format, asked, before, &shape)),
         None => Ok(innermost_open(alloc, tokens)?.map(Hint::OpenSince)),
     }
 }
@@ -290,11 +281,14 @@ fn is_named(keyword: Keyword) -> bool
 }
 
 // Returns the hint for a name that is reserved.
-fn reserved_hint(alloc: Global, text: &[u8], at: usize) -> Result<Option<Hint>, AllocError>
+pub(crate) fn reserved_hint(
+    alloc: Global,
+    text: &[u8],
+    at: usize,
+) -> Result<Option<Hint>, AllocError>
     ensures { IfOk result (IsReservedHint text.now at) }
 {
-    let (_, body) = text.split_at(FIRST_LINE_LENGTH.min(text.len()));
-    let lexed = lex(alloc, body, text.len())?;
+    let lexed = LexedText::new(alloc, text)?;
     let tokens = lexed.tokens.as_slice();
     Ok(advised(reserved_advice(last_before(tokens, at), shape_at(tokens, at))))
 }
@@ -310,13 +304,12 @@ fn reserved_advice(before: Option<Shape>, shape: Option<Shape>) -> Option<Advice
 }
 
 // Returns where the name at a place was first given.
-fn twice_hint(alloc: Global, text: &[u8], at: usize) -> Result<Option<Hint>, AllocError>
+pub(crate) fn twice_hint(alloc: Global, text: &[u8], at: usize) -> Result<Option<Hint>, AllocError>
     ensures { IfOk result (IsTwiceHint text.now at) }
 {
-    let (_, body) = text.split_at(FIRST_LINE_LENGTH.min(text.len()));
-    let lexed = lex(alloc, body, text.len())?;
+    let lexed = LexedText::new(alloc, text)?;
     let tokens = lexed.tokens.as_slice();
-    let checked = check_grammar(alloc, format_of(text), tokens, text.len())?;
+    let checked = check_grammar(alloc, lexed.format, tokens, text.len())?;
     Ok(given_first(tokens, checked.roles.as_slice(), shape_at(tokens, at)))
 }
 

@@ -2,45 +2,18 @@ ghost use Rattle.std.specs.Prelude.{◌≡◌, ◌++◌, ◌∷◌, [], List, If
 ghost use Rattle.job_tree.specs.Blocks.{step_of, steps_of, handled_of, cleaned_of};
 ghost use Rattle.job_checks.specs.Given.{is_among};
 ghost use Rattle.job_checks.specs.Cancels.{Cancel, cancels_of, cancels_in, handled_cancels, cleaned_cancels};
-ghost use Rattle.refusal_text.specs.Scopes.{around_stray, IsCancellable, IsListed, names_around, names_held, or_names};
+ghost use Rattle.refusal_text.specs.Scopes.{around_stray, IsCancellable, names_around, names_held, or_names};
 
-use job_grammar::{FIRST_LINE_LENGTH, JobKind};
+use crate::lexed_text::LexedText;
 use job_syntax::job_at;
-use job_tokens::lex;
 use job_tree::{Body, Handler, Name, Step};
 use std::alloc::{AllocError, Global};
 
-// Returns the names that are listed with a refusal of this kind: those of the scopes and nurseries that enclose a `cancel` that
-// names none of them.
-pub(crate) fn listed_names(
-    alloc: Global,
-    text: &[u8],
-    kind: JobKind,
-) -> Result<Option<Vec<Name>>, AllocError>
-    ensures { IfOk result (λ names. IsListed kind text.now (names_held names)) }
-{
-    match kind {
-        JobKind::NotEnclosing => cancellable(alloc, text),
-        JobKind::TooLong
-        | JobKind::NotAscii
-        | JobKind::Version
-        | JobKind::Token
-        | JobKind::Number
-        | JobKind::Syntax
-        | JobKind::Depth
-        | JobKind::Twice
-        | JobKind::Reserved
-        | JobKind::TooLarge
-        | JobKind::NoMemory => Ok(None),
-    }
-}
-
 // Returns the names that enclose the first `cancel` of a text that names none of them.
-fn cancellable(alloc: Global, text: &[u8]) -> Result<Option<Vec<Name>>, AllocError>
+pub(crate) fn cancellable(alloc: Global, text: &[u8]) -> Result<Option<Vec<Name>>, AllocError>
     ensures { IfOk result (λ names. IsCancellable text.now (names_held names)) }
 {
-    let (_, body) = text.split_at(FIRST_LINE_LENGTH.min(text.len()));
-    let lexed = lex(alloc, body, text.len())?;
+    let lexed = LexedText::new(alloc, text)?;
     let Some(job) = job_at(alloc, lexed.tokens.as_slice())? else {
         return Ok(None);
     };

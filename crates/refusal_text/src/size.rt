@@ -2,18 +2,16 @@ ghost use Rattle.std.specs.Prelude.{IfOk};
 ghost use Rattle.refusal_text.specs.Hinting.{IsSizeHint};
 
 use crate::hinting::Hint;
+use crate::lexed_text::LexedText;
 use job_checks::size_of;
-use job_grammar::FIRST_LINE_LENGTH;
 use job_syntax::job_at;
-use job_tokens::lex;
 use std::alloc::{AllocError, Global};
 
 // Returns the number of step instances of the job of a text, if its tokens spell one.
 pub(crate) fn size_hint(alloc: Global, text: &[u8]) -> Result<Option<Hint>, AllocError>
     ensures { IfOk result (IsSizeHint text.now) }
 {
-    let (_, body) = text.split_at(FIRST_LINE_LENGTH.min(text.len()));
-    let lexed = lex(alloc, body, text.len())?;
+    let lexed = LexedText::new(alloc, text)?;
     let Some(job) = job_at(alloc, lexed.tokens.as_slice())? else {
         return Ok(None);
     };

@@ -10,16 +10,17 @@ pub returns : goal.returns
 returns c =
     let text = c.args.text.now in
     let at = c.args.fault.at in
+    let found = c.in_ok-asked.field-0 in
     let rest = cut_back text _ at _ c.split_at.ensures.back c.min.ensures in (
-      c.in_ok-asked.asked,
-      c.in_ok-hint_for.field-0,
-      names_held c.in_ok-listed_names.field-0,
-      c.in_ok-asked.ensures,
-      c.in_ok-hint_for.ensures,
-      c.in_ok-listed_names.ensures,
-      c.in_ok-push_names.ensures ∙ ap (λ (x : List ℕ). x ++ names_of (names_held c.in_ok-listed_names.field-0))
-          (c.in_ok-push_help.ensures ∙ ap (λ (x : List ℕ). x ++ hint_of c.args.job.now text c.in_ok-hint_for.field-0)
+      found.asked,
+      found.hint,
+      names_held found.names,
+      c.in_ok-asked.ensures.asked,
+      c.in_ok-asked.ensures.hint,
+      c.in_ok-asked.ensures.names,
+      c.in_ok-push_names.ensures ∙ ap (λ (x : List ℕ). x ++ names_of (names_held found.names))
+          (c.in_ok-push_help.ensures ∙ ap (λ (x : List ℕ). x ++ hint_of c.args.job.now text found.hint)
           (c.in_ok-message.ensures ∙ ap (pointed_message c.args.job.now text at)
-          (c.sentence_of-sentence.ensures ∙ ap (λ (x : Option ℕ). sentence_of c.args.fault.kind x c.in_ok-asked.asked)
+          (c.sentence_of-sentence.ensures ∙ ap (λ (x : Option ℕ). sentence_of c.args.fault.kind x found.asked)
           (c.copied.ensures ∙ c.first.ensures.value ∙ first_at text _ at rest)))),
     )

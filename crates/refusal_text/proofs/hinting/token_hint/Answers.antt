@@ -3,14 +3,14 @@ use Rattle.std.specs.Prelude.{None}
 use Rattle.job_tokens.specs.declared.token.Token.{Token}
 use Rattle.refusal_text.specs.Scanning.{last_before}
 use Rattle.refusal_text.specs.Hinting.{advised, token_advice}
-use Rattle.refusal_text.proofs.Told.{of_tokens, cut_back}
+use Rattle.refusal_text.proofs.Told.{of_tokens}
 use Rattle.refusal_text.proofs.hinting.token_hint.Goals as goal
 
 pub returns : goal.returns
 returns c =
     let text = c.args.text.now in
     let at = c.args.at in
-    of_tokens text _ _ c.as_slice.result.now c.in_ok-lexed.lexed.fault
+    of_tokens text _ c.as_slice.result.now c.in_ok-lexed.lexed.fault
     (λ (ts : List Token). c.advised.result ≡ advised (token_advice text at (last_before at None ts)))
-    (cut_back text _ 11 c.min.result c.split_at.ensures.back c.min.ensures) c.in_ok-lexed.ensures c.as_slice.ensures.value
+    c.in_ok-lexed.ensures.tokens c.as_slice.ensures.value
     (c.advised.ensures ∙ ap advised (c.token_advice.ensures ∙ ap (token_advice text at) c.last_before-before.ensures))

@@ -1,0 +1,88 @@
+ghost use Rattle.std.specs.Prelude.{◌≡◌, None, IfOk};
+ghost use Rattle.refusal_text.specs.Expecting.{IsAsked, IsExpected};
+ghost use Rattle.refusal_text.specs.Hinting.{IsHint, IsSyntaxHint};
+ghost use Rattle.refusal_text.specs.Scopes.{IsListed, names_held};
+
+use crate::by_bytes::{ascii_advice, feed_advice, version_advice};
+use crate::expecting::expected_at;
+use crate::hinting::{Hint, advised, reserved_hint, syntax_hint, token_hint, twice_hint};
+use crate::lexed_text::LexedText;
+use crate::scopes::cancellable;
+use crate::size::size_hint;
+use job_grammar::{JobFault, JobKind};
+use job_syntax::Nonterminal;
+use job_tree::Name;
+use std::alloc::{AllocError, Global};
+
+/// What is found out about a refusal, for its message.
+#[derive(Drop)]
+pub(crate) struct Findings {
+    /// For a syntax fault, what the grammar expects at the place, or `None` if it expects the end of the text. `None` for any
+    /// other refusal.
+    pub asked: Option<Nonterminal>,
+    /// The hint, if there is one.
+    pub hint: Option<Hint>,
+    /// For a `cancel` that names no enclosing scope or nursery, the names of those that enclose it, the innermost first.
+    /// `None` if there is no such `cancel`, and for any other refusal.
+    pub names: Option<Vec<Name>>,
+}
+
+impl Findings {
+    // Returns the findings that are only this hint, if there is one.
+    fn with_hint(hint: Option<Hint>) -> Findings
+        ensures asked { result.asked ≡ None }
+        ensures hint { result.hint ≡ hint }
+        ensures names { names_held result.names ≡ None }
+    {
+        Findings {
+            asked: None,
+            hint,
+            names: None,
+        }
+    }
+}
+
+// Returns what is found out about a refusal. The text is lexed at most once, and only for a kind that its tokens explain.
+pub(crate) fn findings_of(
+    alloc: Global,
+    text: &[u8],
+    fault: JobFault,
+) -> Result<Findings, AllocError>
+    ensures asked { IfOk result (λ found. IsAsked fault.kind text.now found.asked) }
+    ensures hint { IfOk result (λ found. IsHint fault.kind text.now fault.at found.hint) }
+    ensures names { IfOk result (λ found. IsListed fault.kind text.now (names_held found.names)) }
+{
+    let at = fault.at;
+    match fault.kind {
+        JobKind::TooLong => Ok(Findings::with_hint(advised(feed_advice(text, at)))),
+        JobKind::NotAscii => Ok(Findings::with_hint(advised(ascii_advice(text, at)))),
+        JobKind::Version => Ok(Findings::with_hint(advised(version_advice(text)))),
+        JobKind::Token => Ok(Findings::with_hint(token_hint(alloc, text, at)?)),
+        JobKind::Syntax => syntax_findings(alloc, text, at),
+        JobKind::Twice => Ok(Findings::with_hint(twice_hint(alloc, text, at)?)),
+        JobKind::NotEnclosing => Ok(Findings {
+            asked: None,
+            hint: None,
+            names: cancellable(alloc, text)?,
+        }),
+        JobKind::Reserved => Ok(Findings::with_hint(reserved_hint(alloc, text, at)?)),
+        JobKind::TooLarge => Ok(Findings::with_hint(size_hint(alloc, text)?)),
+        JobKind::Number | JobKind::Depth | JobKind::NoMemory => Ok(Findings::with_hint(None)),
+    }
+}
+
+// Returns what the grammar expects at a syntax fault, and the hint.
+fn syntax_findings(alloc: Global, text: &[u8], at: usize) -> Result<Findings, AllocError>
+    ensures asked { IfOk result (λ found. IsExpected text.now found.asked) }
+    ensures hint { IfOk result (λ found. IsSyntaxHint text.now at found.hint) }
+    ensures names { IfOk result (λ found. names_held found.names ≡ None) }
+{
+    let lexed = LexedText::new(alloc, text)?;
+    let asked = expected_at(alloc, lexed.format, lexed.tokens.as_slice())?;
+    let hint = syntax_hint(alloc, &lexed, asked, at)?;
+    Ok(Findings {
+        asked,
+        hint,
+        names: None,
+    })
+}
