@@ -2,7 +2,7 @@
 //! them.
 
 use crate::fixtures::wrong;
-use job_syntax::{depth_fault, follow, job_at, number_fault};
+use job_syntax::{check_grammar, depth_fault, job_at, number_fault};
 use job_tokens::lex;
 use job_tree::Format;
 use std::alloc::Global;
@@ -12,10 +12,10 @@ use std::test::Fail;
 fn is_followed(alloc: Global, text: &[u8]) -> Result<bool, Fail> {
     let lexed = lex(alloc, text, text.len())?;
     let tokens = lexed.tokens.as_slice();
-    let interleaving = follow(alloc, Format::One, tokens, text.len())?;
+    let checked = check_grammar(alloc, Format::One, tokens, text.len())?;
     Ok(
-        interleaving.fault == None
-            && interleaving.roles.len() == tokens.len()
+        checked.fault == None
+            && checked.roles.len() == tokens.len()
             && number_fault(Format::One, tokens) == None
             && depth_fault(tokens) == None,
     )
@@ -47,8 +47,8 @@ const FAULTS: &[(&'static [u8], Option<usize>)] = &[
 /// Where the tokens of a text leave the grammar.
 fn fault(alloc: Global, text: &[u8]) -> Result<Option<usize>, Fail> {
     let lexed = lex(alloc, text, text.len())?;
-    let interleaving = follow(alloc, Format::One, lexed.tokens.as_slice(), text.len())?;
-    Ok(interleaving.fault)
+    let checked = check_grammar(alloc, Format::One, lexed.tokens.as_slice(), text.len())?;
+    Ok(checked.fault)
 }
 
 /// Fails at the first row whose tokens leave the grammar elsewhere.
