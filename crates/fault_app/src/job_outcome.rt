@@ -76,7 +76,7 @@ pub(crate) fn reaches_in_text<R: Threads + Sync>(
 /// Returns the outcome of a job over an input and up to a limit in ticks. `name` is the exception that the fault in the job
 /// raises, or `None` if it raises none. The job runs in the calling thread. The input must have at most 16,777,216 bytes. The
 /// only error is that memory was refused.
-#[tactic(auto, using(crate::proofs::Fated::stuck_is, crate::proofs::Fated::ended_is))]
+#[tactic(auto, using(crate::proofs::OutcomeLemmas::stuck_is, crate::proofs::OutcomeLemmas::ended_is))]
 pub fn outcome_of_job<R: Threads + Sync>(
     rt: &R,
     alloc: Global,
@@ -97,7 +97,7 @@ pub fn outcome_of_job<R: Threads + Sync>(
 }
 
 // Returns whether a job raises an exception with this name by the limit.
-#[tactic(auto, using(crate::proofs::Fated::reaches_is))]
+#[tactic(auto, using(crate::proofs::OutcomeLemmas::reaches_is))]
 fn reaches_in_job<R: Threads + Sync>(
     rt: &R,
     alloc: Global,
