@@ -9,7 +9,7 @@ use Rattle.batch_commit.specs.declared.entry.Entry.{Entry}
 use Rattle.batch_commit.specs.Halves.{numbers}
 use Rattle.batch_commit.specs.Places.{PlacesLeft}
 use Rattle.batch_commit.specs.Slots.{held, places_from}
-use Rattle.batch_commit.specs.Entries.{Added, unplaced, added_of}
+use Rattle.batch_commit.specs.Entries.{Added, without_answer, added_of}
 use Rattle.batch_commit.specs.Placing.{slots_placed}
 use Rattle.batch_commit.specs.Batch.{unplaced_slots, added_in, IsReady}
 use Rattle.batch_commit.proofs.SlotLemmas.{Taken, taken, length-places_from, held-append, held-full, places_from-full}
@@ -28,28 +28,28 @@ nothing_left xs n e = (
 )
 
 -- an entry is added
-pub added_in-push : (next : List (Option Entry)) (a : Added) → added_in (next ++ Some (unplaced a) ∷ []) ≡ added_in next ++ a ∷ []
-added_in-push next a = ap (map added_of) (held-append next (unplaced a)) ∙ map_push (held next)
+pub added_in-push : (next : List (Option Entry)) (a : Added) → added_in (next ++ Some (without_answer a) ∷ []) ≡ added_in next ++ a ∷ []
+added_in-push next a = ap (map added_of) (held-append next (without_answer a)) ∙ map_push (held next)
   where
-    map_push : (es : List Entry) → map added_of (es ++ unplaced a ∷ []) ≡ map added_of es ++ a ∷ []
+    map_push : (es : List Entry) → map added_of (es ++ without_answer a ∷ []) ≡ map added_of es ++ a ∷ []
     map_push [] = refl
     map_push (e ∷ es) = ap (λ rest. added_of e ∷ rest) (map_push es)
 
-slots-push : (added : List Added) (a : Added) → unplaced_slots (added ++ a ∷ []) ≡ unplaced_slots added ++ Some (unplaced a) ∷ []
+slots-push : (added : List Added) (a : Added) → unplaced_slots (added ++ a ∷ []) ≡ unplaced_slots added ++ Some (without_answer a) ∷ []
 slots-push [] a = refl
-slots-push (b ∷ added) a = ap (λ rest. Some (unplaced b) ∷ rest) (slots-push added a)
+slots-push (b ∷ added) a = ap (λ rest. Some (without_answer b) ∷ rest) (slots-push added a)
 
 -- the batches stay valid with one more entry added to the next one, if there is space for its places
 pub ready_push : (current next next' : List (Option Entry)) (places places' : PlacesLeft) (a : Added) → IsReady current next places →
-    next' ≡ next ++ Some (unplaced a) ∷ [] → places'.left ≡ places.left → length next + 1 + (length next + 1) ≤ places'.room →
+    next' ≡ next ++ Some (without_answer a) ∷ [] → places'.left ≡ places.left → length next + 1 + (length next + 1) ≤ places'.room →
     IsReady current next' places'
 ready_push current next next' places places' a is e left room =
     rw e
     (record {
       left = left ∙ is.left;
-      fresh = ap (λ slots. slots ++ Some (unplaced a) ∷ []) is.fresh ∙ sym (slots-push (added_in next) a)
+      fresh = ap (λ slots. slots ++ Some (without_answer a) ∷ []) is.fresh ∙ sym (slots-push (added_in next) a)
           ∙ ap unplaced_slots (sym (added_in-push next a));
-      room = omega (arith, room, length-append next (Some (unplaced a) ∷ []));
+      room = omega (arith, room, length-append next (Some (without_answer a) ∷ []));
     })
 
 -- the next batch becomes current
@@ -57,14 +57,14 @@ pub ready_turn : (current next : List (Option Entry)) (places places' : PlacesLe
     places'.left ≡ numbers 0 (length next) → IsReady next [] places'
 ready_turn current next places places' is left =
     let full : places_from 0 next ≡ numbers 0 (length next) =
-    ap (places_from 0) is.fresh ∙ places_from-full unplaced 0 (added_in next)
-    ∙ ap (numbers 0) (sym (ap length is.fresh ∙ length-map (added_in next) (λ a. Some (unplaced a)))) in
+    ap (places_from 0) is.fresh ∙ places_from-full without_answer 0 (added_in next)
+    ∙ ap (numbers 0) (sym (ap length is.fresh ∙ length-map (added_in next) (λ a. Some (without_answer a)))) in
     record { left = left ∙ sym full; fresh = refl; room = omega arith }
 
 -- what the next batch holds is what was added to it, with no answer placed
 pub held_turn : (current next : List (Option Entry)) (places : PlacesLeft) → IsReady current next places →
-    held next ≡ map unplaced (added_in next)
-held_turn current next places is = ap held is.fresh ∙ held-full unplaced (added_in next)
+    held next ≡ map without_answer (added_in next)
+held_turn current next places is = ap held is.fresh ∙ held-full without_answer (added_in next)
 
 -- answers are placed
 pub ready_placed : (current current' next : List (Option Entry)) (places : PlacesLeft) (answers : List Answer) →

@@ -6,11 +6,11 @@ use Rattle.line_kernels.specs.declared.request.Request.{Request}
 use Rattle.line_kernels.specs.declared.answers.Answer.{Answer}
 use Rattle.batch_commit.specs.declared.entry.Entry.{Entry}
 use Rattle.batch_commit.specs.Slots.{held, places_from}
-use Rattle.batch_commit.specs.Entries.{Added, unplaced, added_of, request_in, requests_of, with_placed, placed, answer_placed, answers_after, HasAnswer, AllPlaced, NonePlaced}
+use Rattle.batch_commit.specs.Entries.{Added, without_answer, added_of, request_in, requests_of, with_placed, answers_placed, answer_placed, answers_after, HasAnswer, AllPlaced, NonePlaced}
 use Rattle.batch_commit.specs.Placing.{slots_placed}
 
 -- what slots hold once answers are placed are the entries that they held, with the answers placed
-pub held-placed : (slots : List (Option Entry)) (answers : List Answer) → held (slots_placed slots answers) ≡ placed (held slots) answers
+pub held-placed : (slots : List (Option Entry)) (answers : List Answer) → held (slots_placed slots answers) ≡ answers_placed (held slots) answers
 held-placed [] answers = refl
 held-placed (None ∷ slots) answers = held-placed slots answers
 held-placed (Some e ∷ slots) answers = ap (λ es. with_placed answers e ∷ es) (held-placed slots (answers_after (request_in e.call) answers))
@@ -24,7 +24,7 @@ places_from-placed place (Some e ∷ slots) answers =
     ap (λ ps. place ∷ ps) (places_from-placed (place + 1) slots (answers_after (request_in e.call) answers))
 
 -- what was added is read back from its entries
-pub added_of-unplaced : (added : List Added) → map added_of (map unplaced added) ≡ added
+pub added_of-unplaced : (added : List Added) → map added_of (map without_answer added) ≡ added
 added_of-unplaced [] = refl
 added_of-unplaced (a ∷ added) = ap (λ rest. a ∷ rest) (added_of-unplaced added)
 
@@ -37,16 +37,16 @@ in_front (Some r) [] old rs n = absurd (omega (arith, n))
 in_front (Some r) (a ∷ answers) old rs n = (refl, omega (arith, n))
 
 -- with as many answers as entries make requests, each Ask has one once they are placed
-pub all_placed : (es : List Entry) (answers : List Answer) → length answers ≡ length (requests_of es) → AllPlaced (placed es answers)
+pub all_placed : (es : List Entry) (answers : List Answer) → length answers ≡ length (requests_of es) → AllPlaced (answers_placed es answers)
 all_placed [] answers n = All-nil (λ (e : Entry). HasAnswer (request_in e.call) e.answer)
 all_placed (e ∷ es) answers n =
     let first = in_front (request_in e.call) answers e.answer (requests_of es) n in
     All-cons (λ (e : Entry). HasAnswer (request_in e.call) e.answer) (with_placed answers e)
-    (placed es (answers_after (request_in e.call) answers)) first.0 (all_placed es (answers_after (request_in e.call) answers) first.1)
+    (answers_placed es (answers_after (request_in e.call) answers)) first.0 (all_placed es (answers_after (request_in e.call) answers) first.1)
 
 -- no entry has an answer when it is added
-pub none_placed : (added : List Added) → NonePlaced (map unplaced added)
-none_placed added = All-map (λ (e : Entry). e.answer ≡ None) unplaced added (λ k d lt. refl)
+pub none_placed : (added : List Added) → NonePlaced (map without_answer added)
+none_placed added = All-map (λ (e : Entry). e.answer ≡ None) without_answer added (λ k d lt. refl)
 
 -- and where one entry is taken, those that stay have their answers
 pub placed_after : (es : List Entry) (k : ℕ) → AllPlaced es → AllPlaced (remove es k)

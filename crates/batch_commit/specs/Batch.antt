@@ -5,7 +5,7 @@ use Rattle.task_machine.specs.declared.stop.Wake.{Wake}
 use Rattle.batch_commit.specs.declared.entry.Entry.{Entry}
 use Rattle.batch_commit.specs.Slots.{held, places_from}
 use Rattle.batch_commit.specs.Places.{PlacesLeft}
-use Rattle.batch_commit.specs.Entries.{Added, added_of, unplaced, wake_of}
+use Rattle.batch_commit.specs.Entries.{Added, added_of, without_answer, wake_of}
 
 -- the entries of the current batch that are left, in order, and what was added to the next one, in order
 pub record Batches : Type 0 where
@@ -14,7 +14,7 @@ pub record Batches : Type 0 where
 
 -- slots that hold what was added, with no answer placed
 abbrev pub unplaced_slots : List Added → List (Option Entry)
-unplaced_slots added = map (λ a. Some (unplaced a)) added
+unplaced_slots added = map (λ a. Some (without_answer a)) added
 
 -- what was added, as slots hold it
 abbrev pub added_in : List (Option Entry) → List Added

@@ -18,8 +18,8 @@ abbrev pub added_of : Entry → Added
 added_of e = (e.task, e.call)
 
 -- the entry that was added so, with no answer placed
-abbrev pub unplaced : Added → Entry
-unplaced added = record { task = added.0; call = added.1; answer = None }
+abbrev pub without_answer : Added → Entry
+without_answer added = record { task = added.0; call = added.1; answer = None }
 
 -- the request of a call that makes one
 abbrev pub request_in : Call → Option Request
@@ -50,9 +50,9 @@ with_placed answers e =
     record { task = e.task; call = e.call; answer = answer_placed (request_in e.call) answers e.answer }
 
 -- entries after the i-th answer is placed for the i-th Ask
-abbrev pub placed : List Entry → List Answer → List Entry
-placed [] answers = []
-placed (e ∷ es) answers = with_placed answers e ∷ placed es (answers_after (request_in e.call) answers)
+abbrev pub answers_placed : List Entry → List Answer → List Entry
+answers_placed [] answers = []
+answers_placed (e ∷ es) answers = with_placed answers e ∷ answers_placed es (answers_after (request_in e.call) answers)
 
 -- if there is a request, there is an answer
 abbrev pub HasAnswer : Option Request → Option Answer → Type 0

@@ -1,6 +1,6 @@
 ghost use Rattle.std.specs.Prelude.{◌≡◌, ◌↔◌, ◌<◌, [], ◌∷◌, ◌++◌, length, map, slice_get, IsTrue, IsNone, IfOk, OnOk, OnErr, IfNone, IfSome};
 ghost use Rattle.std.specs.List.{remove};
-ghost use Rattle.batch_commit.specs.Entries.{unplaced, requests_of, placed, AllPlaced, NonePlaced};
+ghost use Rattle.batch_commit.specs.Entries.{without_answer, requests_of, answers_placed, AllPlaced, NonePlaced};
 ghost use Rattle.batch_commit.specs.Batch.{HandsOut};
 
 use crate::entry::{Call, Entry, wake_for};
@@ -76,8 +76,8 @@ impl<'a> ReadyBatch<'a> {
     /// that the current batch is over. Takes no memory.
     pub fn turn_over(&mut self)
         requires { self.old.current ≡ [] }
-        ensures current { self.new.current ≡ map unplaced self.old.next }
-        ensures unplaced { NonePlaced self.new.current }
+        ensures current { self.new.current ≡ map without_answer self.old.next }
+        ensures without_answer { NonePlaced self.new.current }
         ensures next { self.new.next ≡ [] }
     {
         self.current.clear();
@@ -104,8 +104,8 @@ impl<'a> ReadyBatch<'a> {
     /// batch. Takes no memory.
     pub fn place(&mut self, answers: Vec<Answer<'a>>)
         requires as_many { length answers.items ≡ length (requests_of self.old.current) }
-        requires unplaced { NonePlaced self.old.current }
-        ensures placed { self.new.current ≡ placed self.old.current answers.entry.items }
+        requires without_answer { NonePlaced self.old.current }
+        ensures answers_placed { self.new.current ≡ answers_placed self.old.current answers.entry.items }
         ensures all { AllPlaced self.new.current }
         ensures next { self.new.next ≡ self.old.next }
     {
@@ -120,7 +120,7 @@ impl<'a> ReadyBatch<'a> {
         ensures none { IsNone result ↔ (self.old.current ≡ []) }
         ensures idle { IfNone result ((self.new ≡ self.old) × (picker.new ≡ picker.old)) }
         ensures hands_out { IfSome result (λ r. HandsOut P.picks self.old self.new picker.old picker.new r.0 r.1) }
-        ensures placed { AllPlaced self.new.current }
+        ensures answers_placed { AllPlaced self.new.current }
     {
         let left = self.left();
         if left == 0 {

@@ -1,7 +1,7 @@
 -- Which scope catches, as scopes are stored.
 use Rattle.std.proofs.Common.{◌≡◌, ℕ, Bool, true, false, not, [], Some, None, refl, sym, ap, subst, ◌∙◌}
 use Rattle.std.specs.Prelude.{◌||◌}
-use Rattle.cancel_scopes.specs.Sight.{reached, seen}
+use Rattle.cancel_scopes.specs.Sight.{is_reached, seen}
 use Rattle.cancel_scopes.specs.Tree.{Stack, Tree, stack_of, catches}
 use Rattle.cancel_scopes.specs.Kept.{Outline, Slots, Find, full, round, upward, find_in, tree_of, IsUnder, IsTree}
 use Rattle.cancel_scopes.proofs.StackLemmas.{stack_seen, stack_at-kept, kept_stack, upward-under}
@@ -22,23 +22,23 @@ stack_round tree slots key parent s is root kept up =
     stack_seen tree slots parent parent is refl ∙ stack_at-kept (find_in slots) parent under.0 under.1 ∙ ap Some (sym e)
 
 -- a scope that is not cancelled yet does not catch
-pub catches-not : (find : Find) (key : ℕ) (s : Outline) (tick : ℕ) (stack : Stack) → stack ≡ full find key s → reached s.from tick ≡ false →
+pub catches-not : (find : Find) (key : ℕ) (s : Outline) (tick : ℕ) (stack : Stack) → stack ≡ full find key s → is_reached s.from tick ≡ false →
     false ≡ catches stack tick
 catches-not find key s tick stack is early = rw (is, early) refl
 
 -- one that is cancelled by then and has a shield catches
 pub catches-shielded : (find : Find) (key : ℕ) (s : Outline) (tick : ℕ) (stack : Stack) → stack ≡ full find key s →
-    reached s.from tick ≡ true → s.shield ≡ true → true ≡ catches stack tick
+    is_reached s.from tick ≡ true → s.shield ≡ true → true ≡ catches stack tick
 catches-shielded find key s tick stack is late shielded = rw (is, late, shielded) refl
 
 -- an unshielded one catches where its parent sees nothing
 pub catches-inner : (find : Find) (key : ℕ) (s : Outline) (tick : ℕ) (stack : Stack) (outside : Bool) → stack ≡ full find key s →
-    reached s.from tick ≡ true → s.shield ≡ false → outside ≡ seen (round find s) tick → not outside ≡ catches stack tick
+    is_reached s.from tick ≡ true → s.shield ≡ false → outside ≡ seen (round find s) tick → not outside ≡ catches stack tick
 catches-inner find key s tick stack outside is late bare sees = rw (is, late, bare, sees) refl
 
 -- an outermost one that is cancelled by then catches
 pub catches-outermost : (find : Find) (key : ℕ) (s : Outline) (tick : ℕ) (stack : Stack) → stack ≡ full find key s →
-    reached s.from tick ≡ true → IsUnder find s.depth s.parent → s.parent ≡ None → true ≡ catches stack tick
+    is_reached s.from tick ≡ true → IsUnder find s.depth s.parent → s.parent ≡ None → true ≡ catches stack tick
 catches-outermost find key s tick stack is late under up =
     let deep : s.depth ≡ 0 = subst (IsUnder find s.depth) up under in
     let e : round find s ≡ [] = rw (up, deep) refl in

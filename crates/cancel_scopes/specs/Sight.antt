@@ -18,9 +18,9 @@ before (Some t) None = true
 before (Some t) (Some u) = nat_lt t u
 
 -- whether the first tick is at or before the second
-abbrev pub reached : Tick → ℕ → Bool
-reached None t = false
-reached (Some from) t = nat_le from t
+abbrev pub is_reached : Tick → ℕ → Bool
+is_reached None t = false
+is_reached (Some from) t = nat_le from t
 
 -- One tick later. A cancellation that is made in a tick is seen from the next one on, which is a choice of this language.
 abbrev pub next : Tick → Tick
@@ -41,9 +41,9 @@ sight (l ∷ ls) = if l.shield then l.from else earlier l.from (sight ls)
 
 -- whether a cancellation is seen at a tick
 abbrev pub seen : {A : Type 0} → List (Level A) → ℕ → Bool
-seen stack t = reached (sight stack) t
+seen stack t = is_reached (sight stack) t
 
 -- A scope catches at its exit tick if it is itself cancelled by then, and either it is shielded or no cancellation is
 -- seen in the scopes that enclose it. That an outer scope wins is a choice of this language.
 abbrev pub catches : {A : Type 0} → Tick → Bool → List (Level A) → ℕ → Bool
-catches from shield outer t = reached from t && (shield || not (seen outer t))
+catches from shield outer t = is_reached from t && (shield || not (seen outer t))

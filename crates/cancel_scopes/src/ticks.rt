@@ -1,5 +1,5 @@
 ghost use Rattle.std.specs.Prelude.{◌≡◌};
-ghost use Rattle.cancel_scopes.specs.Sight.{before as comes_before, earlier as lesser, reached as has_come};
+ghost use Rattle.cancel_scopes.specs.Sight.{before as comes_before, earlier as lesser, is_reached as has_come};
 
 /// Returns the earlier of two ticks. `None` means never, so the result is `None` only if both are.
 pub fn earlier(first: Option<u64>, second: Option<u64>) -> Option<u64>

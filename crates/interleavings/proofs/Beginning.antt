@@ -6,7 +6,7 @@ use Rattle.job_tree.specs.Starting.{StartsInNurseries}
 use Rattle.exc_groups.specs.Exceptions.{Label, Exc}
 use Rattle.cancel_scopes.specs.Sight.{Tick}
 use Rattle.job_meaning.specs.Log.{Log, nil, entry, sign, entered, task, followed_by, Result, same_label, least_sign, deadline_of, deadline_if, either, from_by, entered_from, times_entered, Table}
-use Rattle.job_meaning.specs.Walk.{by_table, signed, sign_if}
+use Rattle.job_meaning.specs.Walk.{by_table, with_sign, sign_if}
 use Rattle.job_meaning.specs.Meaning.{root_walk, root_here}
 use Rattle.job_meaning.specs.Follow.{follow, IsSettled}
 use Rattle.job_meaning.specs.Before.{upto}
@@ -56,8 +56,8 @@ deadline_entered_once l d (task m s u e own rest) (inr h) n =
     ∙ deadline_entered_once l d rest h (omega arith)
 
 -- the root signs for nobody
-signed_root : (r : Result) → signed [] r ≡ r
-unfolding signed
+signed_root : (r : Result) → with_sign [] r ≡ r
+unfolding with_sign
 signed_root r = ap (λ (a : Log). record r { log = a }) (ap (λ (a : Log). followed_by r.log a) (none r.exc) ∙ followed_nil r.log)
   where
     none : (o : Option Exc) → sign_if o None r.end ≡ nil

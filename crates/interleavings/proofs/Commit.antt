@@ -13,7 +13,7 @@ use Rattle.turn_semantics.specs.Midway.{stack_at, Begun, Move, none_told, begun_
 use Rattle.turn_semantics.specs.Wakes.{Wake, WakesBy}
 use Rattle.turn_semantics.specs.Turned.{AgreesOn, AgreesIn, AllTold, Starts, made_sign, TurnsOver}
 use Rattle.interleavings.specs.Interleaving.{Started, Tells, Fits, times_made, all_least, all_times, EnteredIn, In}
-use Rattle.interleavings.specs.Going.{told_new, children_from, turned}
+use Rattle.interleavings.specs.Going.{told_new, children_from, task_after_turn}
 use Rattle.interleavings.proofs.Readings.{first_join, times_join, least_join, left_join}
 use Rattle.interleavings.proofs.Contract.{NumberedFrom, numbers_of, keeps_to}
 
@@ -149,19 +149,19 @@ module _ (k f : Table) (t m : ℕ) (wake : Wake) (q : Started) (o : Move) (s : S
   numbers : NumberedFrom q.count o.begun
   numbers = numbers_of q.count o.made o.begun w.starts
 
-  tells_before : (told : ChildOutcomes) → Tells (turned k t m q o s) told → Tells q told
+  tells_before : (told : ChildOutcomes) → Tells (task_after_turn k t m q o s) told → Tells q told
   tells_before told h = λ i x. h i (omega arith) ∙ old_told k t q.told q.count o.begun numbers i x
 
   -- a record of outcomes that fits the task after the turn contains for its new children the results of
   -- following the table
-  pub tells_begun : (told : ChildOutcomes) → Tells (turned k t m q o s) told → AllTold t k told o.begun
+  pub tells_begun : (told : ChildOutcomes) → Tells (task_after_turn k t m q o s) told → AllTold t k told o.begun
   tells_begun told h = all_told k t q.told told q.count o.begun numbers (λ i x y. h i y)
 
   -- and its own record fits it
-  pub tells_itself : Tells (turned k t m q o s) (turned k t m q o s).told
+  pub tells_itself : Tells (task_after_turn k t m q o s) (task_after_turn k t m q o s).told
   tells_itself = λ i h. refl
 
-  turn_keeps : (told : ChildOutcomes) → Tells (turned k t m q o s) told →
+  turn_keeps : (told : ChildOutcomes) → Tells (task_after_turn k t m q o s) told →
       left_before told ≡ record (left_after told) { log = followed_by (fill told o.made) (left_after told).log }
   turn_keeps told h =
       keeps_to t f wake q o s w stopped k told near
@@ -169,7 +169,7 @@ module _ (k f : Table) (t m : ℕ) (wake : Wake) (q : Started) (o : Move) (s : S
       (tells_begun told h) (come told (tells_before told h))
 
   -- what was left before is what was made and what is left after
-  pub left_is : (told : ChildOutcomes) → Tells (turned k t m q o s) told → q.left ≡ followed_by (fill told o.made) (left_after told).log
+  pub left_is : (told : ChildOutcomes) → Tells (task_after_turn k t m q o s) told → q.left ≡ followed_by (fill told o.made) (left_after told).log
   left_is told h = sym (fit.lefts told (tells_before told h)) ∙ ap (λ (r : Result). r.log) (turn_keeps told h)
 
   made_more : (told : ChildOutcomes) → followed_by (fill told (q.made ++ o.made)) (left_after told).log
@@ -179,25 +179,25 @@ module _ (k f : Table) (t m : ℕ) (wake : Wake) (q : Started) (o : Move) (s : S
       ∙ followed_assoc (fill told q.made) (fill told o.made) (left_after told).log
 
   -- the task still has the same whole result
-  pub fits_turned : Fits k (turned k t m q o s)
+  pub fits_turned : Fits k (task_after_turn k t m q o s)
   fits_turned = record {
     comes = λ told h.
         ap (λ (a : Log). record (left_after told) { log = a }) (made_more told)
         ∙ (ap (λ (r : Result). record r { log = followed_by (fill told q.made) r.log }) (sym (turn_keeps told h))
         ∙ fit.comes told (tells_before told h));
     lefts = λ told h.
-        let d : ChildOutcomes = (turned k t m q o s).told in
+        let d : ChildOutcomes = (task_after_turn k t m q o s).told in
         followed_cancel (fill told o.made) (left_after told).log (left_after d).log
         (sym (left_is told h) ∙ (left_is d tells_itself
         ∙ ap (λ (a : Log). followed_by a (left_after d).log) (fill_agree d told q.count o.made o.begun w.starts (λ i x. sym (h i x)))));
   }
 
   -- the first signs are the same, with the new children
-  pub least_turned : (c : ℕ) (l : Label) → all_least c l (turned k t m q o s ∷ children_from k t m o.begun)
+  pub least_turned : (c : ℕ) (l : Label) → all_least c l (task_after_turn k t m q o s ∷ children_from k t m o.begun)
       ≡ min (upto c (made_sign l q.made)) (upto c (least_sign l q.left))
   unfolding all_least
   least_turned c l =
-      let d : ChildOutcomes = (turned k t m q o s).told in
+      let d : ChildOutcomes = (task_after_turn k t m q o s).told in
       let x : upto c (least_sign l q.left) ≡ min (upto c (least_sign l (fill d o.made))) (upto c (least_sign l (left_after d).log)) =
       ap (λ (a : Log). upto c (least_sign l a)) (left_is d tells_itself) ∙ least_join c l (fill d o.made) (left_after d).log in
       let y : upto c (least_sign l (fill d o.made)) ≡ min (upto c (made_sign l o.made)) (all_least c l (children_from k t m o.begun)) =
@@ -207,11 +207,11 @@ module _ (k f : Table) (t m : ℕ) (wake : Wake) (q : Started) (o : Move) (s : S
       omega arith
 
   -- and so is how often a label is entered
-  pub times_turned : (l : Label) → all_times l (turned k t m q o s ∷ children_from k t m o.begun)
+  pub times_turned : (l : Label) → all_times l (task_after_turn k t m q o s ∷ children_from k t m o.begun)
       ≡ times_made l q.made + times_entered l q.left
   unfolding all_times
   times_turned l =
-      let d : ChildOutcomes = (turned k t m q o s).told in
+      let d : ChildOutcomes = (task_after_turn k t m q o s).told in
       let x : times_entered l q.left ≡ times_entered l (fill d o.made) + times_entered l (left_after d).log =
       ap (λ (a : Log). times_entered l a) (left_is d tells_itself) ∙ left_join l (fill d o.made) (left_after d).log in
       let y : times_entered l (fill d o.made) ≡ times_made l o.made + all_times l (children_from k t m o.begun) =

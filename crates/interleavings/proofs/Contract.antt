@@ -6,7 +6,7 @@ use Rattle.job_meaning.specs.Log.{Log, nil, entry, sign, entered, task, Table}
 use Rattle.job_meaning.specs.Walk.{by_table}
 use Rattle.job_meaning.specs.Before.{upto, Near}
 use Rattle.job_meaning.specs.Rest.{Event, noted, signs, enters, starts, ChildOutcomes, Stopped, Rest, rest_comes_to, rest_weight, stop_weight, frames_weight}
-use Rattle.turn_semantics.specs.Midway.{Place, stack_at, Begun, Move, behind, stop_comes_to}
+use Rattle.turn_semantics.specs.Midway.{Place, stack_at, Begun, Move, after_events, stop_comes_to}
 use Rattle.turn_semantics.specs.Steps.{froms_after}
 use Rattle.turn_semantics.specs.Placed.{PlacedStop, PlacedAfter}
 use Rattle.turn_semantics.specs.Wakes.{Wake, WakesBy}
@@ -104,10 +104,10 @@ module _ (t : ℕ) (f : Table) (wake : Wake) (q : Started) (o : Move) (s : Stopp
       AgreesIn t k (rest_comes_to (by_table k) told q.rest q.here (stack_at k q.places) q.stop).log → AllTold t k told o.begun →
       WakesBy k told q.here q.stop t wake q.rest.stopped q.places →
       rest_comes_to (by_table k) told q.rest q.here (stack_at k q.places) q.stop
-      ≡ behind told o.made (rest_comes_to (by_table k) told rest_after q.here (stack_at k o.places) t)
+      ≡ after_events told o.made (rest_comes_to (by_table k) told rest_after q.here (stack_at k o.places) t)
   keeps_to k told near inside all come =
       w.keeps k told come near (inr inside) all
-      ∙ ap (λ (x : Option Stopped). behind told o.made (stop_comes_to x k told q.here t o.frames o.places o.exc)) e
+      ∙ ap (λ (x : Option Stopped). after_events told o.made (stop_comes_to x k told q.here t o.frames o.places o.exc)) e
 
   -- the frames that are left fit the enclosing scopes and nurseries
   pub placed_stop : PlacedStop s o.frames o.places

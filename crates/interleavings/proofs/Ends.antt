@@ -7,7 +7,7 @@ use Rattle.exc_groups.specs.Exceptions.{Label, Exc, cancelled}
 use Rattle.exc_groups.specs.Split.{Wanted, keep, drop}
 use Rattle.cancel_scopes.specs.Sight.{Tick, sight}
 use Rattle.job_meaning.specs.Log.{Log, nil, entry, sign, entered, task, followed_by, Member, Result}
-use Rattle.job_meaning.specs.Walk.{Stack, Mode, Here, walk, walk_step, walk_handler, walk_cleanup, done_at, raised_at, joined, and_then, then_if, slept, sleeping, log_of_lines, showing, needing, cancelling, sign_of, Kind, from_of, block, signed, sign_if, home_of, latest, gathered, child, each, handled, handled_exc, handled_if, cleaned, passes}
+use Rattle.job_meaning.specs.Walk.{Stack, Mode, Here, walk, walk_step, walk_handler, walk_cleanup, done_at, raised_at, in_sequence, and_then, then_if, sleep_by_sight, sleep_result, log_of_lines, lines_result, need_result, cancel_result, sign_of, Kind, from_of, block, with_sign, sign_if, home_of, latest, nursery_result, child, each, handler_result, handler_for, handler_if_any, cleanup_result, passes}
 use Rattle.job_meaning.proofs.Late.{Late, late, latest_ends, child_ends, each_ends, late_passes}
 
 -- each task of a log ends by e, and those that it started by its end
@@ -58,7 +58,7 @@ record Ends (body : Bool) (r : Result) : Type 0 where
   inside : Inside (latest r.end r.members) r.log
   closed : body ≡ false → r.members ≡ []
 
-ends_joined : (body : Bool) (r q : Result) → Ends body r → Ends body q → r.end ≤ q.end → Ends body (joined r q)
+ends_joined : (body : Bool) (r q : Result) → Ends body r → Ends body q → r.end ≤ q.end → Ends body (in_sequence r q)
 ends_joined body r q h k le = record {
   inside =
       (let a : latest r.end r.members ≤ latest q.end r.members = latest_later r.end q.end r.members le in
@@ -88,11 +88,11 @@ ends_done body t = record { inside = tt; closed = λ e. refl }
 ends_raised : (body : Bool) (e : Exc) (t : ℕ) → Ends body (raised_at e t)
 ends_raised body e t = record { inside = tt; closed = λ e. refl }
 
-ends_sleeping : (body : Bool) (st : Stack) (n t : ℕ) → Ends body (sleeping st n t)
-unfolding sleeping
+ends_sleeping : (body : Bool) (st : Stack) (n t : ℕ) → Ends body (sleep_result st n t)
+unfolding sleep_result
 ends_sleeping body st n t = by_sight (sight st)
   where
-    by_sight : (a : Tick) → Ends body (slept a n t)
+    by_sight : (a : Tick) → Ends body (sleep_by_sight a n t)
     by_sight None = ends_done body (t + n)
     by_sight (Some from) = by_now (nat_le from t) (nat_le from (t + n))
       where
@@ -106,12 +106,12 @@ inside_lines : (e t : ℕ) (ls : List Span) → Inside e (log_of_lines t ls)
 inside_lines e t [] = tt
 inside_lines e t (l ∷ ls) = inside_lines e t ls
 
-ends_showing : (body : Bool) (ls : List Span) (t : ℕ) → Ends body (showing ls t)
-unfolding showing
+ends_showing : (body : Bool) (ls : List Span) (t : ℕ) → Ends body (lines_result ls t)
+unfolding lines_result
 ends_showing body ls t = record { inside = inside_lines t t ls; closed = λ e. refl }
 
-ends_needing : (body : Bool) (found : Option Span) (name : List ℕ) (label : Label) (t : ℕ) → Ends body (needing found name label t)
-unfolding needing
+ends_needing : (body : Bool) (found : Option Span) (name : List ℕ) (label : Label) (t : ℕ) → Ends body (need_result found name label t)
+unfolding need_result
 ends_needing body (Some l) name label t = ends_showing body (l ∷ []) t
 ends_needing body None name label t = record { inside = tt; closed = λ e. refl }
 
@@ -123,8 +123,8 @@ inside_sign_if : (e : ℕ) (x : Option Exc) (o : Option Label) (t : ℕ) → Ins
 inside_sign_if e None o t = tt
 inside_sign_if e (Some x) o t = inside_sign e o t
 
-ends_cancelling : (body : Bool) (o : Option Label) (t : ℕ) → Ends body (cancelling o t)
-unfolding cancelling
+ends_cancelling : (body : Bool) (o : Option Label) (t : ℕ) → Ends body (cancel_result o t)
+unfolding cancel_result
 ends_cancelling body o t = record { inside = inside_sign t o t; closed = λ e. refl }
 
 -- with no member open all ends by the end
@@ -142,16 +142,16 @@ ends_block body m kind label t d shield st inside h =
       closed = λ e. refl;
     }
 
-ends_signed : (body : Bool) (st : Stack) (r : Result) → Ends body r → Ends body (signed st r)
-unfolding signed
+ends_signed : (body : Bool) (st : Stack) (r : Result) → Ends body r → Ends body (with_sign st r)
+unfolding with_sign
 ends_signed body st r h = record {
   inside = inside_followed (latest r.end r.members) r.log _ h.inside
       (inside_sign_if (latest r.end r.members) r.exc (home_of st) r.end);
   closed = h.closed;
 }
 
-ends_gathered : (body : Bool) (label : Label) (r : Result) → Ends true r → Ends body (gathered label r)
-unfolding gathered
+ends_gathered : (body : Bool) (label : Label) (r : Result) → Ends true r → Ends body (nursery_result label r)
+unfolding nursery_result
 ends_gathered body label r h = record { inside = h.inside; closed = λ e. refl }
 
 ends_child : (label : Label) (t : ℕ) (r : Result) → Ends false r → Ends true (child label t r)
@@ -172,26 +172,26 @@ ends_passes body (suc k) first go t h l =
     ends_then body (go first t) _ (h first t) (λ u. ends_passes body k (suc first) go u h l) (λ u. late_passes k (suc first) go u l)
 
 ends_handled : (body : Bool) (wanted : Wanted) (r : Result) (go : ℕ → Result) → Ends body r → ((u : ℕ) → Ends body (go u)) →
-    ((u : ℕ) → Late u (go u)) → Ends body (handled wanted r go)
-unfolding handled
+    ((u : ℕ) → Late u (go u)) → Ends body (handler_result wanted r go)
+unfolding handler_result
 ends_handled body wanted r go h k l = by_exc r.exc
   where
-    both : Ends body (joined r (go r.end))
+    both : Ends body (in_sequence r (go r.end))
     both = ends_joined body r (go r.end) h (k r.end) (l r.end).ends
 
-    by_match : (o rest : Option Exc) → Ends body (handled_if o rest r go)
+    by_match : (o rest : Option Exc) → Ends body (handler_if_any o rest r go)
     by_match None rest = h
     by_match (Some e) rest = record { inside = both.inside; closed = both.closed }
 
-    by_exc : (o : Option Exc) → Ends body (handled_exc o wanted r go)
+    by_exc : (o : Option Exc) → Ends body (handler_for o wanted r go)
     by_exc None = h
     by_exc (Some e) = by_match (keep wanted e) (drop wanted e)
 
 ends_cleaned : (body : Bool) (r : Result) (go : ℕ → Result) → Ends body r → ((u : ℕ) → Ends body (go u)) → ((u : ℕ) → Late u (go u)) →
-    Ends body (cleaned r go)
-unfolding cleaned
+    Ends body (cleanup_result r go)
+unfolding cleanup_result
 ends_cleaned body r go h k l =
-    let both : Ends body (joined r (go r.end)) = ends_joined body r (go r.end) h (k r.end) (l r.end).ends in
+    let both : Ends body (in_sequence r (go r.end)) = ends_joined body r (go r.end) h (k r.end) (l r.end).ends in
     record { inside = both.inside; closed = both.closed }
 
 -- outside of a nursery's body nothing is open, so in one too

@@ -10,7 +10,7 @@ use Rattle.turn_semantics.specs.Placed.{PlacedStop, PlacedAfter, home_after, All
 use Rattle.turn_semantics.specs.Wakes.{Wake, begins, sees, is_due, has_answer, settles}
 use Rattle.turn_semantics.specs.Turned.{Known, labels_of, AllKnown, known_after, EntersIn, Starts, BegunIn, TurnsOver}
 use Rattle.interleavings.specs.Interleaving.{Started, In, EachPlace, EntersWith, times_made, made_times, all_times, live}
-use Rattle.interleavings.specs.Going.{root_task, children_from, turned}
+use Rattle.interleavings.specs.Going.{root_task, children_from, task_after_turn}
 use Rattle.interleavings.specs.Woken.{MayWake}
 use Rattle.interleavings.specs.Runs.{Reached, begun, turn, jump}
 use Rattle.interleavings.specs.Laws.{Home, home_of, IsHoused, TasksAreHoused, LastToLeave}
@@ -126,7 +126,7 @@ module _ (k f : Table) (t m : ℕ) (q : Started) (ys : List Started) (wake : Wak
     (goes : TurnsOver q.stop t q.here f wake q.rest q.places q.count o) (stopped : o.stopped ≡ Some s)
     (small : (x : Started) → In x (q ∷ ys) → x.serial < m) where
   abbrev q' : Started
-  q' = turned k t m q o s
+  q' = task_after_turn k t m q o s
 
   abbrev new : List Started
   new = children_from k t m o.begun

@@ -14,7 +14,7 @@ use Rattle.turn_semantics.specs.Steps.{froms_after}
 use Rattle.turn_semantics.specs.Wakes.{Wake, WakesBy}
 use Rattle.turn_semantics.specs.Turned.{weight_of_begun, TurnsOver}
 use Rattle.interleavings.specs.Interleaving.{Started, Tells, In, RunInvariant, AllFrom}
-use Rattle.interleavings.specs.Going.{root_task, children_from, turned}
+use Rattle.interleavings.specs.Going.{root_task, children_from, task_after_turn}
 use Rattle.interleavings.specs.Woken.{MayWake}
 use Rattle.interleavings.specs.Runs.{Front, is_front, behind_one, Reached, begun, turn, jump, turns_taken, all_weights}
 use Rattle.interleavings.specs.Laws.{RunsKeepInvariant, RunsAreTheMeaning, BlockedRunsSleep, LimitsAreExact, RunsEnd}
@@ -45,7 +45,7 @@ begun_small k t m (b ∷ bs) x (inr i) = let a : x.serial < suc m + length bs = 
 kept_turn : (k f : Table) (whole : Result) (t m : ℕ) (q : Started) (qs others : List Started) (wake : Wake) (o : Move) (s : Stopped) →
     Kept k f whole t m qs → Front q qs others → MayWake f (q ∷ others) t q wake q.rest.stopped →
     TurnsOver q.stop t q.here f wake q.rest q.places q.count o → o.stopped ≡ Some s →
-    Kept k (froms_after f o.made) whole t (m + length o.begun) ((turned k t m q o s ∷ children_from k t m o.begun) ++ others)
+    Kept k (froms_after f o.made) whole t (m + length o.begun) ((task_after_turn k t m q o s ∷ children_from k t m o.begun) ++ others)
 kept_turn k f whole t m q qs others wake o s h at may w e = record {
   interleaving = interleaving_turned k f whole q others interleaving t from m small wake o s w e come;
   from = from_turned k f whole q others interleaving t from m small wake o s w e come;
@@ -67,7 +67,7 @@ kept_turn k f whole t m q qs others wake o s h at may w e = record {
     come : (told : ChildOutcomes) → Tells q told → WakesBy k told q.here q.stop t wake q.rest.stopped q.places
     come = woken k f whole (q ∷ others) interleaving t from q (inl refl) wake may
 
-    small_after : (x : Started) → In x ((turned k t m q o s ∷ children_from k t m o.begun) ++ others) → x.serial < m + length o.begun
+    small_after : (x : Started) → In x ((task_after_turn k t m q o s ∷ children_from k t m o.begun) ++ others) → x.serial < m + length o.begun
     small_after x (inl e) = let a : x.serial ≡ q.serial = ap (λ (z : Started). z.serial) e in let b : q.serial < m =
         small q (inl refl) in omega arith
     small_after x (inr i) = by_place (in_either x (children_from k t m o.begun) others i)

@@ -17,7 +17,7 @@ use Rattle.turn_semantics.specs.Wakes.{Wake, WakesBy}
 use Rattle.turn_semantics.specs.Turned.{AgreesOn, AgreesIn, AllTold, Known, labels_of, AllKnown, known_after, Starts, BegunIn, made_sign, EntersIn, StopsAt, TurnsOver}
 use Rattle.turn_semantics.proofs.Froms.{unsigned}
 use Rattle.interleavings.specs.Interleaving.{Started, Tells, Fits, times_made, made_least, all_least, made_times, all_times, EnteredIn, EntersWith, StartsChild, In, Kid, HasFrom, Parent, Entered, EachPlace, Root, RunInvariant, goes_on, resumes, AllFrom}
-use Rattle.interleavings.specs.Going.{told_new, children_from, child_from, turned}
+use Rattle.interleavings.specs.Going.{told_new, children_from, child_from, task_after_turn}
 use Rattle.interleavings.proofs.Readings.{in_first, in_second, in_either, enters_first, enters_second, enters_either, starts_either, enters_counted, enters_times, entered_first, entered_second, enters_fill, made_low, all_least_join, all_times_join, made_few, made_counted, first_join, times_join}
 use Rattle.interleavings.proofs.Contract.{NumberedFrom, numbers_of, OldOrNew, known_of, each_known, lowered_from, opened_from, placed_stop, stops_at}
 use Rattle.interleavings.proofs.Lateness.{sleeping_end}
@@ -152,7 +152,7 @@ module _ (k f : Table) (whole : Result) (q : Started) (ys : List Started) (inter
   g = froms_after f o.made
 
   abbrev q' : Started
-  q' = turned k t m q o s
+  q' = task_after_turn k t m q o s
 
   abbrev new : List Started
   new = children_from k t m o.begun

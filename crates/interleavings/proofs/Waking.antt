@@ -3,9 +3,9 @@
 use Rattle.std.proofs.Common.{◌≡◌, ℕ, suc, ◌+◌, ◌<◌, ◌≤◌, max, true, Option, Some, None, List, [], ◌∷◌, refl, sym, ap, ◌∙◌, subst, inl, inr, arith, nat_le}
 use Rattle.std.proofs.lemmas.Bool.Decides.{nat_tests}
 use Rattle.exc_groups.specs.Exceptions.{Exc}
-use Rattle.cancel_scopes.specs.Sight.{Tick, sight, seen, reached}
+use Rattle.cancel_scopes.specs.Sight.{Tick, sight, seen, is_reached}
 use Rattle.job_meaning.specs.Log.{Member, Result, Table}
-use Rattle.job_meaning.specs.Walk.{by_table, sleeping}
+use Rattle.job_meaning.specs.Walk.{by_table, sleep_result}
 use Rattle.job_meaning.specs.Before.{upto}
 use Rattle.job_meaning.specs.Rest.{ChildOutcomes, told_members, Stopped, to_begin, asking, asleep, awaiting, at_end, task_comes_to}
 use Rattle.job_meaning.proofs.Clips.{seen_near}
@@ -19,7 +19,7 @@ use Rattle.interleavings.proofs.Lateness.{slept_end}
 use Rattle.interleavings.proofs.Agreement.{told_tells, agrees_on}
 
 -- what a sleeper sees now and not before is cancelled from now on
-seen_now : (t n since : ℕ) (a : Tick) → since < t → reached a t ≡ true → t ≤ max since (upto (since + n) a) → (t ≤ since + n) × (a ≡ Some t)
+seen_now : (t n since : ℕ) (a : Tick) → since < t → is_reached a t ≡ true → t ≤ max since (upto (since + n) a) → (t ≤ since + n) × (a ≡ Some t)
 seen_now t n since None lt e late = cc
 seen_now t n since (Some from) lt e late = (omega arith, ap (λ (v : ℕ). Some v) (let h : from ≤ t = by_test e in omega arith))
   where
@@ -71,7 +71,7 @@ module _ (k f : Table) (whole : Result) (qs : List Started) (o : RunInvariant k 
   by_stop : (wake : Wake) (s : Stopped) → (told : ChildOutcomes) → Tells q told →
       (live s ≡ true → t ≤ goes_on q.told s (stack_at k q.places) q.stop) → MayWake f qs t q wake s →
       WakesBy k told q.here q.stop t wake s q.places
-  unfolding sleeping
+  unfolding sleep_result
   by_stop begins to_begin told tells late h = h
   by_stop begins (asking kernel purpose) told tells late h = absurd h
   by_stop begins (asleep n since) told tells late h = absurd h

@@ -55,8 +55,8 @@ unfoldable pub child_from : (count : ℕ) → (ℕ → ℕ) → ℕ → ℕ → 
 child_from count child m i = cond (ltb i count) (child i) (m + (i - count))
 
 -- the task after a turn in tick t that stopped so, where new serial numbers start at m
-abbrev pub turned : Table → ℕ → ℕ → Started → Move → Stopped → Started
-turned k t m q o s =
+abbrev pub task_after_turn : Table → ℕ → ℕ → Started → Move → Stopped → Started
+task_after_turn k t m q o s =
     let told = told_new k t q.told o.begun in
     let rest : Rest = record { stopped = s; frames = o.frames } in
     record {

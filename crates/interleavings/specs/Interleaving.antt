@@ -3,7 +3,7 @@ use Rattle.std.specs.Prelude.{◌≡◌, ℕ, suc, ◌+◌, ◌<◌, ◌≤◌, 
 use Rattle.exc_groups.specs.Exceptions.{Label}
 use Rattle.cancel_scopes.specs.Sight.{Tick, sight}
 use Rattle.job_meaning.specs.Log.{Log, nil, entry, sign, entered, task, Result, same_label, least_sign, from_by, times_entered, Table}
-use Rattle.job_meaning.specs.Walk.{Stack, Here, by_table, sleeping, latest}
+use Rattle.job_meaning.specs.Walk.{Stack, Here, by_table, sleep_result, latest}
 use Rattle.job_meaning.specs.Before.{upto}
 use Rattle.job_meaning.specs.Rest.{Event, noted, signs, enters, starts, ChildOutcomes, told_members, Stopped, to_begin, asking, asleep, awaiting, at_end, Rest, rest_comes_to, task_comes_to}
 use Rattle.turn_semantics.specs.Midway.{Place, stack_at}
@@ -179,7 +179,7 @@ live (at_end u e) = false
 abbrev pub goes_on : ChildOutcomes → Stopped → Stack → ℕ → ℕ
 goes_on told to_begin st t = t
 goes_on told (asking kernel purpose) st t = t
-goes_on told (asleep n since) st t = (sleeping st n since).end
+goes_on told (asleep n since) st t = (sleep_result st n since).end
 goes_on told (awaiting children ended exc) st t = latest ended (told_members told children)
 goes_on told (at_end u e) st t = u
 

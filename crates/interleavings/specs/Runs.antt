@@ -8,7 +8,7 @@ use Rattle.turn_semantics.specs.Steps.{froms_after}
 use Rattle.turn_semantics.specs.Wakes.{Wake}
 use Rattle.turn_semantics.specs.Turned.{TurnsOver}
 use Rattle.interleavings.specs.Interleaving.{Started, Blocked}
-use Rattle.interleavings.specs.Going.{root_task, children_from, turned}
+use Rattle.interleavings.specs.Going.{root_task, children_from, task_after_turn}
 use Rattle.interleavings.specs.Woken.{MayWake}
 
 -- the same tasks, with one of them moved to the front
@@ -26,7 +26,7 @@ pub data Reached (k : Table) (job : Tree) (input : List ℕ) : Table → ℕ →
       (f : Table) (t m : ℕ) (q : Started) (qs others : List Started) (wake : Wake) (o : Move) (s : Stopped) →
       Reached k job input f t m qs → Front q qs others → MayWake f (q ∷ others) t q wake q.rest.stopped →
       TurnsOver q.stop t q.here f wake q.rest q.places q.count o → o.stopped ≡ Some s →
-      Reached k job input (froms_after f o.made) t (m + length o.begun) ((turned k t m q o s ∷ children_from k t m o.begun) ++ others)
+      Reached k job input (froms_after f o.made) t (m + length o.begun) ((task_after_turn k t m q o s ∷ children_from k t m o.begun) ++ others)
   jump : (f : Table) (t u m : ℕ) (qs : List Started) → Reached k job input f t m qs → t ≤ u → Blocked f qs u → Reached k job input f u m qs
 
 -- how many turns a run took so far

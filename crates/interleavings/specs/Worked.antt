@@ -8,7 +8,7 @@ use Rattle.job_meaning.specs.Log.{Table}
 use Rattle.job_meaning.specs.Walk.{Here}
 use Rattle.job_meaning.specs.Meaning.{Record, root_here}
 use Rattle.job_meaning.specs.Rest.{Event, Rest, rest_at_start, Stopped, to_begin, asking, asleep, awaiting, at_end}
-use Rattle.job_meaning.specs.Examples.{block_of, job_of, scope_of, shielded_scope, nursery_of, start_of, label_named, raised_by, group_by, scope_caught, scope_passed, nursery_passed, ran, main_ran, run_of}
+use Rattle.job_meaning.specs.Examples.{block_of, job_of, scope_of, shielded_scope, nursery_of, start_of, label_named, raised_by, group_by, scope_caught, scope_passed, nursery_passed, record_of, main_ran, run_of}
 use Rattle.turn_semantics.specs.Midway.{Place, Begun, Move}
 use Rattle.turn_semantics.specs.Steps.{step_of, turn_of, froms_after}
 use Rattle.turn_semantics.specs.Wakes.{Wake, begins, is_due, settles, turn_from}
@@ -70,9 +70,9 @@ abbrev pub at : ℕ → ℕ → Wake → Pick
 at t n w = record { tick = t; serial = n; wake = w }
 
 -- a run by these turns
-abbrev pub played : World → List Pick → World
-played world [] = world
-played world (p ∷ ps) = played (turn_in world.froms p.tick p.wake p.serial [] world.tasks) ps
+abbrev pub after_picks : World → List Pick → World
+after_picks world [] = world
+after_picks world (p ∷ ps) = after_picks (turn_in world.froms p.tick p.wake p.serial [] world.tasks) ps
 
 abbrev pub end_kept : Stopped → ℕ
 end_kept to_begin = 0
@@ -91,7 +91,7 @@ exc_kept (at_end u e) = e
 -- the records of tasks that have ended
 abbrev pub records_kept : List Kept → List Record
 records_kept [] = []
-records_kept (q ∷ qs) = ran q.here.task q.since (end_kept q.rest.stopped) (exc_kept q.rest.stopped) (entries_made q.made) ∷ records_kept qs
+records_kept (q ∷ qs) = record_of q.here.task q.since (end_kept q.rest.stopped) (exc_kept q.rest.stopped) (entries_made q.made) ∷ records_kept qs
 
 -- scope o { nursery n {
 --   start a { sleep 1; cancel o; }
@@ -124,7 +124,7 @@ run_by picks =
       count = 0;
       since = 0;
     } in
-    played (record { froms = (λ l. None); tasks = root ∷ [] }) picks
+    after_picks (record { froms = (λ l. None); tasks = root ∷ [] }) picks
 
 -- the tasks that are ready together have their turns in the order of their starts
 abbrev pub in_order : List Pick
@@ -152,9 +152,9 @@ abbrev pub three_records : List Record
 three_records =
     main_ran 0 3 (Some (group_by (codes "n") (raised_by (codes "E") (codes "c") 1 ∷ [])))
     (nursery_passed (codes "n") 3 ∷ scope_caught (codes "o") 3 ∷ [])
-    ∷ ran (label_named (codes "a")) 0 1 None []
-    ∷ ran (label_named (codes "b")) 0 3 (Some cancelled) (scope_passed (codes "g") 3 ∷ [])
-    ∷ ran (label_named (codes "c")) 0 1 (Some (raised_by (codes "E") (codes "c") 1)) []
+    ∷ record_of (label_named (codes "a")) 0 1 None []
+    ∷ record_of (label_named (codes "b")) 0 3 (Some cancelled) (scope_passed (codes "g") 3 ∷ [])
+    ∷ record_of (label_named (codes "c")) 0 1 (Some (raised_by (codes "E") (codes "c") 1)) []
     ∷ []
 
 -- both orders have these records, and so has the meaning

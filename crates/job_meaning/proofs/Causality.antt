@@ -5,10 +5,10 @@ use Rattle.std.proofs.lemmas.Bool.Decides.{nat_tests}
 use Rattle.job_tree.specs.Tree.{Step, sleep, checkpoint, forever, pace, find, head, longest, need, raise, cancel, scope, nursery, start, repeat, attempt, Steps, stop, step, Handled, unhandled, except, Cleaned, uncleaned, finally}
 use Rattle.exc_groups.specs.Exceptions.{Label, Exc, cancelled, by_nursery, group_of, parts_of}
 use Rattle.exc_groups.specs.Split.{Wanted, keep, drop}
-use Rattle.cancel_scopes.specs.Sight.{Tick, sight, seen, reached, catches}
+use Rattle.cancel_scopes.specs.Sight.{Tick, sight, seen, is_reached, catches}
 use Rattle.job_meaning.specs.Log.{Log, nil, entry, entered, followed_by, Member, Result}
-use Rattle.job_meaning.specs.Walk.{Stack, Mode, two_walks, by_table, Here, walk, walk_step, walk_handler, walk_cleanup, done_at, raised_at, joined, and_then, then_if, slept, sleeping, cancelling, label_on, Kind, from_of, block, left_from, left_with, left_as, exc_after, within, signed, sign_if, home_of, latest, with_exc, excs_of, gathered, child, each, passes, handled, handled_exc, handled_if, handler_exc, with_outcome, outcome_after, cleaned}
-use Rattle.job_meaning.specs.Before.{upto, Near, Agree, soon, later, known_members, clipped, exc_if, entered_if, task_if}
+use Rattle.job_meaning.specs.Walk.{Stack, Mode, two_walks, by_table, Here, walk, walk_step, walk_handler, walk_cleanup, done_at, raised_at, in_sequence, and_then, then_if, sleep_by_sight, sleep_result, cancel_result, label_on, Kind, from_of, block, exit_with_from, left_with, left_as, exc_after, stack_inside, with_sign, sign_if, home_of, latest, with_exc, excs_of, nursery_result, child, each, passes, handler_result, handler_for, handler_if_any, handler_exc, with_outcome, outcome_after, cleanup_result}
+use Rattle.job_meaning.specs.Before.{upto, Near, Agree, soon, later, known_members, log_before, exc_if, entered_if, task_if}
 use Rattle.job_meaning.specs.Laws.{NothingBeforeItsCause}
 use Rattle.job_meaning.proofs.Late.{Timed, Late, late, late_signed, late_gathered, latest_ends, child_ends, each_ends, late_passes}
 use Rattle.job_meaning.proofs.Clips.{sight_near, seen_near, reached_near, label_near, home_near, both_clipped, clipped_tail, least_near, from_near, both_known, latest_known, all_known}
@@ -23,7 +23,7 @@ agree_same c r = by_order (cases_lt r.end c)
 
 -- one after another
 pub agree_joined : (c : ℕ) (r r' q q' : Result) → Agree c r r' → Agree c q q' → r.end ≤ q.end → r'.end ≤ q'.end →
-    Agree c (joined r q) (joined r' q')
+    Agree c (in_sequence r q) (in_sequence r' q')
 agree_joined c r r' q q' (soon b e x m l) (soon b₂ e₂ x₂ m₂ l₂) le le' =
     soon b₂ e₂ x₂ (both_known c _ _ _ _ m m₂) (both_clipped c r.log q.log r'.log q'.log l l₂)
 agree_joined c r r' q q' (soon b e x m l) (later f s l₂) le le' = later f s (both_clipped c r.log q.log r'.log q'.log l l₂)
@@ -33,17 +33,17 @@ agree_joined c r r' q q' (later f s l) (later f₂ s₂ l₂) le le' = later f�
 -- x continues from r, which ended at c or later: before c it has the same log
 record Past (c : ℕ) (r x : Result) : Type 0 where
   ends : c ≤ x.end
-  logs : clipped c x.log ≡ clipped c r.log
+  logs : log_before c x.log ≡ log_before c r.log
 
 past_same : (c : ℕ) (r : Result) → c ≤ r.end → Past c r r
 past_same c r le = record { ends = le; logs = refl }
 
-past_joined : (c : ℕ) (r q : Result) → c ≤ r.end → Late r.end q → Past c r (joined r q)
+past_joined : (c : ℕ) (r q : Result) → c ≤ r.end → Late r.end q → Past c r (in_sequence r q)
 past_joined c r q le h =
     let first = h.ends in
     record { ends = omega arith; logs = clipped_tail c r.end r.log q.log le h.timed }
 
-agree_past : (c : ℕ) (r r' x x' : Result) → clipped c r.log ≡ clipped c r'.log → Past c r x → Past c r' x' → Agree c x x'
+agree_past : (c : ℕ) (r r' x x' : Result) → log_before c r.log ≡ log_before c r'.log → Past c r x → Past c r' x' → Agree c x x'
 agree_past c r r' x x' l p p' = later p.ends p'.ends (p.logs ∙ (l ∙ sym p'.logs))
 
 past_then : (c : ℕ) (r : Result) (go : ℕ → Result) → ((u : ℕ) → Late u (go u)) → c ≤ r.end → (o : Option Exc) → Past c r (then_if o r go)
@@ -69,7 +69,7 @@ agree_and_then c r r' go go' (soon b e x m l) h k k' =
 agree_and_then c r r' go go' (later f s l) h k k' = agree_past c r r' _ _ l (past_then c r go k f r.exc) (past_then c r' go' k' s r'.exc)
 
 -- a sleep that is seen at c or later
-slept_past : (from n t c : ℕ) → c ≤ from → c ≤ t + n → Past c (done_at c) (slept (Some from) n t)
+slept_past : (from n t c : ℕ) → c ≤ from → c ≤ t + n → Past c (done_at c) (sleep_by_sight (Some from) n t)
 slept_past from n t c le far = by_now (nat_le from t) (nat_le from (t + n)) refl
   where
     by_now : (now due : Bool) → nat_le from t ≡ now → Past c (done_at c)
@@ -78,7 +78,7 @@ slept_past from n t c le far = by_now (nat_le from t) (nat_le from (t + n)) refl
     by_now false true e = record { ends = le; logs = refl }
     by_now false false e = record { ends = far; logs = refl }
 
-slept_whole : (from n t c : ℕ) → c ≤ from → t + n < c → slept (Some from) n t ≡ done_at (t + n)
+slept_whole : (from n t c : ℕ) → c ≤ from → t + n < c → sleep_by_sight (Some from) n t ≡ done_at (t + n)
 slept_whole from n t c le lt = by_now (nat_le from t) (nat_le from (t + n)) (grind (arith, nat_tests)) (grind (arith, nat_tests))
   where
     by_now : (now due : Bool) → now ≡ false → due ≡ false →
@@ -87,17 +87,17 @@ slept_whole from n t c le lt = by_now (nat_le from t) (nat_le from (t + n)) (gri
     by_now false true e f = absurd (true≢false f)
     by_now false false e f = refl
 
-never_past : (n t c : ℕ) → c ≤ t + n → Past c (done_at c) (slept None n t)
+never_past : (n t c : ℕ) → c ≤ t + n → Past c (done_at c) (sleep_by_sight None n t)
 never_past n t c far = record { ends = far; logs = refl }
 
-agree_slept : (c : ℕ) (a b : Tick) (n t : ℕ) → upto c a ≡ upto c b → Agree c (slept a n t) (slept b n t)
-agree_slept c None None n t e = agree_same c (slept None n t)
+agree_slept : (c : ℕ) (a b : Tick) (n t : ℕ) → upto c a ≡ upto c b → Agree c (sleep_by_sight a n t) (sleep_by_sight b n t)
+agree_slept c None None n t e = agree_same c (sleep_by_sight None n t)
 agree_slept c None (Some y) n t e = by_order (cases_lt (t + n) c)
   where
     le : c ≤ y
     le = omega arith
 
-    by_order : (t + n < c) ⊎ (c ≤ t + n) → Agree c (slept None n t) (slept (Some y) n t)
+    by_order : (t + n < c) ⊎ (c ≤ t + n) → Agree c (sleep_by_sight None n t) (sleep_by_sight (Some y) n t)
     by_order (inl lt) = subst (λ (r : Result). Agree c (done_at (t + n)) r) (sym (slept_whole y n t c le lt))
         (agree_same c (done_at (t + n)))
     by_order (inr far) = agree_past c (done_at c) (done_at c) _ _ refl (never_past n t c far) (slept_past y n t c le far)
@@ -106,53 +106,53 @@ agree_slept c (Some x) None n t e = by_order (cases_lt (t + n) c)
     le : c ≤ x
     le = omega arith
 
-    by_order : (t + n < c) ⊎ (c ≤ t + n) → Agree c (slept (Some x) n t) (slept None n t)
+    by_order : (t + n < c) ⊎ (c ≤ t + n) → Agree c (sleep_by_sight (Some x) n t) (sleep_by_sight None n t)
     by_order (inl lt) = subst (λ (r : Result). Agree c r (done_at (t + n))) (sym (slept_whole x n t c le lt))
         (agree_same c (done_at (t + n)))
     by_order (inr far) = agree_past c (done_at c) (done_at c) _ _ refl (slept_past x n t c le far) (never_past n t c far)
 agree_slept c (Some x) (Some y) n t e = by_before (cases_lt x c)
   where
-    by_order : c ≤ x → c ≤ y → (t + n < c) ⊎ (c ≤ t + n) → Agree c (slept (Some x) n t) (slept (Some y) n t)
+    by_order : c ≤ x → c ≤ y → (t + n < c) ⊎ (c ≤ t + n) → Agree c (sleep_by_sight (Some x) n t) (sleep_by_sight (Some y) n t)
     by_order p q (inl lt) =
-        subst (λ (r : Result). Agree c r (slept (Some y) n t)) (sym (slept_whole x n t c p lt))
+        subst (λ (r : Result). Agree c r (sleep_by_sight (Some y) n t)) (sym (slept_whole x n t c p lt))
         (subst (λ (r : Result). Agree c (done_at (t + n)) r) (sym (slept_whole y n t c q lt)) (agree_same c (done_at (t + n))))
     by_order p q (inr far) = agree_past c (done_at c) (done_at c) _ _ refl (slept_past x n t c p far) (slept_past y n t c q far)
 
-    by_before : (x < c) ⊎ (c ≤ x) → Agree c (slept (Some x) n t) (slept (Some y) n t)
-    by_before (inl lt) = subst (λ (u : ℕ). Agree c (slept (Some x) n t) (slept (Some u) n t)) (omega arith)
-        (agree_same c (slept (Some x) n t))
+    by_before : (x < c) ⊎ (c ≤ x) → Agree c (sleep_by_sight (Some x) n t) (sleep_by_sight (Some y) n t)
+    by_before (inl lt) = subst (λ (u : ℕ). Agree c (sleep_by_sight (Some x) n t) (sleep_by_sight (Some u) n t)) (omega arith)
+        (agree_same c (sleep_by_sight (Some x) n t))
     by_before (inr p) = by_order p (omega arith) (cases_lt (t + n) c)
 
 -- a sleep agrees before c on near stacks
-pub agree_sleeping : (c : ℕ) (st su : Stack) (n t : ℕ) → Near c st su → Agree c (sleeping st n t) (sleeping su n t)
-unfolding sleeping
+pub agree_sleeping : (c : ℕ) (st su : Stack) (n t : ℕ) → Near c st su → Agree c (sleep_result st n t) (sleep_result su n t)
+unfolding sleep_result
 agree_sleeping c st su n t near = agree_slept c (sight st) (sight su) n t (sight_near c st su near)
 
 -- a `cancel` of a name agrees before c on near stacks
 pub agree_cancelling : (c : ℕ) (name : List ℕ) (st su : Stack) (t : ℕ) → Near c st su →
-    Agree c (cancelling (label_on name st) t) (cancelling (label_on name su) t)
+    Agree c (cancel_result (label_on name st) t) (cancel_result (label_on name su) t)
 agree_cancelling c name st su t near =
-    subst (λ (o : Option Label). Agree c (cancelling (label_on name st) t) (cancelling o t)) (label_near c name st su near)
-    (agree_same c (cancelling (label_on name st) t))
+    subst (λ (o : Option Label). Agree c (cancel_result (label_on name st) t) (cancel_result o t)) (label_near c name st su near)
+    (agree_same c (cancel_result (label_on name st) t))
 
 -- whether a block catches in a tick before c depends only on stacks and froms before c
 catches_near : (c : ℕ) (f g : Tick) (shield : Bool) (st su : Stack) (u v : ℕ) → upto c f ≡ upto c g → Near c st su → u < c → u ≡ v →
     catches f shield st u ≡ catches g shield su v
 catches_near c f g shield st su u v e near lt same =
-    let a : reached f u ≡ reached g u = reached_near c f g u e lt in
+    let a : is_reached f u ≡ is_reached g u = reached_near c f g u e lt in
     let b : seen st u ≡ seen su u = seen_near c st su u near lt in
     same_tests a b
   where
-    same_tests : reached f u ≡ reached g u → seen st u ≡ seen su u →
-        (reached f u && (shield || not (seen st u))) ≡ (reached g v && (shield || not (seen su v)))
-    same_tests a b = ap2 a b ∙ ap (λ (w : ℕ). reached g w && (shield || not (seen su w))) same
+    same_tests : is_reached f u ≡ is_reached g u → seen st u ≡ seen su u →
+        (is_reached f u && (shield || not (seen st u))) ≡ (is_reached g v && (shield || not (seen su v)))
+    same_tests a b = ap2 a b ∙ ap (λ (w : ℕ). is_reached g w && (shield || not (seen su w))) same
       where
-        ap2 : reached f u ≡ reached g u → seen st u ≡ seen su u → (reached f u && (shield || not (seen st u)))
-            ≡ (reached g u && (shield || not (seen su u)))
+        ap2 : is_reached f u ≡ is_reached g u → seen st u ≡ seen su u → (is_reached f u && (shield || not (seen st u)))
+            ≡ (is_reached g u && (shield || not (seen su u)))
         ap2 p q = cc
 
 -- walks that agree before c have the same log cut at c
-pub agree_logs : {c : ℕ} {r q : Result} → Agree c r q → clipped c r.log ≡ clipped c q.log
+pub agree_logs : {c : ℕ} {r q : Result} → Agree c r q → log_before c r.log ≡ log_before c q.log
 agree_logs (soon b e x m l) = l
 agree_logs (later f s l) = l
 
@@ -167,7 +167,7 @@ left_result kind label t d log u o caught =
     }
 
 module _ (c : ℕ) (kind : Kind) (label : Label) (t : ℕ) (d : Tick) where
-  same_left : (a b : Log) (u v : ℕ) (o p : Option Exc) (x y : Bool) → u < c → clipped c a ≡ clipped c b → u ≡ v → o ≡ p → x ≡ y →
+  same_left : (a b : Log) (u v : ℕ) (o p : Option Exc) (x y : Bool) → u < c → log_before c a ≡ log_before c b → u ≡ v → o ≡ p → x ≡ y →
       Agree c (left_result kind label t d a u o x) (left_result kind label t d b v p y)
   same_left a b u v o p x y lt l i j k =
       subst (λ (z : Bool). Agree c (left_result kind label t d a u o x) (left_result kind label t d b v p z)) k
@@ -178,7 +178,7 @@ module _ (c : ℕ) (kind : Kind) (label : Label) (t : ℕ) (d : Tick) where
   module _ (shield : Bool) (st su : Stack) (near : Near c st su) where
     -- how a block is left agrees, where its insides agree
     agree_left : (f g : Tick) (r q : Result) → upto c f ≡ upto c g → Agree c r q →
-        Agree c (left_from kind label t d shield st f r) (left_from kind label t d shield su g q)
+        Agree c (exit_with_from kind label t d shield st f r) (exit_with_from kind label t d shield su g q)
     agree_left f g r q e (soon b en x m l) =
         same_left r.log q.log r.end q.end r.exc q.exc _ _ b l en x (catches_near c f g shield st su r.end q.end e near b en)
     agree_left f g r q e (later p s l) =
@@ -204,14 +204,14 @@ module _ (c : ℕ) (kind : Kind) (label : Label) (t : ℕ) (d : Tick) where
 
 -- near stacks stay near inside a block whose two froms are the same when cut at c
 pub near_within : (c : ℕ) (label : Label) (shield : Bool) (f g : Tick) (st su : Stack) → upto c f ≡ upto c g → Near c st su →
-    Near c (within label shield f st) (within label shield g su)
+    Near c (stack_inside label shield f st) (stack_inside label shield g su)
 near_within c label shield f g st su e near = (refl, refl, e, near)
 
 -- a member's sign at the end of its log
-pub agree_signed : (c : ℕ) (st su : Stack) (r q : Result) → Near c st su → Agree c r q → Agree c (signed st r) (signed su q)
-unfolding signed
+pub agree_signed : (c : ℕ) (st su : Stack) (r q : Result) → Near c st su → Agree c r q → Agree c (with_sign st r) (with_sign su q)
+unfolding with_sign
 agree_signed c st su r q near (soon b e x m l) =
-    soon b e x m (both_clipped c r.log _ q.log _ l (ap (λ (z : Log). clipped c z)
+    soon b e x m (both_clipped c r.log _ q.log _ l (ap (λ (z : Log). log_before c z)
     (same_sign r.exc q.exc (home_of st) (home_of su) r.end q.end x (home_near c st su near) e)))
   where
     same_sign : (o p : Option Exc) (a b : Option Label) (u v : ℕ) → o ≡ p → a ≡ b → u ≡ v → sign_if o a u ≡ sign_if p b v
@@ -226,8 +226,8 @@ agree_signed c st su r q near (later p s l) =
     timed_sign (Some e) (Some x) u = (omega arith, tt)
 
 -- a nursery's end before c, and its group, are determined by what is known of its members
-pub agree_gathered : (c : ℕ) (label : Label) (r q : Result) → Agree c r q → Agree c (gathered label r) (gathered label q)
-unfolding gathered
+pub agree_gathered : (c : ℕ) (label : Label) (r q : Result) → Agree c r q → Agree c (nursery_result label r) (nursery_result label q)
+unfolding nursery_result
 agree_gathered c label r q (soon b e x m l) = by_order (cases_lt (latest r.end r.members) c)
   where
     known : min c (latest r.end r.members) ≡ min c (latest q.end q.members)
@@ -243,13 +243,13 @@ agree_gathered c label r q (soon b e x m l) = by_order (cases_lt (latest r.end r
         group_of (by_nursery label) (parts_of (with_exc o (excs_of ms))) ≡ group_of (by_nursery label) (parts_of (with_exc p (excs_of ns)))
     same_group o p ms ns i j = cc
 
-    by_order : (latest r.end r.members < c) ⊎ (c ≤ latest r.end r.members) → Agree c (gathered label r) (gathered label q)
+    by_order : (latest r.end r.members < c) ⊎ (c ≤ latest r.end r.members) → Agree c (nursery_result label r) (nursery_result label q)
     by_order (inl lt) = at_end same_end
       where
         same_end : latest r.end r.members ≡ latest q.end q.members
         same_end = let k = known in omega arith
 
-        at_end : latest r.end r.members ≡ latest q.end q.members → Agree c (gathered label r) (gathered label q)
+        at_end : latest r.end r.members ≡ latest q.end q.members → Agree c (nursery_result label r) (nursery_result label q)
         at_end i =
             soon lt i
             (same_group r.exc q.exc r.members q.members x (sym (all_known c r.end r.members lt)
@@ -295,7 +295,7 @@ agree_child c label t r q h = by_order (cases_lt t c) (known_end c r q h) (known
     same_task b u v o p x y i j k = cc
 
     by_order : (t < c) ⊎ (c ≤ t) → min c r.end ≡ min c q.end → exc_if (nat_lt r.end c) r.exc ≡ exc_if (nat_lt q.end c) q.exc →
-        clipped c r.log ≡ clipped c q.log → Agree c (child label t r) (child label t q)
+        log_before c r.log ≡ log_before c q.log → Agree c (child label t r) (child label t q)
     by_order (inl lt) i j k = soon lt refl refl (same_member _ _ _ _ i j) (same_task (nat_lt t c) _ _ _ _ _ _ i j k)
     by_order (inr le) i j k = later le le (same_task (nat_lt t c) _ _ _ _ _ _ i j k)
 
@@ -325,33 +325,33 @@ agree_outcome c r q f (soon b e x m l) = soon b e (ap f x) m l
 agree_outcome c r q f (later p s l) = later p s l
 
 past_handled : (c : ℕ) (wanted : Wanted) (r : Result) (go : ℕ → Result) → ((u : ℕ) → Late u (go u)) → c ≤ r.end → (o : Option Exc) →
-    Past c r (handled_exc o wanted r go)
+    Past c r (handler_for o wanted r go)
 past_handled c wanted r go h le None = past_same c r le
 past_handled c wanted r go h le (Some e) = by_match (keep wanted e) (drop wanted e)
   where
-    both : Past c r (joined r (go r.end))
+    both : Past c r (in_sequence r (go r.end))
     both = past_joined c r (go r.end) le (h r.end)
 
-    by_match : (o rest : Option Exc) → Past c r (handled_if o rest r go)
+    by_match : (o rest : Option Exc) → Past c r (handler_if_any o rest r go)
     by_match None rest = past_same c r le
     by_match (Some y) rest = record { ends = both.ends; logs = both.logs }
 
 -- bodies with their handlers agree before c where the bodies do, and the handlers from each tick on
 pub agree_handled : (c : ℕ) (wanted : Wanted) (r r' : Result) (go go' : ℕ → Result) → Agree c r r' → ((u : ℕ) → Agree c (go u) (go' u)) →
-    ((u : ℕ) → Late u (go u)) → ((u : ℕ) → Late u (go' u)) → Agree c (handled wanted r go) (handled wanted r' go')
-unfolding handled
+    ((u : ℕ) → Late u (go u)) → ((u : ℕ) → Late u (go' u)) → Agree c (handler_result wanted r go) (handler_result wanted r' go')
+unfolding handler_result
 agree_handled c wanted r r' go go' (soon b e x m l) h k k' =
-    subst (λ (o : Option Exc). Agree c (handled_exc r.exc wanted r go) (handled_exc o wanted r' go')) x (by_exc r.exc)
+    subst (λ (o : Option Exc). Agree c (handler_for r.exc wanted r go) (handler_for o wanted r' go')) x (by_exc r.exc)
   where
-    both : Agree c (joined r (go r.end)) (joined r' (go' r'.end))
+    both : Agree c (in_sequence r (go r.end)) (in_sequence r' (go' r'.end))
     both = agree_joined c r r' (go r.end) (go' r'.end) (soon b e x m l) (agree_from c go go' h r.end r'.end e) (k r.end).ends
         (k' r'.end).ends
 
-    by_match : (o rest : Option Exc) → Agree c (handled_if o rest r go) (handled_if o rest r' go')
+    by_match : (o rest : Option Exc) → Agree c (handler_if_any o rest r go) (handler_if_any o rest r' go')
     by_match None rest = soon b e x m l
-    by_match (Some y) rest = agree_outcome c (joined r (go r.end)) (joined r' (go' r'.end)) (λ o. handler_exc o rest) both
+    by_match (Some y) rest = agree_outcome c (in_sequence r (go r.end)) (in_sequence r' (go' r'.end)) (λ o. handler_exc o rest) both
 
-    by_exc : (o : Option Exc) → Agree c (handled_exc o wanted r go) (handled_exc o wanted r' go')
+    by_exc : (o : Option Exc) → Agree c (handler_for o wanted r go) (handler_for o wanted r' go')
     by_exc None = soon b e x m l
     by_exc (Some y) = by_match (keep wanted y) (drop wanted y)
 agree_handled c wanted r r' go go' (later f s l) h k k' =
@@ -359,12 +359,12 @@ agree_handled c wanted r r' go go' (later f s l) h k k' =
 
 -- results with their cleanups agree before c likewise
 pub agree_cleaned : (c : ℕ) (r r' : Result) (go go' : ℕ → Result) → Agree c r r' → ((u : ℕ) → Agree c (go u) (go' u)) →
-    ((u : ℕ) → Late u (go u)) → ((u : ℕ) → Late u (go' u)) → Agree c (cleaned r go) (cleaned r' go')
-unfolding cleaned
+    ((u : ℕ) → Late u (go u)) → ((u : ℕ) → Late u (go' u)) → Agree c (cleanup_result r go) (cleanup_result r' go')
+unfolding cleanup_result
 agree_cleaned c r r' go go' (soon b e x m l) h k k' =
-    subst (λ (o : Option Exc). Agree c (with_outcome (outcome_after r.exc (go r.end).exc) (joined r (go r.end)))
-    (with_outcome (outcome_after o (go' r'.end).exc) (joined r' (go' r'.end)))) x
-    (agree_outcome c (joined r (go r.end)) (joined r' (go' r'.end)) (λ o. outcome_after r.exc o)
+    subst (λ (o : Option Exc). Agree c (with_outcome (outcome_after r.exc (go r.end).exc) (in_sequence r (go r.end)))
+    (with_outcome (outcome_after o (go' r'.end).exc) (in_sequence r' (go' r'.end)))) x
+    (agree_outcome c (in_sequence r (go r.end)) (in_sequence r' (go' r'.end)) (λ o. outcome_after r.exc o)
     (agree_joined c r r' (go r.end) (go' r'.end) (soon b e x m l) (agree_from c go go' h r.end r'.end e) (k r.end).ends (k' r'.end).ends))
 agree_cleaned c r r' go go' (later f s l) h k k' =
     let a = past_joined c r (go r.end) f (k r.end) in

@@ -4,10 +4,10 @@ use Rattle.std.proofs.lemmas.Bool.{false≢true, true≢false, le-ltb, lt-ltb}
 use Rattle.std.proofs.lemmas.Bool.Decides.{nat_tests}
 use Rattle.std.specs.Str.{bytes_eq}
 use Rattle.exc_groups.specs.Exceptions.{Label, Exc}
-use Rattle.cancel_scopes.specs.Sight.{Tick, earlier, reached, next, sight, seen}
+use Rattle.cancel_scopes.specs.Sight.{Tick, earlier, is_reached, next, sight, seen}
 use Rattle.job_meaning.specs.Log.{Entry, Log, nil, entry, sign, entered, task, followed_by, Member, least_sign, tick_if, same_label, from_by}
 use Rattle.job_meaning.specs.Walk.{Stack, label_on, label_if, home_of, latest}
-use Rattle.job_meaning.specs.Before.{upto, Near, exc_if, known_member, known_members, entry_if, sign_before, entered_if, task_if, clipped}
+use Rattle.job_meaning.specs.Before.{upto, Near, exc_if, known_member, known_members, entry_if, sign_before, entered_if, task_if, log_before}
 use Rattle.job_meaning.proofs.Late.{Timed}
 
 -- a tick cut at c is at most c
@@ -38,7 +38,7 @@ upto_next c (Some t) None e = omega arith
 upto_next c (Some t) (Some u) e = omega arith
 
 -- which ticks before c have come is determined by the ticks cut at c
-pub reached_near : (c : ℕ) (a b : Tick) (u : ℕ) → upto c a ≡ upto c b → u < c → reached a u ≡ reached b u
+pub reached_near : (c : ℕ) (a b : Tick) (u : ℕ) → upto c a ≡ upto c b → u < c → is_reached a u ≡ is_reached b u
 reached_near c None None u e lt = refl
 reached_near c None (Some y) u e lt = sym (le_false (omega arith))
   where
@@ -106,21 +106,21 @@ followed_task true l s u e own x y = refl
 followed_task false l s u e own x y = refl
 
 -- a log is cut piece by piece
-pub clipped_followed : (c : ℕ) (a b : Log) → clipped c (followed_by a b) ≡ followed_by (clipped c a) (clipped c b)
+pub clipped_followed : (c : ℕ) (a b : Log) → log_before c (followed_by a b) ≡ followed_by (log_before c a) (log_before c b)
 clipped_followed c nil b = refl
 clipped_followed c (entry t e rest) b = ap (λ (x : Log). entry_if (nat_lt t c) t e x) (clipped_followed c rest b)
-    ∙ followed_entry (nat_lt t c) t e (clipped c rest) (clipped c b)
+    ∙ followed_entry (nat_lt t c) t e (log_before c rest) (log_before c b)
 clipped_followed c (sign l t rest) b = ap (λ (x : Log). sign_before (nat_lt t c) l t x) (clipped_followed c rest b)
-    ∙ followed_sign_before (nat_lt t c) l t (clipped c rest) (clipped c b)
+    ∙ followed_sign_before (nat_lt t c) l t (log_before c rest) (log_before c b)
 clipped_followed c (entered l t d rest) b = ap (λ (x : Log). entered_if (nat_lt t c) l t d x) (clipped_followed c rest b)
-    ∙ followed_entered (nat_lt t c) l t d (clipped c rest) (clipped c b)
+    ∙ followed_entered (nat_lt t c) l t d (log_before c rest) (log_before c b)
 clipped_followed c (task l s u e own rest) b =
-    ap (λ (x : Log). task_if (nat_lt s c) l s (min c u) (exc_if (nat_lt u c) e) (clipped c own) x) (clipped_followed c rest b)
-    ∙ followed_task (nat_lt s c) l s (min c u) (exc_if (nat_lt u c) e) (clipped c own) (clipped c rest) (clipped c b)
+    ap (λ (x : Log). task_if (nat_lt s c) l s (min c u) (exc_if (nat_lt u c) e) (log_before c own) x) (clipped_followed c rest b)
+    ∙ followed_task (nat_lt s c) l s (min c u) (exc_if (nat_lt u c) e) (log_before c own) (log_before c rest) (log_before c b)
 
 -- logs that are the same cut at c are so one after another too
-pub both_clipped : (c : ℕ) (a b x y : Log) → clipped c a ≡ clipped c x → clipped c b ≡ clipped c y →
-    clipped c (followed_by a b) ≡ clipped c (followed_by x y)
+pub both_clipped : (c : ℕ) (a b x y : Log) → log_before c a ≡ log_before c x → log_before c b ≡ log_before c y →
+    log_before c (followed_by a b) ≡ log_before c (followed_by x y)
 both_clipped c a b x y e f = cc (clipped_followed c a b, clipped_followed c x y)
 
 -- a log followed by nothing is the log itself
@@ -148,34 +148,34 @@ without_task true l s u e own x f = absurd (true≢false f)
 without_task false l s u e own x f = refl
 
 -- nothing is left of what is all at c or later
-pub clipped_late : (c t : ℕ) (a : Log) → c ≤ t → Timed t a → clipped c a ≡ nil
+pub clipped_late : (c t : ℕ) (a : Log) → c ≤ t → Timed t a → log_before c a ≡ nil
 clipped_late c t nil le h = refl
-clipped_late c t (entry u e rest) le h = without_entry (nat_lt u c) u e (clipped c rest) (le-ltb u c (past h.0))
+clipped_late c t (entry u e rest) le h = without_entry (nat_lt u c) u e (log_before c rest) (le-ltb u c (past h.0))
     ∙ clipped_late c t rest le h.1
   where
     past : t ≤ u → c ≤ u
     past k = omega arith
-clipped_late c t (sign l u rest) le h = without_sign_before (nat_lt u c) l u (clipped c rest) (le-ltb u c (past h.0))
+clipped_late c t (sign l u rest) le h = without_sign_before (nat_lt u c) l u (log_before c rest) (le-ltb u c (past h.0))
     ∙ clipped_late c t rest le h.1
   where
     past : t ≤ u → c ≤ u
     past k = omega arith
-clipped_late c t (entered l u d rest) le h = without_entered (nat_lt u c) l u d (clipped c rest) (le-ltb u c (past h.0))
+clipped_late c t (entered l u d rest) le h = without_entered (nat_lt u c) l u d (log_before c rest) (le-ltb u c (past h.0))
     ∙ clipped_late c t rest le h.1
   where
     past : t ≤ u → c ≤ u
     past k = omega arith
 clipped_late c t (task l u v e own rest) le h =
-    without_task (nat_lt u c) l u (min c v) (exc_if (nat_lt v c) e) (clipped c own) (clipped c rest) (le-ltb u c (past h.0))
+    without_task (nat_lt u c) l u (min c v) (exc_if (nat_lt v c) e) (log_before c own) (log_before c rest) (le-ltb u c (past h.0))
     ∙ clipped_late c t rest le h.3
   where
     past : t ≤ u → c ≤ u
     past k = omega arith
 
 -- what follows at c or later is cut away
-pub clipped_tail : (c t : ℕ) (a b : Log) → c ≤ t → Timed t b → clipped c (followed_by a b) ≡ clipped c a
+pub clipped_tail : (c t : ℕ) (a b : Log) → c ≤ t → Timed t b → log_before c (followed_by a b) ≡ log_before c a
 clipped_tail c t a b le h =
-    clipped_followed c a b ∙ (ap (λ (x : Log). followed_by (clipped c a) x) (clipped_late c t b le h) ∙ followed_nil (clipped c a))
+    clipped_followed c a b ∙ (ap (λ (x : Log). followed_by (log_before c a) x) (clipped_late c t b le h) ∙ followed_nil (log_before c a))
 
 min_both : (c a b : ℕ) → a ≡ c → b ≡ c → min a b ≡ c
 min_both c a b e f = omega arith
@@ -203,12 +203,12 @@ least_late c t l (task m u v e own rest) le h =
     past k = omega arith
 
 -- the first sign before c is determined by the log cut at c
-pub least_clipped : (c t : ℕ) (l : Label) (a : Log) → Timed t a → upto c (least_sign l a) ≡ upto c (least_sign l (clipped c a))
+pub least_clipped : (c t : ℕ) (l : Label) (a : Log) → Timed t a → upto c (least_sign l a) ≡ upto c (least_sign l (log_before c a))
 least_clipped c t l nil h = refl
 least_clipped c t l (entry u e rest) h = by_kept (nat_lt u c) (least_clipped c t l rest h.1)
   where
-    by_kept : (b : Bool) → upto c (least_sign l rest) ≡ upto c (least_sign l (clipped c rest)) →
-        upto c (least_sign l rest) ≡ upto c (least_sign l (entry_if b u e (clipped c rest)))
+    by_kept : (b : Bool) → upto c (least_sign l rest) ≡ upto c (least_sign l (log_before c rest)) →
+        upto c (least_sign l rest) ≡ upto c (least_sign l (entry_if b u e (log_before c rest)))
     by_kept true k = k
     by_kept false k = k
 least_clipped c t l (sign m u rest) h = by_kept (nat_lt u c) refl (least_clipped c t l rest h.1)
@@ -219,17 +219,17 @@ least_clipped c t l (sign m u rest) h = by_kept (nat_lt u c) refl (least_clipped
     at_c : (x y z : ℕ) → x ≡ c → y ≤ c → y ≡ z → min x y ≡ z
     at_c x y z e f g = omega arith
 
-    by_kept : (b : Bool) → nat_lt u c ≡ b → upto c (least_sign l rest) ≡ upto c (least_sign l (clipped c rest)) →
-        upto c (earlier (tick_if (same_label l m) u) (least_sign l rest)) ≡ upto c (least_sign l (sign_before b m u (clipped c rest)))
+    by_kept : (b : Bool) → nat_lt u c ≡ b → upto c (least_sign l rest) ≡ upto c (least_sign l (log_before c rest)) →
+        upto c (earlier (tick_if (same_label l m) u) (least_sign l rest)) ≡ upto c (least_sign l (sign_before b m u (log_before c rest)))
     by_kept true e k = upto_earlier_same c (tick_if (same_label l m) u) (least_sign l rest) (tick_if (same_label l m) u)
-        (least_sign l (clipped c rest)) refl k
+        (least_sign l (log_before c rest)) refl k
     by_kept false e k =
         upto_earlier c (tick_if (same_label l m) u) (least_sign l rest)
         ∙ at_c _ _ _ (upto_tick_if c u (same_label l m) (grind (arith, nat_tests))) most k
 least_clipped c t l (entered m u d rest) h = by_kept (nat_lt u c) (least_clipped c t l rest h.1)
   where
-    by_kept : (b : Bool) → upto c (least_sign l rest) ≡ upto c (least_sign l (clipped c rest)) →
-        upto c (least_sign l rest) ≡ upto c (least_sign l (entered_if b m u d (clipped c rest)))
+    by_kept : (b : Bool) → upto c (least_sign l rest) ≡ upto c (least_sign l (log_before c rest)) →
+        upto c (least_sign l rest) ≡ upto c (least_sign l (entered_if b m u d (log_before c rest)))
     by_kept true k = k
     by_kept false k = k
 least_clipped c t l (task m u v e own rest) h = by_kept (nat_lt u c) refl (least_clipped c u l own h.2) (least_clipped c t l rest h.3)
@@ -240,18 +240,18 @@ least_clipped c t l (task m u v e own rest) h = by_kept (nat_lt u c) refl (least
     at_c : (x y z : ℕ) → x ≡ c → y ≤ c → y ≡ z → min x y ≡ z
     at_c x y z e f g = omega arith
 
-    by_kept : (b : Bool) → nat_lt u c ≡ b → upto c (least_sign l own) ≡ upto c (least_sign l (clipped c own)) →
-        upto c (least_sign l rest) ≡ upto c (least_sign l (clipped c rest)) →
+    by_kept : (b : Bool) → nat_lt u c ≡ b → upto c (least_sign l own) ≡ upto c (least_sign l (log_before c own)) →
+        upto c (least_sign l rest) ≡ upto c (least_sign l (log_before c rest)) →
         upto c (earlier (least_sign l own) (least_sign l rest)) ≡ upto c
-        (least_sign l (task_if b m u (min c v) (exc_if (nat_lt v c) e) (clipped c own) (clipped c rest)))
-    by_kept true e j k = upto_earlier_same c (least_sign l own) (least_sign l rest) (least_sign l (clipped c own))
-        (least_sign l (clipped c rest)) j k
+        (least_sign l (task_if b m u (min c v) (exc_if (nat_lt v c) e) (log_before c own) (log_before c rest)))
+    by_kept true e j k = upto_earlier_same c (least_sign l own) (least_sign l rest) (least_sign l (log_before c own))
+        (least_sign l (log_before c rest)) j k
     by_kept false e j k =
         upto_earlier c (least_sign l own) (least_sign l rest)
         ∙ at_c _ _ _ (least_late c u l own (grind (arith, nat_tests)) h.2) most k
 
 -- logs that agree before c have their first signs at the same ticks before c
-pub least_near : (c t : ℕ) (l : Label) (a b : Log) → Timed t a → Timed t b → clipped c a ≡ clipped c b →
+pub least_near : (c t : ℕ) (l : Label) (a b : Log) → Timed t a → Timed t b → log_before c a ≡ log_before c b →
     upto c (least_sign l a) ≡ upto c (least_sign l b)
 least_near c t l a b h k e =
     least_clipped c t l a h ∙ (ap (λ (x : Log). upto c (least_sign l x)) e ∙ sym (least_clipped c t l b k))

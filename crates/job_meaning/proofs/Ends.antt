@@ -18,7 +18,7 @@ use Rattle.cancel_scopes.specs.Sight.{Tick, sight}
 use Rattle.job_meaning.specs.Log.{Member, Result}
 use Rattle.job_meaning.specs.Meaning.{meaning, root_walk, root_here}
 use Rattle.job_meaning.specs.Laws.{EndsByTheLastTick}
-use Rattle.job_meaning.specs.Walk.{Stack, Mode, two_walks, Here, walk, walk_step, walk_handler, walk_cleanup, done_at, raised_at, joined, and_then, then_if, slept, sleeping, paced, showing, needing, cancelling, Kind, from_of, block, signed, latest, gathered, child, each, passes, handled, handled_exc, handled_if, cleaned}
+use Rattle.job_meaning.specs.Walk.{Stack, Mode, two_walks, Here, walk, walk_step, walk_handler, walk_cleanup, done_at, raised_at, in_sequence, and_then, then_if, sleep_by_sight, sleep_result, pace_ticks, lines_result, need_result, cancel_result, Kind, from_of, block, with_sign, latest, nursery_result, child, each, passes, handler_result, handler_for, handler_if_any, cleanup_result}
 
 -- all members have ended by a tick
 abbrev pub AllBy : ℕ → List Member → Type 0
@@ -46,7 +46,7 @@ later b c r le h =
     let e : r.end ≤ b = h.end in
     record { end = omega arith; members = all_later b c r.members le h.members }
 
-pub by_joined : (b : ℕ) (r q : Result) → AllBy b r.members → EndsBy b q → EndsBy b (joined r q)
+pub by_joined : (b : ℕ) (r q : Result) → AllBy b r.members → EndsBy b q → EndsBy b (in_sequence r q)
 by_joined b r q h k = record { end = k.end; members = all_append b r.members q.members h k.members }
 
 by_and_then : (b c : ℕ) (r : Result) (go : ℕ → Result) → b ≤ c → EndsBy b r → ((u : ℕ) → u ≤ b → EndsBy c (go u)) → EndsBy c (and_then r go)
@@ -63,7 +63,7 @@ by_done b t le = record { end = le; members = tt }
 by_raised : (e : Exc) (b t : ℕ) → t ≤ b → EndsBy b (raised_at e t)
 by_raised e b t le = record { end = le; members = tt }
 
-by_slept : (a : Tick) (n t : ℕ) → EndsBy (t + n) (slept a n t)
+by_slept : (a : Tick) (n t : ℕ) → EndsBy (t + n) (sleep_by_sight a n t)
 by_slept None n t = by_done (t + n) (t + n) (omega arith)
 by_slept (Some from) n t = by_now (nat_le from t) (nat_le from (t + n)) refl
   where
@@ -73,21 +73,21 @@ by_slept (Some from) n t = by_now (nat_le from t) (nat_le from (t + n)) refl
     by_now false true e = by_raised cancelled (t + n) from (grind (arith, nat_tests))
     by_now false false e = by_done (t + n) (t + n) (omega arith)
 
-by_sleeping : (b : ℕ) (st : Stack) (n t : ℕ) → t + n ≤ b → EndsBy b (sleeping st n t)
-unfolding sleeping
+by_sleeping : (b : ℕ) (st : Stack) (n t : ℕ) → t + n ≤ b → EndsBy b (sleep_result st n t)
+unfolding sleep_result
 by_sleeping b st n t le = later (t + n) b _ le (by_slept (sight st) n t)
 
-by_showing : (ls : List Span) (b t : ℕ) → t ≤ b → EndsBy b (showing ls t)
-unfolding showing
+by_showing : (ls : List Span) (b t : ℕ) → t ≤ b → EndsBy b (lines_result ls t)
+unfolding lines_result
 by_showing ls b t le = record { end = le; members = tt }
 
-by_needing : (found : Option Span) (name : List ℕ) (label : Label) (b t : ℕ) → t ≤ b → EndsBy b (needing found name label t)
-unfolding needing
+by_needing : (found : Option Span) (name : List ℕ) (label : Label) (b t : ℕ) → t ≤ b → EndsBy b (need_result found name label t)
+unfolding need_result
 by_needing (Some l) name label b t le = by_showing (l ∷ []) b t le
 by_needing None name label b t le = record { end = le; members = tt }
 
-by_cancelling : (label : Option Label) (b t : ℕ) → t ≤ b → EndsBy b (cancelling label t)
-unfolding cancelling
+by_cancelling : (label : Option Label) (b t : ℕ) → t ≤ b → EndsBy b (cancel_result label t)
+unfolding cancel_result
 by_cancelling label b t le = record { end = le; members = tt }
 
 by_block : (m : Mode) (kind : Kind) (label : Label) (t : ℕ) (d : Tick) (shield : Bool) (st : Stack) (inside : Tick → Result) (b : ℕ) →
@@ -97,8 +97,8 @@ by_block m kind label t d shield st inside b h =
     let inner : EndsBy b (inside (from_of m label d inside)) = h (from_of m label d inside) in
     record { end = inner.end; members = tt }
 
-pub by_signed : (b : ℕ) (st : Stack) (r : Result) → EndsBy b r → EndsBy b (signed st r)
-unfolding signed
+pub by_signed : (b : ℕ) (st : Stack) (r : Result) → EndsBy b r → EndsBy b (with_sign st r)
+unfolding with_sign
 by_signed b st r h = record { end = h.end; members = h.members }
 
 latest_by : (b t : ℕ) (ms : List Member) → t ≤ b → AllBy b ms → latest t ms ≤ b
@@ -107,8 +107,8 @@ latest_by b t (m ∷ ms) le h =
     let first : m.end ≤ b = h.0 in
     latest_by b (max t m.end) ms (omega arith) h.1
 
-by_gathered : (b : ℕ) (label : Label) (r : Result) → EndsBy b r → EndsBy b (gathered label r)
-unfolding gathered
+by_gathered : (b : ℕ) (label : Label) (r : Result) → EndsBy b r → EndsBy b (nursery_result label r)
+unfolding nursery_result
 by_gathered b label r h = record { end = latest_by b r.end r.members h.end h.members; members = tt }
 
 by_child : (label : Label) (b t : ℕ) (r : Result) → t ≤ b → EndsBy b r → EndsBy b (child label t r)
@@ -131,24 +131,24 @@ by_passes (suc k) first go c t h =
     (suc first) go c u h))
 
 by_handled : (b c : ℕ) (wanted : Wanted) (r : Result) (go : ℕ → Result) → b ≤ c → EndsBy b r → ((u : ℕ) → u ≤ b → EndsBy c (go u)) →
-    EndsBy c (handled wanted r go)
-unfolding handled
+    EndsBy c (handler_result wanted r go)
+unfolding handler_result
 by_handled b c wanted r go le h k = by_exc r.exc
   where
-    by_match : (o rest : Option Exc) → EndsBy c (handled_if o rest r go)
+    by_match : (o rest : Option Exc) → EndsBy c (handler_if_any o rest r go)
     by_match None rest = later b c r le h
     by_match (Some e) rest =
-        let both : EndsBy c (joined r (go r.end)) = by_joined c r (go r.end) (all_later b c r.members le h.members) (k r.end h.end) in
+        let both : EndsBy c (in_sequence r (go r.end)) = by_joined c r (go r.end) (all_later b c r.members le h.members) (k r.end h.end) in
         record { end = both.end; members = both.members }
 
-    by_exc : (o : Option Exc) → EndsBy c (handled_exc o wanted r go)
+    by_exc : (o : Option Exc) → EndsBy c (handler_for o wanted r go)
     by_exc None = later b c r le h
     by_exc (Some e) = by_match (keep wanted e) (drop wanted e)
 
-by_cleaned : (b c : ℕ) (r : Result) (go : ℕ → Result) → b ≤ c → EndsBy b r → ((u : ℕ) → u ≤ b → EndsBy c (go u)) → EndsBy c (cleaned r go)
-unfolding cleaned
+by_cleaned : (b c : ℕ) (r : Result) (go : ℕ → Result) → b ≤ c → EndsBy b r → ((u : ℕ) → u ≤ b → EndsBy c (go u)) → EndsBy c (cleanup_result r go)
+unfolding cleanup_result
 by_cleaned b c r go le h k =
-    let both : EndsBy c (joined r (go r.end)) = by_joined c r (go r.end) (all_later b c r.members le h.members) (k r.end h.end) in
+    let both : EndsBy c (in_sequence r (go r.end)) = by_joined c r (go r.end) (all_later b c r.members le h.members) (k r.end h.end) in
     record { end = both.end; members = both.members }
 
 -- a part has no more lines than its buffer has bytes
@@ -162,7 +162,7 @@ count_le input r =
 div_le : (x n : ℕ) → x / suc n ≤ x
 div_le x n = omega arith
 
-pub paced_le : (count k : ℕ) → paced count k ≤ count + k
+pub paced_le : (count k : ℕ) → pace_ticks count k ≤ count + k
 paced_le count zero = omega arith
 paced_le count (suc k) = omega (arith, div_le (count + k) k)
 

@@ -9,8 +9,8 @@ use Rattle.exc_groups.specs.Split.{Wanted, named, keep, drop}
 use Rattle.cancel_scopes.specs.Sight.{Level}
 use Rattle.job_meaning.proofs.Clips.{followed_nil}
 use Rattle.job_meaning.specs.Log.{Log, nil, entry, sign, entered, task, followed_by, Member, Result, Table}
-use Rattle.job_meaning.specs.Walk.{in_pass, passes, Stack, Mode, by_table, Here, walk, walk_step, walk_handler, walk_cleanup, done_at, joined, and_then, then_if, block, due, within, Kind, signed, gathered, child, handled, handled_exc, handled_if, cleaned, with_outcome, handler_exc, outcome_after, sign_if, a_scope, a_nursery, label_here, label_over, each, here_in}
-use Rattle.job_meaning.specs.Rest.{Event, noted, signs, enters, starts, fill, numbered, starts_over, ChildOutcomes, told_members, Frame, steps_left, in_scope, in_nursery, in_repeat, in_try, in_handler, in_cleanup, inside, block_left, with_children, waited, finish, rest_comes_to, rest_at_start}
+use Rattle.job_meaning.specs.Walk.{in_pass, passes, Stack, Mode, by_table, Here, walk, walk_step, walk_handler, walk_cleanup, done_at, in_sequence, and_then, then_if, block, due, stack_inside, Kind, with_sign, nursery_result, child, handler_result, handler_for, handler_if_any, cleanup_result, with_outcome, handler_exc, outcome_after, sign_if, a_scope, a_nursery, label_here, label_over, each, here_in}
+use Rattle.job_meaning.specs.Rest.{Event, noted, signs, enters, starts, fill, consecutive, starts_over, ChildOutcomes, told_members, Frame, steps_left, in_scope, in_nursery, in_repeat, in_try, in_handler, in_cleanup, inside, block_left, with_children, wait_result, finish, rest_comes_to, rest_at_start}
 
 -- three logs one after another are the same, whichever two are joined first
 pub followed_assoc : (a b c : Log) → followed_by (followed_by a b) c ≡ followed_by a (followed_by b c)
@@ -24,8 +24,8 @@ followed_assoc (task l s u e own rest) b c = ap (λ (x : Log). task l s u e own 
 abbrev pub after : Log → Result → Result
 after a r = record r { log = followed_by a r.log }
 
-after_joined : (a : Log) (r q : Result) → joined (after a r) q ≡ after a (joined r q)
-after_joined a r q = ap (λ (x : Log). record (joined r q) { log = x }) (followed_assoc a r.log q.log)
+after_joined : (a : Log) (r q : Result) → in_sequence (after a r) q ≡ after a (in_sequence r q)
+after_joined a r q = ap (λ (x : Log). record (in_sequence r q) { log = x }) (followed_assoc a r.log q.log)
 
 after_and_then : (a : Log) (r : Result) (go : ℕ → Result) → and_then (after a r) go ≡ after a (and_then r go)
 unfolding and_then
@@ -35,28 +35,28 @@ after_and_then a r go = by_exc r.exc
     by_exc None = after_joined a r (go r.end)
     by_exc (Some e) = refl
 
-after_signed : (a : Log) (st : Stack) (r : Result) → signed st (after a r) ≡ after a (signed st r)
-unfolding signed
+after_signed : (a : Log) (st : Stack) (r : Result) → with_sign st (after a r) ≡ after a (with_sign st r)
+unfolding with_sign
 after_signed a st r = ap (λ (x : Log). record r { log = x }) (followed_assoc a r.log _)
 
 after_block_left : (a : Log) (kind : Kind) (l : Level Label) (outer : Stack) (r : Result) →
     block_left kind l outer (after a r) ≡ after a (block_left kind l outer r)
 after_block_left a kind l outer r = ap (λ (x : Log). record (block_left kind l outer r) { log = x }) (followed_assoc a r.log _)
 
-after_handled : (a : Log) (wanted : Wanted) (r : Result) (go : ℕ → Result) → handled wanted (after a r) go ≡ after a (handled wanted r go)
-unfolding handled
+after_handled : (a : Log) (wanted : Wanted) (r : Result) (go : ℕ → Result) → handler_result wanted (after a r) go ≡ after a (handler_result wanted r go)
+unfolding handler_result
 after_handled a wanted r go = by_exc r.exc
   where
-    by_match : (o rest : Option Exc) → handled_if o rest (after a r) go ≡ after a (handled_if o rest r go)
+    by_match : (o rest : Option Exc) → handler_if_any o rest (after a r) go ≡ after a (handler_if_any o rest r go)
     by_match None rest = refl
     by_match (Some e) rest = ap (λ (x : Result). with_outcome (handler_exc (go r.end).exc rest) x) (after_joined a r (go r.end))
 
-    by_exc : (o : Option Exc) → handled_exc o wanted (after a r) go ≡ after a (handled_exc o wanted r go)
+    by_exc : (o : Option Exc) → handler_for o wanted (after a r) go ≡ after a (handler_for o wanted r go)
     by_exc None = refl
     by_exc (Some e) = by_match (keep wanted e) (drop wanted e)
 
-after_cleaned : (a : Log) (r : Result) (go : ℕ → Result) → cleaned (after a r) go ≡ after a (cleaned r go)
-unfolding cleaned
+after_cleaned : (a : Log) (r : Result) (go : ℕ → Result) → cleanup_result (after a r) go ≡ after a (cleanup_result r go)
+unfolding cleanup_result
 after_cleaned a r go = ap (λ (x : Result). with_outcome (outcome_after r.exc (go r.end).exc) x) (after_joined a r (go r.end))
 
 after_handler : (a : Log) (m : Mode) (x : Handled) (here : Here) (st : Stack) (r : Result) →
@@ -74,7 +74,7 @@ after_cleanup a m (finally body) here st r = after_cleaned a r (λ u. walk m bod
 -- no frame reads what was made before it
 pub finish_after : (fs : List Frame) (a : Log) (m : Mode) (told : ChildOutcomes) (here : Here) (st : Stack) (r : Result) →
     finish m told fs here st (after a r) ≡ after a (finish m told fs here st r)
-unfolding finish gathered
+unfolding finish nursery_result
 finish_after [] a m told here st r = after_signed a st r
 finish_after (steps_left ss ∷ fs) a m told here st r =
     ap (λ (x : Result). finish m told fs here st x) (after_and_then a r (λ u. walk m ss (inside fs here) st u))
@@ -85,9 +85,9 @@ finish_after (in_scope fail ∷ fs) a m told here (l ∷ outer) r =
 finish_after (in_nursery children ∷ fs) a m told here [] r = finish_after fs a m told here [] r
 finish_after (in_nursery children ∷ fs) a m told here (l ∷ outer) r =
     ap (λ (x : Result). finish m told fs here outer (block_left a_nursery l outer
-    (gathered l.label (with_children (told_members told children) x)))) (after_signed a (l ∷ outer) r)
+    (nursery_result l.label (with_children (told_members told children) x)))) (after_signed a (l ∷ outer) r)
     ∙ (ap (λ (x : Result). finish m told fs here outer x) (after_block_left a a_nursery l outer
-    (gathered l.label (with_children (told_members told children) (signed (l ∷ outer) r))))
+    (nursery_result l.label (with_children (told_members told children) (with_sign (l ∷ outer) r))))
     ∙ finish_after fs a m told here outer _)
 finish_after (in_repeat pass left body ∷ fs) a m told here st r =
     ap (λ (x : Result). finish m told fs here st x)
@@ -107,7 +107,7 @@ finish_after (in_cleanup outcome ∷ fs) a m told here st r = finish_after fs a 
 
 -- the result of a task that was just started is that of its block
 pub finish_begin : (m : Mode) (told : ChildOutcomes) (b : Steps) (here : Here) (st : Stack) (t : ℕ) →
-    rest_comes_to m told (rest_at_start b) here st t ≡ signed st (walk m b here st t)
+    rest_comes_to m told (rest_at_start b) here st t ≡ with_sign st (walk m b here st t)
 unfolding finish and_then
 finish_begin m told b here st t = refl
 
@@ -136,12 +136,12 @@ pub finish_scope : (fs : List Frame) (table : Table) (told : ChildOutcomes) (nam
     finish (by_table table) told (steps_left (step (scope name d shield fail body) ss) ∷ fs) here st (done_at t)
     ≡ after (entered (label_here name (inside fs here)) t (due d t) nil)
     (finish (by_table table) told (steps_left body ∷ in_scope fail ∷ steps_left ss ∷ fs) here
-    (within (label_here name (inside fs here)) shield (table (label_here name (inside fs here))) st) (done_at t))
+    (stack_inside (label_here name (inside fs here)) shield (table (label_here name (inside fs here))) st) (done_at t))
 unfolding finish and_then walk block
 finish_scope fs table told name d shield fail body ss here st t =
     finish_after (steps_left body ∷ in_scope fail ∷ steps_left ss ∷ fs) (entered (label_here name (inside fs here)) t (due d t) nil)
     (by_table table) told here
-    (within (label_here name (inside fs here)) shield (table (label_here name (inside fs here))) st) (done_at t)
+    (stack_inside (label_here name (inside fs here)) shield (table (label_here name (inside fs here))) st) (done_at t)
 
 -- a nursery is entered
 pub finish_nursery : (fs : List Frame) (table : Table) (told : ChildOutcomes) (name : List ℕ) (d : Deadline) (shield : Bool) (body ss : Steps)
@@ -149,12 +149,12 @@ pub finish_nursery : (fs : List Frame) (table : Table) (told : ChildOutcomes) (n
     finish (by_table table) told (steps_left (step (nursery name d shield body) ss) ∷ fs) here st (done_at t)
     ≡ after (entered (label_here name (inside fs here)) t (due d t) nil)
     (finish (by_table table) told (steps_left body ∷ in_nursery [] ∷ steps_left ss ∷ fs) here
-    (within (label_here name (inside fs here)) shield (table (label_here name (inside fs here))) st) (done_at t))
-unfolding finish and_then walk block gathered signed
+    (stack_inside (label_here name (inside fs here)) shield (table (label_here name (inside fs here))) st) (done_at t))
+unfolding finish and_then walk block nursery_result with_sign
 finish_nursery fs table told name d shield body ss here st t =
     finish_after (steps_left body ∷ in_nursery [] ∷ steps_left ss ∷ fs) (entered (label_here name (inside fs here)) t (due d t) nil)
     (by_table table) told here
-    (within (label_here name (inside fs here)) shield (table (label_here name (inside fs here))) st) (done_at t)
+    (stack_inside (label_here name (inside fs here)) shield (table (label_here name (inside fs here))) st) (done_at t)
 
 -- a `try` is entered
 pub finish_try : (fs : List Frame) (m : Mode) (told : ChildOutcomes) (body : Steps) (handler : Handled) (cleanup : Cleaned) (ss : Steps)
@@ -169,27 +169,27 @@ pub finish_handler : (fs : List Frame) (m : Mode) (told : ChildOutcomes) (name :
     (st : Stack) (r : Result) (e x : Exc) → keep (named name) e ≡ Some x →
     finish m told (in_try (except name body) cleanup ∷ fs) here st (record r { exc = Some e })
     ≡ finish m told (steps_left body ∷ in_handler (drop (named name) e) cleanup ∷ fs) here st (record r { exc = None })
-unfolding finish and_then walk handled
+unfolding finish and_then walk handler_result
 finish_handler fs m told name body cleanup here st r e x k =
     ap (λ (o : Option Exc). finish m told fs here st (walk_cleanup m cleanup (inside fs here) st
-    (handled_if o (drop (named name) e) (record r { exc = Some e }) (λ u. walk m body (inside fs here) st u)))) k
+    (handler_if_any o (drop (named name) e) (record r { exc = Some e }) (λ u. walk m body (inside fs here) st u)))) k
 
 -- and where it has none, or there is no exception, it is passed by
 pub finish_unhandled : (fs : List Frame) (m : Mode) (told : ChildOutcomes) (name : List ℕ) (body : Steps) (cleanup : Cleaned) (here : Here)
     (st : Stack) (r : Result) (e : Exc) → keep (named name) e ≡ None →
     finish m told (in_try (except name body) cleanup ∷ fs) here st (record r { exc = Some e })
     ≡ finish m told (in_try unhandled cleanup ∷ fs) here st (record r { exc = Some e })
-unfolding finish walk handled
+unfolding finish walk handler_result
 finish_unhandled fs m told name body cleanup here st r e k =
     ap (λ (o : Option Exc). finish m told fs here st (walk_cleanup m cleanup (inside fs here) st
-    (handled_if o (drop (named name) e) (record r { exc = Some e }) (λ u. walk m body (inside fs here) st u)))) k
+    (handler_if_any o (drop (named name) e) (record r { exc = Some e }) (λ u. walk m body (inside fs here) st u)))) k
 
 -- where the body of a `try` raised nothing, its handler is passed by
 pub finish_no_handler : (fs : List Frame) (m : Mode) (told : ChildOutcomes) (handler : Handled) (cleanup : Cleaned) (here : Here) (st : Stack)
     (r : Result) →
     finish m told (in_try handler cleanup ∷ fs) here st (record r { exc = None })
     ≡ finish m told (in_try unhandled cleanup ∷ fs) here st (record r { exc = None })
-unfolding finish walk handled
+unfolding finish walk handler_result
 finish_no_handler fs m told unhandled cleanup here st r = refl
 finish_no_handler fs m told (except name body) cleanup here st r = refl
 
@@ -245,7 +245,7 @@ finish_uncleaned fs m told here st r = refl
 pub finish_cleanup : (fs : List Frame) (m : Mode) (told : ChildOutcomes) (body : Steps) (here : Here) (st : Stack) (r : Result) →
     finish m told (in_try unhandled (finally body) ∷ fs) here st r
     ≡ finish m told (steps_left body ∷ in_cleanup r.exc ∷ fs) here st (record r { exc = None })
-unfolding finish and_then walk cleaned
+unfolding finish and_then walk cleanup_result
 finish_cleanup fs m told body here st r = refl
 
 -- a cleanup has ended
@@ -265,18 +265,18 @@ finish_leave fs m told fail here l outer r = refl
 pub finish_wait : (fs : List Frame) (m : Mode) (told : ChildOutcomes) (children : List ℕ) (here : Here) (l : Level Label) (outer : Stack) (t : ℕ)
     (e : Option Exc) →
     finish m told (in_nursery children ∷ fs) here (l ∷ outer) (record { end = t; exc = e; members = []; log = nil })
-    ≡ after (sign_if e (Some l.label) t) (finish m told fs here outer (waited (told_members told children) t e l outer))
-unfolding finish signed gathered
+    ≡ after (sign_if e (Some l.label) t) (finish m told fs here outer (wait_result (told_members told children) t e l outer))
+unfolding finish with_sign nursery_result
 finish_wait fs m told children here l outer t e =
     ap (λ (ms : List Member). finish m told fs here outer (block_left a_nursery l outer
-    (gathered l.label (record { end = t; exc = e; members = ms; log = sign_if e (Some l.label) t }))))
+    (nursery_result l.label (record { end = t; exc = e; members = ms; log = sign_if e (Some l.label) t }))))
     (append-nil (told_members told children))
     ∙ (ap (λ (x : Log). finish m told fs here outer (block_left a_nursery l outer
-    (gathered l.label (record { end = t; exc = e; members = told_members told children; log = x }))))
+    (nursery_result l.label (record { end = t; exc = e; members = told_members told children; log = x }))))
     (sym (followed_nil (sign_if e (Some l.label) t)))
     ∙ (ap (λ (x : Result). finish m told fs here outer x) (after_block_left (sign_if e (Some l.label) t) a_nursery l outer
-    (gathered l.label (record { end = t; exc = e; members = told_members told children; log = nil })))
-    ∙ finish_after fs (sign_if e (Some l.label) t) m told here outer (waited (told_members told children) t e l outer)))
+    (nursery_result l.label (record { end = t; exc = e; members = told_members told children; log = nil })))
+    ∙ finish_after fs (sign_if e (Some l.label) t) m told here outer (wait_result (told_members told children) t e l outer)))
 
 told_append : (told : ChildOutcomes) (is js : List ℕ) → told_members told (is ++ js) ≡ told_members told is ++ told_members told js
 told_append told [] js = refl
@@ -287,10 +287,10 @@ pub finish_children : (fs : List Frame) (m : Mode) (told : ChildOutcomes) (child
     (r : Result) →
     finish m told (in_nursery (children ++ more) ∷ fs) here (l ∷ outer) r
     ≡ finish m told (in_nursery children ∷ fs) here (l ∷ outer) (record r { members = told_members told more ++ r.members })
-unfolding finish signed
+unfolding finish with_sign
 finish_children fs m told children more here l outer r =
     ap (λ (ms : List Member). finish m told fs here outer (block_left a_nursery l outer
-    (gathered l.label (record {
+    (nursery_result l.label (record {
       end = r.end;
       exc = r.exc;
       members = ms;
@@ -317,7 +317,7 @@ finish_started fs m told ss children more here l outer t a =
 -- a child is started
 pub finish_start : (fs : List Frame) (m : Mode) (told : ChildOutcomes) (i : ℕ) (name : List ℕ) (body ss : Steps) (children : List ℕ) (here : Here)
     (l : Level Label) (outer : Stack) (t : ℕ) →
-    told i ≡ signed (l ∷ outer) (walk m body (here_in (label_here name (inside fs here)) here.part here) (l ∷ outer) t) →
+    told i ≡ with_sign (l ∷ outer) (walk m body (here_in (label_here name (inside fs here)) here.part here) (l ∷ outer) t) →
     finish m told (steps_left (step (start name None body) ss) ∷ in_nursery children ∷ fs) here (l ∷ outer) (done_at t)
     ≡ after (fill told (starts i (label_here name (inside fs here)) t ∷ []))
     (finish m told (steps_left ss ∷ in_nursery (children ++ i ∷ []) ∷ fs) here (l ∷ outer) (done_at t))
@@ -340,16 +340,16 @@ fill_append told (starts i l t ∷ es) others =
 -- the children of a `start .. over`, by their numbers
 each_started : (told : ChildOutcomes) (name : List ℕ) (here : Here) (t first k : ℕ) (go : ℕ → Result) →
     ((i : ℕ) → i < k → told (first + i) ≡ go i) →
-    each k (λ i. child (label_over name here i) t (go i)) t ≡ just_started told (numbered first k)
+    each k (λ i. child (label_over name here i) t (go i)) t ≡ just_started told (consecutive first k)
     (fill told (starts_over name here t first k)) t
 unfolding child
 each_started told name here t first zero go h = refl
 each_started told name here t first (suc k) go h =
-    ap (λ (r : Result). joined r (child (label_over name here k) t (go k)))
+    ap (λ (r : Result). in_sequence r (child (label_over name here k) t (go k)))
     (each_started told name here t first k go (λ i lt. h i (below i lt)))
-    ∙ (ap (λ (r : Result). joined (just_started told (numbered first k) (fill told (starts_over name here t first k)) t)
+    ∙ (ap (λ (r : Result). in_sequence (just_started told (consecutive first k) (fill told (starts_over name here t first k)) t)
     (child (label_over name here k) t r)) (sym (h k (omega arith)))
-    ∙ both (sym (told_append told (numbered first k) ((first + k) ∷ [])))
+    ∙ both (sym (told_append told (consecutive first k) ((first + k) ∷ [])))
     (sym (fill_append told (starts_over name here t first k) (starts (first + k) (label_over name here k) t ∷ []))))
   where
     below : (i : ℕ) → i < k → i < suc k
@@ -362,15 +362,15 @@ each_started told name here t first (suc k) go h =
 -- the children of a `start .. over` are started
 pub finish_start_over : (fs : List Frame) (m : Mode) (told : ChildOutcomes) (first k : ℕ) (name : List ℕ) (body ss : Steps) (children : List ℕ)
     (here : Here) (l : Level Label) (outer : Stack) (t : ℕ) →
-    ((i : ℕ) → i < k → told (first + i) ≡ signed (l ∷ outer) (walk m body
+    ((i : ℕ) → i < k → told (first + i) ≡ with_sign (l ∷ outer) (walk m body
     (here_in (label_over name (inside fs here) i) (cut_of here.input here.part k i) here) (l ∷ outer) t)) →
     finish m told (steps_left (step (start name (Some k) body) ss) ∷ in_nursery children ∷ fs) here (l ∷ outer) (done_at t)
     ≡ after (fill told (starts_over name (inside fs here) t first k))
-    (finish m told (steps_left ss ∷ in_nursery (children ++ numbered first k) ∷ fs) here (l ∷ outer) (done_at t))
+    (finish m told (steps_left ss ∷ in_nursery (children ++ consecutive first k) ∷ fs) here (l ∷ outer) (done_at t))
 unfolding walk
 finish_start_over fs m told first k name body ss children here l outer t h =
     finish_step (in_nursery children ∷ fs) m told (start name (Some k) body) ss here (l ∷ outer) t
     ∙ (ap (λ (r : Result). finish m told (steps_left ss ∷ in_nursery children ∷ fs) here (l ∷ outer) r)
-    (each_started told name (inside fs here) t first k (λ i. signed (l ∷ outer)
+    (each_started told name (inside fs here) t first k (λ i. with_sign (l ∷ outer)
     (walk m body (here_in (label_over name (inside fs here) i) (cut_of here.input here.part k i) here) (l ∷ outer) t)) h)
-    ∙ finish_started fs m told ss children (numbered first k) here l outer t (fill told (starts_over name (inside fs here) t first k)))
+    ∙ finish_started fs m told ss children (consecutive first k) here l outer t (fill told (starts_over name (inside fs here) t first k)))

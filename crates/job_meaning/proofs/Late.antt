@@ -7,7 +7,7 @@ use Rattle.exc_groups.specs.Exceptions.{Label, Exc, cancelled}
 use Rattle.exc_groups.specs.Split.{Wanted, keep, drop}
 use Rattle.cancel_scopes.specs.Sight.{Tick, sight}
 use Rattle.job_meaning.specs.Log.{Log, nil, entry, sign, entered, task, followed_by, Member, Result}
-use Rattle.job_meaning.specs.Walk.{Stack, Mode, Here, walk, walk_step, walk_handler, walk_cleanup, done_at, raised_at, joined, and_then, then_if, slept, sleeping, log_of_lines, showing, needing, cancelling, Kind, from_of, block, signed, sign_if, home_of, latest, gathered, child, each, passes, handled, handled_exc, handled_if, cleaned}
+use Rattle.job_meaning.specs.Walk.{Stack, Mode, Here, walk, walk_step, walk_handler, walk_cleanup, done_at, raised_at, in_sequence, and_then, then_if, sleep_by_sight, sleep_result, log_of_lines, lines_result, need_result, cancel_result, Kind, from_of, block, with_sign, sign_if, home_of, latest, nursery_result, child, each, passes, handler_result, handler_for, handler_if_any, cleanup_result}
 
 -- all that is in a log is at tick t or later
 abbrev pub Timed : ℕ → Log → Type 0
@@ -51,7 +51,7 @@ pub record Late (t : ℕ) (r : Result) : Type 0 where
   pub timed : Timed t r.log
 
 -- one after another
-pub late_joined : (t : ℕ) (r q : Result) → Late t r → Late r.end q → Late t (joined r q)
+pub late_joined : (t : ℕ) (r q : Result) → Late t r → Late r.end q → Late t (in_sequence r q)
 late_joined t r q h k =
     let first : t ≤ r.end = h.ends in
     let second : r.end ≤ q.end = k.ends in
@@ -78,7 +78,7 @@ pub late_raised : (e : Exc) (t u : ℕ) → t ≤ u → Late t (raised_at e u)
 late_raised e t u le = record { ends = le; timed = tt }
 
 -- a sleep ends when it is due, or at the first tick at which a cancellation is seen, or at once
-pub late_slept : (a : Tick) (n t : ℕ) → Late t (slept a n t)
+pub late_slept : (a : Tick) (n t : ℕ) → Late t (sleep_by_sight a n t)
 late_slept None n t = late_done t (t + n) (omega arith)
 late_slept (Some from) n t = by_now (nat_le from t) (nat_le from (t + n)) refl
   where
@@ -89,8 +89,8 @@ late_slept (Some from) n t = by_now (nat_le from t) (nat_le from (t + n)) refl
     by_now false false e = late_done t (t + n) (omega arith)
 
 -- a sleep on a stack is late
-pub late_sleeping : (st : Stack) (n t : ℕ) → Late t (sleeping st n t)
-unfolding sleeping
+pub late_sleeping : (st : Stack) (n t : ℕ) → Late t (sleep_result st n t)
+unfolding sleep_result
 late_sleeping st n t = late_slept (sight st) n t
 
 -- what is noted of lines in a tick has no earlier tick
@@ -99,19 +99,19 @@ timed_lines [] t = tt
 timed_lines (l ∷ ls) t = (omega arith, timed_lines ls t)
 
 -- lines that are shown are late
-pub late_showing : (ls : List Span) (t : ℕ) → Late t (showing ls t)
-unfolding showing
+pub late_showing : (ls : List Span) (t : ℕ) → Late t (lines_result ls t)
+unfolding lines_result
 late_showing ls t = record { ends = omega arith; timed = timed_lines ls t }
 
 -- a `need` is late, whether its line is found or not
-pub late_needing : (found : Option Span) (name : List ℕ) (label : Label) (t : ℕ) → Late t (needing found name label t)
-unfolding needing
+pub late_needing : (found : Option Span) (name : List ℕ) (label : Label) (t : ℕ) → Late t (need_result found name label t)
+unfolding need_result
 late_needing (Some l) name label t = late_showing (l ∷ []) t
 late_needing None name label t = record { ends = omega arith; timed = tt }
 
 -- a `cancel` is late, whether its name is found or not
-pub late_cancelling : (label : Option Label) (t : ℕ) → Late t (cancelling label t)
-unfolding cancelling
+pub late_cancelling : (label : Option Label) (t : ℕ) → Late t (cancel_result label t)
+unfolding cancel_result
 late_cancelling None t = record { ends = omega arith; timed = tt }
 late_cancelling (Some l) t = record { ends = omega arith; timed = (omega arith, tt) }
 
@@ -131,8 +131,8 @@ late_block m kind label t d shield st inside h =
     }
 
 -- a late member is late with its sign too
-pub late_signed : (t : ℕ) (st : Stack) (r : Result) → Late t r → Late t (signed st r)
-unfolding signed
+pub late_signed : (t : ℕ) (st : Stack) (r : Result) → Late t r → Late t (with_sign st r)
+unfolding with_sign
 late_signed t st r h =
     record { ends = h.ends; timed = timed_followed t r.log (sign_if r.exc (home_of st) r.end) h.timed (timed_sign r.exc (home_of st)) }
   where
@@ -152,8 +152,8 @@ latest_ends t (m ∷ ms) =
     omega arith
 
 -- a nursery with a late body is late, once its members have ended
-pub late_gathered : (t : ℕ) (label : Label) (r : Result) → Late t r → Late t (gathered label r)
-unfolding gathered
+pub late_gathered : (t : ℕ) (label : Label) (r : Result) → Late t r → Late t (nursery_result label r)
+unfolding nursery_result
 late_gathered t label r h =
     let first : t ≤ r.end = h.ends in
     let last : r.end ≤ latest r.end r.members = latest_ends r.end r.members in
@@ -188,25 +188,25 @@ late_passes (suc k) first go t h = late_and_then t (go first t) _ (h first t) (�
 
 -- a late body and its handler are late
 pub late_handled : (t : ℕ) (wanted : Wanted) (r : Result) (go : ℕ → Result) → Late t r → ((u : ℕ) → Late u (go u)) →
-    Late t (handled wanted r go)
-unfolding handled
+    Late t (handler_result wanted r go)
+unfolding handler_result
 late_handled t wanted r go h k = by_exc r.exc
   where
-    by_match : (o rest : Option Exc) → Late t (handled_if o rest r go)
+    by_match : (o rest : Option Exc) → Late t (handler_if_any o rest r go)
     by_match None rest = h
     by_match (Some e) rest =
-        let both : Late t (joined r (go r.end)) = late_joined t r (go r.end) h (k r.end) in
+        let both : Late t (in_sequence r (go r.end)) = late_joined t r (go r.end) h (k r.end) in
         record { ends = both.ends; timed = both.timed }
 
-    by_exc : (o : Option Exc) → Late t (handled_exc o wanted r go)
+    by_exc : (o : Option Exc) → Late t (handler_for o wanted r go)
     by_exc None = h
     by_exc (Some e) = by_match (keep wanted e) (drop wanted e)
 
 -- what is late and its cleanup are late
-pub late_cleaned : (t : ℕ) (r : Result) (go : ℕ → Result) → Late t r → ((u : ℕ) → Late u (go u)) → Late t (cleaned r go)
-unfolding cleaned
+pub late_cleaned : (t : ℕ) (r : Result) (go : ℕ → Result) → Late t r → ((u : ℕ) → Late u (go u)) → Late t (cleanup_result r go)
+unfolding cleanup_result
 late_cleaned t r go h k =
-    let both : Late t (joined r (go r.end)) = late_joined t r (go r.end) h (k r.end) in
+    let both : Late t (in_sequence r (go r.end)) = late_joined t r (go r.end) h (k r.end) in
     record { ends = both.ends; timed = both.timed }
 
 mutual

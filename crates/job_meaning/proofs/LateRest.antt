@@ -3,8 +3,8 @@ use Rattle.std.proofs.Common.{ℕ, suc, ◌≤◌, Option, List, [], ◌∷◌}
 use Rattle.exc_groups.specs.Exceptions.{Label, Exc}
 use Rattle.cancel_scopes.specs.Sight.{Level, catches}
 use Rattle.job_meaning.specs.Log.{entry, nil, Member, Result}
-use Rattle.job_meaning.specs.Walk.{Stack, Mode, Here, walk, in_pass, Kind, a_scope, a_nursery, left_as, left_with, latest, gathered, signed, with_outcome, handler_exc, outcome_after}
-use Rattle.job_meaning.specs.Rest.{ChildOutcomes, told_members, Frame, steps_left, in_scope, in_nursery, in_repeat, in_try, in_handler, in_cleanup, inside, block_left, with_children, waited, finish}
+use Rattle.job_meaning.specs.Walk.{Stack, Mode, Here, walk, in_pass, Kind, a_scope, a_nursery, left_as, left_with, latest, nursery_result, with_sign, with_outcome, handler_exc, outcome_after}
+use Rattle.job_meaning.specs.Rest.{ChildOutcomes, told_members, Frame, steps_left, in_scope, in_nursery, in_repeat, in_try, in_handler, in_cleanup, inside, block_left, with_children, wait_result, finish}
 use Rattle.job_meaning.proofs.Late.{Late, late, late_and_then, late_passes, late_handler, late_cleanup, late_signed, late_gathered, timed_followed}
 
 -- a block that is left ends with what was in it
@@ -22,7 +22,7 @@ late_with_outcome t o r h = record { ends = h.ends; timed = h.timed }
 -- what a task results in is as late as its result so far
 pub late_finish : (fs : List Frame) (t : ℕ) (m : Mode) (told : ChildOutcomes) (here : Here) (st : Stack) (r : Result) → Late t r →
     Late t (finish m told fs here st r)
-unfolding finish gathered
+unfolding finish nursery_result
 late_finish [] t m told here st r h = late_signed t st r h
 late_finish (steps_left ss ∷ fs) t m told here st r h =
     late_finish fs t m told here st _ (late_and_then t r (λ u. walk m ss (inside fs here) st u) h (λ u. late m ss (inside fs here) st u))
@@ -32,10 +32,10 @@ late_finish (in_scope fail ∷ fs) t m told here (l ∷ outer) r h =
 late_finish (in_nursery children ∷ fs) t m told here [] r h = late_finish fs t m told here [] r h
 late_finish (in_nursery children ∷ fs) t m told here (l ∷ outer) r h =
     late_finish fs t m told here outer _
-    (late_left t a_nursery l outer _ (late_gathered t l.label (with_children (told_members told children) (signed (l ∷ outer) r))
+    (late_left t a_nursery l outer _ (late_gathered t l.label (with_children (told_members told children) (with_sign (l ∷ outer) r))
     (late_children (late_signed t (l ∷ outer) r h))))
   where
-    late_children : Late t (signed (l ∷ outer) r) → Late t (with_children (told_members told children) (signed (l ∷ outer) r))
+    late_children : Late t (with_sign (l ∷ outer) r) → Late t (with_children (told_members told children) (with_sign (l ∷ outer) r))
     late_children k = record { ends = k.ends; timed = k.timed }
 late_finish (in_repeat pass left body ∷ fs) t m told here st r h =
     late_finish fs t m told here st _ (late_and_then t r _ h
@@ -49,8 +49,8 @@ late_finish (in_cleanup outcome ∷ fs) t m told here st r h =
 
 -- a task that waits for children that end at tick t or later is as late
 pub late_waited : (t : ℕ) (ms : List Member) (u : ℕ) (exc : Option Exc) (l : Level Label) (outer : Stack) → t ≤ latest u ms →
-    Late t (waited ms u exc l outer)
-unfolding gathered
+    Late t (wait_result ms u exc l outer)
+unfolding nursery_result
 late_waited t ms u exc l outer h =
-    late_left t a_nursery l outer (gathered l.label (record { end = u; exc = exc; members = ms; log = nil }))
+    late_left t a_nursery l outer (nursery_result l.label (record { end = u; exc = exc; members = ms; log = nil }))
     (record { ends = h; timed = tt })

@@ -9,7 +9,7 @@ use Rattle.exc_groups.specs.Exceptions.{Label, Exc, cancelled}
 use Rattle.exc_groups.specs.Split.{Wanted, keep, drop}
 use Rattle.cancel_scopes.specs.Sight.{Tick, sight}
 use Rattle.job_meaning.specs.Log.{Log, nil, entry, sign, entered, task, followed_by, Result, same_label, times_entered, times_given}
-use Rattle.job_meaning.specs.Walk.{Stack, Mode, Here, walk, walk_step, walk_handler, walk_cleanup, done_at, raised_at, joined, and_then, then_if, slept, sleeping, log_of_lines, showing, needing, sign_of, cancelling, Kind, from_of, block, left_from, within, signed, sign_if, home_of, gathered, child, each, passes, handled, handled_exc, handled_if, cleaned, label_here, label_over, here_in, in_pass}
+use Rattle.job_meaning.specs.Walk.{Stack, Mode, Here, walk, walk_step, walk_handler, walk_cleanup, done_at, raised_at, in_sequence, and_then, then_if, sleep_by_sight, sleep_result, log_of_lines, lines_result, need_result, sign_of, cancel_result, Kind, from_of, block, exit_with_from, stack_inside, with_sign, sign_if, home_of, nursery_result, child, each, passes, handler_result, handler_for, handler_if_any, cleanup_result, label_here, label_over, here_in, in_pass}
 use Rattle.job_meaning.specs.Meaning.{root_walk, root_here, root_label, root_log}
 use Rattle.job_meaning.proofs.Distinct.{Distinct, distinct_left, distinct_right, distinct_apart, distinct_by_bytes, same_label_equal, Belongs, behind_other}
 use Rattle.job_meaning.proofs.Touched.{Gives, gives_followed}
@@ -54,7 +54,7 @@ once_followed (task m s u e own rest) b h k differ =
 pub record Unique (r : Result) : Type 0 where
   pub once : GivesOnce r.log
 
-unique_joined : (r q : Result) → Unique r → Unique q → ((l : Label) → Gives l r.log → Gives l q.log → ⊥) → Unique (joined r q)
+unique_joined : (r q : Result) → Unique r → Unique q → ((l : Label) → Gives l r.log → Gives l q.log → ⊥) → Unique (in_sequence r q)
 unique_joined r q h k differ = record { once = once_followed r.log q.log h.once k.once differ }
 
 unique_and_then : (r : Result) (go : ℕ → Result) → Unique r → ((u : ℕ) → Unique (go u)) →
@@ -69,11 +69,11 @@ unique_and_then r go h k differ = by_exc r.exc
 unique_done : (t : ℕ) → Unique (done_at t)
 unique_done t = record { once = tt }
 
-unique_sleeping : (st : Stack) (n t : ℕ) → Unique (sleeping st n t)
-unfolding sleeping
+unique_sleeping : (st : Stack) (n t : ℕ) → Unique (sleep_result st n t)
+unfolding sleep_result
 unique_sleeping st n t = by_sight (sight st)
   where
-    by_sight : (a : Tick) → Unique (slept a n t)
+    by_sight : (a : Tick) → Unique (sleep_by_sight a n t)
     by_sight None = unique_done (t + n)
     by_sight (Some from) = by_now (nat_le from t) (nat_le from (t + n))
       where
@@ -87,12 +87,12 @@ once_lines : (ls : List Span) (t : ℕ) → GivesOnce (log_of_lines t ls)
 once_lines [] t = tt
 once_lines (l ∷ ls) t = once_lines ls t
 
-unique_showing : (ls : List Span) (t : ℕ) → Unique (showing ls t)
-unfolding showing
+unique_showing : (ls : List Span) (t : ℕ) → Unique (lines_result ls t)
+unfolding lines_result
 unique_showing ls t = record { once = once_lines ls t }
 
-unique_needing : (found : Option Span) (name : List ℕ) (label : Label) (t : ℕ) → Unique (needing found name label t)
-unfolding needing
+unique_needing : (found : Option Span) (name : List ℕ) (label : Label) (t : ℕ) → Unique (need_result found name label t)
+unfolding need_result
 unique_needing (Some l) name label t = unique_showing (l ∷ []) t
 unique_needing None name label t = record { once = tt }
 
@@ -100,8 +100,8 @@ once_sign : (o : Option Label) (t : ℕ) → GivesOnce (sign_of o t)
 once_sign None t = tt
 once_sign (Some l) t = tt
 
-unique_cancelling : (o : Option Label) (t : ℕ) → Unique (cancelling o t)
-unfolding cancelling
+unique_cancelling : (o : Option Label) (t : ℕ) → Unique (cancel_result o t)
+unfolding cancel_result
 unique_cancelling o t = record { once = once_sign o t }
 
 unique_block : (m : Mode) (kind : Kind) (label : Label) (t : ℕ) (d : Tick) (shield : Bool) (st : Stack) (inside : Tick → Result) →
@@ -109,7 +109,7 @@ unique_block : (m : Mode) (kind : Kind) (label : Label) (t : ℕ) (d : Tick) (sh
 unfolding block
 unique_block m kind label t d shield st inside h own = at_from (from_of m label d inside)
   where
-    at_from : (f : Tick) → Unique (left_from kind label t d shield st f (inside f))
+    at_from : (f : Tick) → Unique (exit_with_from kind label t d shield st f (inside f))
     at_from f =
         record {
           once = (
@@ -122,8 +122,8 @@ unique_block m kind label t d shield st inside h own = at_from (from_of m label 
         not_there (inl i) = own f i
         not_there (inr i) = i
 
-unique_signed : (st : Stack) (r : Result) → Unique r → Unique (signed st r)
-unfolding signed
+unique_signed : (st : Stack) (r : Result) → Unique r → Unique (with_sign st r)
+unfolding with_sign
 unique_signed st r h =
     record {
       once = once_followed r.log (sign_if r.exc (home_of st) r.end) h.once (once_home r.exc) (λ l i j. gives_home st r.exc r.end l j);
@@ -133,8 +133,8 @@ unique_signed st r h =
     once_home None = tt
     once_home (Some e) = once_sign (home_of st) r.end
 
-unique_gathered : (label : Label) (r : Result) → Unique r → Unique (gathered label r)
-unfolding gathered
+unique_gathered : (label : Label) (r : Result) → Unique r → Unique (nursery_result label r)
+unfolding nursery_result
 unique_gathered label r h = record { once = h.once }
 
 unique_child : (label : Label) (t : ℕ) (r : Result) → (Gives label r.log → ⊥) → Unique r → Unique (child label t r)
@@ -190,26 +190,26 @@ unique_passes st names path (suc n) first go t h k =
     differ u l i j = apart l ((h first t).gives l i) ((later_ones u).gives l j)
 
 unique_handled : (wanted : Wanted) (r : Result) (go : ℕ → Result) → Unique r → ((u : ℕ) → Unique (go u)) →
-    ((u : ℕ) (l : Label) → Gives l r.log → Gives l (go u).log → ⊥) → Unique (handled wanted r go)
-unfolding handled
+    ((u : ℕ) (l : Label) → Gives l r.log → Gives l (go u).log → ⊥) → Unique (handler_result wanted r go)
+unfolding handler_result
 unique_handled wanted r go h k differ = by_exc r.exc
   where
-    both : Unique (joined r (go r.end))
+    both : Unique (in_sequence r (go r.end))
     both = unique_joined r (go r.end) h (k r.end) (differ r.end)
 
-    by_match : (o rest : Option Exc) → Unique (handled_if o rest r go)
+    by_match : (o rest : Option Exc) → Unique (handler_if_any o rest r go)
     by_match None rest = h
     by_match (Some e) rest = record { once = both.once }
 
-    by_exc : (o : Option Exc) → Unique (handled_exc o wanted r go)
+    by_exc : (o : Option Exc) → Unique (handler_for o wanted r go)
     by_exc None = h
     by_exc (Some e) = by_match (keep wanted e) (drop wanted e)
 
 unique_cleaned : (r : Result) (go : ℕ → Result) → Unique r → ((u : ℕ) → Unique (go u)) →
-    ((u : ℕ) (l : Label) → Gives l r.log → Gives l (go u).log → ⊥) → Unique (cleaned r go)
-unfolding cleaned
+    ((u : ℕ) (l : Label) → Gives l r.log → Gives l (go u).log → ⊥) → Unique (cleanup_result r go)
+unfolding cleanup_result
 unique_cleaned r go h k differ =
-    let both : Unique (joined r (go r.end)) = unique_joined r (go r.end) h (k r.end) (differ r.end) in
+    let both : Unique (in_sequence r (go r.end)) = unique_joined r (go r.end) h (k r.end) (differ r.end) in
     record { once = both.once }
 
 -- two blocks whose names are given once give no label in common
@@ -248,13 +248,13 @@ mutual
   unique_step m (scope name d shield fail body) here st t distinct =
       unique_block m _ (label_here name here) t _ shield st _
       (λ f. unique m body here _ t distinct.1)
-      (λ f i. distinct.0 ((tidy m body here (within (label_here name here) shield f st) t).gives _ i).named)
+      (λ f i. distinct.0 ((tidy m body here (stack_inside (label_here name here) shield f st) t).gives _ i).named)
   unique_step m (nursery name d shield body) here st t distinct =
       unique_block m _ (label_here name here) t _ shield st _
       (λ f. unique_gathered _ _ (unique_signed _ _ (unique m body here _ t distinct.1)))
       (λ f i. distinct.0
-      ((tidy_gathered (within (label_here name here) shield f st) (Belongs (names_of body) here.path) (label_here name here) _
-      (tidy_signed (within (label_here name here) shield f st) _ _ (tidy m body here (within (label_here name here) shield f st) t))).gives
+      ((tidy_gathered (stack_inside (label_here name here) shield f st) (Belongs (names_of body) here.path) (label_here name here) _
+      (tidy_signed (stack_inside (label_here name here) shield f st) _ _ (tidy m body here (stack_inside (label_here name here) shield f st) t))).gives
       _ i).named)
   unique_step m (start name None body) here st t distinct =
       unique_child _ t _

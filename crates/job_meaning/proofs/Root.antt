@@ -6,9 +6,9 @@ use Rattle.job_tree.specs.Tree.{Step, sleep, checkpoint, forever, pace, find, he
 use Rattle.buffer_parts.specs.Lines.{Span}
 use Rattle.exc_groups.specs.Exceptions.{Label, Exc, cancelled, hold_cancelled, parts_of, holds_cancelled, by_nursery}
 use Rattle.exc_groups.specs.Split.{Wanted, keep, drop}
-use Rattle.cancel_scopes.specs.Sight.{Tick, sight, seen, reached, catches}
+use Rattle.cancel_scopes.specs.Sight.{Tick, sight, seen, is_reached, catches}
 use Rattle.job_meaning.specs.Log.{Member, Result}
-use Rattle.job_meaning.specs.Walk.{Stack, Mode, Here, walk, walk_step, walk_handler, walk_cleanup, done_at, raised_at, joined, and_then, then_if, slept, sleeping, showing, needing, cancelling, Kind, from_of, block, within, left_with, exc_after, signed, latest, with_exc, excs_of, gathered, child, each, passes, handled, handled_exc, handled_if, handler_exc, cleaned, outcome_after}
+use Rattle.job_meaning.specs.Walk.{Stack, Mode, Here, walk, walk_step, walk_handler, walk_cleanup, done_at, raised_at, in_sequence, and_then, then_if, sleep_by_sight, sleep_result, lines_result, need_result, cancel_result, Kind, from_of, block, stack_inside, left_with, exc_after, with_sign, latest, with_exc, excs_of, nursery_result, child, each, passes, handler_result, handler_for, handler_if_any, handler_exc, cleanup_result, outcome_after}
 use Rattle.job_meaning.specs.Meaning.{root_walk, root_here}
 use Rattle.job_meaning.specs.Laws.{some_cancelled, CancelledIsSeen, NoneReachesTheRoot}
 use Rattle.job_meaning.proofs.Ticks.{seen_cons, stays_seen}
@@ -31,7 +31,7 @@ members_append st [] ns h k = k
 members_append st (m ∷ ms) ns h k = (h.0, members_append st ms ns h.1 k)
 
 -- one rooted result after another is rooted
-pub root_joined : (st : Stack) (r q : Result) → Rooted st r → Rooted st q → Rooted st (joined r q)
+pub root_joined : (st : Stack) (r q : Result) → Rooted st r → Rooted st q → Rooted st (in_sequence r q)
 root_joined st r q h k = record { exc = k.exc; members = members_append st r.members q.members h.members k.members }
 
 -- a rooted walk that continues with rooted ones is rooted as a whole
@@ -48,11 +48,11 @@ pub root_done : (st : Stack) (t : ℕ) → Rooted st (done_at t)
 root_done st t = record { exc = λ h. absurd (false≢true h); members = tt }
 
 -- a sleep is cancelled in a tick at which that is seen
-pub root_sleeping : (st : Stack) (n t : ℕ) → Rooted st (sleeping st n t)
-unfolding sleeping
+pub root_sleeping : (st : Stack) (n t : ℕ) → Rooted st (sleep_result st n t)
+unfolding sleep_result
 root_sleeping st n t = by_sight (sight st) (λ u h. h)
   where
-    by_sight : (a : Tick) → ((u : ℕ) → IsTrue (reached a u) → IsTrue (seen st u)) → Rooted st (slept a n t)
+    by_sight : (a : Tick) → ((u : ℕ) → IsTrue (is_reached a u) → IsTrue (seen st u)) → Rooted st (sleep_by_sight a n t)
     by_sight None sees = root_done st (t + n)
     by_sight (Some from) sees = by_now (nat_le from t) (nat_le from (t + n)) (sees t)
       where
@@ -66,33 +66,33 @@ root_sleeping st n t = by_sight (sight st) (λ u h. h)
         by_now false false h = root_done st (t + n)
 
 -- lines that are shown are rooted
-pub root_showing : (st : Stack) (ls : List Span) (t : ℕ) → Rooted st (showing ls t)
-unfolding showing
+pub root_showing : (st : Stack) (ls : List Span) (t : ℕ) → Rooted st (lines_result ls t)
+unfolding lines_result
 root_showing st ls t = record { exc = λ h. absurd (false≢true h); members = tt }
 
 -- a `need` is rooted, whether its line is found or not
-pub root_needing : (st : Stack) (found : Option Span) (name : List ℕ) (label : Label) (t : ℕ) → Rooted st (needing found name label t)
-unfolding needing
+pub root_needing : (st : Stack) (found : Option Span) (name : List ℕ) (label : Label) (t : ℕ) → Rooted st (need_result found name label t)
+unfolding need_result
 root_needing st (Some l) name label t = root_showing st (l ∷ []) t
 root_needing st None name label t = record { exc = λ h. absurd (false≢true h); members = tt }
 
 -- a `cancel` is rooted
-pub root_cancelling : (st : Stack) (label : Option Label) (t : ℕ) → Rooted st (cancelling label t)
-unfolding cancelling
+pub root_cancelling : (st : Stack) (label : Option Label) (t : ℕ) → Rooted st (cancel_result label t)
+unfolding cancel_result
 root_cancelling st label t = record { exc = λ h. absurd (false≢true h); members = tt }
 
 -- where a block sees a cancellation and does not catch, its outside sees it
 pub seen_outside : (label : Label) (shield : Bool) (from : Tick) (st : Stack) (t : ℕ) →
-    catches from shield st t ≡ false → IsTrue (seen (within label shield from st) t) → IsTrue (seen st t)
+    catches from shield st t ≡ false → IsTrue (seen (stack_inside label shield from st) t) → IsTrue (seen st t)
 seen_outside label shield from st t c h =
-    outside (reached from t) shield (seen st t) c (sym (seen_cons (record { label = label; shield = shield; from = from }) st t) ∙ h)
+    outside (is_reached from t) shield (seen st t) c (sym (seen_cons (record { label = label; shield = shield; from = from }) st t) ∙ h)
   where
     outside : (a s x : Bool) → (a && (s || not x)) ≡ false → IsTrue (a || (not s && x)) → IsTrue x
     outside a s x e k = grind arith
 
 -- a scope or nursery is rooted on its stack, where its inside is rooted on the stack within it
 pub root_block : (m : Mode) (kind : Kind) (label : Label) (t : ℕ) (d : Tick) (shield : Bool) (st : Stack) (inside : Tick → Result) →
-    ((from : Tick) → Rooted (within label shield from st) (inside from)) → Rooted st (block m kind label t d shield st inside)
+    ((from : Tick) → Rooted (stack_inside label shield from st) (inside from)) → Rooted st (block m kind label t d shield st inside)
 unfolding block
 root_block m kind label t d shield st inside h =
     record { exc = leaves (from_of m label d inside); members = tt }
@@ -105,8 +105,8 @@ root_block m kind label t d shield st inside h =
         seen_outside label shield from st (inside from).end both.0 ((h from).exc both.1)
 
 -- a rooted member is rooted with its sign too
-pub root_signed : (st : Stack) (r : Result) → Rooted st r → Rooted st (signed st r)
-unfolding signed
+pub root_signed : (st : Stack) (r : Result) → Rooted st r → Rooted st (with_sign st r)
+unfolding with_sign
 root_signed st r h = record { exc = h.exc; members = h.members }
 
 -- a member's `Cancelled` is still seen when the last member ends
@@ -128,8 +128,8 @@ members_hold st t (m ∷ ms) h k =
     either_one others (inr rest) = others rest
 
 -- a nursery with a rooted body is rooted, with the group that it raises once its members have ended
-pub root_gathered : (st : Stack) (label : Label) (r : Result) → Rooted st r → Rooted st (gathered label r)
-unfolding gathered
+pub root_gathered : (st : Stack) (label : Label) (r : Result) → Rooted st r → Rooted st (nursery_result label r)
+unfolding nursery_result
 root_gathered st label r h =
     record {
       exc = λ k. either_one (or_cases _ _ (sym (with_exc_holds r.exc (excs_of r.members))
@@ -160,8 +160,8 @@ root_passes st (suc k) first go t h = root_and_then st (go first t) _ (h first t
 
 -- a handler ends no earlier than the body, so what the body's rest holds is still seen
 pub root_handled : (st : Stack) (wanted : Wanted) (r : Result) (go : ℕ → Result) → Rooted st r → ((u : ℕ) → Rooted st (go u)) →
-    ((u : ℕ) → Late u (go u)) → Rooted st (handled wanted r go)
-unfolding handled
+    ((u : ℕ) → Late u (go u)) → Rooted st (handler_result wanted r go)
+unfolding handler_result
 root_handled st wanted r go h k later = by_exc r.exc h.exc
   where
     still : IsTrue (seen st r.end) → IsTrue (seen st (go r.end).end)
@@ -182,7 +182,7 @@ root_handled st wanted r go h k later = by_exc r.exc h.exc
         by_part (inl a) = own a
         by_part (inr b) = still (old (or_nothing (holds_cancelled y) b))
 
-    by_match : (o rest : Option Exc) → (IsTrue (some_cancelled rest) → IsTrue (seen st r.end)) → Rooted st (handled_if o rest r go)
+    by_match : (o rest : Option Exc) → (IsTrue (some_cancelled rest) → IsTrue (seen st r.end)) → Rooted st (handler_if_any o rest r go)
     by_match None rest old = h
     by_match (Some e) rest old =
         record {
@@ -191,14 +191,14 @@ root_handled st wanted r go h k later = by_exc r.exc h.exc
               members_append st r.members (go r.end).members h.members (k r.end).members;
         }
 
-    by_exc : (o : Option Exc) → (IsTrue (some_cancelled o) → IsTrue (seen st r.end)) → Rooted st (handled_exc o wanted r go)
+    by_exc : (o : Option Exc) → (IsTrue (some_cancelled o) → IsTrue (seen st r.end)) → Rooted st (handler_for o wanted r go)
     by_exc None old = h
     by_exc (Some e) old = by_match (keep wanted e) (drop wanted e) (λ i. old (pruned_holds e _ i))
 
 -- a rooted result and its rooted cleanup, which ends no earlier, are rooted
 pub root_cleaned : (st : Stack) (r : Result) (go : ℕ → Result) → Rooted st r → ((u : ℕ) → Rooted st (go u)) → ((u : ℕ) → Late u (go u)) →
-    Rooted st (cleaned r go)
-unfolding cleaned
+    Rooted st (cleanup_result r go)
+unfolding cleanup_result
 root_cleaned st r go h k later =
     record {
       exc = outcome (go r.end).exc (k r.end).exc;

@@ -7,10 +7,10 @@ use Rattle.exc_groups.specs.Exceptions.{Label, Exc}
 use Rattle.exc_groups.specs.Split.{Wanted, keep, drop}
 use Rattle.cancel_scopes.specs.Sight.{Tick, catches}
 use Rattle.job_meaning.specs.Log.{Log, nil, entry, followed_by, Result, least_sign, deadline_of, deadline_if, either, same_label, from_by, Table, table_of, entered_from}
-use Rattle.job_meaning.specs.Walk.{Stack, Mode, two_walks, by_table, Here, walk, walk_step, walk_handler, walk_cleanup, joined, and_then, then_if, Kind, block, left_from, left_as, left_with, within, signed, sign_if, home_of, gathered, child, each, passes, handled, handled_exc, handled_if, handled_by, cleaned, cleaned_by, label_here, label_over, here_in, in_pass}
+use Rattle.job_meaning.specs.Walk.{Stack, Mode, two_walks, by_table, Here, walk, walk_step, walk_handler, walk_cleanup, in_sequence, and_then, then_if, Kind, block, exit_with_from, left_as, left_with, stack_inside, with_sign, sign_if, home_of, nursery_result, child, each, passes, handler_result, handler_for, handler_if_any, handler_after, cleanup_result, cleanup_after, label_here, label_over, here_in, in_pass}
 use Rattle.job_meaning.specs.Meaning.{meaning, meaning_table, root_walk, root_here}
 use Rattle.job_meaning.specs.Follow.{follow, IsSettled}
-use Rattle.job_meaning.specs.Before.{upto, clipped, Near}
+use Rattle.job_meaning.specs.Before.{upto, log_before, Near}
 use Rattle.job_meaning.specs.Laws.{FollowingIsMeaning, TableIsSettled, FollowingSettledIsMeaning, OneTableIsSettled}
 use Rattle.job_meaning.proofs.Late.{Late, late, late_signed, late_gathered}
 use Rattle.job_meaning.proofs.Clips.{least_near}
@@ -29,7 +29,7 @@ fits_then table r go apart (Some e) f = f
 same_then : (table : Table) (r : Result) (go go' : ℕ → Result) → ((u : ℕ) → Apart r.log (go u).log) →
     ((u : ℕ) → Fits table (go u).log → go' u ≡ go u) →
     (o : Option Exc) → Fits table (then_if o r go).log → then_if o r go' ≡ then_if o r go
-same_then table r go go' apart h None f = ap (λ (q : Result). joined r q) (h r.end (fits_second table r.log (go r.end).log (apart r.end) f))
+same_then table r go go' apart h None f = ap (λ (q : Result). in_sequence r q) (h r.end (fits_second table r.log (go r.end).log (apart r.end) f))
 same_then table r go go' apart h (Some e) f = refl
 
 settled_and_then : (table : Table) (r q : Result) (go go' : ℕ → Result) → (Fits table r.log → q ≡ r) →
@@ -43,7 +43,7 @@ settled_and_then table r q go go' h k apart f =
 -- nothing before its tick.
 record Inside (t : ℕ) (inside : Tick → Result) : Type 0 where
   later : (f : Tick) → Late t (inside f)
-  causal : (c : ℕ) (f g : Tick) → upto c f ≡ upto c g → clipped c (inside f).log ≡ clipped c (inside g).log
+  causal : (c : ℕ) (f g : Tick) → upto c f ≡ upto c g → log_before c (inside f).log ≡ log_before c (inside g).log
 
 module _ (table : Table) (kind : Kind) (label : Label) (t : ℕ) (d : Tick) (shield : Bool) (st : Stack) (inside inside' : Tick → Result)
     (own : (f : Tick) → Gives label (inside f).log → ⊥) where
@@ -53,10 +53,10 @@ module _ (table : Table) (kind : Kind) (label : Label) (t : ℕ) (d : Tick) (shi
       (left_as kind label (left_with (catches f shield st (inside f).end) (inside f).exc).caught) nil)
 
   -- the deadline and signs in a block's log are those inside, but for its own deadline
-  block_signs : (f : Tick) (l : Label) → least_sign l (left_from kind label t d shield st f (inside f)).log ≡ least_sign l (inside f).log
+  block_signs : (f : Tick) (l : Label) → least_sign l (exit_with_from kind label t d shield st f (inside f)).log ≡ least_sign l (inside f).log
   block_signs f l = least_followed l (inside f).log _ ∙ earlier_never (least_sign l (inside f).log)
 
-  fits_inside : (f : Tick) → Fits table (left_from kind label t d shield st f (inside f)).log → Fits table (inside f).log
+  fits_inside : (f : Tick) → Fits table (exit_with_from kind label t d shield st f (inside f)).log → Fits table (inside f).log
   fits_inside f h = record { each_label = each_one }
     where
       each_one : (l : Label) (x : Tick) → deadline_of l (inside f).log ≡ Some x → table l ≡ from_by x (least_sign l (inside f).log)
@@ -70,7 +70,7 @@ module _ (table : Table) (kind : Kind) (label : Label) (t : ℕ) (d : Tick) (shi
               (deadline_entered l (inside f).log x e)))
           found false i = rest
 
-  fits_label : (f : Tick) → Fits table (left_from kind label t d shield st f (inside f)).log →
+  fits_label : (f : Tick) → Fits table (exit_with_from kind label t d shield st f (inside f)).log →
       table label ≡ from_by d (least_sign label (inside f).log)
   fits_label f h =
       h.each_label label d (ap (λ (b : Bool). either (deadline_if b d) (deadline_of label (inner_log f))) (same_label_itself label))
@@ -88,8 +88,8 @@ module _ (table : Table) (kind : Kind) (label : Label) (t : ℕ) (d : Tick) (shi
       same_first_sign d first (least_sign label (inside from).log)
       (λ c e. least_near c t label (inside d).log (inside from).log (i.later d).timed (i.later from).timed (i.causal c d from e)) in
       let told : table label ≡ from = fits_label from h ∙ ap (λ (s : Tick). from_by d s) again in
-      ap (λ (f : Tick). left_from kind label t d shield st f (inside' f)) told
-      ∙ ap (λ (r : Result). left_from kind label t d shield st from r) (same from (fits_inside from h))
+      ap (λ (f : Tick). exit_with_from kind label t d shield st f (inside' f)) told
+      ∙ ap (λ (r : Result). exit_with_from kind label t d shield st from r) (same from (fits_inside from h))
 
   -- A block by a table that fits its own following, and by two walks: the first of these has the sign from which the table's
   -- from follows, and inside all is the same.
@@ -108,8 +108,8 @@ module _ (table : Table) (kind : Kind) (label : Label) (t : ℕ) (d : Tick) (shi
       (λ c e. least_near c t label (inside' from).log (inside' d).log (i.later from).timed (i.later d).timed
       (i.causal c from d (ap (λ (x : Tick). upto c x) told ∙ sym e))) in
       let found : from_by d (least_sign label (inside' d).log) ≡ from = ap (λ (s : Tick). from_by d s) again ∙ sym told in
-      ap (λ (f : Tick). left_from kind label t d shield st f (inside' f)) found
-      ∙ ap (λ (r : Result). left_from kind label t d shield st from r) inner
+      ap (λ (f : Tick). exit_with_from kind label t d shield st f (inside' f)) found
+      ∙ ap (λ (r : Result). exit_with_from kind label t d shield st from r) inner
 
 -- A block has the same result in two modes, if the table fits it in the first and its inside has the same result.
 abbrev SameBlocks : Table → Mode → Mode → Type 0
@@ -138,15 +138,15 @@ home_apart st P r h fresh =
     }
 
 settled_signed : (table : Table) (st : Stack) (P : Label → Type 0) (r q : Result) → Tidy st P r → ((l : Label) → OnStack l st → P l → ⊥) →
-    (Fits table r.log → q ≡ r) → Fits table (signed st r).log → signed st q ≡ signed st r
-unfolding signed
+    (Fits table r.log → q ≡ r) → Fits table (with_sign st r).log → with_sign st q ≡ with_sign st r
+unfolding with_sign
 settled_signed table st P r q h fresh same f =
-    ap (λ (x : Result). signed st x) (same (fits_first table r.log (sign_if r.exc (home_of st) r.end) (home_apart st P r h fresh) f))
+    ap (λ (x : Result). with_sign st x) (same (fits_first table r.log (sign_if r.exc (home_of st) r.end) (home_apart st P r h fresh) f))
 
-settled_gathered : (table : Table) (label : Label) (r q : Result) → (Fits table r.log → q ≡ r) → Fits table (gathered label r).log →
-    gathered label q ≡ gathered label r
-unfolding gathered
-settled_gathered table label r q same f = ap (λ (x : Result). gathered label x) (same f)
+settled_gathered : (table : Table) (label : Label) (r q : Result) → (Fits table r.log → q ≡ r) → Fits table (nursery_result label r).log →
+    nursery_result label q ≡ nursery_result label r
+unfolding nursery_result
+settled_gathered table label r q same f = ap (λ (x : Result). nursery_result label x) (same f)
 
 -- a child's log is separate in what the child adds
 settled_child : (table : Table) (label : Label) (t : ℕ) (r q : Result) → (Fits table r.log → q ≡ r) → Fits table (child label t r).log →
@@ -182,8 +182,8 @@ settled_each table st names path (suc k) go go' t fresh h same f =
         (λ l o b. fresh.none l o b.2.named)
         (λ l o b. fresh.none l o b.named)
 
-    both : each k go' t ≡ each k go t → go' k ≡ go k → joined (each k go' t) (go' k) ≡ joined (each k go t) (go k)
-    both e i = ap (λ (x : Result). joined x (go' k)) e ∙ ap (λ (x : Result). joined (each k go t) x) i
+    both : each k go' t ≡ each k go t → go' k ≡ go k → in_sequence (each k go' t) (go' k) ≡ in_sequence (each k go t) (go k)
+    both e i = ap (λ (x : Result). in_sequence x (go' k)) e ∙ ap (λ (x : Result). in_sequence (each k go t) x) i
 
 -- the passes of one `repeat` enter different labels
 settled_passes : (table : Table) (st : Stack) (names : List (List ℕ)) (path : List ℕ) (k first : ℕ) (go go' : ℕ → ℕ → Result) (t : ℕ) →
@@ -212,39 +212,39 @@ settled_passes table st names path (suc k) first go go' t fresh h same f =
 
 -- a handler or a cleanup after a body that is the same
 fits_handled : (table : Table) (wanted : Wanted) (r : Result) (go : ℕ → Result) → ((u : ℕ) → Apart r.log (go u).log) → (o : Option Exc) →
-    Fits table (handled_exc o wanted r go).log → Fits table r.log
+    Fits table (handler_for o wanted r go).log → Fits table r.log
 fits_handled table wanted r go apart None f = f
 fits_handled table wanted r go apart (Some e) f = by_match (keep wanted e) (drop wanted e) f
   where
-    by_match : (o rest : Option Exc) → Fits table (handled_if o rest r go).log → Fits table r.log
+    by_match : (o rest : Option Exc) → Fits table (handler_if_any o rest r go).log → Fits table r.log
     by_match None rest h = h
     by_match (Some x) rest h = fits_first table r.log (go r.end).log (apart r.end) h
 
 same_handled : (table : Table) (wanted : Wanted) (r : Result) (go go' : ℕ → Result) → ((u : ℕ) → Apart r.log (go u).log) →
     ((u : ℕ) → Fits table (go u).log → go' u ≡ go u) →
-    (o : Option Exc) → Fits table (handled_exc o wanted r go).log → handled_exc o wanted r go' ≡ handled_exc o wanted r go
+    (o : Option Exc) → Fits table (handler_for o wanted r go).log → handler_for o wanted r go' ≡ handler_for o wanted r go
 same_handled table wanted r go go' apart same None f = refl
 same_handled table wanted r go go' apart same (Some e) f = by_match (keep wanted e) (drop wanted e) f
   where
-    by_match : (o rest : Option Exc) → Fits table (handled_if o rest r go).log → handled_if o rest r go' ≡ handled_if o rest r go
+    by_match : (o rest : Option Exc) → Fits table (handler_if_any o rest r go).log → handler_if_any o rest r go' ≡ handler_if_any o rest r go
     by_match None rest h = refl
-    by_match (Some x) rest h = ap (λ (q : Result). handled_by rest r q)
+    by_match (Some x) rest h = ap (λ (q : Result). handler_after rest r q)
         (same r.end (fits_second table r.log (go r.end).log (apart r.end) h))
 
 settled_handled : (table : Table) (wanted : Wanted) (r : Result) (go go' : ℕ → Result) → ((u : ℕ) → Apart r.log (go u).log) →
     ((u : ℕ) → Fits table (go u).log → go' u ≡ go u) →
-    Fits table (handled wanted r go).log → Fits table r.log × (handled wanted r go' ≡ handled wanted r go)
-unfolding handled
+    Fits table (handler_result wanted r go).log → Fits table r.log × (handler_result wanted r go' ≡ handler_result wanted r go)
+unfolding handler_result
 settled_handled table wanted r go go' apart same f =
     (fits_handled table wanted r go apart r.exc f, same_handled table wanted r go go' apart same r.exc f)
 
 settled_cleaned : (table : Table) (r : Result) (go go' : ℕ → Result) → ((u : ℕ) → Apart r.log (go u).log) →
     ((u : ℕ) → Fits table (go u).log → go' u ≡ go u) →
-    Fits table (cleaned r go).log → Fits table r.log × (cleaned r go' ≡ cleaned r go)
-unfolding cleaned
+    Fits table (cleanup_result r go).log → Fits table r.log × (cleanup_result r go' ≡ cleanup_result r go)
+unfolding cleanup_result
 settled_cleaned table r go go' apart same f = (
   fits_first table r.log (go r.end).log (apart r.end) f,
-  ap (λ (q : Result). cleaned_by r q) (same r.end (fits_second table r.log (go r.end).log (apart r.end) f)),
+  ap (λ (q : Result). cleanup_after r q) (same r.end (fits_second table r.log (go r.end).log (apart r.end) f)),
 )
 
 -- two blocks side by side, whose names are given once, on a stack with none of them
@@ -264,7 +264,7 @@ fresh_right st a b h = fresh_in st b (a ++ b) (λ n i. among_right n a b i) h
 
 -- inside a block its own name is on the stack, and is not given again
 fresh_within : (name : List ℕ) (names : List (List ℕ)) (here : Here) (shield : Bool) (f : Tick) (st : Stack) → Distinct (name ∷ names) →
-    Fresh st (name ∷ names) → Fresh (within (label_here name here) shield f st) names
+    Fresh st (name ∷ names) → Fresh (stack_inside (label_here name here) shield f st) names
 fresh_within name names here shield f st distinct fresh = record { none = none }
   where
     none : (l : Label) → (l ≡ label_here name here) ⊎ OnStack l st → Among l.name names → ⊥
@@ -282,14 +282,14 @@ near_same c (l ∷ ls) = (refl, refl, refl, near_same c ls)
 
 -- the inside of a nursery, walked on the stack within it
 abbrev nursery_inside : Mode → Steps → Label → Here → Stack → ℕ → Result
-nursery_inside m body label here inner t = gathered label (signed inner (walk m body here inner t))
+nursery_inside m body label here inner t = nursery_result label (with_sign inner (walk m body here inner t))
 
 -- the inside of a scope, and of a nursery, by any mode
 scope_is_inside : (m : Mode) (body : Steps) (label : Label) (here : Here) (shield : Bool) (st : Stack) (t : ℕ) →
-    Inside t (λ f. walk m body here (within label shield f st) t)
+    Inside t (λ f. walk m body here (stack_inside label shield f st) t)
 scope_is_inside m body label here shield st t =
     record {
-      later = λ f. late m body here (within label shield f st) t;
+      later = λ f. late m body here (stack_inside label shield f st) t;
       causal = λ c f g e. agree_logs (agree c m body here _ _ t (near_within c label shield f g st st e (near_same c st)));
     }
 
@@ -302,15 +302,15 @@ late_nursery : (m : Mode) (body : Steps) (label : Label) (here : Here) (inner : 
 late_nursery m body label here inner t = late_gathered t label _ (late_signed t inner _ (late m body here inner t))
 
 agree_nursery : (c : ℕ) (m : Mode) (body : Steps) (label : Label) (here : Here) (inner outer : Stack) (t : ℕ) → Near c inner outer →
-    clipped c (nursery_inside m body label here inner t).log ≡ clipped c (nursery_inside m body label here outer t).log
+    log_before c (nursery_inside m body label here inner t).log ≡ log_before c (nursery_inside m body label here outer t).log
 agree_nursery c m body label here inner outer t near =
     agree_logs (agree_gathered c label _ _ (agree_signed c inner outer _ _ near (agree c m body here inner outer t near)))
 
 nursery_is_inside : (m : Mode) (body : Steps) (label : Label) (here : Here) (shield : Bool) (st : Stack) (t : ℕ) →
-    Inside t (λ f. nursery_inside m body label here (within label shield f st) t)
+    Inside t (λ f. nursery_inside m body label here (stack_inside label shield f st) t)
 nursery_is_inside m body label here shield st t =
     record {
-      later = λ f. late_nursery m body label here (within label shield f st) t;
+      later = λ f. late_nursery m body label here (stack_inside label shield f st) t;
       causal = λ c f g e. agree_nursery c m body label here _ _ t (near_within c label shield f g st st e (near_same c st));
     }
 
@@ -354,14 +354,14 @@ mutual
   settled_step table m other blocks (nursery name d shield body) here st t distinct fresh f =
       blocks _ (label_here name here) t _ shield st _ _
       (λ g e. not_inside name (names_of body) here here.path distinct
-      ((tidy_nursery m body (label_here name here) here (within (label_here name here) shield g st) t).gives _ e))
+      ((tidy_nursery m body (label_here name here) here (stack_inside (label_here name here) shield g st) t).gives _ e))
       (nursery_is_inside m body (label_here name here) here shield st t)
       (nursery_is_inside other body (label_here name here) here shield st t)
       (λ g h. settled_gathered table (label_here name here) _ _
-      (settled_signed table (within (label_here name here) shield g st) (Belongs (names_of body) here.path) _ _
-      (tidy m body here (within (label_here name here) shield g st) t)
+      (settled_signed table (stack_inside (label_here name here) shield g st) (Belongs (names_of body) here.path) _ _
+      (tidy m body here (stack_inside (label_here name here) shield g st) t)
       (λ l o b. (fresh_within name (names_of body) here shield g st distinct fresh).none l o b.named)
-      (λ i. settled table m other blocks body here (within (label_here name here) shield g st) t distinct.1
+      (λ i. settled table m other blocks body here (stack_inside (label_here name here) shield g st) t distinct.1
       (fresh_within name (names_of body) here shield g st distinct fresh) i))
       h)
       f

@@ -10,7 +10,7 @@ use Rattle.exc_groups.specs.Exceptions.{Label, Exc, cancelled}
 use Rattle.exc_groups.specs.Split.{Wanted, keep, drop}
 use Rattle.cancel_scopes.specs.Sight.{Tick, sight, catches}
 use Rattle.job_meaning.specs.Log.{Log, nil, entry, followed_by, Result}
-use Rattle.job_meaning.specs.Walk.{Stack, Mode, Here, walk, walk_step, walk_handler, walk_cleanup, done_at, raised_at, joined, and_then, then_if, slept, sleeping, log_of_lines, showing, needing, label_on, label_if, sign_of, cancelling, Kind, from_of, block, left_from, left_as, left_with, within, signed, sign_if, home_of, gathered, child, each, passes, handled, handled_exc, handled_if, cleaned, label_here, label_over, here_in, in_pass}
+use Rattle.job_meaning.specs.Walk.{Stack, Mode, Here, walk, walk_step, walk_handler, walk_cleanup, done_at, raised_at, in_sequence, and_then, then_if, sleep_by_sight, sleep_result, log_of_lines, lines_result, need_result, label_on, label_if, sign_of, cancel_result, Kind, from_of, block, exit_with_from, left_as, left_with, stack_inside, with_sign, sign_if, home_of, nursery_result, child, each, passes, handler_result, handler_for, handler_if_any, cleanup_result, label_here, label_over, here_in, in_pass}
 use Rattle.job_meaning.proofs.Distinct.{among_left, among_right, Belongs, belongs_in, belongs_behind, OnStack}
 use Rattle.job_meaning.proofs.Touched.{Gives, Signs, gives_followed, gives_first, gives_second, signs_followed}
 
@@ -35,7 +35,7 @@ tidy_plain : (st : Stack) (P : Label → Type 0) (r : Result) → Plain r.log �
 tidy_plain st P r h = record { gives = λ l e. absurd (h.none l e); signs = λ l e. absurd (h.unsigned l e) }
 
 -- one tidy result after another is tidy
-pub tidy_joined : (st : Stack) (P : Label → Type 0) (r q : Result) → Tidy st P r → Tidy st P q → Tidy st P (joined r q)
+pub tidy_joined : (st : Stack) (P : Label → Type 0) (r q : Result) → Tidy st P r → Tidy st P q → Tidy st P (in_sequence r q)
 tidy_joined st P r q h k =
     record {
       gives = λ l e. own l (gives_followed l r.log q.log e);
@@ -77,11 +77,11 @@ pub tidy_raised : (st : Stack) (P : Label → Type 0) (e : Exc) (t : ℕ) → Ti
 tidy_raised st P e t = tidy_plain st P (raised_at e t) plain_nil
 
 -- a sleep is tidy
-pub tidy_sleeping : (st : Stack) (P : Label → Type 0) (n t : ℕ) → Tidy st P (sleeping st n t)
-unfolding sleeping
+pub tidy_sleeping : (st : Stack) (P : Label → Type 0) (n t : ℕ) → Tidy st P (sleep_result st n t)
+unfolding sleep_result
 tidy_sleeping st P n t = by_sight (sight st)
   where
-    by_sight : (a : Tick) → Tidy st P (slept a n t)
+    by_sight : (a : Tick) → Tidy st P (sleep_by_sight a n t)
     by_sight None = tidy_done st P (t + n)
     by_sight (Some from) = by_now (nat_le from t) (nat_le from (t + n))
       where
@@ -100,17 +100,17 @@ no_signs_lines l t [] h = h
 no_signs_lines l t (s ∷ ss) h = no_signs_lines l t ss h
 
 -- lines that are shown are tidy
-pub tidy_showing : (st : Stack) (P : Label → Type 0) (ls : List Span) (t : ℕ) → Tidy st P (showing ls t)
-unfolding showing
-tidy_showing st P ls t = tidy_plain st P (showing ls t) (record
+pub tidy_showing : (st : Stack) (P : Label → Type 0) (ls : List Span) (t : ℕ) → Tidy st P (lines_result ls t)
+unfolding lines_result
+tidy_showing st P ls t = tidy_plain st P (lines_result ls t) (record
     { none = λ l h. no_enters_lines l t ls h; unsigned = λ l h. no_signs_lines l t ls h })
 
 -- a `need` is tidy, whether its line is found or not
 pub tidy_needing : (st : Stack) (P : Label → Type 0) (found : Option Span) (name : List ℕ) (label : Label) (t : ℕ) →
-    Tidy st P (needing found name label t)
-unfolding needing
+    Tidy st P (need_result found name label t)
+unfolding need_result
 tidy_needing st P (Some l) name label t = tidy_showing st P (l ∷ []) t
-tidy_needing st P None name label t = tidy_plain st P (needing None name label t) plain_nil
+tidy_needing st P None name label t = tidy_plain st P (need_result None name label t) plain_nil
 
 -- a label that was found on a stack is on it
 abbrev OnStackIf : Option Label → Stack → Type 0
@@ -142,8 +142,8 @@ no_enters_sign None t l h = h
 no_enters_sign (Some m) t l h = h
 
 -- a `cancel` of a name is tidy
-pub tidy_cancelling : (st : Stack) (P : Label → Type 0) (name : List ℕ) (t : ℕ) → Tidy st P (cancelling (label_on name st) t)
-unfolding cancelling
+pub tidy_cancelling : (st : Stack) (P : Label → Type 0) (name : List ℕ) (t : ℕ) → Tidy st P (cancel_result (label_on name st) t)
+unfolding cancel_result
 tidy_cancelling st P name t =
     record {
       gives = λ l e. absurd (no_enters_sign (label_on name st) t l e);
@@ -153,11 +153,11 @@ tidy_cancelling st P name t =
 -- a scope or nursery with a label of its own is tidy, where its inside is tidy on the stack within it
 pub tidy_block : (m : Mode) (kind : Kind) (label : Label) (t : ℕ) (d : Tick) (shield : Bool) (st : Stack) (P : Label → Type 0)
     (inside : Tick → Result) →
-    P label → ((f : Tick) → Tidy (within label shield f st) P (inside f)) → Tidy st P (block m kind label t d shield st inside)
+    P label → ((f : Tick) → Tidy (stack_inside label shield f st) P (inside f)) → Tidy st P (block m kind label t d shield st inside)
 unfolding block
 tidy_block m kind label t d shield st P inside p h = at_from (from_of m label d inside)
   where
-    at_from : (f : Tick) → Tidy st P (left_from kind label t d shield st f (inside f))
+    at_from : (f : Tick) → Tidy st P (exit_with_from kind label t d shield st f (inside f))
     at_from f = record { gives = own; signs = λ l e. seen_to l (signs_followed l (inside f).log _ e) }
       where
         end_log : Log
@@ -192,8 +192,8 @@ gives_home st None t l s = s
 gives_home st (Some e) t l s = no_enters_sign (home_of st) t l s
 
 -- a tidy member is tidy with its sign too
-pub tidy_signed : (st : Stack) (P : Label → Type 0) (r : Result) → Tidy st P r → Tidy st P (signed st r)
-unfolding signed
+pub tidy_signed : (st : Stack) (P : Label → Type 0) (r : Result) → Tidy st P r → Tidy st P (with_sign st r)
+unfolding with_sign
 tidy_signed st P r h =
     record {
       gives = λ l e. own l (gives_followed l r.log (sign_if r.exc (home_of st) r.end) e);
@@ -214,8 +214,8 @@ tidy_signed st P r h =
     seen_to l (inr e) = inl (signs_home st r.exc r.end l e)
 
 -- a nursery with a tidy body is tidy, once its members have ended
-pub tidy_gathered : (st : Stack) (P : Label → Type 0) (label : Label) (r : Result) → Tidy st P r → Tidy st P (gathered label r)
-unfolding gathered
+pub tidy_gathered : (st : Stack) (P : Label → Type 0) (label : Label) (r : Result) → Tidy st P r → Tidy st P (nursery_result label r)
+unfolding nursery_result
 tidy_gathered st P label r h = record { gives = h.gives; signs = h.signs }
 
 -- what a tidy started task with a label of its own leaves in its starter's walk is tidy
@@ -258,27 +258,27 @@ tidy_passes st P (suc k) first go t h =
 
 -- a tidy body and its tidy handler are tidy
 pub tidy_handled : (st : Stack) (P : Label → Type 0) (wanted : Wanted) (r : Result) (go : ℕ → Result) → Tidy st P r →
-    ((u : ℕ) → Tidy st P (go u)) → Tidy st P (handled wanted r go)
-unfolding handled
+    ((u : ℕ) → Tidy st P (go u)) → Tidy st P (handler_result wanted r go)
+unfolding handler_result
 tidy_handled st P wanted r go h k = by_exc r.exc
   where
-    both : Tidy st P (joined r (go r.end))
+    both : Tidy st P (in_sequence r (go r.end))
     both = tidy_joined st P r (go r.end) h (k r.end)
 
-    by_match : (o rest : Option Exc) → Tidy st P (handled_if o rest r go)
+    by_match : (o rest : Option Exc) → Tidy st P (handler_if_any o rest r go)
     by_match None rest = h
     by_match (Some e) rest = record { gives = both.gives; signs = both.signs }
 
-    by_exc : (o : Option Exc) → Tidy st P (handled_exc o wanted r go)
+    by_exc : (o : Option Exc) → Tidy st P (handler_for o wanted r go)
     by_exc None = h
     by_exc (Some e) = by_match (keep wanted e) (drop wanted e)
 
 -- a tidy result and its tidy cleanup are tidy
 pub tidy_cleaned : (st : Stack) (P : Label → Type 0) (r : Result) (go : ℕ → Result) → Tidy st P r → ((u : ℕ) → Tidy st P (go u)) →
-    Tidy st P (cleaned r go)
-unfolding cleaned
+    Tidy st P (cleanup_result r go)
+unfolding cleanup_result
 tidy_cleaned st P r go h k =
-    let both : Tidy st P (joined r (go r.end)) = tidy_joined st P r (go r.end) h (k r.end) in
+    let both : Tidy st P (in_sequence r (go r.end)) = tidy_joined st P r (go r.end) h (k r.end) in
     record { gives = both.gives; signs = both.signs }
 
 -- a label that is entered here belongs to its block
@@ -365,7 +365,7 @@ mutual
 -- a child of a `start .. over` gives only labels with its index
 pub tidy_over : (m : Mode) (name : List ℕ) (body : Steps) (here : Here) (lent : Range) (i : ℕ) (st : Stack) (t : ℕ) →
     Tidy st (Belongs (name ∷ names_of body) (here.path ++ i ∷ []))
-    (child (label_over name here i) t (signed st (walk m body (here_in (label_over name here i) lent here) st t)))
+    (child (label_over name here i) t (with_sign st (walk m body (here_in (label_over name here i) lent here) st t)))
 tidy_over m name body here lent i st t =
     tidy_child st _ (label_over name here i) t _ (belongs_over name (names_of body) here i)
     (tidy_in st _ _ _ (in_body name (names_of body) (here.path ++ i ∷ []))

@@ -4,7 +4,7 @@ use Rattle.buffer_parts.specs.Lines.{Span}
 use Rattle.line_kernels.specs.Kernels.{found_in, head_of, longest_in, needed_in, count_in}
 use Rattle.exc_groups.specs.Exceptions.{raised}
 use Rattle.job_meaning.specs.Log.{Result}
-use Rattle.job_meaning.specs.Walk.{Stack, Here, done_at, raised_at, paced, showing, sleeping}
+use Rattle.job_meaning.specs.Walk.{Stack, Here, done_at, raised_at, pace_ticks, lines_result, sleep_result}
 
 -- a kernel, to run on a task's part
 pub data Kernel : Type 0 where
@@ -48,11 +48,11 @@ Suits count (paces k) = Unit {0}
 Suits _ _ = ⊥
 
 -- the result of an answer in tick t
-abbrev pub answered : Answer → Purpose → Here → Stack → ℕ → Result
-answered (lines ls) purpose here st t = showing ls t
-answered missing (needs name) here st t = raised_at (raised name here.task t) t
-answered missing shows here st t = done_at t
-answered missing (paces k) here st t = done_at t
-answered (counted n) (paces k) here st t = sleeping st (paced n k) t
-answered (counted n) shows here st t = done_at t
-answered (counted n) (needs name) here st t = done_at t
+abbrev pub answer_result : Answer → Purpose → Here → Stack → ℕ → Result
+answer_result (lines ls) purpose here st t = lines_result ls t
+answer_result missing (needs name) here st t = raised_at (raised name here.task t) t
+answer_result missing shows here st t = done_at t
+answer_result missing (paces k) here st t = done_at t
+answer_result (counted n) (paces k) here st t = sleep_result st (pace_ticks n k) t
+answer_result (counted n) shows here st t = done_at t
+answer_result (counted n) (needs name) here st t = done_at t

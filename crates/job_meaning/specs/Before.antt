@@ -48,18 +48,18 @@ task_if false l s u e own rest = rest
 
 -- A log without what is at c or later. A task that was started before c stays, with what is known of its end and its
 -- exception, and with its own log cut likewise.
-abbrev pub clipped : ℕ → Log → Log
-clipped c nil = nil
-clipped c (entry t e rest) = entry_if (nat_lt t c) t e (clipped c rest)
-clipped c (sign l t rest) = sign_before (nat_lt t c) l t (clipped c rest)
-clipped c (entered l t d rest) = entered_if (nat_lt t c) l t d (clipped c rest)
-clipped c (task l s u e own rest) =
-    task_if (nat_lt s c) l s (min c u) (exc_if (nat_lt u c) e) (clipped c own) (clipped c rest)
+abbrev pub log_before : ℕ → Log → Log
+log_before c nil = nil
+log_before c (entry t e rest) = entry_if (nat_lt t c) t e (log_before c rest)
+log_before c (sign l t rest) = sign_before (nat_lt t c) l t (log_before c rest)
+log_before c (entered l t d rest) = entered_if (nat_lt t c) l t d (log_before c rest)
+log_before c (task l s u e own rest) =
+    task_if (nat_lt s c) l s (min c u) (exc_if (nat_lt u c) e) (log_before c own) (log_before c rest)
 
 -- Two walks agree before c: starts, entries, entered labels, signs and ends. Either both end in the same tick before
 -- c with the same exception, or both end at c or later.
 pub data Agree (c : ℕ) (r q : Result) : Type 0 where
   soon :
       (before : r.end < c) → (ends : r.end ≡ q.end) → (excs : r.exc ≡ q.exc) →
-      (members : known_members c r.members ≡ known_members c q.members) → (logs : clipped c r.log ≡ clipped c q.log) → Agree c r q
-  later : (first : c ≤ r.end) → (second : c ≤ q.end) → (logs : clipped c r.log ≡ clipped c q.log) → Agree c r q
+      (members : known_members c r.members ≡ known_members c q.members) → (logs : log_before c r.log ≡ log_before c q.log) → Agree c r q
+  later : (first : c ≤ r.end) → (second : c ≤ q.end) → (logs : log_before c r.log ≡ log_before c q.log) → Agree c r q

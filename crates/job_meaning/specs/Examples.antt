@@ -5,7 +5,7 @@ use Rattle.job_tree.specs.declared.format.Format.TheVariants.{Two}
 use Rattle.job_tree.specs.Tree.{Step, scope, nursery, start, attempt, Steps, stop, step, unhandled, except, uncleaned, finally, Tree}
 use Rattle.exc_groups.specs.Exceptions.{Label, by_nursery, by_handler, Exc, raised, group, parts_of}
 use Rattle.job_meaning.specs.Log.{line, scope_left, nursery_left}
-use Rattle.job_meaning.specs.Walk.{walk, and_then, sleeping, showing, needing, cancelling, block, signed, gathered, child, handled, cleaned}
+use Rattle.job_meaning.specs.Walk.{walk, and_then, sleep_result, lines_result, need_result, cancel_result, block, with_sign, nursery_result, child, handler_result, cleanup_result}
 use Rattle.job_meaning.specs.Meaning.{Noted, Record, meaning, meaning_records, meaning_end, meaning_table}
 use Rattle.job_meaning.specs.Follow.{follow}
 
@@ -96,25 +96,25 @@ abbrev pub nursery_passed : List ℕ → ℕ → Noted
 nursery_passed name tick = record { tick = tick; entry = nursery_left (label_named name) false }
 
 -- the record of a task: its start, its end, its exception and its entries
-abbrev pub ran : Label → ℕ → ℕ → Option Exc → List Noted → Record
-ran label from to exc entries = record { label = label; start = from; end = to; exc = exc; entries = entries }
+abbrev pub record_of : Label → ℕ → ℕ → Option Exc → List Noted → Record
+record_of label from to exc entries = record { label = label; start = from; end = to; exc = exc; entries = entries }
 
 -- the job's own task
 abbrev pub main_ran : ℕ → ℕ → Option Exc → List Noted → Record
-main_ran from to exc entries = ran (label_named (codes "main")) from to exc entries
+main_ran from to exc entries = record_of (label_named (codes "main")) from to exc entries
 
 -- the records of the steps of a job over an input; an example that names it computes with the whole
 -- meaning
 unfoldable pub run_of : List Step → List ℕ → List Record
-unfolding meaning walk and_then sleeping showing needing cancelling block signed gathered child handled cleaned
+unfolding meaning walk and_then sleep_result lines_result need_result cancel_result block with_sign nursery_result child handler_result cleanup_result
 run_of ss input = meaning_records (job_of ss) input
 
 -- the tick at which they end
 unfoldable pub end_of : List Step → List ℕ → ℕ
-unfolding meaning walk and_then sleeping showing needing cancelling block signed gathered child handled cleaned
+unfolding meaning walk and_then sleep_result lines_result need_result cancel_result block with_sign nursery_result child handler_result cleanup_result
 end_of ss input = meaning_end (job_of ss) input
 
 -- the tick at which the walk that follows the table of their meaning ends
 unfoldable pub followed_end_of : List Step → List ℕ → ℕ
-unfolding follow meaning walk and_then sleeping showing needing cancelling block signed gathered child handled cleaned
+unfolding follow meaning walk and_then sleep_result lines_result need_result cancel_result block with_sign nursery_result child handler_result cleanup_result
 followed_end_of ss input = (follow (meaning_table (job_of ss) input) (job_of ss) input).end

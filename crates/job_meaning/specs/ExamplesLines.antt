@@ -1,7 +1,7 @@
 -- Worked examples on lines, cuts and kernels, each a theorem by computing.
 use Rattle.std.specs.Prelude.{◌≡◌, None, Some, [], ◌∷◌, refl, codes}
 use Rattle.job_tree.specs.Tree.{find, head, longest, need, pace}
-use Rattle.job_meaning.specs.Examples.{nursery_of, start_over, label_at, raised_by, line_at, nursery_passed, ran, main_ran, run_of}
+use Rattle.job_meaning.specs.Examples.{nursery_of, start_over, label_at, raised_by, line_at, nursery_passed, record_of, main_ran, run_of}
 
 -- find "er";
 pub find_shows_the_lines_that_contain_a_string :
@@ -13,8 +13,8 @@ find_shows_the_lines_that_contain_a_string = refl
 pub children_get_cuts_at_line_starts :
     run_of (nursery_of (codes "n") (start_over (codes "p") 2 (longest ∷ head 1 ∷ []) ∷ []) ∷ []) (codes "aa\nb\ncccc\n")
     ≡ main_ran 0 0 None (nursery_passed (codes "n") 0 ∷ [])
-    ∷ ran (label_at (codes "p") 0) 0 0 None (line_at 0 0 2 ∷ line_at 0 0 2 ∷ [])
-    ∷ ran (label_at (codes "p") 1) 0 0 None (line_at 0 5 4 ∷ line_at 0 5 4 ∷ [])
+    ∷ record_of (label_at (codes "p") 0) 0 0 None (line_at 0 0 2 ∷ line_at 0 0 2 ∷ [])
+    ∷ record_of (label_at (codes "p") 1) 0 0 None (line_at 0 5 4 ∷ line_at 0 5 4 ∷ [])
     ∷ []
 unfolding run_of
 children_get_cuts_at_line_starts = refl
@@ -23,9 +23,9 @@ children_get_cuts_at_line_starts = refl
 pub cuts_may_be_empty :
     run_of (nursery_of (codes "n") (start_over (codes "p") 3 (head 9 ∷ []) ∷ []) ∷ []) (codes "aa\nb\ncccc\n")
     ≡ main_ran 0 0 None (nursery_passed (codes "n") 0 ∷ [])
-    ∷ ran (label_at (codes "p") 0) 0 0 None (line_at 0 0 2 ∷ [])
-    ∷ ran (label_at (codes "p") 1) 0 0 None (line_at 0 3 1 ∷ line_at 0 5 4 ∷ [])
-    ∷ ran (label_at (codes "p") 2) 0 0 None []
+    ∷ record_of (label_at (codes "p") 0) 0 0 None (line_at 0 0 2 ∷ [])
+    ∷ record_of (label_at (codes "p") 1) 0 0 None (line_at 0 3 1 ∷ line_at 0 5 4 ∷ [])
+    ∷ record_of (label_at (codes "p") 2) 0 0 None []
     ∷ []
 unfolding run_of
 cuts_may_be_empty = refl

@@ -2,15 +2,15 @@
 use Rattle.std.specs.Prelude.{◌≡◌, None, Some, [], ◌∷◌, refl, codes}
 use Rattle.job_tree.specs.Tree.{sleep, checkpoint, forever, find, raise, cancel}
 use Rattle.exc_groups.specs.Exceptions.{cancelled}
-use Rattle.job_meaning.specs.Examples.{scope_of, fail_scope, nursery_of, start_of, start_over, try_except, try_finally, label_named, label_at, raised_by, group_by, handler_group, scope_caught, nursery_caught, nursery_passed, ran, main_ran, run_of}
+use Rattle.job_meaning.specs.Examples.{scope_of, fail_scope, nursery_of, start_of, start_over, try_except, try_finally, label_named, label_at, raised_by, group_by, handler_group, scope_caught, nursery_caught, nursery_passed, record_of, main_ran, run_of}
 
 -- nursery n { start p over 3 { find "x"; } }
 pub start_over_starts_as_many_children :
     run_of (nursery_of (codes "n") (start_over (codes "p") 3 (find (codes "x") ∷ []) ∷ []) ∷ []) []
     ≡ main_ran 0 0 None (nursery_passed (codes "n") 0 ∷ [])
-    ∷ ran (label_at (codes "p") 0) 0 0 None []
-    ∷ ran (label_at (codes "p") 1) 0 0 None []
-    ∷ ran (label_at (codes "p") 2) 0 0 None []
+    ∷ record_of (label_at (codes "p") 0) 0 0 None []
+    ∷ record_of (label_at (codes "p") 1) 0 0 None []
+    ∷ record_of (label_at (codes "p") 2) 0 0 None []
     ∷ []
 unfolding run_of
 start_over_starts_as_many_children = refl
@@ -25,9 +25,9 @@ pub failure_cancels_the_others_in_the_next_tick :
     ∷ []) ∷ [])
     []
     ≡ main_ran 0 3 (Some (group_by (codes "n") (raised_by (codes "Boom") (codes "a") 2 ∷ []))) (nursery_caught (codes "n") 3 ∷ [])
-    ∷ ran (label_named (codes "a")) 0 2 (Some (raised_by (codes "Boom") (codes "a") 2)) []
-    ∷ ran (label_named (codes "b")) 0 3 (Some cancelled) []
-    ∷ ran (label_named (codes "c")) 0 2 None []
+    ∷ record_of (label_named (codes "a")) 0 2 (Some (raised_by (codes "Boom") (codes "a") 2)) []
+    ∷ record_of (label_named (codes "b")) 0 3 (Some cancelled) []
+    ∷ record_of (label_named (codes "c")) 0 2 None []
     ∷ []
 unfolding run_of
 failure_cancels_the_others_in_the_next_tick = refl
@@ -41,8 +41,8 @@ pub group_stands_in_the_order_of_starts :
     ≡ main_ran 0 2
     (Some (group_by (codes "n") (raised_by (codes "A") (codes "a") 2 ∷ raised_by (codes "B") (codes "b") 2 ∷ [])))
     (nursery_passed (codes "n") 2 ∷ [])
-    ∷ ran (label_named (codes "a")) 0 2 (Some (raised_by (codes "A") (codes "a") 2)) []
-    ∷ ran (label_named (codes "b")) 0 2 (Some (raised_by (codes "B") (codes "b") 2)) []
+    ∷ record_of (label_named (codes "a")) 0 2 (Some (raised_by (codes "A") (codes "a") 2)) []
+    ∷ record_of (label_named (codes "b")) 0 2 (Some (raised_by (codes "B") (codes "b") 2)) []
     ∷ []
 unfolding run_of
 group_stands_in_the_order_of_starts = refl
@@ -58,8 +58,8 @@ pub group_does_not_go_by_the_order_of_ends :
     ≡ main_ran 0 3
     (Some (group_by (codes "n") (raised_by (codes "A") (codes "a") 3 ∷ raised_by (codes "B") (codes "b") 2 ∷ [])))
     (nursery_passed (codes "n") 3 ∷ [])
-    ∷ ran (label_named (codes "a")) 0 3 (Some (raised_by (codes "A") (codes "a") 3)) []
-    ∷ ran (label_named (codes "b")) 0 2 (Some (raised_by (codes "B") (codes "b") 2)) []
+    ∷ record_of (label_named (codes "a")) 0 3 (Some (raised_by (codes "A") (codes "a") 3)) []
+    ∷ record_of (label_named (codes "b")) 0 2 (Some (raised_by (codes "B") (codes "b") 2)) []
     ∷ []
 unfolding run_of
 group_does_not_go_by_the_order_of_ends = refl
@@ -73,8 +73,8 @@ pub rest_of_a_split_goes_on :
     (checkpoint ∷ []) ∷ [])
     []
     ≡ main_ran 0 0 (Some (group_by (codes "n") (raised_by (codes "B") (codes "b") 0 ∷ []))) (nursery_passed (codes "n") 0 ∷ [])
-    ∷ ran (label_named (codes "a")) 0 0 (Some (raised_by (codes "A") (codes "a") 0)) []
-    ∷ ran (label_named (codes "b")) 0 0 (Some (raised_by (codes "B") (codes "b") 0)) []
+    ∷ record_of (label_named (codes "a")) 0 0 (Some (raised_by (codes "A") (codes "a") 0)) []
+    ∷ record_of (label_named (codes "b")) 0 0 (Some (raised_by (codes "B") (codes "b") 0)) []
     ∷ []
 unfolding run_of
 rest_of_a_split_goes_on = refl
@@ -90,8 +90,8 @@ pub handler_that_raises_makes_a_group :
     ≡ main_ran 0 0
     (Some (handler_group (raised_by (codes "C") (codes "main") 0 ∷ group_by (codes "n") (raised_by (codes "B") (codes "b") 0 ∷ []) ∷ [])))
     (nursery_passed (codes "n") 0 ∷ [])
-    ∷ ran (label_named (codes "a")) 0 0 (Some (raised_by (codes "A") (codes "a") 0)) []
-    ∷ ran (label_named (codes "b")) 0 0 (Some (raised_by (codes "B") (codes "b") 0)) []
+    ∷ record_of (label_named (codes "a")) 0 0 (Some (raised_by (codes "A") (codes "a") 0)) []
+    ∷ record_of (label_named (codes "b")) 0 0 (Some (raised_by (codes "B") (codes "b") 0)) []
     ∷ []
 unfolding run_of
 handler_that_raises_makes_a_group = refl
@@ -118,8 +118,8 @@ pub child_cancels_a_scope_round_its_nursery :
     (start_of (codes "a") (sleep 2 ∷ cancel (codes "o") ∷ sleep 5 ∷ []) ∷ start_of (codes "b") (sleep 3 ∷ []) ∷ []) ∷ []) ∷ [])
     []
     ≡ main_ran 0 3 None (nursery_passed (codes "n") 3 ∷ scope_caught (codes "o") 3 ∷ [])
-    ∷ ran (label_named (codes "a")) 0 3 (Some cancelled) []
-    ∷ ran (label_named (codes "b")) 0 3 (Some cancelled) []
+    ∷ record_of (label_named (codes "a")) 0 3 (Some cancelled) []
+    ∷ record_of (label_named (codes "b")) 0 3 (Some cancelled) []
     ∷ []
 unfolding run_of
 child_cancels_a_scope_round_its_nursery = refl
@@ -135,8 +135,8 @@ pub fail_scope_with_a_rest_is_not_too_slow :
     []
     ≡ main_ran 0 2 (Some (group_by (codes "n") (raised_by (codes "Bad") (codes "b") 2 ∷ [])))
     (nursery_passed (codes "n") 2 ∷ scope_caught (codes "s") 2 ∷ [])
-    ∷ ran (label_named (codes "a")) 0 2 (Some cancelled) []
-    ∷ ran (label_named (codes "b")) 0 2 (Some (raised_by (codes "Bad") (codes "b") 2)) []
+    ∷ record_of (label_named (codes "a")) 0 2 (Some cancelled) []
+    ∷ record_of (label_named (codes "b")) 0 2 (Some (raised_by (codes "Bad") (codes "b") 2)) []
     ∷ []
 unfolding run_of
 fail_scope_with_a_rest_is_not_too_slow = refl
@@ -144,7 +144,7 @@ fail_scope_with_a_rest_is_not_too_slow = refl
 -- nursery n { start a { forever; } sleep 1; cancel n; sleep 5; }
 pub nursery_can_be_cancelled :
     run_of (nursery_of (codes "n") (start_of (codes "a") (forever ∷ []) ∷ sleep 1 ∷ cancel (codes "n") ∷ sleep 5 ∷ []) ∷ []) []
-    ≡ main_ran 0 2 None (nursery_caught (codes "n") 2 ∷ []) ∷ ran (label_named (codes "a")) 0 2 (Some cancelled) [] ∷ []
+    ≡ main_ran 0 2 None (nursery_caught (codes "n") 2 ∷ []) ∷ record_of (label_named (codes "a")) 0 2 (Some cancelled) [] ∷ []
 unfolding run_of
 nursery_can_be_cancelled = refl
 
@@ -157,9 +157,9 @@ pub records_stand_depth_first :
     ∷ [])
     []
     ≡ main_ran 0 5 None (nursery_passed (codes "n") 4 ∷ [])
-    ∷ ran (label_named (codes "a")) 0 0 None (nursery_passed (codes "m") 0 ∷ [])
-    ∷ ran (label_named (codes "b")) 0 0 None []
-    ∷ ran (label_named (codes "c")) 0 4 None []
+    ∷ record_of (label_named (codes "a")) 0 0 None (nursery_passed (codes "m") 0 ∷ [])
+    ∷ record_of (label_named (codes "b")) 0 0 None []
+    ∷ record_of (label_named (codes "c")) 0 4 None []
     ∷ []
 unfolding run_of
 records_stand_depth_first = refl

@@ -5,8 +5,8 @@ use Rattle.job_tree.specs.Names.{size_of, handled_size, cleaned_size}
 use Rattle.exc_groups.specs.Exceptions.{Label, Exc}
 use Rattle.cancel_scopes.specs.Sight.{Tick, Level, catches}
 use Rattle.job_meaning.specs.Log.{Entry, Log, nil, entry, sign, entered, task, followed_by, Member, Result}
-use Rattle.job_meaning.specs.Walk.{label_over, in_pass, passes, Stack, Mode, Here, walk, walk_handler, walk_cleanup, done_at, and_then, sleeping, Kind, a_scope, a_nursery, left_as, Left, left_with, exc_after, signed, gathered, handler_exc, outcome_after, with_outcome}
-use Rattle.job_meaning.specs.Asking.{Kernel, answer_of, Purpose, shows, needs, paces, answered}
+use Rattle.job_meaning.specs.Walk.{label_over, in_pass, passes, Stack, Mode, Here, walk, walk_handler, walk_cleanup, done_at, and_then, sleep_result, Kind, a_scope, a_nursery, left_as, Left, left_with, exc_after, with_sign, nursery_result, handler_exc, outcome_after, with_outcome}
+use Rattle.job_meaning.specs.Asking.{Kernel, answer_of, Purpose, shows, needs, paces, answer_result}
 
 -- What a task did so far, in order. The children that it started are numbered 0, 1, .. within it, and their results are
 -- given separately.
@@ -34,9 +34,9 @@ told_members told [] = []
 told_members told (i ∷ is) = record { end = (told i).end; exc = (told i).exc } ∷ told_members told is
 
 -- `k` consecutive numbers of children in order, from the given first one
-abbrev pub numbered : ℕ → ℕ → List ℕ
-numbered first zero = []
-numbered first (suc k) = numbered first k ++ (first + k) ∷ []
+abbrev pub consecutive : ℕ → ℕ → List ℕ
+consecutive first zero = []
+consecutive first (suc k) = consecutive first k ++ (first + k) ∷ []
 
 -- the events of starting children 0 to k - 1 of a `start .. over`, which are numbered from the given number on
 abbrev pub starts_over : List ℕ → Here → ℕ → ℕ → ℕ → List Event
@@ -115,14 +115,14 @@ with_children ms r = record r { members = ms ++ r.members }
 -- What a task results in, given its result so far, with these frames left on this stack. If no frame is left, it signs for
 -- its home nursery if it ends with an exception.
 unfoldable pub finish : Mode → ChildOutcomes → List Frame → Here → Stack → Result → Result
-finish m told [] here st r = signed st r
+finish m told [] here st r = with_sign st r
 finish m told (steps_left ss ∷ fs) here st r = finish m told fs here st (and_then r (λ u. walk m ss (inside fs here) st u))
 finish m told (in_scope fail ∷ fs) here [] r = finish m told fs here [] r
 finish m told (in_scope fail ∷ fs) here (l ∷ outer) r = finish m told fs here outer (block_left (a_scope fail) l outer r)
 finish m told (in_nursery children ∷ fs) here [] r = finish m told fs here [] r
 finish m told (in_nursery children ∷ fs) here (l ∷ outer) r =
     finish m told fs here outer
-    (block_left a_nursery l outer (gathered l.label (with_children (told_members told children) (signed (l ∷ outer) r))))
+    (block_left a_nursery l outer (nursery_result l.label (with_children (told_members told children) (with_sign (l ∷ outer) r))))
 finish m told (in_repeat pass left body ∷ fs) here st r =
     finish m told fs here st (and_then r (λ u. passes (suc pass) left (λ i v. walk m body (in_pass i (inside fs here)) st v) u))
 finish m told (in_try handler cleanup ∷ fs) here st r =
@@ -133,19 +133,19 @@ finish m told (in_cleanup outcome ∷ fs) here st r =
     finish m told fs here st (with_outcome (outcome_after outcome r.exc) r)
 
 -- a nursery whose body ended in tick u with this exception or none, after its children have ended too
-abbrev pub waited : List Member → ℕ → Option Exc → Level Label → Stack → Result
-waited ms u exc l outer = block_left a_nursery l outer (gathered l.label (record { end = u; exc = exc; members = ms; log = nil }))
+abbrev pub wait_result : List Member → ℕ → Option Exc → Level Label → Stack → Result
+wait_result ms u exc l outer = block_left a_nursery l outer (nursery_result l.label (record { end = u; exc = exc; members = ms; log = nil }))
 
 -- What the rest of a task that stopped in tick t results in, on its stack. An answer comes in the same tick, a sleep ends
 -- when it is due or cancelled, a wait ends with the last child; and a task that ended has nothing left.
 abbrev pub finished_from : Mode → ChildOutcomes → Stopped → List Frame → Here → Stack → ℕ → Result
 finished_from m told to_begin fs here st t = finish m told fs here st (done_at t)
 finished_from m told (asking kernel purpose) fs here st t =
-    finish m told fs here st (answered (answer_of kernel here) purpose here st t)
-finished_from m told (asleep n since) fs here st t = finish m told fs here st (sleeping st n since)
+    finish m told fs here st (answer_result (answer_of kernel here) purpose here st t)
+finished_from m told (asleep n since) fs here st t = finish m told fs here st (sleep_result st n since)
 finished_from m told (awaiting children u exc) fs here [] t = finish m told fs here [] (done_at t)
 finished_from m told (awaiting children u exc) fs here (l ∷ outer) t =
-    finish m told fs here outer (waited (told_members told children) u exc l outer)
+    finish m told fs here outer (wait_result (told_members told children) u exc l outer)
 finished_from m told (at_end u e) fs here st t = record { end = u; exc = e; members = []; log = nil }
 
 -- what the rest of a task results in, on its stack in tick t

@@ -18,8 +18,8 @@ shown_at input t (scope_left label caught) = scope_shown label t caught
 shown_at input t (nursery_left label caught) = nursery_shown label t caught
 
 -- an entry as it is shown: each line is the slice of the input at its place
-abbrev pub shown : List ℕ → Noted → Shown
-shown input n = shown_at input n.tick n.entry
+abbrev pub as_shown : List ℕ → Noted → Shown
+as_shown input n = shown_at input n.tick n.entry
 
 -- how a task ended: well, with one `Cancelled` outside any group, or with another exception
 pub data Ending : Type 0 where
@@ -46,7 +46,7 @@ pub record Row : Type 0 where
   pub entries : List Shown
 
 abbrev pub row_of : List ℕ → Record → Row
-row_of input r = record { label = r.label; start = r.start; end = r.end; ending = ending_of r.exc; entries = map (shown input) r.entries }
+row_of input r = record { label = r.label; start = r.start; end = r.end; ending = ending_of r.exc; entries = map (as_shown input) r.entries }
 
 -- the records of a job's meaning over an input, as they are shown
 abbrev pub meaning_rows : Tree → List ℕ → List Row

@@ -46,11 +46,11 @@ abbrev pub raised_at : Exc → ℕ → Result
 raised_at e t = record { end = t; exc = Some e; members = []; log = nil }
 
 -- one result after another: the end and the exception are those of the second
-abbrev pub joined : Result → Result → Result
-joined r q = record { end = q.end; exc = q.exc; members = r.members ++ q.members; log = followed_by r.log q.log }
+abbrev pub in_sequence : Result → Result → Result
+in_sequence r q = record { end = q.end; exc = q.exc; members = r.members ++ q.members; log = followed_by r.log q.log }
 
 abbrev pub then_if : Option Exc → Result → (ℕ → Result) → Result
-then_if None r go = joined r (go r.end)
+then_if None r go = in_sequence r (go r.end)
 then_if (Some e) r go = r
 
 -- continues from where a walk ended without an exception; an exception ends it
@@ -59,20 +59,20 @@ and_then r go = then_if r.exc r go
 
 -- A checkpoint at which a cancellation is seen raises `Cancelled`, each time (level-triggered cancellation, as in
 -- Trio). A sleeper that is due in the tick of its cancellation is cancelled: this is this language's own choice.
-abbrev pub slept : Tick → ℕ → ℕ → Result
-slept None n t = done_at (t + n)
-slept (Some from) n t =
+abbrev pub sleep_by_sight : Tick → ℕ → ℕ → Result
+sleep_by_sight None n t = done_at (t + n)
+sleep_by_sight (Some from) n t =
     if nat_le from t then raised_at cancelled t
     else (if nat_le from (t + n) then raised_at cancelled from else done_at (t + n))
 
 -- a sleep of n ticks from tick t
-unfoldable pub sleeping : Stack → ℕ → ℕ → Result
-sleeping stack n t = slept (sight stack) n t
+unfoldable pub sleep_result : Stack → ℕ → ℕ → Result
+sleep_result stack n t = sleep_by_sight (sight stack) n t
 
 -- how long `pace` sleeps: the count divided by the lines of a tick, rounded up
-abbrev pub paced : ℕ → ℕ → ℕ
-paced count zero = 0
-paced count (suc k) = (count + k) / suc k
+abbrev pub pace_ticks : ℕ → ℕ → ℕ
+pace_ticks count zero = 0
+pace_ticks count (suc k) = (count + k) / suc k
 
 -- lines are noted in the order in which a kernel answers them
 abbrev pub log_of_lines : ℕ → List Span → Log
@@ -80,16 +80,16 @@ log_of_lines t [] = nil
 log_of_lines t (l ∷ ls) = entry t (line l) (log_of_lines t ls)
 
 -- a kernel takes no tick and is no checkpoint
-unfoldable pub showing : List Span → ℕ → Result
-showing lines t = record { end = t; exc = None; members = []; log = log_of_lines t lines }
+unfoldable pub lines_result : List Span → ℕ → Result
+lines_result lines t = record { end = t; exc = None; members = []; log = log_of_lines t lines }
 
-abbrev pub needing_if : Option Span → List ℕ → Label → ℕ → Result
-needing_if (Some l) name label t = showing (l ∷ []) t
-needing_if None name label t = raised_at (raised name label t) t
+abbrev pub need_if : Option Span → List ℕ → Label → ℕ → Result
+need_if (Some l) name label t = lines_result (l ∷ []) t
+need_if None name label t = raised_at (raised name label t) t
 
 -- `need` shows the line, or raises where there is none
-unfoldable pub needing : Option Span → List ℕ → Label → ℕ → Result
-needing found name label t = needing_if found name label t
+unfoldable pub need_result : Option Span → List ℕ → Label → ℕ → Result
+need_result found name label t = need_if found name label t
 
 abbrev pub label_if : Bool → Label → Option Label → Option Label
 label_if true l o = Some l
@@ -105,8 +105,8 @@ sign_of None t = nil
 sign_of (Some l) t = sign l t nil
 
 -- `cancel` takes no tick and is no checkpoint
-unfoldable pub cancelling : Option Label → ℕ → Result
-cancelling label t = record { end = t; exc = None; members = []; log = sign_of label t }
+unfoldable pub cancel_result : Option Label → ℕ → Result
+cancel_result label t = record { end = t; exc = None; members = []; log = sign_of label t }
 
 -- the tick of a deadline for a scope that is entered in tick t
 abbrev pub due : Deadline → ℕ → Tick
@@ -146,8 +146,8 @@ exc_after a_nursery label t left = left.exc
 
 -- A block that was entered in tick t is left. No child is still open: a nursery waited for its own, and a child is
 -- started directly in a nursery.
-abbrev pub leaving : Kind → Label → ℕ → Tick → Left → Result → Result
-leaving kind label t deadline left r =
+abbrev pub exit_result : Kind → Label → ℕ → Tick → Left → Result → Result
+exit_result kind label t deadline left r =
     record {
       end = r.end;
       exc = exc_after kind label r.end left;
@@ -160,19 +160,19 @@ abbrev pub from_of : Mode → Label → Tick → (Tick → Result) → Tick
 from_of two_walks label deadline inside = from_by deadline (least_sign label (inside deadline).log)
 from_of (by_table table) label deadline inside = table label
 
-abbrev pub left_from : Kind → Label → ℕ → Tick → Bool → Stack → Tick → Result → Result
-left_from kind label t deadline shield stack from r =
-    leaving kind label t deadline (left_with (catches from shield stack r.end) r.exc) r
+abbrev pub exit_with_from : Kind → Label → ℕ → Tick → Bool → Stack → Tick → Result → Result
+exit_with_from kind label t deadline shield stack from r =
+    exit_result kind label t deadline (left_with (catches from shield stack r.end) r.exc) r
 
 -- A scope or a nursery that is entered in tick t: its inside is walked with the block's from.
 unfoldable pub block : Mode → Kind → Label → ℕ → Tick → Bool → Stack → (Tick → Result) → Result
 block mode kind label t deadline shield stack inside =
     let from = from_of mode label deadline inside in
-    left_from kind label t deadline shield stack from (inside from)
+    exit_with_from kind label t deadline shield stack from (inside from)
 
 -- the stack inside a block
-abbrev pub within : Label → Bool → Tick → Stack → Stack
-within label shield from stack = record { label = label; shield = shield; from = from } ∷ stack
+abbrev pub stack_inside : Label → Bool → Tick → Stack → Stack
+stack_inside label shield from stack = record { label = label; shield = shield; from = from } ∷ stack
 
 abbrev pub home_of : Stack → Option Label
 home_of [] = None
@@ -183,8 +183,8 @@ sign_if None label t = nil
 sign_if (Some e) label t = sign_of label t
 
 -- A member that ends with any exception cancels its nursery, at the end of its own log.
-unfoldable pub signed : Stack → Result → Result
-signed stack r = record r { log = followed_by r.log (sign_if r.exc (home_of stack) r.end) }
+unfoldable pub with_sign : Stack → Result → Result
+with_sign stack r = record r { log = followed_by r.log (sign_if r.exc (home_of stack) r.end) }
 
 -- the later of an end and those of members
 abbrev pub latest : ℕ → List Member → ℕ
@@ -202,8 +202,8 @@ excs_of (m ∷ ms) = with_exc m.exc (excs_of ms)
 
 -- A nursery ends with its last member. Its exception is one group: the body's first, then the children's in the order
 -- of their starts (strict exception groups, as in Trio; the order is this language's own choice).
-unfoldable pub gathered : Label → Result → Result
-gathered label r =
+unfoldable pub nursery_result : Label → Result → Result
+nursery_result label r =
     record {
       end = latest r.end r.members;
       exc = group_of (by_nursery label) (parts_of (with_exc r.exc (excs_of r.members)));
@@ -224,7 +224,7 @@ child label t r =
 -- the children 0 to k - 1 of a `start .. over`
 abbrev pub each : ℕ → (ℕ → Result) → ℕ → Result
 each zero go t = done_at t
-each (suc k) go t = joined (each k go t) (go k)
+each (suc k) go t = in_sequence (each k go t) (go k)
 
 -- where a pass of a `repeat` is: its number is one index more
 abbrev pub in_pass : ℕ → Here → Here
@@ -253,32 +253,32 @@ handler_exc (Some x) (Some rest) = Some (group by_handler (part x (part rest no_
 abbrev pub with_outcome : Option Exc → Result → Result
 with_outcome e r = record r { exc = e }
 
-abbrev pub handled_by : Option Exc → Result → Result → Result
-handled_by rest r q = with_outcome (handler_exc q.exc rest) (joined r q)
+abbrev pub handler_after : Option Exc → Result → Result → Result
+handler_after rest r q = with_outcome (handler_exc q.exc rest) (in_sequence r q)
 
-abbrev pub handled_if : Option Exc → Option Exc → Result → (ℕ → Result) → Result
-handled_if None rest r go = r
-handled_if (Some matched) rest r go = handled_by rest r (go r.end)
+abbrev pub handler_if_any : Option Exc → Option Exc → Result → (ℕ → Result) → Result
+handler_if_any None rest r go = r
+handler_if_any (Some matched) rest r go = handler_after rest r (go r.end)
 
-abbrev pub handled_exc : Option Exc → Wanted → Result → (ℕ → Result) → Result
-handled_exc None wanted r go = r
-handled_exc (Some e) wanted r go = handled_if (keep wanted e) (drop wanted e) r go
+abbrev pub handler_for : Option Exc → Wanted → Result → (ℕ → Result) → Result
+handler_for None wanted r go = r
+handler_for (Some e) wanted r go = handler_if_any (keep wanted e) (drop wanted e) r go
 
 -- `except` runs once, if some leaf matches, at the tick at which the body ended (as `except*` in PEP 654; the
 -- exception that results from a handler that raises is this language's own choice)
-unfoldable pub handled : Wanted → Result → (ℕ → Result) → Result
-handled wanted r go = handled_exc r.exc wanted r go
+unfoldable pub handler_result : Wanted → Result → (ℕ → Result) → Result
+handler_result wanted r go = handler_for r.exc wanted r go
 
 abbrev pub outcome_after : Option Exc → Option Exc → Option Exc
 outcome_after earlier_exc None = earlier_exc
 outcome_after earlier_exc (Some e) = Some e
 
-abbrev pub cleaned_by : Result → Result → Result
-cleaned_by r q = with_outcome (outcome_after r.exc q.exc) (joined r q)
+abbrev pub cleanup_after : Result → Result → Result
+cleanup_after r q = with_outcome (outcome_after r.exc q.exc) (in_sequence r q)
 
 -- `finally` always runs; an exception of its own replaces the earlier one
-unfoldable pub cleaned : Result → (ℕ → Result) → Result
-cleaned r go = cleaned_by r (go r.end)
+unfoldable pub cleanup_result : Result → (ℕ → Result) → Result
+cleanup_result r go = cleanup_after r (go r.end)
 
 unfoldable mutual
   -- the steps of a block, from a tick on
@@ -288,36 +288,36 @@ unfoldable mutual
 
   -- one step
   pub walk_step : Mode → Step → Here → Stack → ℕ → Result
-  walk_step m (sleep n) here st t = sleeping st n t
-  walk_step m checkpoint here st t = sleeping st 0 t
-  walk_step m forever here st t = sleeping st (far - t) t
-  walk_step m (pace k) here st t = sleeping st (paced (count_in here.input here.part) k) t
-  walk_step m (find text) here st t = showing (found_in here.input text here.part) t
-  walk_step m (head n) here st t = showing (head_of here.input n here.part) t
-  walk_step m longest here st t = showing (longest_in here.input here.part) t
-  walk_step m (need text name) here st t = needing (needed_in here.input text here.part) name here.task t
+  walk_step m (sleep n) here st t = sleep_result st n t
+  walk_step m checkpoint here st t = sleep_result st 0 t
+  walk_step m forever here st t = sleep_result st (far - t) t
+  walk_step m (pace k) here st t = sleep_result st (pace_ticks (count_in here.input here.part) k) t
+  walk_step m (find text) here st t = lines_result (found_in here.input text here.part) t
+  walk_step m (head n) here st t = lines_result (head_of here.input n here.part) t
+  walk_step m longest here st t = lines_result (longest_in here.input here.part) t
+  walk_step m (need text name) here st t = need_result (needed_in here.input text here.part) name here.task t
   walk_step m (raise name) here st t = raised_at (raised name here.task t) t
-  walk_step m (cancel name) here st t = cancelling (label_on name st) t
+  walk_step m (cancel name) here st t = cancel_result (label_on name st) t
   walk_step m (scope name deadline shield fail body) here st t =
       block m (a_scope fail) (label_here name here) t (due deadline t) shield st
-      (λ from. walk m body here (within (label_here name here) shield from st) t)
+      (λ from. walk m body here (stack_inside (label_here name here) shield from st) t)
   walk_step m (nursery name deadline shield body) here st t =
       block m a_nursery (label_here name here) t (due deadline t) shield st
-      (λ from. let inner = within (label_here name here) shield from st in
-      gathered (label_here name here) (signed inner (walk m body here inner t)))
+      (λ from. let inner = stack_inside (label_here name here) shield from st in
+      nursery_result (label_here name here) (with_sign inner (walk m body here inner t)))
   walk_step m (start name None body) here st t =
-      child (label_here name here) t (signed st (walk m body (here_in (label_here name here) here.part here) st t))
+      child (label_here name here) t (with_sign st (walk m body (here_in (label_here name here) here.part here) st t))
   walk_step m (start name (Some k) body) here st t =
       each k (λ i. child (label_over name here i) t
-      (signed st (walk m body (here_in (label_over name here i) (cut_of here.input here.part k i) here) st t))) t
+      (with_sign st (walk m body (here_in (label_over name here i) (cut_of here.input here.part k i) here) st t))) t
   walk_step m (repeat count body) here st t = passes 0 count (λ i u. walk m body (in_pass i here) st u) t
   walk_step m (attempt body handler cleanup) here st t =
       walk_cleanup m cleanup here st (walk_handler m handler here st (walk m body here st t))
 
   pub walk_handler : Mode → Handled → Here → Stack → Result → Result
   walk_handler m unhandled here st r = r
-  walk_handler m (except name body) here st r = handled (named name) r (λ u. walk m body here st u)
+  walk_handler m (except name body) here st r = handler_result (named name) r (λ u. walk m body here st u)
 
   pub walk_cleanup : Mode → Cleaned → Here → Stack → Result → Result
   walk_cleanup m uncleaned here st r = r
-  walk_cleanup m (finally body) here st r = cleaned r (λ u. walk m body here st u)
+  walk_cleanup m (finally body) here st r = cleanup_result r (λ u. walk m body here st u)

@@ -8,7 +8,7 @@ use Rattle.batch_commit.specs.declared.entry.Call.{Call}
 use Rattle.batch_commit.specs.declared.entry.Call.TheVariants.{Begin, Due, Seen, Settled, Ask}
 use Rattle.batch_commit.specs.declared.entry.Entry.{Entry}
 use Rattle.batch_commit.specs.Batch.{Batches, HandsOut}
-use Rattle.batch_commit.specs.Entries.{Added, AllPlaced, NonePlaced, placed, request_in, requests_of, answers_after, with_placed, unplaced}
+use Rattle.batch_commit.specs.Entries.{Added, AllPlaced, NonePlaced, answers_placed, request_in, requests_of, answers_after, with_placed, without_answer}
 use Rattle.line_kernels.specs.declared.answers.Answer.{Answer}
 use Rattle.scoped_workers.specs.Slots.{AreAnswers}
 use Rattle.task_machine.specs.declared.stop.Wake.{Wake}
@@ -54,31 +54,31 @@ first_right task (Ask request) old es (answer ∷ answers) h =
     )
 
 -- the answers to the requests of entries are right for the calls at which they are placed
-pub answers_right : (es : List Entry) (answers : List Answer) → AreAnswers (requests_of es) answers → All HasRight (placed es answers)
+pub answers_right : (es : List Entry) (answers : List Answer) → AreAnswers (requests_of es) answers → All HasRight (answers_placed es answers)
 answers_right [] answers h = All-nil HasRight
 answers_right (e ∷ es) answers h =
     let first = first_right e.task e.call e.answer es answers h in
-    All-cons HasRight (with_placed answers e) (placed es (answers_after (request_in e.call) answers)) first.0
+    All-cons HasRight (with_placed answers e) (answers_placed es (answers_after (request_in e.call) answers)) first.0
     (answers_right es (answers_after (request_in e.call) answers) first.1)
 
 -- which task is called by what stays the same
 placed_same : (P : ℕ → Call → Type 0) (es : List Entry) (answers : List Answer) → All (λ (e : Entry). P e.task e.call) es →
-    All (λ (e : Entry). P e.task e.call) (placed es answers)
+    All (λ (e : Entry). P e.task e.call) (answers_placed es answers)
 placed_same P [] answers all = all
 placed_same P (e ∷ es) answers all =
-    All-cons (λ (x : Entry). P x.task x.call) (with_placed answers e) (placed es (answers_after (request_in e.call) answers))
+    All-cons (λ (x : Entry). P x.task x.call) (with_placed answers e) (answers_placed es (answers_after (request_in e.call) answers))
     (All-head (λ (x : Entry). P x.task x.call) e es all)
     (placed_same P es (answers_after (request_in e.call) answers) (All-tail (λ (x : Entry). P x.task x.call) e es all))
 
-placed_tasks : (es : List Entry) (answers : List Answer) → map (λ (e : Entry). e.task) (placed es answers) ≡ map (λ (e : Entry). e.task) es
+placed_tasks : (es : List Entry) (answers : List Answer) → map (λ (e : Entry). e.task) (answers_placed es answers) ≡ map (λ (e : Entry). e.task) es
 placed_tasks [] answers = refl
 placed_tasks (e ∷ es) answers = ap (λ (xs : List ℕ). e.task ∷ xs) (placed_tasks es (answers_after (request_in e.call) answers))
 
-placed_length : (es : List Entry) (answers : List Answer) → length (placed es answers) ≡ length es
+placed_length : (es : List Entry) (answers : List Answer) → length (answers_placed es answers) ≡ length es
 placed_length [] answers = refl
 placed_length (e ∷ es) answers = ap suc (placed_length es (answers_after (request_in e.call) answers))
 
-shelved_placed : (r : Runner) (b : Batches) (answers : List Answer) → AreShelved None r → b.current ≡ placed r.batch.current answers →
+shelved_placed : (r : Runner) (b : Batches) (answers : List Answer) → AreShelved None r → b.current ≡ answers_placed r.batch.current answers →
     b.next ≡ r.batch.next → AreShelved None (record r { batch = b })
 shelved_placed r b answers s current next =
     record {
@@ -183,7 +183,7 @@ pub record IsCommitting (was r : Runner) : Type 0 where
 
 -- once the answers of a batch are placed, what holds between its turns is true
 pub commits_first : (r : Runner) (b : Batches) (answers : List Answer) → IsUnderway r → AreAnswers (requests_of r.batch.current) answers →
-    b.current ≡ placed r.batch.current answers → b.next ≡ r.batch.next →
+    b.current ≡ answers_placed r.batch.current answers → b.next ≡ r.batch.next →
     AllPlaced b.current → IsCommitting r (record r { batch = b })
 commits_first r b answers w are current next all =
     record {
@@ -249,7 +249,7 @@ module _ {P : Type 0} (picks : P → ℕ → ℕ → P → Type 0) (was r : Runn
 -- none is left of the batch, and the sleepers know each effective deadline that was lowered
 module _ (was r told : Runner) (left b : Batches) (h : IsCommitting was r) (same : left ≡ r.batch) (over : r.batch.current ≡ [])
     (only : SeesOnly (record r { batch = left }) told) (going : IsGoing None told)
-    (unchanged : NoneChanged told.world) (current : b.current ≡ map unplaced told.batch.next) (next : b.next ≡ [])
+    (unchanged : NoneChanged told.world) (current : b.current ≡ map without_answer told.batch.next) (next : b.next ≡ [])
     (fresh : NonePlaced b.current) where
   told_batch : told.batch ≡ r.batch
   told_batch = ap (λ (x : Runner). x.batch) only ∙ same

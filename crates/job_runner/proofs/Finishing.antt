@@ -11,7 +11,7 @@ use Rattle.exc_groups.specs.Exceptions.{Label}
 use Rattle.job_meaning.specs.Follow.{follow}
 use Rattle.job_meaning.specs.Log.{Result, Table}
 use Rattle.job_meaning.specs.Meaning.{From, meaning, meaning_end, meaning_table, root_log, records_of, all_entered, froms_by}
-use Rattle.job_meaning.specs.Shown.{row_of, shown}
+use Rattle.job_meaning.specs.Shown.{row_of, as_shown}
 use Rattle.job_meaning.proofs.Settled.{table_is_settled, settled_is_meaning, one_table_is_settled}
 use Rattle.task_machine.specs.declared.world.World.{World}
 use Rattle.task_table.specs.declared.record.Record.{Record}
@@ -63,7 +63,7 @@ none_lives (Some end) x y e none = refl
 -- what is kept of an end, as it is read
 end_shown : (input : List ℕ) (row : interleaving.Row) (end : Option Ended) (gone : Gone) → option_map gone_from end ≡ Some gone →
     gone.label ≡ row.label → gone.end ≡ row.end → gone.exc ≡ row.exc →
-    map entry_of gone.entries ≡ map (shown input) row.entries → All (IsSlice input) gone.entries → map from_of gone.froms ≡ row.froms →
+    map entry_of gone.entries ≡ map (as_shown input) row.entries → All (IsSlice input) gone.entries → map from_of gone.froms ≡ row.froms →
     EndIsShown input row end
 end_shown input row None gone e label tick exc entries slices froms = tt
 end_shown input row (Some end) gone e label tick exc entries slices froms =

@@ -9,7 +9,7 @@ use Rattle.std.proofs.lemmas.Option.{same_Some, none-some}
 use Rattle.batch_commit.specs.declared.entry.Entry.{Entry}
 use Rattle.batch_commit.specs.Entries.{Added}
 use Rattle.autojump_clock.specs.Clock.{Clock, now_of, limit_of, due_of, HasTimer, AllLater, IsNext}
-use Rattle.cancel_scopes.specs.Sight.{Tick, reached, seen, sight}
+use Rattle.cancel_scopes.specs.Sight.{Tick, is_reached, seen, sight}
 use Rattle.cancel_scopes.specs.Tree.{outer_of, IsOpen}
 use Rattle.nursery_book.specs.Nursery.{Nursery, is_settled}
 use Rattle.nursery_book.specs.Book.{nursery_at}
@@ -229,7 +229,7 @@ module _ (r : Runner) (w : IsUnderway r) (none : r.batch.current ≡ []) where
         let d = dozer z.0 z.1 z.3 in
         let same : d.0 ≡ z.2 = same_Some d.0 z.2 (sym d.1 ∙ z.4) in
         let unseen : nat_le cancel r.world.tick ≡ false =
-        sym (ap (λ (t : Tick). reached t r.world.tick) z.5)
+        sym (ap (λ (t : Tick). is_reached t r.world.tick) z.5)
         ∙ (ap (λ (x : Running). seen (outer_of r.world.scopes (scope_of x.task)) r.world.tick) (sym same) ∙ d.2.unseen) in
         by_test w.going.shelved.now unseen (leb_tells cancel r.world.tick)
       where
@@ -325,8 +325,8 @@ module _ (r : Runner) (w : IsUnderway r) (none : r.batch.current ≡ []) where
                 id = z.0;
                 due = z.1;
                 timer = timers z.0 ∙ z.3;
-                timely = inr (ap (λ (o : Option Running). reached (sight_by later_world o) t) z.4
-                    ∙ (ap (λ (c : Tick). reached c t) z.5 ∙ le-leb t t (omega arith)));
+                timely = inr (ap (λ (o : Option Running). is_reached (sight_by later_world o) t) z.4
+                    ∙ (ap (λ (c : Tick). is_reached c t) z.5 ∙ le-leb t t (omega arith)));
               }
           by_one (inr h) = record { id = h.0; due = t; timer = timers h.0 ∙ h.1; timely = inl (omega arith) }
 

@@ -7,7 +7,7 @@ use Rattle.std.proofs.lemmas.Option.{none-some}
 use Rattle.autojump_clock.specs.Clock.{Clock, now_of, limit_of, HasTimer, AllLater, JumpsTo, MeetsLimit}
 use Rattle.batch_commit.specs.declared.entry.Entry.{Entry}
 use Rattle.batch_commit.specs.Batch.{Batches}
-use Rattle.batch_commit.specs.Entries.{Added, NonePlaced, unplaced}
+use Rattle.batch_commit.specs.Entries.{Added, NonePlaced, without_answer}
 use Rattle.cancel_scopes.specs.Sight.{Tick}
 use Rattle.job_meaning.specs.Meaning.{meaning_end}
 use Rattle.task_machine.specs.declared.task.Task.{Task}
@@ -32,17 +32,17 @@ blocked_none [] (Some g) e = absurd (let f : phases.Over ≡ phases.Blocked = e 
 blocked_none (x ∷ es) end e = absurd (let f : phases.Ready ≡ phases.Blocked = e in cc)
 
 -- and this, where some were added
-pub ready_some : (es : List Entry) (added : List Added) (end : Option Gone) → es ≡ map unplaced added → added ≢ [] →
+pub ready_some : (es : List Entry) (added : List Added) (end : Option Gone) → es ≡ map without_answer added → added ≢ [] →
     phase_by es end ≡ phases.Ready
 ready_some es [] end e some = absurd (some refl)
 ready_some es (a ∷ added) end e some = ap (λ (xs : List Entry). phase_by xs end) e
 
-same_tasks : (added : List Added) → map (λ (e : Entry). e.task) (map unplaced added) ≡ map (λ (a : Added). a.0) added
+same_tasks : (added : List Added) → map (λ (e : Entry). e.task) (map without_answer added) ≡ map (λ (a : Added). a.0) added
 same_tasks [] = refl
 same_tasks (a ∷ added) = ap (λ (xs : List ℕ). a.0 ∷ xs) (same_tasks added)
 
 -- what was added is the current batch
-pub turned_over : (r : Runner) (batch : Batches) → AreShelved None r → r.batch.current ≡ [] → batch.current ≡ map unplaced r.batch.next →
+pub turned_over : (r : Runner) (batch : Batches) → AreShelved None r → r.batch.current ≡ [] → batch.current ≡ map without_answer r.batch.next →
     batch.next ≡ [] → AreShelved None (record r { batch = batch })
 turned_over r batch h none current next =
     record {
@@ -56,7 +56,7 @@ turned_over r batch h none current next =
       doze = h.doze;
       known = h.known;
       current = subst (All (λ (e : Entry). IsCalled r.task_table r.world e.task e.call)) (sym current)
-          (All-map (λ (e : Entry). IsCalled r.task_table r.world e.task e.call) unplaced r.batch.next h.next);
+          (All-map (λ (e : Entry). IsCalled r.task_table r.world e.task e.call) without_answer r.batch.next h.next);
       next = subst (All (λ (a : Added). IsCalled r.task_table r.world a.0 a.1)) (sym next)
           (All-nil (λ (a : Added). IsCalled r.task_table r.world a.0 a.1));
       once = λ id other.
@@ -138,7 +138,7 @@ module _ (r : Runner) (w : IsUnderway r) (blocked : phase_of r ≡ phases.Blocke
           batch =
               woken.batch;
         } → AreShelved None woken → woken.batch.current ≡ [] →
-            (batch : Batches) → batch.current ≡ map unplaced woken.batch.next → batch.next ≡ [] → NonePlaced batch.current →
+            (batch : Batches) → batch.current ≡ map without_answer woken.batch.next → batch.next ≡ [] → NonePlaced batch.current →
             IsUnderway (record woken { batch = batch })
         landed woken rest shelved over batch current next fresh =
             record {

@@ -7,7 +7,7 @@ use Rattle.std.proofs.lemmas.Option.{same_Some, none-some}
 use Rattle.autojump_clock.specs.Clock.{due_of, limit_of, now_of}
 use Rattle.batch_commit.specs.declared.entry.Call.TheVariants.{Begin}
 use Rattle.batch_commit.specs.declared.entry.Entry.{Entry}
-use Rattle.batch_commit.specs.Entries.{Added, NonePlaced, unplaced}
+use Rattle.batch_commit.specs.Entries.{Added, NonePlaced, without_answer}
 use Rattle.job_meaning.specs.Log.{Table}
 use Rattle.job_meaning.specs.declared.limits.TheConstants.{MAX_INPUT}
 use Rattle.task_machine.specs.declared.stop.TaskState.{TaskState}
@@ -70,13 +70,13 @@ module _ (r : Runner) (root : Task) (id : ℕ) (sound : IsSound r.job.now) (smal
   module _ (agree : IsTaskTable r.task_table) (now : now_of r.clock ≡ 0) (limit : limit_of r.clock ≡ r.limit) (bounded : r.limit ≤ LAST_TICK)
       (timers : (task : ℕ) → due_of r.clock task ≡ None)
       (asleep : (task : ℕ) → scope_in r.sleepers task ≡ None) (unchanged : NoneChanged r.world) (before added : List Added)
-      (none_before : before ≡ []) (was_added : added ≡ before ++ (id, Begin) ∷ []) (current : r.batch.current ≡ map unplaced added)
+      (none_before : before ≡ []) (was_added : added ≡ before ++ (id, Begin) ∷ []) (current : r.batch.current ≡ map without_answer added)
       (next : r.batch.next ≡ []) (fresh : NonePlaced r.batch.current) where
     abbrev its_entry : Entry
-    its_entry = unplaced (id, Begin)
+    its_entry = without_answer (id, Begin)
 
     one_entry : r.batch.current ≡ its_entry ∷ []
-    one_entry = current ∙ ap (map unplaced) (was_added ∙ ap (λ (xs : List Added). xs ++ (id, Begin) ∷ []) none_before)
+    one_entry = current ∙ ap (map without_answer) (was_added ∙ ap (λ (xs : List Added). xs ++ (id, Begin) ∷ []) none_before)
 
     stands_once : (other : ℕ) → times_shelved r.batch r.clock other ≡ running_times r.world.book (running_at r.task_table other)
     stands_once other =

@@ -5,7 +5,7 @@ use Rattle.exc_groups.specs.Exceptions.{Exc}
 use Rattle.exc_groups.specs.declared.exc.Exc as held
 use Rattle.batch_commit.specs.Batch.{Batches, HandsOut}
 use Rattle.batch_commit.specs.declared.entry.Entry.{Entry}
-use Rattle.batch_commit.specs.Entries.{Added, placed, unplaced}
+use Rattle.batch_commit.specs.Entries.{Added, answers_placed, without_answer}
 use Rattle.line_kernels.specs.declared.answers.Answer.{Answer}
 use Rattle.task_machine.specs.declared.stop.Stop.{Stop}
 use Rattle.task_machine.specs.declared.stop.Stop.TheVariants.{Ask, Sleep, Wait, Ended}
@@ -65,22 +65,22 @@ turns_tick picks old new before after (and_turn first last next p q s batch id w
 
 -- once its answers are placed no task had its turn yet
 pub first_turns : {P : Type 0} (picks : P → ℕ → ℕ → P → Type 0) (r : Runner) (b : Batches) (answers : List Answer) (picker : P) →
-    b.current ≡ placed r.batch.current answers → b.next ≡ r.batch.next →
+    b.current ≡ answers_placed r.batch.current answers → b.next ≡ r.batch.next →
     TakesTurns picks (with_answers r answers) picker (record r { batch = b }) picker
 first_turns picks r b answers picker current next =
     subst (λ (x : Batches). TakesTurns picks (with_answers r answers) picker (record r { batch = x }) picker)
     (sym (same b current next)) (no_turn (with_answers r answers) picker)
   where
-    same : (x : Batches) → x.current ≡ placed r.batch.current answers → x.next ≡ r.batch.next →
-        x ≡ record { current = placed r.batch.current answers; next = r.batch.next }
+    same : (x : Batches) → x.current ≡ answers_placed r.batch.current answers → x.next ≡ r.batch.next →
+        x ≡ record { current = answers_placed r.batch.current answers; next = r.batch.next }
     same x e f =
         ap (λ (es : List Entry). record { current = es; next = x.next }) e
-        ∙ ap (λ (xs : List Added). record { current = placed r.batch.current answers; next = xs }) f
+        ∙ ap (λ (xs : List Added). record { current = answers_placed r.batch.current answers; next = xs }) f
 
 -- and once none is left every entry had one
 pub all_turns : {P : Type 0} (picks : P → ℕ → ℕ → P → Type 0) (was r told : Runner) (answers : List Answer) (left b : Batches)
     (before after : P) → TakesTurns picks (with_answers was answers) before r after → left ≡ r.batch → r.batch.current ≡ [] →
-    SeesOnly (record r { batch = left }) told → b.current ≡ map unplaced told.batch.next →
+    SeesOnly (record r { batch = left }) told → b.current ≡ map without_answer told.batch.next →
     Commits picks was (record told { batch = b }) answers before after
 all_turns picks was r told answers left b before after turns same over only current =
     let world : told.world ≡ record r.world { scopes = record (r.world.scopes) { changed = told.world.scopes.changed } } =
@@ -91,6 +91,6 @@ all_turns picks was r told answers left b before after turns same over only curr
       none_left = over;
       task_table = ap (λ (x : Runner). x.task_table) only;
       world = world;
-      ready = current ∙ ap (λ (x : Batches). map unplaced x.next) (ap (λ (x : Runner). x.batch) only ∙ same);
+      ready = current ∙ ap (λ (x : Batches). map without_answer x.next) (ap (λ (x : Runner). x.batch) only ∙ same);
       tick = ap (λ (w : World). w.tick) world ∙ turns_tick picks (with_answers was answers) r before after turns;
     }

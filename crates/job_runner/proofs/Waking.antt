@@ -12,7 +12,7 @@ use Rattle.batch_commit.specs.declared.entry.Call.{Call}
 use Rattle.batch_commit.specs.declared.entry.Call.TheVariants as calls
 use Rattle.batch_commit.specs.declared.entry.Entry.{Entry}
 use Rattle.batch_commit.specs.Entries.{Added}
-use Rattle.cancel_scopes.specs.Sight.{Tick, reached, sight, seen}
+use Rattle.cancel_scopes.specs.Sight.{Tick, is_reached, sight, seen}
 use Rattle.cancel_scopes.specs.Tree.{outer_of}
 use Rattle.task_machine.specs.declared.stop.TaskState.{TaskState}
 use Rattle.task_machine.specs.declared.stop.TaskState.TheVariants.{ToBegin, Asked, Asleep, Awaits, Over}
@@ -202,7 +202,7 @@ module _ (was old : Runner) (id : ℕ) (s : IsSeeing was old) (sleepers : Sleepi
       (seen_by old.task_table old.world old.clock old.sleepers s.waking.known s.waking.unchanged id takes.from takes.sees).1 in
       let saw : seen (outer_of old.world.scopes (scope_of x.0.task)) old.world.tick ≡ true =
       ap (λ (y : Running). seen (outer_of old.world.scopes (scope_of y.task)) old.world.tick) (sym same)
-      ∙ (ap (λ (t : Tick). reached t old.world.tick) sees ∙ le-leb takes.from old.world.tick takes.come) in
+      ∙ (ap (λ (t : Tick). is_reached t old.world.tick) sees ∙ le-leb takes.from old.world.tick takes.come) in
       some_has (running_at old.task_table id) (λ (y : Running). GoesBy old.world y.task calls.Seen) x.0 x.1
       (seen_goes old.world seer.due x.0.task x.2 saw)
 
@@ -274,7 +274,7 @@ seeing_last was r new sleepers s none is =
         x : (y : Running) × (running_at r.task_table id ≡ Some y) × Slept r.world due y.task
         x = some_is (running_at r.task_table id) (λ (y : Running). Slept r.world due y.task) (s.waking.slept id due e)
 
-        by_sight : (t : Tick) → sight (outer_of r.world.scopes (scope_of x.0.task)) ≡ t → reached t r.world.tick ≡ false
+        by_sight : (t : Tick) → sight (outer_of r.world.scopes (scope_of x.0.task)) ≡ t → is_reached t r.world.tick ≡ false
         by_sight None f = refl
         by_sight (Some from) f =
             let later : r.world.tick < from =
@@ -417,10 +417,10 @@ due_last was r new clock s none is =
         by_someone (inl f) = f
         by_someone (inr a) = absurd (by_timely a.timely)
           where
-            by_timely : (a.due ≤ r.world.tick) ⊎ (reached (sight_in r.task_table r.world a.id) r.world.tick ≡ true) → ⊥
+            by_timely : (a.due ≤ r.world.tick) ⊎ (is_reached (sight_in r.task_table r.world a.id) r.world.tick ≡ true) → ⊥
             by_timely (inl le) = let lt = later a.id a.due a.timer in omega (arith, le, lt)
             by_timely (inr saw) =
                 let z = some_is (running_at r.task_table a.id) (λ (y : Running).
                 seen (outer_of r.world.scopes (scope_of y.task)) r.world.tick ≡ false) (s.unseen a.id a.due a.timer) in
-                let f : true ≡ false = sym saw ∙ (ap (λ (o : Option Running). reached (sight_by r.world o) r.world.tick) z.1 ∙ z.2) in
+                let f : true ≡ false = sym saw ∙ (ap (λ (o : Option Running). is_reached (sight_by r.world o) r.world.tick) z.1 ∙ z.2) in
                 cc

@@ -2,7 +2,7 @@
 use Rattle.std.specs.Prelude.{◌≡◌, ◌≢◌, ◌⊎◌, ℕ, ◌+◌, ◌<◌, ◌≤◌, true, false, Option, Some, None, [], All, IsSomeAnd}
 use Rattle.autojump_clock.specs.Clock.{Clock, now_of, limit_of, due_of}
 use Rattle.batch_commit.specs.Entries.{Added}
-use Rattle.cancel_scopes.specs.Sight.{Tick, reached, seen, sight}
+use Rattle.cancel_scopes.specs.Sight.{Tick, is_reached, seen, sight}
 use Rattle.cancel_scopes.specs.Tree.{outer_of}
 use Rattle.task_machine.specs.declared.stop.TaskState.TheVariants.{Asleep}
 use Rattle.task_machine.specs.declared.task.Task.{Task}
@@ -63,7 +63,7 @@ pub record IsAnyNow (task_table : TaskTable) (world : World) (clock : Clock) : T
   pub id : ℕ
   pub due : ℕ
   pub timer : due_of clock id ≡ Some due
-  pub timely : (due ≤ world.tick) ⊎ (reached (sight_in task_table world id) world.tick ≡ true)
+  pub timely : (due ≤ world.tick) ⊎ (is_reached (sight_in task_table world id) world.tick ≡ true)
 
 -- The clock reached a later tick, and so did the world. Sleepers that may continue are being made
 -- ready.

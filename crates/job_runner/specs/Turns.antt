@@ -1,7 +1,7 @@
 -- The turns of a batch, one after another, in the order of the picks.
 use Rattle.std.specs.Prelude.{◌≡◌, ℕ, ◌+◌, List, [], map}
 use Rattle.batch_commit.specs.Batch.{Batches, HandsOut}
-use Rattle.batch_commit.specs.Entries.{placed, unplaced}
+use Rattle.batch_commit.specs.Entries.{answers_placed, without_answer}
 use Rattle.line_kernels.specs.declared.answers.Answer.{Answer}
 use Rattle.task_machine.specs.declared.stop.Stop.{Stop}
 use Rattle.task_machine.specs.declared.stop.Stop.TheVariants.{Ask, Sleep, Wait, Ended}
@@ -50,7 +50,7 @@ pub data TakesTurns {P : Type 0} (picks : P → ℕ → ℕ → P → Type 0) : 
 
 -- a runner after the i-th answer is placed for the i-th request of its batch
 abbrev pub with_answers : Runner → List Answer → Runner
-with_answers r answers = record r { batch = record { current = placed r.batch.current answers; next = r.batch.next } }
+with_answers r answers = record r { batch = record { current = answers_placed r.batch.current answers; next = r.batch.next } }
 
 -- Every entry of the current batch had its turn, in the order of the picks, in the same tick. What the turns added is the current
 -- batch now, and the sleepers were updated with the effective deadlines that were lowered.
@@ -60,5 +60,5 @@ pub record Commits {P : Type 0} (picks : P → ℕ → ℕ → P → Type 0) (ol
   pub none_left : last.batch.current ≡ []
   pub task_table : new.task_table ≡ last.task_table
   pub world : new.world ≡ record last.world { scopes = record (last.world.scopes) { changed = new.world.scopes.changed } }
-  pub ready : new.batch.current ≡ map unplaced last.batch.next
+  pub ready : new.batch.current ≡ map without_answer last.batch.next
   pub tick : new.world.tick ≡ old.world.tick

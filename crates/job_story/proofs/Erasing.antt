@@ -10,7 +10,7 @@ use Rattle.cancel_scopes.specs.Sight.{Tick, sight, catches}
 use Rattle.job_meaning.specs.Log.{Log, nil, entered, task, followed_by, Result, Table}
 use Rattle.job_meaning.specs.Follow.{follow}
 use Rattle.job_meaning.specs.Meaning.{root_log, root_label}
-use Rattle.job_meaning.specs.Walk.{far, Stack, by_table, Here, walk, walk_step, walk_handler, walk_cleanup, joined, then_if, and_then, done_at, raised_at, slept, sleeping, log_of_lines, showing, needing, sign_of, cancelling, Kind, left_from, left_with, block, sign_if, home_of, signed, gathered, child, each, passes, handled, cleaned, with_outcome, handler_exc, label_here, label_over, within, here_in, in_pass}
+use Rattle.job_meaning.specs.Walk.{far, Stack, by_table, Here, walk, walk_step, walk_handler, walk_cleanup, in_sequence, then_if, and_then, done_at, raised_at, sleep_by_sight, sleep_result, log_of_lines, lines_result, need_result, sign_of, cancel_result, Kind, exit_with_from, left_with, block, sign_if, home_of, with_sign, nursery_result, child, each, passes, handler_result, cleanup_result, with_outcome, handler_exc, label_here, label_over, stack_inside, here_in, in_pass}
 use Rattle.job_meaning.specs.Walk as walks
 use Rattle.job_meaning.proofs.Finish.{followed_assoc}
 use Rattle.job_meaning.proofs.Clips.{followed_nil}
@@ -47,7 +47,7 @@ erased_then (started l home part s u e own rest) b =
 with_log : (a : Tale) (l : Log) → erased a.story ≡ l → result_of a ≡ record { end = a.end; exc = a.exc; members = a.members; log = l }
 with_log a l e = ap (λ (x : Log). record { end = a.end; exc = a.exc; members = a.members; log = x }) e
 
-joined_is : (a b : Tale) → result_of (and_tale a b) ≡ joined (result_of a) (result_of b)
+joined_is : (a b : Tale) → result_of (and_tale a b) ≡ in_sequence (result_of a) (result_of b)
 joined_is a b = with_log (and_tale a b) (followed_by (erased a.story) (erased b.story)) (erased_then a.story b.story)
 
 -- one tale and then another, from the results of both
@@ -57,7 +57,7 @@ unfolding then_tale and_then
 then_is a r go walked e h = by_outcome a.exc ∙ ap (λ (x : Result). then_if x.exc x walked) e
   where
     by_outcome : (o : Option Exc) → result_of (tale_if o a go) ≡ then_if o (result_of a) walked
-    by_outcome None = joined_is a (go a.end) ∙ ap (λ (x : Result). joined (result_of a) x) (h a.end)
+    by_outcome None = joined_is a (go a.end) ∙ ap (λ (x : Result). in_sequence (result_of a) x) (h a.end)
     by_outcome (Some x) = refl
 
 -- ---- steps that take time, and others
@@ -70,7 +70,7 @@ asleep_nothing : (n t : ℕ) (until : Tick) → erased (asleep_for n t until) �
 asleep_nothing zero t until = refl
 asleep_nothing (suc n) t until = refl
 
-slept_is : (from : Tick) (n t : ℕ) (st : Stack) (c : Bool) (until : Tick) → result_of (tell_slept from n t st c until) ≡ slept from n t
+slept_is : (from : Tick) (n t : ℕ) (st : Stack) (c : Bool) (until : Tick) → result_of (tell_slept from n t st c until) ≡ sleep_by_sight from n t
 slept_is None n t st c until = with_log (told_at (t + n) (asleep_for n t until)) nil (asleep_nothing n t until)
 slept_is (Some from) n t st c until = by_now (nat_le from t) (nat_le from (t + n))
   where
@@ -85,16 +85,16 @@ slept_is (Some from) n t st c until = by_now (nat_le from t) (nat_le from (t + n
         with_log (failed_at cancelled from (then_story (asleep_for n t until) b)) nil (asleep_erased n t until b))
     by_now false false = with_log (told_at (t + n) (asleep_for n t until)) nil (asleep_nothing n t until)
 
-sleep_is : (st : Stack) (c : Bool) (until : Tick) (n t : ℕ) → result_of (tell_sleep st c until n t) ≡ sleeping st n t
-unfolding tell_sleep sleeping
+sleep_is : (st : Stack) (c : Bool) (until : Tick) (n t : ℕ) → result_of (tell_sleep st c until n t) ≡ sleep_result st n t
+unfolding tell_sleep sleep_result
 sleep_is st c until n t = slept_is (sight st) n t st c until
 
-lines_is : (lines : List Span) (t : ℕ) → result_of (tell_lines lines t) ≡ showing lines t
-unfolding tell_lines showing
+lines_is : (lines : List Span) (t : ℕ) → result_of (tell_lines lines t) ≡ lines_result lines t
+unfolding tell_lines lines_result
 lines_is lines t = with_log (tell_lines lines t) (log_of_lines t lines) (followed_nil (log_of_lines t lines))
 
-need_is : (found : Option Span) (name : List ℕ) (label : Label) (t : ℕ) → result_of (tell_need found name label t) ≡ needing found name label t
-unfolding tell_need needing showing
+need_is : (found : Option Span) (name : List ℕ) (label : Label) (t : ℕ) → result_of (tell_need found name label t) ≡ need_result found name label t
+unfolding tell_need need_result lines_result
 need_is None name label t = refl
 need_is (Some l) name label t = refl
 
@@ -102,8 +102,8 @@ raise_is : (name : List ℕ) (label : Label) (t : ℕ) → result_of (tell_raise
 unfolding tell_raise
 raise_is name label t = refl
 
-cancel_is : (label : Option Label) (t : ℕ) → result_of (tell_cancel label t) ≡ cancelling label t
-unfolding tell_cancel cancelling
+cancel_is : (label : Option Label) (t : ℕ) → result_of (tell_cancel label t) ≡ cancel_result label t
+unfolding tell_cancel cancel_result
 cancel_is None t = refl
 cancel_is (Some l) t = refl
 
@@ -117,32 +117,32 @@ block_is table kind label t d shield st inside walked h =
     let a = inside (table label) in
     with_log (tell_left kind label t d shield (left_with (catches (table label) shield st a.end) a.exc) a) _
     (ap (λ (x : Log). entered label t d x) (erased_then a.story _))
-    ∙ ap (λ (r : Result). left_from kind label t d shield st (table label) r) (h (table label))
+    ∙ ap (λ (r : Result). exit_with_from kind label t d shield st (table label) r) (h (table label))
 
 wait_is : (label : Label) (shield : Bool) (from : Tick) (st : Stack) (a : Tale) (r : Result) → result_of a ≡ r →
-    result_of (tell_wait label a) ≡ signed (within label shield from st) r
-unfolding tell_wait signed
+    result_of (tell_wait label a) ≡ with_sign (stack_inside label shield from st) r
+unfolding tell_wait with_sign
 wait_is label shield from st a r e =
     with_log (tell_wait label a) _
     (erased_then a.story (only a.end (waits label a.exc))
     ∙ ap (λ (x : Log). followed_by (erased a.story) x) (followed_nil (sign_if a.exc (Some label) a.end)))
-    ∙ ap (λ (x : Result). signed (within label shield from st) x) e
+    ∙ ap (λ (x : Result). with_sign (stack_inside label shield from st) x) e
 
-gathered_is : (label : Label) (a : Tale) (r : Result) → result_of a ≡ r → result_of (tell_gathered label a) ≡ gathered label r
-unfolding tell_gathered gathered
-gathered_is label a r e = ap (λ (x : Result). gathered label x) e
+gathered_is : (label : Label) (a : Tale) (r : Result) → result_of a ≡ r → result_of (tell_gathered label a) ≡ nursery_result label r
+unfolding tell_gathered nursery_result
+gathered_is label a r e = ap (λ (x : Result). nursery_result label x) e
 
 child_is : (label : Label) (st : Stack) (scene : Scene) (t : ℕ) (a : Tale) (r : Result) → result_of a ≡ r →
-    result_of (tell_child label (home_of st) scene t a) ≡ child label t (signed st r)
-unfolding tell_child child signed
-child_is label st scene t a r e = ap (λ (x : Result). child label t (signed st x)) e
+    result_of (tell_child label (home_of st) scene t a) ≡ child label t (with_sign st r)
+unfolding tell_child child with_sign
+child_is label st scene t a r e = ap (λ (x : Result). child label t (with_sign st x)) e
 
 each_is : (k : ℕ) (go : ℕ → Tale) (walked : ℕ → Result) (t : ℕ) → ((i : ℕ) → result_of (go i) ≡ walked i) →
     result_of (tell_each k go t) ≡ each k walked t
 each_is zero go walked t h = refl
 each_is (suc k) go walked t h =
     joined_is (tell_each k go t) (go k)
-    ∙ (ap (λ (x : Result). joined x (result_of (go k))) (each_is k go walked t h) ∙ ap (λ (x : Result). joined (each k walked t) x) (h k))
+    ∙ (ap (λ (x : Result). in_sequence x (result_of (go k))) (each_is k go walked t h) ∙ ap (λ (x : Result). in_sequence (each k walked t) x) (h k))
 
 passes_is : (first k : ℕ) (go : ℕ → ℕ → Tale) (walked : ℕ → ℕ → Result) (t : ℕ) → ((i u : ℕ) → result_of (go i u) ≡ walked i u) →
     result_of (tell_passes first k go t) ≡ passes first k walked t
@@ -154,19 +154,19 @@ passes_is first (suc k) go walked t h =
 -- ---- handlers and cleanups
 
 handled_is : (wanted : Wanted) (a : Tale) (r : Result) (go : ℕ → Tale) (walked : ℕ → Result) → result_of a ≡ r →
-    ((u : ℕ) → result_of (go u) ≡ walked u) → result_of (tell_handled wanted a go) ≡ handled wanted r walked
-unfolding tell_handled handled
+    ((u : ℕ) → result_of (go u) ≡ walked u) → result_of (tell_handled wanted a go) ≡ handler_result wanted r walked
+unfolding tell_handled handler_result
 handled_is wanted a r go walked e h =
-    by_outcome a.exc ∙ ap (λ (x : Result). walks.handled_exc x.exc wanted x walked) e
+    by_outcome a.exc ∙ ap (λ (x : Result). walks.handler_for x.exc wanted x walked) e
   where
-    by_match : (o rest : Option Exc) → result_of (handled_if o rest a go) ≡ walks.handled_if o rest (result_of a) walked
+    by_match : (o rest : Option Exc) → result_of (handled_if o rest a go) ≡ walks.handler_if_any o rest (result_of a) walked
     by_match None rest = refl
     by_match (Some m) rest =
         ap (λ (x : Result). with_outcome (handler_exc (go a.end).exc rest) x)
         (joined_is a (after_this a.end (handles m rest) (go a.end)))
-        ∙ ap (λ (x : Result). walks.handled_by rest (result_of a) x) (h a.end)
+        ∙ ap (λ (x : Result). walks.handler_after rest (result_of a) x) (h a.end)
 
-    by_outcome : (o : Option Exc) → result_of (handled_exc o wanted a go) ≡ walks.handled_exc o wanted (result_of a) walked
+    by_outcome : (o : Option Exc) → result_of (handled_exc o wanted a go) ≡ walks.handler_for o wanted (result_of a) walked
     by_outcome None = refl
     by_outcome (Some x) = by_match (keep wanted x) (drop wanted x)
 
@@ -176,15 +176,15 @@ replaced_nothing (Some l) None t = refl
 replaced_nothing (Some l) (Some f) t = refl
 
 cleaned_is : (a : Tale) (r : Result) (go : ℕ → Tale) (walked : ℕ → Result) → result_of a ≡ r →
-    ((u : ℕ) → result_of (go u) ≡ walked u) → result_of (tell_cleaned a go) ≡ cleaned r walked
-unfolding tell_cleaned cleaned
+    ((u : ℕ) → result_of (go u) ≡ walked u) → result_of (tell_cleaned a go) ≡ cleanup_result r walked
+unfolding tell_cleaned cleanup_result
 cleaned_is a r go walked e h =
     with_log (cleaned_by a b) _
     (erased_then a.story _
     ∙ ap (λ (x : Log). followed_by (erased a.story) x)
     (erased_then b.story (replaced a.exc b.exc b.end)
     ∙ (ap (λ (x : Log). followed_by (erased b.story) x) (replaced_nothing a.exc b.exc b.end) ∙ followed_nil (erased b.story))))
-    ∙ (ap (λ (x : Result). walks.cleaned_by (result_of a) x) (h a.end) ∙ ap (λ (x : Result). walks.cleaned_by x (walked x.end)) e)
+    ∙ (ap (λ (x : Result). walks.cleanup_after (result_of a) x) (h a.end) ∙ ap (λ (x : Result). walks.cleanup_after x (walked x.end)) e)
   where
     b : Tale
     b = go a.end
@@ -216,12 +216,12 @@ mutual
   step_is k (cancel name) scene st t = cancel_is _ t
   step_is k (scope name d shield fail body) scene st t =
       block_is k _ (label_here name scene.here) t _ shield st _ _
-      (λ f. tell_is k body scene (within (label_here name scene.here) shield f st) t)
+      (λ f. tell_is k body scene (stack_inside (label_here name scene.here) shield f st) t)
   step_is k (nursery name d shield body) scene st t =
       block_is k _ (label_here name scene.here) t _ shield st _ _
       (λ f. gathered_is (label_here name scene.here) _ _
       (wait_is (label_here name scene.here) shield f st _ _
-      (tell_is k body scene (within (label_here name scene.here) shield f st) t)))
+      (tell_is k body scene (stack_inside (label_here name scene.here) shield f st) t)))
   step_is k (start name None body) scene st t =
       let inner = at_place (here_in (label_here name scene.here) scene.here.part scene.here) scene in
       child_is (label_here name scene.here) st inner t _ _ (tell_is k body inner st t)

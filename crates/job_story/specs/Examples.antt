@@ -4,7 +4,7 @@ use Rattle.std.specs.Fmt.{digits}
 use Rattle.job_tree.specs.declared.format.Format.TheVariants.{Two}
 use Rattle.job_tree.specs.Tree.{Step, sleep, forever, raise, Tree}
 use Rattle.job_meaning.specs.Meaning.{meaning, meaning_table}
-use Rattle.job_meaning.specs.Walk.{walk, and_then, sleeping, showing, needing, cancelling, block, signed, gathered, child, handled, cleaned}
+use Rattle.job_meaning.specs.Walk.{walk, and_then, sleep_result, lines_result, need_result, cancel_result, block, with_sign, nursery_result, child, handler_result, cleanup_result}
 use Rattle.job_meaning.specs.Examples.{block_of, nursery_of, start_of, timed_shield, try_finally}
 use Rattle.job_story.specs.Tell.{tell, then_tale, tell_sleep, tell_lines, tell_need, tell_raise, tell_cancel, tell_block, tell_wait, tell_gathered, tell_child, tell_handled, tell_cleaned, tale_by}
 use Rattle.job_story.specs.Sentences.{story_text}
@@ -20,7 +20,7 @@ lines_of (l ∷ ls) = l ++ codes "\n" ++ lines_of ls
 
 -- the story of the meaning
 unfoldable pub told : Tree → List ℕ → List ℕ
-unfolding meaning walk and_then sleeping showing needing cancelling block signed gathered child handled cleaned tell then_tale tell_sleep tell_lines tell_need tell_raise tell_cancel tell_block tell_wait tell_gathered tell_child tell_handled tell_cleaned tale_by
+unfolding meaning walk and_then sleep_result lines_result need_result cancel_result block with_sign nursery_result child handler_result cleanup_result tell then_tale tell_sleep tell_lines tell_need tell_raise tell_cancel tell_block tell_wait tell_gathered tell_child tell_handled tell_cleaned tale_by
 told job input = story_text (meaning_table job input) job input
 
 -- job supervisor { nursery workers {
@@ -50,7 +50,7 @@ pub a_sibling_fails :
     ∷ codes "  writer      raises DiskFull"
     ∷ codes "  writer      ends: raised DiskFull(writer@4); nursery workers is cancelled from 5"
     ∷ codes "tick 5"
-    ∷ codes "  reader      is cancelled while sleeping since 0 by nursery workers (writer failed at 4)"
+    ∷ codes "  reader      is cancelled while sleep_result since 0 by nursery workers (writer failed at 4)"
     ∷ codes "  reader      runs cleanup after Cancelled"
     ∷ codes "  reader      enters scope flush (deadline 10, shielded)"
     ∷ codes "  reader      sleeps until 8"

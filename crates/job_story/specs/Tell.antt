@@ -9,7 +9,7 @@ use Rattle.exc_groups.specs.Split.{Wanted, named, keep, drop}
 use Rattle.cancel_scopes.specs.Sight.{Tick, sight, catches}
 use Rattle.job_meaning.specs.Log.{Table}
 use Rattle.job_meaning.specs.Meaning.{root_label, root_here}
-use Rattle.job_meaning.specs.Walk.{far, Stack, Here, label_here, paced, label_on, due, Left, left_with, Kind, a_scope, a_nursery, exc_after, within, home_of, latest, with_exc, excs_of, in_pass, here_in, label_over, handler_exc, outcome_after}
+use Rattle.job_meaning.specs.Walk.{far, Stack, Here, label_here, pace_ticks, label_on, due, Left, left_with, Kind, a_scope, a_nursery, exc_after, stack_inside, home_of, latest, with_exc, excs_of, in_pass, here_in, label_over, handler_exc, outcome_after}
 use Rattle.job_story.specs.Story.{Happening, enters, sleeps, is_cancelled, finds, misses, raises, cancels, handles, cleans, replaces, waits, leaves, Story, no_more, happened, started, then_story, Tale}
 
 -- the place of a walk, and whether it is in a `finally` block of this task or of one that started it
@@ -199,7 +199,7 @@ unfoldable mutual
   tell_step k checkpoint scene st t = tell_sleep st scene.in_cleanup (Some t) 0 t
   tell_step k forever scene st t = tell_sleep st scene.in_cleanup None (far - t) t
   tell_step k (pace per_tick) scene st t =
-      let n = paced (count_in scene.here.input scene.here.part) per_tick in tell_sleep st scene.in_cleanup (Some (t + n)) n t
+      let n = pace_ticks (count_in scene.here.input scene.here.part) per_tick in tell_sleep st scene.in_cleanup (Some (t + n)) n t
   tell_step k (find text) scene st t = tell_lines (found_in scene.here.input text scene.here.part) t
   tell_step k (head n) scene st t = tell_lines (head_of scene.here.input n scene.here.part) t
   tell_step k longest scene st t = tell_lines (longest_in scene.here.input scene.here.part) t
@@ -208,11 +208,11 @@ unfoldable mutual
   tell_step k (cancel name) scene st t = tell_cancel (label_on name st) t
   tell_step k (scope name deadline shield fail body) scene st t =
       tell_block k (a_scope fail) (label_here name scene.here) t (due deadline t) shield st
-      (λ from. tell k body scene (within (label_here name scene.here) shield from st) t)
+      (λ from. tell k body scene (stack_inside (label_here name scene.here) shield from st) t)
   tell_step k (nursery name deadline shield body) scene st t =
       tell_block k a_nursery (label_here name scene.here) t (due deadline t) shield st
       (λ from. tell_gathered (label_here name scene.here)
-      (tell_wait (label_here name scene.here) (tell k body scene (within (label_here name scene.here) shield from st) t)))
+      (tell_wait (label_here name scene.here) (tell k body scene (stack_inside (label_here name scene.here) shield from st) t)))
   tell_step k (start name None body) scene st t =
       let inner = at_place (here_in (label_here name scene.here) scene.here.part scene.here) scene in
       tell_child (label_here name scene.here) (home_of st) inner t (tell k body inner st t)

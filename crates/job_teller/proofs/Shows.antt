@@ -12,7 +12,7 @@ use Rattle.line_kernels.specs.declared.kernel.Kernel.TheVariants.{Find, Head, Lo
 use Rattle.line_kernels.specs.declared.answers.Answer.{Answer}
 use Rattle.line_kernels.specs.declared.answers.Answer.TheVariants as answers
 use Rattle.exc_groups.specs.Exceptions.{Label, raised}
-use Rattle.job_meaning.specs.Walk.{paced}
+use Rattle.job_meaning.specs.Walk.{pace_ticks}
 use Rattle.job_story.specs.Story.{misses}
 use Rattle.job_story.specs.Tell.{failed_at, only, tell_lines, tell_need}
 use Rattle.job_story.specs.declared.event.Event as held
@@ -90,7 +90,7 @@ pub counts_few : (part : Part) (a : Answer) (n : ℕ) → IsAnswer Count part a 
     n ≤ 16777216
 counts_few part a n is n_is small = omega (arith, counts part a n is n_is, count_le (buffer_of part) (range_of part))
 
-pub paced_is : (n k : ℕ) → 1 ≤ k → (n + (k - 1)) / k ≡ paced n k
+pub paced_is : (n k : ℕ) → 1 ≤ k → (n + (k - 1)) / k ≡ pace_ticks n k
 paced_is n zero le = absurd (omega arith)
 paced_is n (suc j) le =
     let e : suc j - 1 ≡ j = omega arith in

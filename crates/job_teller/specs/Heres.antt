@@ -9,7 +9,7 @@ use Rattle.job_tree.specs.Tree.{Step, scope, nursery, start, repeat, attempt, St
 use Rattle.job_meaning.specs.declared.limits.TheConstants.{MAX_INPUT}
 use Rattle.job_meaning.specs.Log.{Table}
 use Rattle.job_meaning.specs.Walk as meaning
-use Rattle.job_meaning.specs.Walk.{Kind, a_scope, a_nursery, within, here_in, home_of, in_pass, label_here, label_over}
+use Rattle.job_meaning.specs.Walk.{Kind, a_scope, a_nursery, stack_inside, here_in, home_of, in_pass, label_here, label_over}
 use Rattle.job_story.specs.Froms.{table_in}
 use Rattle.job_story.specs.Story.{Tale}
 use Rattle.job_story.specs.declared.event.Kind as held
@@ -50,9 +50,9 @@ block_in kind name deadline shield h =
 
 -- the inside of a block that is cancelled from a tick on
 abbrev pub inside : Kind → Label → Bool → Steps → Here → ℕ → Tick → Tale
-inside (a_scope fail) label shield body h t from = tell (table_of h) body (scene_of h) (within label shield from (scopes_of h)) t
+inside (a_scope fail) label shield body h t from = tell (table_of h) body (scene_of h) (stack_inside label shield from (scopes_of h)) t
 inside a_nursery label shield body h t from =
-    tell_gathered label (tell_wait label (tell (table_of h) body (scene_of h) (within label shield from (scopes_of h)) t))
+    tell_gathered label (tell_wait label (tell (table_of h) body (scene_of h) (stack_inside label shield from (scopes_of h)) t))
 
 -- where a child is that is started with a label on a range
 abbrev pub scene_in : Label → Range → Here → Scene

@@ -2,7 +2,7 @@ ghost use Rattle.std.specs.Prelude.{◌≡◌, ◌+◌, ◌<◌, ◌≤◌, ◌^
 ghost use Rattle.buffer_parts.specs.Part.{range_of, span_of};
 ghost use Rattle.line_kernels.specs.Kernels.{found_in, head_of, longest_in, needed_in, count_in};
 ghost use Rattle.job_meaning.specs.declared.limits.TheConstants.{MAX_INPUT};
-ghost use Rattle.job_meaning.specs.Walk.{paced, due, label_on};
+ghost use Rattle.job_meaning.specs.Walk.{pace_ticks, due, label_on};
 ghost use Rattle.job_story.specs.Tell.{tell_step, tell_sleep, tell_lines, tell_need, tell_raise, tell_cancel};
 ghost use Rattle.job_tree.specs.Blocks.{step_of};
 ghost use Rattle.job_tree.specs.InRange.{IsInRangeStep, IsInRangeDeadline};
@@ -95,8 +95,8 @@ pub(crate) fn pace<'a>(
     requires room { tick ≤ 4611686018427387904 }
     ensures { IfOk result (λ told. Tells here.entry.task.now events.old.items told events.new.items
         (tell_sleep (scopes_of here.entry) here.entry.in_cleanup
-        (Some (tick + paced (count_in (input_of here.entry) (range_of here.entry.part)) per_tick))
-        (paced (count_in (input_of here.entry) (range_of here.entry.part)) per_tick) tick)) }
+        (Some (tick + pace_ticks (count_in (input_of here.entry) (range_of here.entry.part)) per_tick))
+        (pace_ticks (count_in (input_of here.entry) (range_of here.entry.part)) per_tick) tick)) }
 {
     let count = line_count(here)?;
     let ticks = (count + (per_tick - 1)) / per_tick;

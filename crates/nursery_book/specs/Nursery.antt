@@ -17,8 +17,8 @@ pub record Nursery : Type 0 where
   pub children : List End
 
 -- a nursery after it was opened: its body runs, and it has no child
-abbrev pub opened : ℕ → ℕ → Label → Nursery
-opened scope waiter label = record { scope = scope; waiter = waiter; label = label; body = None; children = [] }
+abbrev pub new_nursery : ℕ → ℕ → Label → Nursery
+new_nursery scope waiter label = record { scope = scope; waiter = waiter; label = label; body = None; children = [] }
 
 -- one more child runs
 abbrev pub with_start : Nursery → Nursery

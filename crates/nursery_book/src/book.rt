@@ -32,7 +32,7 @@ struct Members {
 }
 
 impl NurseryBook {
-    ghost use Rattle.nursery_book.specs.Nursery.{opened, with_start, with_child, with_body, is_settled, raised_by};
+    ghost use Rattle.nursery_book.specs.Nursery.{new_nursery, with_start, with_child, with_body, is_settled, raised_by};
     ghost use Rattle.nursery_book.specs.Book.{nursery_at, HasNursery, SameNurseries, Updates, Changes};
 
     /// Creates a book with no open nursery. Does not allocate.
@@ -54,7 +54,7 @@ impl NurseryBook {
         label: Label,
     ) -> Result<NurseryId, AllocError>
         ensures fresh { IfOk result (λ id. nursery_at self.old id ≡ None) }
-        ensures opened { IfOk result (λ id. Updates self.old self.new id (Some (opened scope waiter label))) }
+        ensures new_nursery { IfOk result (λ id. Updates self.old self.new id (Some (new_nursery scope waiter label))) }
         ensures err { OnErr result (SameNurseries self.old self.new) }
     {
         let key = self.nurseries.insert(Members {

@@ -8,7 +8,7 @@ use Rattle.job_meaning.specs.Log.{Table, same_label}
 use Rattle.job_meaning.specs.Rest.{Event}
 use Rattle.job_meaning.proofs.Distinct.{same_label_equal}
 use Rattle.turn_semantics.specs.Midway.{Place}
-use Rattle.turn_semantics.specs.Steps.{lowered, lowered_if, opened, opened_if, froms_after}
+use Rattle.turn_semantics.specs.Steps.{froms_after_sign, from_lowered_if, froms_after_entry, from_entered_if, froms_after}
 use Rattle.turn_semantics.specs.Turned.{Known, labels_of}
 use Rattle.task_machine.specs.Acts.{Scoping, Signs, Enters, Leaves, Acts, no_act, act_noted, act_starts, act_signs, act_enters, act_leaves}
 use Rattle.task_machine.specs.Fitting.{AreOthers}
@@ -30,12 +30,12 @@ label_differs l m differs = by_test (same_label l m) refl
     by_test false e = refl
 
 -- a sign leaves the from of each other label
-pub lowered_other : (f : Table) (label l : Label) (t : ℕ) → (l ≡ label → ⊥) → lowered f label t l ≡ f l
-lowered_other f label l t differs = ap (λ (b : Bool). lowered_if b t (f l)) (label_differs l label differs)
+pub lowered_other : (f : Table) (label l : Label) (t : ℕ) → (l ≡ label → ⊥) → froms_after_sign f label t l ≡ f l
+lowered_other f label l t differs = ap (λ (b : Bool). from_lowered_if b t (f l)) (label_differs l label differs)
 
 -- a label entered leaves the from of each other label
-pub opened_other : (f : Table) (label l : Label) (d : Tick) → (l ≡ label → ⊥) → opened f label d l ≡ f l
-opened_other f label l d differs = ap (λ (b : Bool). opened_if b d (f l)) (label_differs l label differs)
+pub opened_other : (f : Table) (label l : Label) (d : Tick) → (l ≡ label → ⊥) → froms_after_entry f label d l ≡ f l
+opened_other f label l d differs = ap (λ (b : Bool). from_entered_if b d (f l)) (label_differs l label differs)
 
 -- ---- the label of a scope that was left keeps its from
 
@@ -68,11 +68,11 @@ unmoved known f l (no_act s) none k new = (refl, none)
 unmoved known f l (act_noted s u t e es a) none k new = unmoved known f l a none k new
 unmoved known f l (act_starts s u i x t es a) none k new = unmoved known f l a none k new
 unmoved {t} known f l (act_signs s m u x es g a) none k new =
-    let o = unmoved known (lowered f x t) l a (none_signs g l none) k new in
+    let o = unmoved known (froms_after_sign f x t) l a (none_signs g l none) k new in
     (o.0 ∙ lowered_other f x l t (signed_has g l none), o.1)
 unmoved known f l (act_enters s m u x t d es g a) none k new =
     let differs : l ≡ x → ⊥ = λ e. new.0 (subst known e k) in
-    let o = unmoved (λ y. (y ≡ x) ⊎ known y) (opened f x d) l a (none_enters g l differs none) (inr k) new.1 in
+    let o = unmoved (λ y. (y ≡ x) ⊎ known y) (froms_after_entry f x d) l a (none_enters g l differs none) (inr k) new.1 in
     (o.0 ∙ opened_other f x l d differs, o.1)
 unmoved known f l (act_leaves s m u es g a) none k new = unmoved known f l a (none_leaves g l none) k new
 
@@ -100,10 +100,10 @@ StandsAt key f ps s = (st : Stack) × (stack_of s.tree key ≡ Some st) × AreAt
 pub at_signs : {t : ℕ} {label : Label} {s m : Scoping} → (key : ℕ) (f : Table) (st : Stack) (ps : List Place) → (g : Signs t label s m) →
     Apart s → stack_of s.tree key ≡ Some st →
     AreAt s.labels f st ps → (stack_of m.tree key ≡ Some (after_cancel g.key t st))
-    × AreAt m.labels (lowered f label t) (after_cancel g.key t st) ps
+    × AreAt m.labels (froms_after_sign f label t) (after_cancel g.key t st) ps
 at_signs {t} {label} {s} {m} key f st ps g h e a = (
   g.cancels.stacks key ∙ ap (option_map (after_cancel g.key t)) e,
-  subst (λ (z : Labels). AreAt z (lowered f label t) (after_cancel g.key t st) ps) (sym g.labels)
+  subst (λ (z : Labels). AreAt z (froms_after_sign f label t) (after_cancel g.key t st) ps) (sym g.labels)
       (signed_at s.labels f st ps g.key t label g.labelled (alone_of s h g.key label g.labelled st) a),
 )
 
@@ -111,7 +111,7 @@ at_signs {t} {label} {s} {m} key f st ps g h e a = (
 pub at_enters : {label : Label} {d : Tick} {s m : Scoping} → (known : Label → Type 0) (key : ℕ) (f : Table) (st : Stack) (ps : List Place) →
     Enters label d s m → Sound s → HasKnown known s →
     (known label → ⊥) → stack_of s.tree key ≡ Some st → AreOthers key s.own → AreAt s.labels f st ps → (stack_of m.tree key ≡ Some st)
-    × AreAt m.labels (opened f label d) st ps
+    × AreAt m.labels (froms_after_entry f label d) st ps
 at_enters {label} {d} {s} {m} known key f st ps g h k new e others a =
     let n = keeps_enters g h e others in
     (n.at, opened_else s.labels m.labels f st ps label d n.labels (λ i. new (known_at known s f k st ps a label i)) a)
@@ -135,12 +135,12 @@ stays_at {t} known f key st ps (act_signs s m u l es g b) h i k new e others a =
     let n = stays_signs g e others in
     let o = at_signs key f st ps g i e a in
     let j = apart_signs known g i k in
-    stays_at known (lowered f l t) key (after_cancel g.key t st) ps b (sound_signs g h) j.0 j.1 new o.0 n.others o.1
+    stays_at known (froms_after_sign f l t) key (after_cancel g.key t st) ps b (sound_signs g h) j.0 j.1 new o.0 n.others o.1
 stays_at known f key st ps (act_enters s m u l t d es g b) h i k new e others a =
     let n = keeps_enters g h e others in
     let o = at_enters known key f st ps g h k new.0 e others a in
     let j = apart_enters known g new.0 i k in
-    stays_at (λ x. (x ≡ l) ⊎ known x) (opened f l d) key st ps b (sound_enters g h) j.0 j.1 new.1 o.0 n.others o.1
+    stays_at (λ x. (x ≡ l) ⊎ known x) (froms_after_entry f l d) key st ps b (sound_enters g h) j.0 j.1 new.1 o.0 n.others o.1
 stays_at known f key st ps (act_leaves s m u es g b) h i k new e others a =
     let n = keeps_leaves g e others in
     let o = at_leaves key f st ps g e others a in

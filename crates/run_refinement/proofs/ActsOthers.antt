@@ -7,7 +7,7 @@ use Rattle.cancel_scopes.specs.Sight.{Tick}
 use Rattle.cancel_scopes.specs.Tree.{Stack, stack_of, own_from, IsOpen, after_cancel}
 use Rattle.job_meaning.specs.Log.{Table}
 use Rattle.job_meaning.specs.Rest.{Event}
-use Rattle.turn_semantics.specs.Steps.{lowered, opened, froms_after}
+use Rattle.turn_semantics.specs.Steps.{froms_after_sign, froms_after_entry, froms_after}
 use Rattle.task_machine.specs.declared.task.Own.{Own}
 use Rattle.task_machine.specs.Acts.{Scoping, Signs, Enters, Leaves, Acts, no_act, act_noted, act_starts, act_signs, act_enters, act_leaves}
 use Rattle.task_machine.specs.Fitting.{AreOthers}
@@ -25,7 +25,7 @@ abbrev pub IsKept : Table → Scoping → ℕ → Label → Type 0
 IsKept f s key l = (st : Stack) × (stack_of s.tree key ≡ Some st) × (s.labels key ≡ Some l) × (own_from st ≡ f l)
 
 kept_signs : {t : ℕ} {label : Label} {s m : Scoping} → (f : Table) (key : ℕ) (l : Label) → Signs t label s m → Sound s → Apart s →
-    IsKept f s key l → IsKept (lowered f label t) m key l
+    IsKept f s key l → IsKept (froms_after_sign f label t) m key l
 kept_signs {t} {label} {s} {m} f key l g sound apart k = (
   after_cancel g.key t k.0,
   g.cancels.stacks key ∙ ap (option_map (after_cancel g.key t)) k.1,
@@ -35,7 +35,7 @@ kept_signs {t} {label} {s} {m} f key l g sound apart k = (
 
 kept_enters : {label : Label} {d : Tick} {s m : Scoping} → (known : Label → Type 0) (f : Table) (key : ℕ) (l : Label) → Enters label d s m →
     HasKnown known s → (known label → ⊥) →
-    IsKept f s key l → IsKept (opened f label d) m key l
+    IsKept f s key l → IsKept (froms_after_entry f label d) m key l
 kept_enters {label} {d} {s} {m} known f key l g has new k = (
   k.0,
   g.others key differs ∙ k.1,
@@ -62,11 +62,11 @@ kept_acts known f key l (act_noted s u t e es a) sound apart has new others k = 
 kept_acts known f key l (act_starts s u i x t es a) sound apart has new others k = kept_acts known f key l a sound apart has new others k
 kept_acts {t} known f key l (act_signs s m u x es g a) sound apart has new others k =
     let n = apart_signs known g apart has in
-    kept_acts known (lowered f x t) key l a (sound_signs g sound) n.0 n.1 new (stays_signs g k.1 others).others
+    kept_acts known (froms_after_sign f x t) key l a (sound_signs g sound) n.0 n.1 new (stays_signs g k.1 others).others
     (kept_signs f key l g sound apart k)
 kept_acts known f key l (act_enters s m u x t d es g a) sound apart has new others k =
     let n = apart_enters known g new.0 apart has in
-    kept_acts (λ y. (y ≡ x) ⊎ known y) (opened f x d) key l a (sound_enters g sound) n.0 n.1 new.1 (keeps_enters g sound k.1 others).others
+    kept_acts (λ y. (y ≡ x) ⊎ known y) (froms_after_entry f x d) key l a (sound_enters g sound) n.0 n.1 new.1 (keeps_enters g sound k.1 others).others
     (kept_enters known f key l g has new.0 k)
 kept_acts known f key l (act_leaves s m u es g a) sound apart has new others k =
     let n = apart_leaves known g apart has in

@@ -6,7 +6,7 @@ use Rattle.std.specs.Option.{option_map}
 use Rattle.std.proofs.lemmas.Bool.{le-leb, cases_eq}
 use Rattle.std.proofs.lemmas.Bool.Decides.{leb_tells}
 use Rattle.exc_groups.specs.Exceptions.{Label}
-use Rattle.cancel_scopes.specs.Sight.{Tick, earlier, before, reached, sight}
+use Rattle.cancel_scopes.specs.Sight.{Tick, earlier, before, is_reached, sight}
 use Rattle.cancel_scopes.specs.Tree.{Stack, is_changed, after_cancel}
 use Rattle.job_meaning.specs.Rest.{Event}
 use Rattle.job_meaning.specs.Log.{Table}
@@ -33,40 +33,40 @@ either true b e = inl refl
 either false b e = inr e
 
 -- the earlier of two ticks has come where one has
-reached_left : (a b : Tick) (x : ℕ) → reached a x ≡ true → reached (earlier a b) x ≡ true
-reached_left a b x e = reached_earlier a b x ∙ or_left (reached a x) (reached b x) e
+reached_left : (a b : Tick) (x : ℕ) → is_reached a x ≡ true → is_reached (earlier a b) x ≡ true
+reached_left a b x e = reached_earlier a b x ∙ or_left (is_reached a x) (is_reached b x) e
 
-reached_right : (a b : Tick) (x : ℕ) → reached b x ≡ true → reached (earlier a b) x ≡ true
-reached_right a b x e = reached_earlier a b x ∙ or_right (reached a x) (reached b x) e
+reached_right : (a b : Tick) (x : ℕ) → is_reached b x ≡ true → is_reached (earlier a b) x ≡ true
+reached_right a b x e = reached_earlier a b x ∙ or_right (is_reached a x) (is_reached b x) e
 
-reached_more : (a b c d : Tick) (x : ℕ) → (reached a x ≡ true → reached c x ≡ true) → (reached b x ≡ true → reached d x ≡ true) →
-    reached (earlier a b) x ≡ true →
-    reached (earlier c d) x ≡ true
-reached_more a b c d x left right e = by_one (either (reached a x) (reached b x) (sym (reached_earlier a b x) ∙ e))
+reached_more : (a b c d : Tick) (x : ℕ) → (is_reached a x ≡ true → is_reached c x ≡ true) → (is_reached b x ≡ true → is_reached d x ≡ true) →
+    is_reached (earlier a b) x ≡ true →
+    is_reached (earlier c d) x ≡ true
+reached_more a b c d x left right e = by_one (either (is_reached a x) (is_reached b x) (sym (reached_earlier a b x) ∙ e))
   where
-    by_one : (reached a x ≡ true) ⊎ (reached b x ≡ true) → reached (earlier c d) x ≡ true
+    by_one : (is_reached a x ≡ true) ⊎ (is_reached b x ≡ true) → is_reached (earlier c d) x ≡ true
     by_one (inl f) = reached_left c d x (left f)
     by_one (inr f) = reached_right c d x (right f)
 
 -- a cancellation hides nothing
-seen_cancelled : (id t x : ℕ) (st : Stack) → reached (sight st) x ≡ true → reached (sight (after_cancel id t st)) x ≡ true
+seen_cancelled : (id t x : ℕ) (st : Stack) → is_reached (sight st) x ≡ true → is_reached (sight (after_cancel id t st)) x ≡ true
 seen_cancelled id t x [] e = e
 seen_cancelled id t x (l ∷ ls) e = by_level (λ f. seen_cancelled id t x ls f) (l.label == id)
   where
-    by_shield : (reached (sight ls) x ≡ true → reached (sight (after_cancel id t ls)) x ≡ true) → (s : Bool) (from : Tick) →
-        (reached l.from x ≡ true → reached from x ≡ true) →
-        reached (if s then l.from else earlier l.from (sight ls)) x ≡ true →
-        reached (if s then from else earlier from (sight (after_cancel id t ls))) x ≡ true
+    by_shield : (is_reached (sight ls) x ≡ true → is_reached (sight (after_cancel id t ls)) x ≡ true) → (s : Bool) (from : Tick) →
+        (is_reached l.from x ≡ true → is_reached from x ≡ true) →
+        is_reached (if s then l.from else earlier l.from (sight ls)) x ≡ true →
+        is_reached (if s then from else earlier from (sight (after_cancel id t ls))) x ≡ true
     by_shield more true from own f = own f
     by_shield more false from own f = reached_more l.from (sight ls) from (sight (after_cancel id t ls)) x own more f
 
-    by_level : (reached (sight ls) x ≡ true → reached (sight (after_cancel id t ls)) x ≡ true) → (b : Bool) →
-        reached (sight ((if b then record l { from = earlier l.from (Some (t + 1)) } else l) ∷ after_cancel id t ls)) x ≡ true
+    by_level : (is_reached (sight ls) x ≡ true → is_reached (sight (after_cancel id t ls)) x ≡ true) → (b : Bool) →
+        is_reached (sight ((if b then record l { from = earlier l.from (Some (t + 1)) } else l) ∷ after_cancel id t ls)) x ≡ true
     by_level more true = by_shield more l.shield (earlier l.from (Some (t + 1))) (reached_left l.from (Some (t + 1)) x) e
     by_level more false = by_shield more l.shield l.from (λ f. f) e
 
 -- a tick that has come whenever another has is that one, or comes before it
-same_or_before : (a b : Tick) → ((x : ℕ) → reached b x ≡ true → reached a x ≡ true) → (a ≡ b) ⊎ (before a b ≡ true)
+same_or_before : (a b : Tick) → ((x : ℕ) → is_reached b x ≡ true → is_reached a x ≡ true) → (a ≡ b) ⊎ (before a b ≡ true)
 same_or_before None None h = inl refl
 same_or_before None (Some u) h = absurd (let f : false ≡ true = h u (le-leb u u (omega arith)) in cc)
 same_or_before (Some t) None h = inr refl

@@ -10,7 +10,7 @@ use Rattle.cancel_scopes.specs.Tree.{Stack, stack_of, own_from, own_label, after
 use Rattle.job_meaning.specs.Log.{Table}
 use Rattle.job_meaning.specs.Rest.{Event}
 use Rattle.job_meaning.proofs.Distinct.{same_label_itself}
-use Rattle.turn_semantics.specs.Steps.{lowered, opened, opened_if, froms_after}
+use Rattle.turn_semantics.specs.Steps.{froms_after_sign, froms_after_entry, from_entered_if, froms_after}
 use Rattle.turn_semantics.specs.Turned.{Known}
 use Rattle.task_machine.specs.declared.entry.ScopeFrom.{ScopeFrom}
 use Rattle.task_machine.specs.declared.task.Own.{Own}
@@ -120,7 +120,7 @@ differ_first (y ∷ own) o d =
 -- the from of a scope after a cancellation, which is perhaps its own
 pub own_from_signed : {t : ℕ} {label : Label} {s m : Scoping} (f : Table) (st : Stack) (id : ℕ) (l : Label) → (g : Signs t label s m) →
     Apart s → own_label st ≡ Some id → s.labels id ≡ Some l →
-    own_from st ≡ f l → own_from (after_cancel g.key t st) ≡ lowered f label t l
+    own_from st ≡ f l → own_from (after_cancel g.key t st) ≡ froms_after_sign f label t l
 own_from_signed f [] id l g h first e from = absurd (not_both refl first)
 own_from_signed {t} {label} {s} {m} f (x ∷ xs) id l g h first e from =
     (signed_at s.labels f (x ∷ []) (record { label = l; shield = x.shield } ∷ []) g.key t label g.labelled
@@ -130,7 +130,7 @@ own_from_signed {t} {label} {s} {m} f (x ∷ xs) id l g h first e from =
 -- where a scope is cancelled, the froms that a task keeps are those of the world, with the label's lowered
 pub tracks_signs : {known : Label → Type 0} {f : Table} {entered : List Label} {t : ℕ} {label : Label} {s m : Scoping} → Signs t label s m →
     Sound s → Apart s →
-    Tracks known f s entered → Tracks known (lowered f label t) m entered
+    Tracks known f s entered → Tracks known (froms_after_sign f label t) m entered
 tracks_signs {known} {f} {entered} {t} {label} {s} {m} g sound apart h =
     record {
       labels = ap (map (λ (x : ScopeFrom). x.label)) g.froms ∙ h.labels;
@@ -157,7 +157,7 @@ tracks_signs {known} {f} {entered} {t} {label} {s} {m} g sound apart h =
     )
 
     kept : (o : Own) (i : ℕ) → slice_get m.own i ≡ Some o →
-        (st : Stack) × (l : Label) × (stack_of m.tree o.id ≡ Some st) × (m.labels o.id ≡ Some l) × (own_from st ≡ lowered f label t l)
+        (st : Stack) × (l : Label) × (stack_of m.tree o.id ≡ Some st) × (m.labels o.id ≡ Some l) × (own_from st ≡ froms_after_sign f label t l)
     kept o i e =
         let k = h.kept o i (got o i e) in (
           after_cancel g.key t k.0,
@@ -167,7 +167,7 @@ tracks_signs {known} {f} {entered} {t} {label} {s} {m} g sound apart h =
           own_from_signed f k.0 o.id k.1 g apart (sound.own o.id k.0 k.2) k.3 k.4,
         )
 
-    left : (i : ℕ) (x : ScopeFrom) → slice_get m.froms i ≡ Some x → IsPast i m.own → (x.seen ≡ lowered f label t x.label)
+    left : (i : ℕ) (x : ScopeFrom) → slice_get m.froms i ≡ Some x → IsPast i m.own → (x.seen ≡ froms_after_sign f label t x.label)
         × NoneHas x.label m × known x.label
     left i x e past =
         let c = h.left i x (sym (ap (λ (xs : List ScopeFrom). slice_get xs i) g.froms) ∙ e) (subst (IsPast i) g.own past) in
@@ -178,7 +178,7 @@ tracks_signs {known} {f} {entered} {t} {label} {s} {m} g sound apart h =
 -- where a task enters a scope with a new label, its froms are those of the world, with the new label last
 pub tracks_enters : {known : Label → Type 0} {f : Table} {entered : List Label} {label : Label} {d : Tick} {s m : Scoping} →
     Enters label d s m → HasKnown known s → (known label → ⊥) →
-    Tracks known f s entered → Tracks (λ l. (l ≡ label) ⊎ known l) (opened f label d) m (entered ++ label ∷ [])
+    Tracks known f s entered → Tracks (λ l. (l ≡ label) ⊎ known l) (froms_after_entry f label d) m (entered ++ label ∷ [])
 tracks_enters {known} {f} {entered} {label} {d} {s} {m} g has new h =
     record {
       labels =
@@ -220,7 +220,7 @@ tracks_enters {known} {f} {entered} {label} {d} {s} {m} g has new h =
         )
 
     kept : (o : Own) {i : ℕ} → (slice_get s.own i ≡ Some o) ⊎ ((i ≡ length s.own) × (g.scope ≡ o)) →
-        (st : Stack) × (l : Label) × (stack_of m.tree o.id ≡ Some st) × (m.labels o.id ≡ Some l) × (own_from st ≡ opened f label d l)
+        (st : Stack) × (l : Label) × (stack_of m.tree o.id ≡ Some st) × (m.labels o.id ≡ Some l) × (own_from st ≡ froms_after_entry f label d l)
     kept o {i} (inl e) =
         let k = h.kept o i e in (
           k.0,
@@ -231,17 +231,17 @@ tracks_enters {known} {f} {entered} {label} {d} {s} {m} g has new h =
         )
     kept o {i} (inr e) =
         subst (λ (z : Own). (st : Stack) × (l : Label) × (stack_of m.tree z.id ≡ Some st) × (m.labels z.id ≡ Some l)
-        × (own_from st ≡ opened f label d l)) e.1 (
+        × (own_from st ≡ froms_after_entry f label d l)) e.1 (
           g.level ∷ outer_of s.tree g.parent,
           label,
           g.stack,
           g.labelled.changed,
-          g.from ∙ sym (ap (λ (b : Bool). opened_if b d (f label)) (same_label_itself label)),
+          g.from ∙ sym (ap (λ (b : Bool). from_entered_if b d (f label)) (same_label_itself label)),
         )
 
     left : (i : ℕ) (x : ScopeFrom) → IsPast i (s.own ++ g.scope ∷ []) → (slice_get s.froms i ≡ Some x)
         ⊎ ((i ≡ length s.froms) × (first ≡ x)) →
-        (x.seen ≡ opened f label d x.label) × NoneHas x.label m × ((x.label ≡ label) ⊎ known x.label)
+        (x.seen ≡ froms_after_entry f label d x.label) × NoneHas x.label m × ((x.label ≡ label) ⊎ known x.label)
     left i x past (inl e) =
         let c = h.left i x e (all_first (λ (o : Own). o.at ≢ i) s.own g.scope past) in
         let differs = apart_from x.label c.2 in
@@ -329,12 +329,12 @@ tracked known f entered (act_noted s u t e es a) sound apart has new h = tracked
 tracked known f entered (act_starts s u i l t es a) sound apart has new h = tracked known f entered a sound apart has new h
 tracked {t} known f entered (act_signs s m u l es g a) sound apart has new h =
     let n = apart_signs known g apart has in
-    tracked known (lowered f l t) entered a (sound_signs g sound) n.0 n.1 new (tracks_signs g sound apart h)
+    tracked known (froms_after_sign f l t) entered a (sound_signs g sound) n.0 n.1 new (tracks_signs g sound apart h)
 tracked known f entered (act_enters s m u l t d es g a) sound apart has new h =
     let n = apart_enters known g new.0 apart has in
-    let more = tracked (λ x. (x ≡ l) ⊎ known x) (opened f l d) (entered ++ l ∷ []) a (sound_enters g sound) n.0 n.1 new.1
+    let more = tracked (λ x. (x ≡ l) ⊎ known x) (froms_after_entry f l d) (entered ++ l ∷ []) a (sound_enters g sound) n.0 n.1 new.1
     (tracks_enters g has new.0 h) in
-    subst (Tracks (λ x. known x ⊎ Known x (l ∷ entered_made es)) (froms_after (opened f l d) es) u)
+    subst (Tracks (λ x. known x ⊎ Known x (l ∷ entered_made es)) (froms_after (froms_after_entry f l d) es) u)
     (append_assoc entered (l ∷ []) (entered_made es))
     (tracks_more (λ x k. known_one known l x es k) more)
 tracked known f entered (act_leaves s m u es g a) sound apart has new h =

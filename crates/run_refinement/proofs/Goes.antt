@@ -14,7 +14,7 @@ use Rattle.turn_semantics.specs.Steps.{froms_after}
 use Rattle.turn_semantics.specs.Turned.{TurnsOver}
 use Rattle.turn_semantics.specs.Wakes.{Wake, begins, sees, is_due, has_answer, settles, CanWake, from_start, from_asking, from_sleep, from_due, from_wait}
 use Rattle.interleavings.specs.Interleaving.{Started, In}
-use Rattle.interleavings.specs.Going.{turned, children_from}
+use Rattle.interleavings.specs.Going.{task_after_turn, children_from}
 use Rattle.interleavings.specs.Woken.{MayWake, WaitIsOver}
 use Rattle.interleavings.specs.Runs.{turn, Front, is_front, behind_one, turns_taken}
 use Rattle.interleavings.proofs.Picking.{SameTasks, front_same}
@@ -204,7 +204,7 @@ pub record WentOn (k : Table) (job : Job) (input : List ℕ) (t m s : ℕ) (was 
   pub is : Interleaving k job input t (m + length o.begun)
   pub counts : turns_taken is.reached ≡ turns_taken was.reached + 1
   pub froms : is.froms ≡ froms_after was.froms o.made
-  pub of_task : is.at s ≡ turned k t m (was.at s) o stopped
+  pub of_task : is.at s ≡ task_after_turn k t m (was.at s) o stopped
   pub of_child : (i : ℕ) (b : Begun) → slice_get o.begun i ≡ Some b → is.at (m + i) ≡ child_at k t (m + i) b
   pub of_other : (p : ℕ) → p < m → p ≢ s → is.at p ≡ was.at p
 
@@ -220,7 +220,7 @@ went_on k job input t m s was wake o stopped less may goes stops =
       is =
           record {
             froms = froms_after was.froms o.made;
-            tasks = (turned k t m q o stopped ∷ children_from k t m o.begun) ++ others;
+            tasks = (task_after_turn k t m q o stopped ∷ children_from k t m o.begun) ++ others;
             reached =
                 turn was.froms t m q was.tasks others wake o stopped was.reached front.front
                 (may_moved was.froms was.tasks (q ∷ others) t q wake q.rest.stopped same.back may) goes stops;
@@ -253,17 +253,17 @@ went_on k job input t m s was wake o stopped less may goes stops =
     apart = apart_front q was.tasks others front.front was.differ
 
     at_after : ℕ → Started
-    at_after p = picked (p == s) (nat_lt p m) (turned k t m q o stopped) (was.at p) (nth_child k t m o.begun (p - m) (was.at p))
+    at_after p = picked (p == s) (nat_lt p m) (task_after_turn k t m q o stopped) (was.at p) (nth_child k t m o.begun (p - m) (was.at p))
 
-    at_task : at_after s ≡ turned k t m q o stopped
-    at_task = ap (λ (b : Bool). picked b (nat_lt s m) (turned k t m q o stopped) (was.at s) (nth_child k t m o.begun (s - m) (was.at s)))
+    at_task : at_after s ≡ task_after_turn k t m q o stopped
+    at_task = ap (λ (b : Bool). picked b (nat_lt s m) (task_after_turn k t m q o stopped) (was.at s) (nth_child k t m o.begun (s - m) (was.at s)))
         (eq-eqb s s refl)
 
     at_other : (p : ℕ) → p < m → p ≢ s → at_after p ≡ was.at p
     at_other p lt differs = by_same (p == s) refl (nat_lt p m) refl
       where
         by_same : (b : Bool) → (p == s) ≡ b → (c : Bool) → nat_lt p m ≡ c →
-            picked b c (turned k t m q o stopped) (was.at p) (nth_child k t m o.begun (p - m) (was.at p)) ≡ was.at p
+            picked b c (task_after_turn k t m q o stopped) (was.at p) (nth_child k t m o.begun (p - m) (was.at p)) ≡ was.at p
         by_same true e c f = absurd (differs (eqb-true p s e))
         by_same false e true f = refl
         by_same false e false f = absurd (grind (arith, nat_tests))
@@ -272,7 +272,7 @@ went_on k job input t m s was wake o stopped less may goes stops =
     at_born p le = by_same (p == s) refl (nat_lt p m) refl
       where
         by_same : (b : Bool) → (p == s) ≡ b → (c : Bool) → nat_lt p m ≡ c →
-            picked b c (turned k t m q o stopped) (was.at p) (nth_child k t m o.begun (p - m) (was.at p))
+            picked b c (task_after_turn k t m q o stopped) (was.at p) (nth_child k t m o.begun (p - m) (was.at p))
             ≡ nth_child k t m o.begun (p - m) (was.at p)
         by_same true e c f = absurd (let g : p ≡ s = eqb-true p s e in omega (arith, g, le, less))
         by_same false e true f = absurd (grind (arith, nat_tests))
@@ -289,12 +289,12 @@ went_on k job input t m s was wake o stopped less may goes stops =
         by_either (inl e) = absurd (differs (sym (was.has p lt).1 ∙ ap (λ (x : Started). x.serial) e ∙ (was.has s less).1))
         by_either (inr i) = i
 
-    has_after : (p : ℕ) → p < m + length o.begun → In (at_after p) ((turned k t m q o stopped ∷ children_from k t m o.begun) ++ others)
+    has_after : (p : ℕ) → p < m + length o.begun → In (at_after p) ((task_after_turn k t m q o stopped ∷ children_from k t m o.begun) ++ others)
         × ((at_after p).serial ≡ p)
     has_after p lt = by_same (p == s) refl (nat_lt p m) refl
       where
         Has : Started → Type 0
-        Has x = In x ((turned k t m q o stopped ∷ children_from k t m o.begun) ++ others) × (x.serial ≡ p)
+        Has x = In x ((task_after_turn k t m q o stopped ∷ children_from k t m o.begun) ++ others) × (x.serial ≡ p)
 
         by_same : (b : Bool) → (p == s) ≡ b → (c : Bool) → nat_lt p m ≡ c → Has (at_after p)
         by_same true e c f =
@@ -304,7 +304,7 @@ went_on k job input t m s was wake o stopped less may goes stops =
             let lower : p < m = grind (arith, nat_tests) in
             let differs : p ≢ s = λ g. absurd (let x : true ≡ false = sym (eq-eqb p s g) ∙ e in cc) in
             subst Has (sym (at_other p lower differs)) (
-              in_second (was.at p) (turned k t m q o stopped ∷ children_from k t m o.begun) others (has_old p lower differs),
+              in_second (was.at p) (task_after_turn k t m q o stopped ∷ children_from k t m o.begun) others (has_old p lower differs),
               (was.has p lower).1,
             )
         by_same false e false f =
@@ -315,11 +315,11 @@ went_on k job input t m s was wake o stopped less may goes stops =
               (let e = h.1 in omega (arith, e, upper)),
             )
 
-    one_after : (x : Started) → In x ((turned k t m q o stopped ∷ children_from k t m o.begun) ++ others) → (x ≡ at_after x.serial)
+    one_after : (x : Started) → In x ((task_after_turn k t m q o stopped ∷ children_from k t m o.begun) ++ others) → (x ≡ at_after x.serial)
         × (x.serial < m + length o.begun)
-    one_after x i = by_part (in_either x (turned k t m q o stopped ∷ children_from k t m o.begun) others i)
+    one_after x i = by_part (in_either x (task_after_turn k t m q o stopped ∷ children_from k t m o.begun) others i)
       where
-        by_part : In x (turned k t m q o stopped ∷ children_from k t m o.begun) ⊎ In x others → (x ≡ at_after x.serial)
+        by_part : In x (task_after_turn k t m q o stopped ∷ children_from k t m o.begun) ⊎ In x others → (x ≡ at_after x.serial)
             × (x.serial < m + length o.begun)
         by_part (inl (inl e)) =
             let is_s : x.serial ≡ s = ap (λ (y : Started). y.serial) e ∙ (was.has s less).1 in
@@ -337,7 +337,7 @@ went_on k job input t m s was wake o stopped less may goes stops =
             let differs : x.serial ≢ s = λ e. absurd (apart.0 x j (e ∙ sym (was.has s less).1)) in
             (h.0 ∙ sym (at_other x.serial h.1 differs), (let e = h.1 in omega (arith, e)))
 
-    differ_after : AreApart ((turned k t m q o stopped ∷ children_from k t m o.begun) ++ others)
+    differ_after : AreApart ((task_after_turn k t m q o stopped ∷ children_from k t m o.begun) ++ others)
     differ_after =
         (by_part, apart_append (children_from k t m o.begun) others (children_apart k t m o.begun) apart.1 later)
       where

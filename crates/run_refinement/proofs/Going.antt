@@ -49,7 +49,7 @@ use Rattle.task_machine.specs.Waking.{WakesFrom, answer_in, raised_in, wake_in}
 use Rattle.task_machine.specs.Worlds.{label_at}
 use Rattle.task_machine.proofs.Stacked.{one_of, seen_at}
 use Rattle.interleavings.specs.Interleaving.{Started, In, Kid, RunInvariant, live, goes_on, AllFrom}
-use Rattle.interleavings.specs.Going.{children_from, turned}
+use Rattle.interleavings.specs.Going.{children_from, task_after_turn}
 use Rattle.interleavings.specs.Runs.{Front, Reached, begun, turn, jump}
 use Rattle.interleavings.specs.Woken.{members_by, WaitIsOver, MayWake}
 use Rattle.interleavings.proofs.Contract.{stops_at}
@@ -101,7 +101,7 @@ begun_stopped k t m (b ∷ bs) x (inr i) = begun_stopped k t (suc m) bs x i
 turn_stopped : (k f : Table) (t m : ℕ) (q : Started) (qs others : List Started) (wake : wakes.Wake) (o : Move) (s : Stopped) →
     Front q qs others →
     TurnsOver q.stop t q.here f wake q.rest q.places q.count o → o.stopped ≡ Some s → ((z : Started) → In z qs → StoppedBy t z) →
-    (x : Started) → In x ((turned k t m q o s ∷ children_from k t m o.begun) ++ others) → StoppedBy t x
+    (x : Started) → In x ((task_after_turn k t m q o s ∷ children_from k t m o.begun) ++ others) → StoppedBy t x
 turn_stopped k f t m q qs others wake o s at goes e before x (inl g) =
     subst (StoppedBy t) (sym g) (record {
       stop = omega arith;

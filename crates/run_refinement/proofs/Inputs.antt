@@ -7,9 +7,9 @@ use Rattle.cancel_scopes.specs.Sight.{seen}
 use Rattle.job_tree.specs.Tree.{Step, sleep, checkpoint, forever, pace, find, head, longest, need, raise, cancel, scope, nursery, start, repeat, attempt, Steps, stop, step, Handled, unhandled, except, Cleaned, uncleaned, finally}
 use Rattle.job_meaning.specs.Asking.{Answer, lines, missing, counted, shows, needs, paces}
 use Rattle.job_meaning.specs.Log.{Table}
-use Rattle.job_meaning.specs.Walk.{Here, far, paced}
+use Rattle.job_meaning.specs.Walk.{Here, far, pace_ticks}
 use Rattle.job_meaning.specs.Rest.{Frame, steps_left, in_scope, in_nursery, in_repeat, in_try, in_handler, in_cleanup, Stopped, to_begin, asking, asleep, awaiting, at_end, inside}
-use Rattle.turn_semantics.specs.Midway.{Place, stack_at, Midway, Begun, Move, moved, then_move}
+use Rattle.turn_semantics.specs.Midway.{Place, stack_at, Midway, Begun, Move, after_move, then_move}
 use Rattle.turn_semantics.specs.Steps.{froms_after, falls_asleep, begun_over, begins_passes, step_on, step_steps, handler_if, step_try, step_pass, step_frames, step_of, turn_of}
 use Rattle.turn_semantics.specs.Wakes.{Wake, begins, sees, is_due, has_answer, settles, with_answer, wake_of, turn_from}
 use Rattle.run_refinement.proofs.ActsKeep.{not_both}
@@ -116,8 +116,8 @@ unfolding turn_of
 steps_on_input zero froms t here m = tt
 steps_on_input (suc n) froms t here m =
     let o = step_of froms t here m in
-    then_on here.input o.stopped o (turn_of n (froms_after froms o.made) t here (moved m o)) (step_on_input froms t here m)
-    (steps_on_input n (froms_after froms o.made) t here (moved m o))
+    then_on here.input o.stopped o (turn_of n (froms_after froms o.made) t here (after_move m o)) (step_on_input froms t here m)
+    (steps_on_input n (froms_after froms o.made) t here (after_move m o))
 
 answer_on : (input : List ℕ) (froms : Table) (t : ℕ) (here : Here) (a : Answer) (s : Stopped) (fs : List Frame) (ps : List Place) →
     AllOn input (with_answer froms t here a s fs ps).begun
@@ -125,7 +125,7 @@ answer_on input froms t here (lines ls) (asking kernel purpose) fs ps = tt
 answer_on input froms t here missing (asking kernel (needs name)) fs ps = tt
 answer_on input froms t here missing (asking kernel shows) fs ps = tt
 answer_on input froms t here missing (asking kernel (paces k)) fs ps = tt
-answer_on input froms t here (counted n) (asking kernel (paces k)) fs ps = asleep_on input (seen (stack_at froms ps) t) (paced n k) t fs ps
+answer_on input froms t here (counted n) (asking kernel (paces k)) fs ps = asleep_on input (seen (stack_at froms ps) t) (pace_ticks n k) t fs ps
 answer_on input froms t here (counted n) (asking kernel shows) fs ps = tt
 answer_on input froms t here (counted n) (asking kernel (needs name)) fs ps = tt
 answer_on input froms t here a to_begin fs ps = tt

@@ -14,7 +14,7 @@ use Rattle.task_machine.specs.declared.task.Task.{Task}
 use Rattle.task_machine.specs.Fitting.{blocks_of, waits_of}
 use Rattle.task_machine.specs.Standing.{HasBlock, HasNurseryOf, IsBegun, BeginsAt}
 use Rattle.interleavings.specs.Interleaving.{Started, live}
-use Rattle.interleavings.specs.Going.{turned}
+use Rattle.interleavings.specs.Going.{task_after_turn}
 use Rattle.interleavings.proofs.Turning.{old_child, later_child}
 use Rattle.run_refinement.specs.RunState.{RunState, IsMember, HasMembers, Follows, Refines}
 use Rattle.run_refinement.specs.Turn.{Turning}
@@ -33,7 +33,7 @@ module _ (k : Table) (job : Job) (input : List ℕ) (t m s : ℕ) (old new : Run
 
   -- the task after its turn
   abbrev pub moved_to : Started
-  moved_to = turned k t m (c.interleaving.at s) T.move T.stopped
+  moved_to = task_after_turn k t m (c.interleaving.at s) T.move T.stopped
 
   -- a task in one of the task's nurseries is another task, and stays as it is
   member_stays : (id place serial : ℕ) (x : End) → HasBlock id (blocks_of before.frames.items) →

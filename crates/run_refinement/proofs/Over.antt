@@ -7,12 +7,12 @@ use Rattle.job_tree.specs.Starting.{StartsInNurseries}
 use Rattle.job_meaning.specs.Log.{Table}
 use Rattle.job_meaning.specs.Walk.{Here}
 use Rattle.job_meaning.specs.Meaning.{root_label, root_here, meaning_table, meaning_records, meaning_froms, meaning_end, froms_by}
-use Rattle.job_meaning.specs.Shown.{Shown, shown, shown_at}
+use Rattle.job_meaning.specs.Shown.{Shown, as_shown, shown_at}
 use Rattle.job_meaning.specs.Rest.{Event, noted, signs, enters, starts, Stopped, to_begin, asking, asleep, awaiting, at_end}
 use Rattle.turn_semantics.specs.Midway.{Begun}
 use Rattle.task_machine.specs.Standing.{shown_made}
 use Rattle.interleavings.specs.Interleaving.{Started, In}
-use Rattle.interleavings.specs.Going.{root_task, turned, children_from}
+use Rattle.interleavings.specs.Going.{root_task, task_after_turn, children_from}
 use Rattle.interleavings.specs.Rows.{Row, entries_made, entered_made, children_made, StartsRows, HasRow, records_by, froms_in, DepthFirst}
 use Rattle.interleavings.specs.Runs.{Reached, begun, turn, jump}
 use Rattle.interleavings.proofs.Picking.{front_same}
@@ -44,10 +44,10 @@ root_stays k job input _ _ _ _ (turn f t m q qs others wake o s r front may goes
     let inner = root_stays k job input f t m qs r in (
       let some = inner.0 in omega (arith, some),
       λ x i z. by_part inner x z
-          (in_either x (turned k t m q o s ∷ children_from k t m o.begun) others i),
+          (in_either x (task_after_turn k t m q o s ∷ children_from k t m o.begun) others i),
     )
   where
-    by_part : RootStays job input m qs → (x : Started) → x.serial ≡ 0 → In x (turned k t m q o s ∷ children_from k t m o.begun)
+    by_part : RootStays job input m qs → (x : Started) → x.serial ≡ 0 → In x (task_after_turn k t m q o s ∷ children_from k t m o.begun)
         ⊎ In x others → x.here ≡ root_here job input
     by_part inner x z (inl (inl e)) =
         ap (λ (y : Started). y.here) e ∙ inner.1 q ((front_same q qs others front).back q (inl refl))
@@ -85,7 +85,7 @@ row_at f start q =
       children = children_made q.child q.made;
     }
 
-shown_entries : (input : List ℕ) (es : List Event) → shown_made input es ≡ map (shown input) (entries_made es)
+shown_entries : (input : List ℕ) (es : List Event) → shown_made input es ≡ map (as_shown input) (entries_made es)
 shown_entries input [] = refl
 shown_entries input (noted t e ∷ es) = ap (λ (xs : List Shown). shown_at input t e ∷ xs) (shown_entries input es)
 shown_entries input (signs l t ∷ es) = shown_entries input es

@@ -2,7 +2,7 @@
 use Rattle.std.specs.Prelude.{◌≡◌, ℕ, ◌<◌, Some, List, [], ◌∷◌, All, map}
 use Rattle.job_tree.specs.Tree.{Tree as Job}
 use Rattle.job_meaning.specs.Meaning.{meaning_records, meaning_froms, meaning_end}
-use Rattle.job_meaning.specs.Shown.{shown}
+use Rattle.job_meaning.specs.Shown.{as_shown}
 use Rattle.task_machine.specs.Noted.{entry_of, from_of, IsSlice}
 use Rattle.interleavings.specs.Rows.{Row, records_by, froms_in, DepthFirst}
 use Rattle.run_refinement.specs.RunState.{RunState, Gone}
@@ -15,7 +15,7 @@ pub record ShowsRow (input : List ℕ) (state : RunState) (p : ℕ) (row : Row) 
   pub start : state.start p ≡ row.start
   pub end : gone.end ≡ row.end
   pub exc : gone.exc ≡ row.exc
-  pub entries : map entry_of gone.entries ≡ map (shown input) row.entries
+  pub entries : map entry_of gone.entries ≡ map (as_shown input) row.entries
   pub slices : All (IsSlice input) gone.entries
   pub froms : map from_of gone.froms ≡ row.froms
   pub children : state.children p ≡ row.children

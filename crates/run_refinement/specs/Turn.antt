@@ -20,7 +20,7 @@ use Rattle.task_machine.specs.Standing.{TookTo}
 use Rattle.task_machine.specs.Stops.{Numbers}
 use Rattle.task_machine.specs.Waking.{IsInRangeTaskState}
 use Rattle.interleavings.specs.Interleaving.{Started}
-use Rattle.interleavings.specs.Going.{turned}
+use Rattle.interleavings.specs.Going.{task_after_turn}
 use Rattle.interleavings.specs.Runs.{turns_taken}
 use Rattle.interleavings.specs.Rows.{entered_made}
 use Rattle.run_refinement.specs.RunState.{Interleaving, RunState}
@@ -115,7 +115,7 @@ pub record Turning
     pub is : Interleaving k job input t (m + length move.begun)
     pub counts : turns_taken is.reached ≡ turns_taken was.reached + 1
     pub froms : is.froms ≡ froms_after was.froms move.made
-    pub of_task : is.at s ≡ turned k t m (was.at s) move stopped
+    pub of_task : is.at s ≡ task_after_turn k t m (was.at s) move stopped
     pub of_child : (i : ℕ) (b : Begun) → slice_get move.begun i ≡ Some b → is.at (m + i) ≡ child_at k t (m + i) b
     pub of_other : (p : ℕ) → p < m → p ≢ s → is.at p ≡ was.at p
     -- the state after it

@@ -18,7 +18,7 @@ use Rattle.job_meaning.specs.Asking as ask
 use Rattle.nursery_book.specs.declared.book.NurseryBook.{NurseryBook}
 use Rattle.turn_semantics.specs.Midway.{Place, Move}
 use Rattle.turn_semantics.specs.Names.{names_at, AreNew, IsNew, NewIn}
-use Rattle.turn_semantics.specs.Steps.{onward, blocks_on, making, sleeps, label_among, signs_to, begins_passes, step_on, step_frames}
+use Rattle.turn_semantics.specs.Steps.{onward, blocks_on, makes, sleeps, label_among, signs_to, begins_passes, step_on, step_frames}
 use Rattle.task_machine.specs.declared.frame.Frame.{Frame}
 use Rattle.task_machine.specs.declared.frame.Frame.TheVariants.{Steps, Scope, Nursery}
 use Rattle.task_machine.specs.declared.stop.Moved.{Moved}
@@ -261,7 +261,7 @@ takes_cancel frames first task before old new name a is world cancels =
     takes_on frames first task before before old new (On None) a
     (λ froms numbers ps count stands new_name.
     subst (λ (o : Move). Took frames before before old new (On None) froms numbers o)
-    (ap (λ (gs : List rest.Frame). making (signs_to (label_among name ps) old.tick) gs ps) (frames_put frames task before first a numbers)
+    (ap (λ (gs : List rest.Frame). makes (signs_to (label_among name ps) old.tick) gs ps) (frames_put frames task before first a numbers)
     ∙ sym (ap (λ (s : Step). step_on froms old.tick (here_inside before) (step_in s) (steps_of a.left.now)
     (frames_of numbers a.outer) ps count) is))
     (took_cancel frames before before old new froms numbers None ps name stands refl (blocks_put frames task before first a) world cancels))
@@ -285,7 +285,7 @@ takes_scope frames first task before after old new name deadline shield fail bod
     (frames_of numbers a.outer) ps count) is))
     (subst
     (λ (gs : List rest.Frame). Took frames before after old new (On None) froms numbers
-    (making (rest.enters (label_in before name) old.tick (due deadline old.tick) ∷ []) (rest.steps_left body ∷ rest.in_scope fail ∷ gs)
+    (makes (rest.enters (label_in before name) old.tick (due deadline old.tick) ∷ []) (rest.steps_left body ∷ rest.in_scope fail ∷ gs)
     (record { label = label_in before name; shield = shield } ∷ ps)))
     (frames_put frames task before first a numbers)
     (took_scope frames before after old new froms numbers None ps (label_in before name) shield fail (due deadline old.tick) body stands
@@ -309,7 +309,7 @@ takes_nursery me frames first task before after old new name deadline shield bod
     (frames_of numbers a.outer) ps count) is))
     (subst
     (λ (gs : List rest.Frame). Took frames before after old new (On None) froms numbers
-    (making (rest.enters (label_in before name) old.tick (due deadline old.tick) ∷ [])
+    (makes (rest.enters (label_in before name) old.tick (due deadline old.tick) ∷ [])
     (rest.steps_left body ∷ rest.in_nursery [] ∷ gs) (record { label = label_in before name; shield = shield } ∷ ps)))
     (frames_put frames task before first a numbers)
     (took_nursery me frames before after old new froms numbers None ps (label_in before name) shield (due deadline old.tick) body stands

@@ -8,7 +8,7 @@ use Rattle.cancel_scopes.specs.Tree.{Stack, Tree, stack_of, IsOpen, outer_of, Is
 use Rattle.job_meaning.specs.Log.{Table}
 use Rattle.turn_semantics.specs.Midway.{Place}
 use Rattle.turn_semantics.specs.Names.{names_at, OwnNames}
-use Rattle.turn_semantics.specs.Steps.{label_among, signs_to, froms_after, lowered}
+use Rattle.turn_semantics.specs.Steps.{label_among, signs_to, froms_after, froms_after_sign}
 use Rattle.task_machine.specs.Labels.{Labels, scope_named}
 use Rattle.task_machine.specs.Stacked.{AreAt, IsKey, FoundAs}
 use Rattle.task_machine.proofs.Stacked.{named_at, named_is_in, signed_alike}
@@ -61,7 +61,7 @@ cancels_at labels more old new scope name key t same after found froms ps own a 
     let at : FoundAs labels (Some key) (label_among name ps) =
     subst (λ (o : Option ℕ). FoundAs labels o (label_among name ps)) found (named_at labels froms name (outer_of old scope) ps a) in
     let label : Label = at.1.0 in
-    let signed : AreAt labels (lowered froms label t) (after_cancel key t (outer_of old scope)) ps =
+    let signed : AreAt labels (froms_after_sign froms label t) (after_cancel key t (outer_of old scope)) ps =
     signed_alike labels froms (outer_of old scope) ps key t label (at.0 ∙ at.1.1) (named_is_in labels name (outer_of old scope) key found)
     own a in
     subst (λ (ls : Labels). AreAt ls (froms_after froms (signs_to (label_among name ps) t)) (outer_of new scope) ps) (sym same)

@@ -7,7 +7,7 @@ use Rattle.cancel_scopes.specs.Tree.{Stack, Tree, stack_of, outer_of, IsChain}
 use Rattle.job_meaning.specs.Log.{Table}
 use Rattle.turn_semantics.specs.Midway.{Place}
 use Rattle.turn_semantics.specs.Names.{IsName, names_at}
-use Rattle.turn_semantics.specs.Steps.{opened}
+use Rattle.turn_semantics.specs.Steps.{froms_after_entry}
 use Rattle.task_machine.specs.Labels.{Labels, Updates}
 use Rattle.task_machine.specs.Stacked.{AreAt, SameOn}
 use Rattle.task_machine.proofs.Stacked.{entered_alike}
@@ -44,9 +44,9 @@ pub enters_at : (labels more : Labels) (old new : Tree) (outer inner : Option �
     stack_of new key ≡ Some (record { label = key; shield = shield; from = d } ∷ outer_of old outer) →
     Updates labels more key (Some label) → inner ≡ Some key →
     (froms : Table) (ps : List Place) → (IsName label.name (names_at ps) → ⊥) → AreAt labels froms (outer_of old outer) ps →
-    AreAt more (opened froms label d) (outer_of new inner) (record { label = label; shield = shield } ∷ ps)
+    AreAt more (froms_after_entry froms label d) (outer_of new inner) (record { label = label; shield = shield } ∷ ps)
 enters_at labels more old new outer inner key label shield d chain closed top u within froms ps named a =
-    subst (λ (st : Stack). AreAt more (opened froms label d) st (record { label = label; shield = shield } ∷ ps))
+    subst (λ (st : Stack). AreAt more (froms_after_entry froms label d) st (record { label = label; shield = shield } ∷ ps))
     (sym (ap (outer_of new) within ∙ ap (λ (o : Option Stack). unwrap_or o []) top))
     (entered_alike labels more froms (outer_of old outer) ps key label shield d u.changed
     (same_round labels more old key (Some label) chain closed u outer) named a)

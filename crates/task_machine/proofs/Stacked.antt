@@ -4,14 +4,14 @@ use Rattle.std.proofs.Common.{◌≡◌, ◌⊎◌, inl, inr, ℕ, ◌+◌, Bool
 use Rattle.std.proofs.lemmas.Bool.{eqb-true, eq-eqb}
 use Rattle.std.specs.Str.{bytes_eq}
 use Rattle.exc_groups.specs.Exceptions.{Label}
-use Rattle.cancel_scopes.specs.Sight.{Tick, Level, earlier, reached, sight, seen, catches}
+use Rattle.cancel_scopes.specs.Sight.{Tick, Level, earlier, is_reached, sight, seen, catches}
 use Rattle.cancel_scopes.specs.Tree.{after_cancel}
 use Rattle.cancel_scopes.specs.Tree as scopes
 use Rattle.job_meaning.specs.Log.{Table, same_label}
 use Rattle.job_meaning.specs.Walk.{label_if}
 use Rattle.job_meaning.proofs.Distinct.{same_label_equal, same_label_itself}
 use Rattle.turn_semantics.specs.Midway.{Place, stack_at}
-use Rattle.turn_semantics.specs.Steps.{label_among, lowered, lowered_if, opened, opened_if}
+use Rattle.turn_semantics.specs.Steps.{label_among, froms_after_sign, from_lowered_if, froms_after_entry, from_entered_if}
 use Rattle.turn_semantics.specs.Turned.{Known, labels_of}
 use Rattle.turn_semantics.specs.Names.{IsName, names_at, OwnNames}
 use Rattle.task_machine.specs.Labels.{Labels, is_named, key_if, scope_named}
@@ -36,7 +36,7 @@ sight_at labels froms (l ∷ ls) (p ∷ ps) a = by_level l.shield p.shield l.fro
 -- what is seen on a stack in a tick is what is seen on its places with the world's froms
 pub seen_at : (labels : Labels) (froms : Table) (st : scopes.Stack) (ps : List Place) (t : ℕ) → AreAt labels froms st ps →
     seen st t ≡ seen (stack_at froms ps) t
-seen_at labels froms st ps t a = ap (λ (x : Tick). reached x t) (sight_at labels froms st ps a)
+seen_at labels froms st ps t a = ap (λ (x : Tick). is_reached x t) (sight_at labels froms st ps a)
 
 -- the innermost scope catches as its place does
 pub catches_at : (labels : Labels) (froms : Table) (l : Level ℕ) (ls : scopes.Stack) (p : Place) (ps : List Place) (t : ℕ) →
@@ -44,7 +44,7 @@ pub catches_at : (labels : Labels) (froms : Table) (l : Level ℕ) (ls : scopes.
     scopes.catches (l ∷ ls) t ≡ catches (froms p.label) p.shield (stack_at froms ps) t
 catches_at labels froms l ls p ps t a = both l.from (froms p.label) l.shield p.shield a.2 a.1 (seen_at labels froms ls ps t a.3)
   where
-    both : (x y : Tick) (b c : Bool) {u v : Bool} → x ≡ y → b ≡ c → u ≡ v → (reached x t && (b || not u)) ≡ (reached y t && (c || not v))
+    both : (x y : Tick) (b c : Bool) {u v : Bool} → x ≡ y → b ≡ c → u ≡ v → (is_reached x t && (b || not u)) ≡ (is_reached y t && (c || not v))
     both x y b c e f g = cc
 
 -- ---- the scope of a name
@@ -99,7 +99,7 @@ same_test labels l p key label named alone at = by_key (l.label == key) refl
 
 -- a sign lowers one from, of the scope that has its label
 signed_level : (froms : Table) (l : Level ℕ) (p : Place) (t : ℕ) (b : Bool) → l.from ≡ froms p.label →
-    (if b then record l { from = earlier l.from (Some (t + 1)) } else l).from ≡ lowered_if b t (froms p.label)
+    (if b then record l { from = earlier l.from (Some (t + 1)) } else l).from ≡ from_lowered_if b t (froms p.label)
 signed_level froms l p t true e = ap (λ (x : Tick). earlier x (Some (t + 1))) e
 signed_level froms l p t false e = e
 
@@ -114,7 +114,7 @@ same_shield l t false = refl
 -- a scope that alone has its label in a stack is cancelled: the places stay, and the from of that label is lowered
 pub signed_at : (labels : Labels) (froms : Table) (st : scopes.Stack) (ps : List Place) (key t : ℕ) (label : Label) →
     labels key ≡ Some label →
-    Alone labels key label st → AreAt labels froms st ps → AreAt labels (lowered froms label t) (after_cancel key t st) ps
+    Alone labels key label st → AreAt labels froms st ps → AreAt labels (froms_after_sign froms label t) (after_cancel key t st) ps
 signed_at labels froms [] [] key t label named alone a = tt
 signed_at labels froms [] (p ∷ ps) key t label named alone a = a
 signed_at labels froms (l ∷ ls) [] key t label named alone a = a
@@ -122,20 +122,20 @@ signed_at labels froms (l ∷ ls) (p ∷ ps) key t label named alone a =
     let test : (l.label == key) ≡ same_label p.label label = same_test labels l p key label named alone.0 a.0 in (
       ap labels (same_key l t (l.label == key)) ∙ a.0,
       same_shield l t (l.label == key) ∙ a.1,
-      signed_level froms l p t (l.label == key) a.2 ∙ ap (λ (b : Bool). lowered_if b t (froms p.label)) test,
+      signed_level froms l p t (l.label == key) a.2 ∙ ap (λ (b : Bool). from_lowered_if b t (froms p.label)) test,
       signed_at labels froms ls ps key t label named alone.1 a.3,
     )
 
 -- a label that is opened and is none of these places leaves them as they are
 pub opened_else : (labels more : Labels) (froms : Table) (st : scopes.Stack) (ps : List Place) (label : Label) (d : Tick) →
-    SameOn labels more st → (Known label (labels_of ps) → ⊥) → AreAt labels froms st ps → AreAt more (opened froms label d) st ps
+    SameOn labels more st → (Known label (labels_of ps) → ⊥) → AreAt labels froms st ps → AreAt more (froms_after_entry froms label d) st ps
 opened_else labels more froms [] [] label d same new a = tt
 opened_else labels more froms [] (p ∷ ps) label d same new a = a
 opened_else labels more froms (l ∷ ls) [] label d same new a = a
 opened_else labels more froms (l ∷ ls) (p ∷ ps) label d same new a = (
   sym same.0 ∙ a.0,
   a.1,
-  a.2 ∙ sym (ap (λ (b : Bool). opened_if b d (froms p.label)) differs),
+  a.2 ∙ sym (ap (λ (b : Bool). from_entered_if b d (froms p.label)) differs),
   opened_else labels more froms ls ps label d same.1 (λ k. new (inr k)) a.3,
 )
   where
@@ -150,12 +150,12 @@ opened_else labels more froms (l ∷ ls) (p ∷ ps) label d same new a = (
 pub opened_at : (labels more : Labels) (froms : Table) (st : scopes.Stack) (ps : List Place) (key : ℕ) (label : Label) (shield : Bool)
     (d : Tick) →
     more key ≡ Some label → SameOn labels more st → (Known label (labels_of ps) → ⊥) → AreAt labels froms st ps →
-    AreAt more (opened froms label d) (record { label = key; shield = shield; from = d } ∷ st)
+    AreAt more (froms_after_entry froms label d) (record { label = key; shield = shield; from = d } ∷ st)
     (record { label = label; shield = shield } ∷ ps)
 opened_at labels more froms st ps key label shield d named same new a = (
   named,
   refl,
-  sym (ap (λ (b : Bool). opened_if b d (froms label)) (same_label_itself label)),
+  sym (ap (λ (b : Bool). from_entered_if b d (froms label)) (same_label_itself label)),
   opened_else labels more froms st ps label d same new a,
 )
 
@@ -211,7 +211,7 @@ alone_at labels froms (l ∷ ls) (p ∷ ps) key label named (inr i) own a = (
 -- a scope of a stack is cancelled, whose places all have different names: the from of its label is lowered
 pub signed_alike : (labels : Labels) (froms : Table) (st : scopes.Stack) (ps : List Place) (key t : ℕ) (label : Label) →
     labels key ≡ Some label → IsKey key st →
-    OwnNames (names_at ps) → AreAt labels froms st ps → AreAt labels (lowered froms label t) (after_cancel key t st) ps
+    OwnNames (names_at ps) → AreAt labels froms st ps → AreAt labels (froms_after_sign froms label t) (after_cancel key t st) ps
 signed_alike labels froms st ps key t label named i own a =
     signed_at labels froms st ps key t label named (alone_at labels froms st ps key label named i own a) a
 
@@ -219,7 +219,7 @@ signed_alike labels froms st ps key t label named i own a =
 pub entered_alike : (labels more : Labels) (froms : Table) (st : scopes.Stack) (ps : List Place) (key : ℕ) (label : Label) (shield : Bool)
     (d : Tick) → more key ≡ Some label →
     SameOn labels more st → (IsName label.name (names_at ps) → ⊥) → AreAt labels froms st ps →
-    AreAt more (opened froms label d) (record { label = key; shield = shield; from = d } ∷ st)
+    AreAt more (froms_after_entry froms label d) (record { label = key; shield = shield; from = d } ∷ st)
     (record { label = label; shield = shield } ∷ ps)
 entered_alike labels more froms st ps key label shield d named same new a =
     opened_at labels more froms st ps key label shield d named same (λ k. new (known_name label ps k)) a

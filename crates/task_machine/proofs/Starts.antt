@@ -13,7 +13,7 @@ use Rattle.task_machine.specs.declared.task.Home.{Home}
 use Rattle.task_machine.specs.declared.task.Task.{Task}
 use Rattle.task_machine.specs.declared.world.World.{World}
 use Rattle.task_machine.specs.Tasks.{path_of}
-use Rattle.task_machine.specs.Started.{IsChild, running, home_at, StartsOne, StartsOver}
+use Rattle.task_machine.specs.Started.{IsChild, running_children, home_at, StartsOne, StartsOver}
 use Rattle.task_machine.proofs.Stacked.{one_of}
 
 home_is : (id place scope len n : ℕ) → place ≡ len → scope ≡ n →
@@ -56,15 +56,15 @@ starts_one old new id label part body task scope place s p b started child = by_
 
 -- ---- one more of those that are started over
 
-running_length : (i : ℕ) → length (running i) ≡ i
+running_length : (i : ℕ) → length (running_children i) ≡ i
 running_length zero = refl
-running_length (suc i) = length-append (running i) (None ∷ []) ∙ (let e = running_length i in omega (arith, e))
+running_length (suc i) = length-append (running_children i) (None ∷ []) ∙ (let e = running_length i in omega (arith, e))
 
-next_home : (id i : ℕ) (n : Nursery) → (let more : Nursery = record n { children = n.children ++ running i } in home_at id more 0)
+next_home : (id i : ℕ) (n : Nursery) → (let more : Nursery = record n { children = n.children ++ running_children i } in home_at id more 0)
     ≡ home_at id n i
 next_home id i n =
     ap (λ (p : ℕ). (let h : Home = record { nursery = id; place = p; scope = n.scope } in h))
-    (let e = length-append n.children (running i) in let f = running_length i in omega (arith, e, f))
+    (let e = length-append n.children (running_children i) in let f = running_length i in omega (arith, e, f))
 
 -- at first none is
 pub starts_none : (self : Task) (world : World) (id k : ℕ) (name : List ℕ) (body : Steps) (P : Nursery → Type 0) →
@@ -102,7 +102,7 @@ starts_more self old mid new id k i name label part body h g named input cut =
             changed =
                 g.book.changed ∙ ap (λ (n : Nursery). Some (with_start n)) same
                 ∙ ap (λ (es : List End). Some (record h.nursery { children = es }))
-                (append_assoc h.nursery.children (running i) (None ∷ []));
+                (append_assoc h.nursery.children (running_children i) (None ∷ []));
             others = λ other differs. g.book.others other differs ∙ h.book.others other differs;
           };
       tasks = h.tasks ++ g.task ∷ [];
@@ -127,7 +127,7 @@ starts_more self old mid new id k i name label part body h g named input cut =
       );
     }
   where
-    same : g.nursery ≡ record h.nursery { children = h.nursery.children ++ running i }
+    same : g.nursery ≡ record h.nursery { children = h.nursery.children ++ running_children i }
     same = one_of _ _ (sym g.was ∙ h.book.changed)
 
 -- the body runs on

@@ -20,7 +20,7 @@ use Rattle.job_meaning.specs.Rest as rest
 use Rattle.job_meaning.specs.Rest.{Event, noted, signs, enters, starts, Stopped}
 use Rattle.task_machine.specs.declared.entry.Entry.{Entry}
 use Rattle.task_machine.specs.Noted.{entry_of, IsSlice}
-use Rattle.turn_semantics.specs.Midway.{Place, Midway, Begun, Move, moved, unmoved, then_move}
+use Rattle.turn_semantics.specs.Midway.{Place, Midway, Begun, Move, after_move, no_move, then_move}
 use Rattle.turn_semantics.specs.Steps.{froms_after, step_of, turn_of}
 use Rattle.turn_semantics.specs.Placed.{PlacedAfter, places_behind}
 use Rattle.turn_semantics.specs.Names.{NewIn}
@@ -47,10 +47,10 @@ use Rattle.task_machine.proofs.Begins.{begins_more, begins_last}
 -- ---- one more step of a turn
 
 -- no move after one adds nothing
-nothing_more : (m : Midway) (o : Move) → o.stopped ≡ None → then_move None o (unmoved (moved m o)) ≡ o
+nothing_more : (m : Midway) (o : Move) → o.stopped ≡ None → then_move None o (no_move (after_move m o)) ≡ o
 nothing_more m o e = by_made ∙ by_begun ∙ by_stopped
   where
-    by_made : then_move None o (unmoved (moved m o)) ≡ record o { begun = o.begun ++ []; stopped = None }
+    by_made : then_move None o (no_move (after_move m o)) ≡ record o { begun = o.begun ++ []; stopped = None }
     by_made = ap (λ (es : List Event). record o { made = es; begun = o.begun ++ []; stopped = None }) (append-nil o.made)
 
     by_begun : (let p : Move = record o { begun = o.begun ++ []; stopped = None } in p) ≡ record o { stopped = None }
@@ -59,19 +59,19 @@ nothing_more m o e = by_made ∙ by_begun ∙ by_stopped
     by_stopped : (let p : Move = record o { stopped = None } in p) ≡ o
     by_stopped = ap (λ (s : Option Stopped). record o { stopped = s }) (sym e)
 
-nothing_then : (m : Midway) (s : Option Stopped) (o : Move) → o.stopped ≡ s → then_move s o (unmoved (moved m o)) ≡ o
+nothing_then : (m : Midway) (s : Option Stopped) (o : Move) → o.stopped ≡ s → then_move s o (no_move (after_move m o)) ≡ o
 nothing_then m None o e = nothing_more m o e
 nothing_then m (Some s) o e = refl
 
 -- a move after no move is that move
 after_nothing : (f : Table → Midway → Move) (froms : Table) (m : Midway) →
-    f froms m ≡ then_move None (unmoved m) (f froms (moved m (unmoved m)))
+    f froms m ≡ then_move None (no_move m) (f froms (after_move m (no_move m)))
 after_nothing f froms m = ap (f froms) by_count
   where
     zero_more : (n : ℕ) → n ≡ n + 0
     zero_more n = omega arith
 
-    by_count : m ≡ moved m (unmoved m)
+    by_count : m ≡ after_move m (no_move m)
     by_count = ap (λ (n : ℕ). record m { count = n }) (zero_more m.count)
 
 -- moves one after another are grouped as one likes
@@ -83,10 +83,10 @@ grouped o p q None =
 
 -- the task after two moves, and the froms then
 after_both : (f : Table → Midway → Move) (froms : Table) (m : Midway) (o p : Move) →
-    f (froms_after (froms_after froms o.made) p.made) (moved (moved m o) p)
-    ≡ f (froms_after froms (then_move None o p).made) (moved m (then_move None o p))
+    f (froms_after (froms_after froms o.made) p.made) (after_move (after_move m o) p)
+    ≡ f (froms_after froms (then_move None o p).made) (after_move m (then_move None o p))
 after_both f froms m o p =
-    ap (λ (fr : Table). f fr (moved (moved m o) p)) (sym (froms_append o.made p.made froms))
+    ap (λ (fr : Table). f fr (after_move (after_move m o) p)) (sym (froms_append o.made p.made froms))
     ∙ ap (λ (n : ℕ). f (froms_after froms (o.made ++ p.made)) (record { frames = p.frames; places = p.places; exc = p.exc; count = n }))
     (by_lengths m.count (length o.begun) (length p.begun) (length (o.begun ++ p.begun)) (length-append o.begun p.begun))
   where
@@ -94,26 +94,26 @@ after_both f froms m o p =
     by_lengths n a b c e = omega arith
 
 then_both : (f : Table → Midway → Move) (froms : Table) (m : Midway) (s : Option Stopped) (o p : Move) → o.stopped ≡ s →
-    then_move s o (then_move p.stopped p (f (froms_after (froms_after froms o.made) p.made) (moved (moved m o) p)))
-    ≡ (let b = then_move s o p in then_move b.stopped b (f (froms_after froms b.made) (moved m b)))
+    then_move s o (then_move p.stopped p (f (froms_after (froms_after froms o.made) p.made) (after_move (after_move m o) p)))
+    ≡ (let b = then_move s o p in then_move b.stopped b (f (froms_after froms b.made) (after_move m b)))
 then_both f froms m None o p e =
-    grouped o p (f (froms_after (froms_after froms o.made) p.made) (moved (moved m o) p)) p.stopped
+    grouped o p (f (froms_after (froms_after froms o.made) p.made) (after_move (after_move m o) p)) p.stopped
     ∙ ap (λ (q : Move). then_move p.stopped (then_move None o p) q) (after_both f froms m o p)
-then_both f froms m (Some s) o p e = ap (λ (z : Option Stopped). then_move z o (f (froms_after froms o.made) (moved m o))) (sym e)
+then_both f froms m (Some s) o p e = ap (λ (z : Option Stopped). then_move z o (f (froms_after froms o.made) (after_move m o))) (sym e)
 
 -- a turn of one step more is the turn, and a step from where it led
 pub turn_snoc : (n : ℕ) (froms : Table) (t : ℕ) (here : Here) (m : Midway) →
     (let o = turn_of n froms t here m in turn_of (suc n) froms t here m
-    ≡ then_move o.stopped o (step_of (froms_after froms o.made) t here (moved m o)))
+    ≡ then_move o.stopped o (step_of (froms_after froms o.made) t here (after_move m o)))
 unfolding turn_of
 turn_snoc zero froms t here m =
     let o = step_of froms t here m in
     nothing_then m o.stopped o refl ∙ after_nothing (λ (fr : Table) (k : Midway). step_of fr t here k) froms m
 turn_snoc (suc n) froms t here m =
     let o = step_of froms t here m in
-    ap (λ (q : Move). then_move o.stopped o q) (turn_snoc n (froms_after froms o.made) t here (moved m o))
+    ap (λ (q : Move). then_move o.stopped o q) (turn_snoc n (froms_after froms o.made) t here (after_move m o))
     ∙ then_both (λ (fr : Table) (k : Midway). step_of fr t here k) froms m o.stopped o
-    (turn_of n (froms_after froms o.made) t here (moved m o)) refl
+    (turn_of n (froms_after froms o.made) t here (after_move m o)) refl
 
 -- ---- what two moves noted and began
 

@@ -24,7 +24,7 @@ use Rattle.task_machine.specs.declared.entry.Entry.{Entry}
 use Rattle.task_machine.specs.Noted.{IsSlice}
 use Rattle.turn_semantics.specs.Midway.{Place, Begun, Move, stack_at}
 use Rattle.turn_semantics.specs.Placed.{Placed}
-use Rattle.turn_semantics.specs.Steps.{onward, making, sleeps, falls_asleep, label_among, signs_to, signs_home, leaves, ends_as, froms_after, step_frames}
+use Rattle.turn_semantics.specs.Steps.{onward, makes, sleeps, falls_asleep, label_among, signs_to, signs_home, leaves, ends_as, froms_after, step_frames}
 use Rattle.task_machine.specs.declared.frame.Frame.{Frame}
 use Rattle.task_machine.specs.declared.frame.Frame.TheVariants.{Scope, Nursery}
 use Rattle.task_machine.specs.declared.outcome.Kind.TheVariants as kind
@@ -263,11 +263,11 @@ pub took_cancel : (frames : List Frame) (before after : Task) (old new : World) 
     Stands frames before old froms numbers stopped ps → after ≡ record before { frames = after.frames } →
     blocks_of after.frames.items ≡ blocks_of frames →
     new ≡ record old { scopes = new.scopes } → CancelsAt old new (scope_of before) name →
-    Took frames before after old new (On None) froms numbers (making (signs_to (label_among name ps) old.tick)
+    Took frames before after old new (On None) froms numbers (makes (signs_to (label_among name ps) old.tick)
     (frames_of numbers after.frames.items) ps)
 took_cancel frames before after old new froms numbers stopped ps name stands stays same world cancels =
     let made = signs_to (label_among name ps) old.tick in
-    took_quiet frames before after old new (On None) froms numbers (making made (frames_of numbers after.frames.items) ps) stands.numbered
+    took_quiet frames before after old new (On None) froms numbers (makes made (frames_of numbers after.frames.items) ps) stands.numbered
     (ap (λ (w : World). w.book) world)
     (ap (λ (w : World). w.started.items) world) (ap (λ (t : Task). t.entries.items) stays)
     (quiet_signs (buffer_of before.part) (label_among name ps) old.tick) refl same refl

@@ -12,7 +12,7 @@ use Rattle.job_tree.specs.Tree as tree
 use Rattle.job_meaning.specs.Log.{Table}
 use Rattle.job_meaning.specs.Rest as rest
 use Rattle.job_meaning.specs.Rest.{Stopped}
-use Rattle.nursery_book.specs.Nursery.{Nursery as Members, opened as opens}
+use Rattle.nursery_book.specs.Nursery.{Nursery as Members, new_nursery as opens}
 use Rattle.nursery_book.specs.Book.{nursery_at, HasNursery}
 use Rattle.task_machine.specs.Noted.{IsSlice}
 use Rattle.turn_semantics.specs.Midway.{Place}

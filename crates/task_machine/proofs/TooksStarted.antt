@@ -20,7 +20,7 @@ use Rattle.job_tree.specs.declared.step.Step.{Step}
 use Rattle.job_meaning.specs.Log.{Table}
 use Rattle.job_meaning.specs.Walk.{Here, here_in, label_here, label_over}
 use Rattle.job_meaning.specs.Rest as rest
-use Rattle.job_meaning.specs.Rest.{Event, starts, starts_over, numbered, Stopped}
+use Rattle.job_meaning.specs.Rest.{Event, starts, starts_over, consecutive, Stopped}
 use Rattle.nursery_book.specs.Nursery.{End, Nursery as Members}
 use Rattle.nursery_book.specs.Book.{nursery_at, HasNursery, Updates}
 use Rattle.nursery_book.specs.declared.book.NurseryBook.{NurseryBook}
@@ -39,7 +39,7 @@ use Rattle.task_machine.specs.Fitting.{Block, a_nursery, blocks_of}
 use Rattle.task_machine.specs.Frames.{frames_of}
 use Rattle.task_machine.specs.Stacked.{AreAt}
 use Rattle.task_machine.specs.Standing.{here_of, HasBlock, HasNurseryOf, Stands, shown_made, IsBegun, AreBegun, BeginsAt, Grown, Took}
-use Rattle.task_machine.specs.Started.{IsChild, running, home_at, StartsOne, AreChildren, StartsOver}
+use Rattle.task_machine.specs.Started.{IsChild, running_children, home_at, StartsOne, AreChildren, StartsOver}
 use Rattle.task_machine.specs.Stops.{Numbers}
 use Rattle.task_machine.specs.Tasks.{scope_of, path_of}
 use Rattle.task_machine.specs.Worlds.{label_at}
@@ -66,9 +66,9 @@ got_first [] ys i x e = absurd (let f : None ≡ Some x = e in cc)
 got_first (y ∷ xs) ys zero x e = e
 got_first (y ∷ xs) ys (suc i) x e = got_first xs ys i x e
 
-numbered_length : (first k : ℕ) → length (numbered first k) ≡ k
+numbered_length : (first k : ℕ) → length (consecutive first k) ≡ k
 numbered_length first zero = refl
-numbered_length first (suc k) = length-append (numbered first k) ((first + k) ∷ []) ∙ (let e = numbered_length first k in omega (arith, e))
+numbered_length first (suc k) = length-append (consecutive first k) ((first + k) ∷ []) ∙ (let e = numbered_length first k in omega (arith, e))
 
 -- where a child was started, of its home
 abbrev home_in : Option Home → Option (ℕ × ℕ)
@@ -78,37 +78,37 @@ one_number : (a b : ℕ) → Some a ≡ Some b → a ≡ b
 one_number a b h = cc
 
 -- the number of a child at its place
-pub numbered_at : (first k i : ℕ) → i < k → slice_get (numbered first k) i ≡ Some (first + i)
+pub numbered_at : (first k i : ℕ) → i < k → slice_get (consecutive first k) i ≡ Some (first + i)
 numbered_at first zero i less = absurd (omega (arith, less))
 numbered_at first (suc k) i less = by_order (λ lt. numbered_at first k i lt) (nat_lt i k) refl
   where
-    by_order : (i < k → slice_get (numbered first k) i ≡ Some (first + i)) → (b : Bool) → nat_lt i k ≡ b →
-        slice_get (numbered first k ++ (first + k) ∷ []) i ≡ Some (first + i)
-    by_order inner true e = got_first (numbered first k) ((first + k) ∷ []) i (first + i) (inner (grind (arith, nat_tests)))
+    by_order : (i < k → slice_get (consecutive first k) i ≡ Some (first + i)) → (b : Bool) → nat_lt i k ≡ b →
+        slice_get (consecutive first k ++ (first + k) ∷ []) i ≡ Some (first + i)
+    by_order inner true e = got_first (consecutive first k) ((first + k) ∷ []) i (first + i) (inner (grind (arith, nat_tests)))
     by_order inner false e =
         let same : i ≡ k = grind (arith, nat_tests) in
-        got_behind (numbered first k) ((first + k) ∷ []) 0 i (let f = numbered_length first k in omega (arith, f, same))
+        got_behind (consecutive first k) ((first + k) ∷ []) 0 i (let f = numbered_length first k in omega (arith, f, same))
         ∙ ap (λ (n : ℕ). Some (first + n)) (sym same)
 
-running_length : (k : ℕ) → length (running k) ≡ k
+running_length : (k : ℕ) → length (running_children k) ≡ k
 running_length zero = refl
-running_length (suc k) = length-append (running k) (None ∷ []) ∙ (let e = running_length k in omega (arith, e))
+running_length (suc k) = length-append (running_children k) (None ∷ []) ∙ (let e = running_length k in omega (arith, e))
 
 -- each of them runs
-running_at : (k i : ℕ) → i < k → slice_get (running k) i ≡ Some None
+running_at : (k i : ℕ) → i < k → slice_get (running_children k) i ≡ Some None
 running_at zero i less = absurd (omega (arith, less))
 running_at (suc k) i less = by_order (λ lt. running_at k i lt) (nat_lt i k) refl
   where
-    by_order : (i < k → slice_get (running k) i ≡ Some None) → (b : Bool) → nat_lt i k ≡ b →
-        slice_get (running k ++ None ∷ []) i ≡ Some None
-    by_order inner true e = got_first (running k) (None ∷ []) i None (inner (grind (arith, nat_tests)))
+    by_order : (i < k → slice_get (running_children k) i ≡ Some None) → (b : Bool) → nat_lt i k ≡ b →
+        slice_get (running_children k ++ None ∷ []) i ≡ Some None
+    by_order inner true e = got_first (running_children k) (None ∷ []) i None (inner (grind (arith, nat_tests)))
     by_order inner false e =
         let same : i ≡ k = grind (arith, nat_tests) in
-        got_behind (running k) (None ∷ []) 0 i (let f = running_length k in omega (arith, f, same))
+        got_behind (running_children k) (None ∷ []) 0 i (let f = running_length k in omega (arith, f, same))
 
-all_running : (k : ℕ) → All (λ (e : End). e ≡ None) (running k)
+all_running : (k : ℕ) → All (λ (e : End). e ≡ None) (running_children k)
 all_running zero = All-nil (λ (e : End). e ≡ None)
-all_running (suc k) = All-append (λ (e : End). e ≡ None) (running k) (None ∷ []) (all_running k)
+all_running (suc k) = All-append (λ (e : End). e ≡ None) (running_children k) (None ∷ []) (all_running k)
     (All-cons (λ (e : End). e ≡ None) None [] refl (All-nil (λ (e : End). e ≡ None)))
 
 -- an index after the first ones, and what is there
@@ -438,29 +438,29 @@ begun_first more book blocks waits self id n name k body ps first got scope has 
 -- each of the first i begins at its place
 begins_over : (self : Task) (id : ℕ) (n : Members) (name : List ℕ) (k : ℕ) (body : tree.Steps) (ps : List Place) (first i : ℕ)
     (tasks : List Task) →
-    AreChildren self id n name k body tasks i → (at number : ℕ) → slice_get (numbered first i) at ≡ Some number →
+    AreChildren self id n name k body tasks i → (at number : ℕ) → slice_get (consecutive first i) at ≡ Some number →
     BeginsAt id (length n.children + at) number tasks (begun_over name (here_inside self) k body ps first i)
 begins_over self id n name k body ps first zero tasks c at number e = absurd (let f : None ≡ Some number = e in cc)
 begins_over self id n name k body ps first (suc i) tasks c at number e =
     subst (λ (ts : List Task). BeginsAt id (length n.children + at) number ts (begun_over name (here_inside self) k body ps first (suc i)))
     (sym c.2)
     (by_part (λ got. begins_over self id n name k body ps first i c.0 c.3 at number got)
-    (got_either (numbered first i) ((first + i) ∷ []) at number e))
+    (got_either (consecutive first i) ((first + i) ∷ []) at number e))
   where
     last : Begun
     last = begun_one (first + i) (here_in (label_over name (here_inside self) i) (cut_of (buffer_of self.part) (range_of self.part) k i)
         (here_inside self)) body ps
 
-    by_part : (slice_get (numbered first i) at ≡ Some number → BeginsAt id (length n.children + at) number c.0
+    by_part : (slice_get (consecutive first i) at ≡ Some number → BeginsAt id (length n.children + at) number c.0
         (begun_over name (here_inside self) k body ps first i)) →
-        (slice_get (numbered first i) at ≡ Some number) ⊎ GotBehind (length (numbered first i)) ((first + i) ∷ []) at number →
+        (slice_get (consecutive first i) at ≡ Some number) ⊎ GotBehind (length (consecutive first i)) ((first + i) ∷ []) at number →
         BeginsAt id (length n.children + at) number (c.0 ++ c.1 ∷ []) (begun_over name (here_inside self) k body ps first i ++ last ∷ [])
     by_part before (inl got) =
         begins_more id (length n.children + at) number c.0 (c.1 ∷ []) (begun_over name (here_inside self) k body ps first i) (last ∷ [])
         (before got)
     by_part before (inr got) = by_place got.place got.behind got.got
       where
-        by_place : (j : ℕ) → at ≡ length (numbered first i) + j → slice_get ((first + i) ∷ []) j ≡ Some number →
+        by_place : (j : ℕ) → at ≡ length (consecutive first i) + j → slice_get ((first + i) ∷ []) j ≡ Some number →
             BeginsAt id (length n.children + at) number (c.0 ++ c.1 ∷ [])
             (begun_over name (here_inside self) k body ps first i ++ last ∷ [])
         by_place zero behind at_first =
@@ -486,7 +486,7 @@ pub took_start_over : (frames fs : List Frame) (id : ℕ) (left : Bor (List Step
     (step_on froms old.tick (here_inside task) (tree.start name (Some k) body) (steps_of left.now)
     (rest.in_nursery (numbers id) ∷ frames_of numbers fs) ps count)
 took_start_over frames fs id left task old new froms numbers stopped ps name k body count stands held same apart world s in_range =
-    took_starts frames fs id left task old new froms numbers stopped ps s.nursery (running k) (numbered count k) s.tasks
+    took_starts frames fs id left task old new froms numbers stopped ps s.nursery (running_children k) (consecutive count k) s.tasks
     (begun_over name (here_inside task) k body ps count k)
     (starts_over name (here_inside task) old.tick count k) stands held same apart world s.was s.book (all_running k)
     (numbered_length count k ∙ sym (running_length k)) s.started
@@ -494,7 +494,7 @@ took_start_over frames fs id left task old new froms numbers stopped ps name k b
     (λ i less.
     subst (λ (o : Option Members). IsSomeAnd o (λ m. (m.scope ≡ s.nursery.scope)
     × (slice_get m.children (length s.nursery.children + i) ≡ Some None)))
-    (sym s.book.changed) (refl, got_behind s.nursery.children (running k) i (length s.nursery.children + i) refl ∙ running_at k i less))
+    (sym s.book.changed) (refl, got_behind s.nursery.children (running_children k) i (length s.nursery.children + i) refl ∙ running_at k i less))
     has in_range k (omega arith) s.tasks s.children)
     (over_froms name (here_inside task) old.tick count k froms)
     (over_unshown (buffer_of task.part) name (here_inside task) old.tick count k)
@@ -503,7 +503,7 @@ took_start_over frames fs id left task old new froms numbers stopped ps name k b
     (begins_over task id s.nursery name k body ps count k s.tasks s.children)
   where
     more : Numbers
-    more = with_numbers numbers id (numbers id ++ numbered count k)
+    more = with_numbers numbers id (numbers id ++ consecutive count k)
 
     has : HasBlock id (blocks_of task.frames.items)
     has = has_innermost fs task.frames.items id left held
@@ -514,6 +514,6 @@ took_start_over frames fs id left task old new froms numbers stopped ps name k b
 
     got : (i : ℕ) → i < k → slice_get (more id) (length s.nursery.children + i) ≡ Some (count + i)
     got i less =
-        ap (λ (ns : List ℕ). slice_get ns (length s.nursery.children + i)) (numbers_put numbers id (numbers id ++ numbered count k) id refl)
-        ∙ got_behind (numbers id) (numbered count k) i (length s.nursery.children + i) (ap (λ (x : ℕ). x + i) (sym long))
+        ap (λ (ns : List ℕ). slice_get ns (length s.nursery.children + i)) (numbers_put numbers id (numbers id ++ consecutive count k) id refl)
+        ∙ got_behind (numbers id) (consecutive count k) i (length s.nursery.children + i) (ap (λ (x : ℕ). x + i) (sym long))
         ∙ numbered_at count k i less

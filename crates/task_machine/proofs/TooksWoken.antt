@@ -22,8 +22,8 @@ use Rattle.task_machine.specs.declared.entry.Entry.TheVariants as entries
 use Rattle.task_machine.specs.Noted.{entry_of, IsSlice}
 use Rattle.turn_semantics.specs.Midway.{Place}
 use Rattle.turn_semantics.specs.Placed.{PlacedStop}
-use Rattle.turn_semantics.specs.Steps.{making, leaves, froms_after}
-use Rattle.turn_semantics.specs.Wakes.{lines_made, settled}
+use Rattle.turn_semantics.specs.Steps.{makes, leaves, froms_after}
+use Rattle.turn_semantics.specs.Wakes.{lines_made, leaves_settled}
 use Rattle.task_machine.specs.declared.frame.Frame.{Frame}
 use Rattle.task_machine.specs.declared.outcome.Kind.TheVariants as kind
 use Rattle.task_machine.specs.declared.stop.Moved.TheVariants.{On}
@@ -63,10 +63,10 @@ pub took_settled : (frames : List Frame) (id : ℕ) (before after : Task) (old m
     new ≡ record mid { scopes = new.scopes; labels = new.labels } →
     ExitsAt before after mid new kind.Nursery (option_map exc_of exc) (option_map exc_of goes) →
     LeavesOne before after mid new → ((n : Members) → nursery_at old.book id ≡ Some n → IsOfOther before.own.items old.scopes n → ⊥) →
-    Took frames before after old new (On goes) froms numbers (settled froms old.tick (option_map exc_of exc) (frames_of numbers frames) ps)
+    Took frames before after old new (On goes) froms numbers (leaves_settled froms old.tick (option_map exc_of exc) (frames_of numbers frames) ps)
 took_settled frames id before after old mid new kids ended earlier exc goes froms numbers ps stands held apart closed u stays world exits
     one mine =
-    by_wait (λ (qs : List Place). Took frames before after old new (On goes) froms numbers (settled froms old.tick e gs qs)) kids ended
+    by_wait (λ (qs : List Place). Took frames before after old new (On goes) froms numbers (leaves_settled froms old.tick e gs qs)) kids ended
     earlier gs ps stands.placed at_place
   where
     e : Option Exc
@@ -141,9 +141,9 @@ pub took_lines : (frames : List Frame) (before after : Task) (world : World) (fr
     Stands frames before world froms numbers stopped ps → before.frames.items ≡ frames →
     after ≡ record before { task_state = after.task_state; entries = after.entries } →
     after.entries.items ≡ before.entries.items ++ map entries.Line lines → AreLinesAt (buffer_of before.part) spans lines →
-    Took frames before after world world (On None) froms numbers (making (lines_made world.tick spans) (frames_of numbers frames) ps)
+    Took frames before after world world (On None) froms numbers (makes (lines_made world.tick spans) (frames_of numbers frames) ps)
 took_lines frames before after world froms numbers stopped ps spans lines stands held stays noted at =
-    took_with frames before after world world (On None) froms numbers (making (lines_made world.tick spans) (frames_of numbers frames) ps)
+    took_with frames before after world world (On None) froms numbers (makes (lines_made world.tick spans) (frames_of numbers frames) ps)
     (map entries.Line lines) stands.numbered refl refl noted
     (record {
       shown =

@@ -11,7 +11,7 @@ use Rattle.exc_groups.specs.Exceptions.{Exc, cancelled, raised}
 use Rattle.line_kernels.specs.Answers.{AreLinesAt}
 use Rattle.line_kernels.specs.declared.kernel.Kernel.{Kernel}
 use Rattle.job_meaning.specs.Log.{Table}
-use Rattle.job_meaning.specs.Walk.{paced}
+use Rattle.job_meaning.specs.Walk.{pace_ticks}
 use Rattle.job_meaning.specs.Rest as rest
 use Rattle.job_meaning.specs.Rest.{Stopped, to_begin, asking, asleep, awaiting, at_end}
 use Rattle.job_meaning.specs.Asking as ask
@@ -20,8 +20,8 @@ use Rattle.nursery_book.specs.Book.{nursery_at, HasNursery, Updates}
 use Rattle.nursery_book.specs.declared.book.NurseryBook.{NurseryBook}
 use Rattle.task_machine.specs.declared.entry.Entry.TheVariants as entries
 use Rattle.turn_semantics.specs.Midway.{Place, Move}
-use Rattle.turn_semantics.specs.Steps.{onward, making, sleeps}
-use Rattle.turn_semantics.specs.Wakes.{Wake, begins, sees, is_due, has_answer, settles, lines_made, goes_on_with, settled, wake_of}
+use Rattle.turn_semantics.specs.Steps.{onward, makes, sleeps}
+use Rattle.turn_semantics.specs.Wakes.{Wake, begins, sees, is_due, has_answer, settles, lines_made, goes_on_with, leaves_settled, wake_of}
 use Rattle.task_machine.specs.declared.frame.Frame.{Frame}
 use Rattle.task_machine.specs.declared.outcome.Kind.TheVariants as kind
 use Rattle.task_machine.specs.declared.stop.TaskState.{TaskState}
@@ -175,7 +175,7 @@ wakes_missing task before after world goes kernel purpose name taken asked for_n
 -- lines were counted to sleep by
 pub wakes_counted : (task before after : Task) (world : World) (goes : Moved) (kernel : Kernel) (purpose : Purpose) (k n ticks : ℕ) →
     before ≡ record task { task_state = before.task_state } →
-    task.task_state ≡ Asked kernel purpose → purpose_in purpose ≡ ask.paces k → ticks ≡ paced n k → after ≡ record before { task_state = after.task_state } →
+    task.task_state ≡ Asked kernel purpose → purpose_in purpose ≡ ask.paces k → ticks ≡ pace_ticks n k → after ≡ record before { task_state = after.task_state } →
     ((froms : Table) (numbers : Numbers) (book : NurseryBook) (fs : List rest.Frame) (ps : List Place) →
     AreAt (label_at world) froms (outer_of world.scopes (scope_of before)) ps →
     MovesAs numbers book before.part goes after.task_state (sleeps froms ticks world.tick fs ps)) →
@@ -206,7 +206,7 @@ wakes_lines task before after world kernel purpose spans lines taken asked stays
     let gs = frames_of numbers task.frames.items in
     subst (λ (o : Move). Took task.frames.items task after world world (On None) froms numbers o)
     (sym (answered_as task world froms numbers stopped gs ps kernel purpose (ask.lines spans) asked task_state))
-    (took_taken task.frames.items task before after world world (On None) froms numbers (making (lines_made world.tick spans) gs ps) taken
+    (took_taken task.frames.items task before after world world (On None) froms numbers (makes (lines_made world.tick spans) gs ps) taken
     (took_lines task.frames.items before after world froms numbers (Some stopped) ps spans lines
     (stands_taken task.frames.items task before world froms numbers
     (Some stopped) ps taken stands)
@@ -228,7 +228,7 @@ wakes_settled id since task before after old mid new exc goes taken waits apart 
     stands task_state =
     let w = task_states_awaits numbers old.book id since stopped (subst (λ (x : TaskState). IsTaskState numbers old.book x stopped) waits task_state) in
     took_taken task.frames.items task before after old new (On goes) froms numbers
-    (settled froms old.tick (option_map exc_of exc) (frames_of numbers task.frames.items) ps) taken
+    (leaves_settled froms old.tick (option_map exc_of exc) (frames_of numbers task.frames.items) ps) taken
     (took_settled task.frames.items id before after old mid new (numbers id) since w.exc exc goes froms numbers ps
     (stands_taken task.frames.items task before old froms numbers (Some (awaiting (numbers id) since w.exc)) ps taken
     (subst (λ (s : Stopped). Stands task.frames.items task old froms numbers (Some s) ps) w.is stands))

@@ -5,7 +5,7 @@ use Rattle.std.specs.Option.{IsSomeAnd}
 use Rattle.buffer_parts.specs.declared.line.Line.{Line}
 use Rattle.exc_groups.specs.Exceptions.{Exc}
 use Rattle.nursery_book.specs.Nursery.{Nursery, raised_by}
-use Rattle.job_meaning.specs.Walk.{paced}
+use Rattle.job_meaning.specs.Walk.{pace_ticks}
 use Rattle.task_machine.specs.Waking.{raised_in}
 use Rattle.buffer_parts.specs.Lines.{Range, Span, bytes_of}
 use Rattle.buffer_parts.specs.Part.{buffer_of, range_of, span_of}
@@ -51,6 +51,6 @@ lines_at (Need needle) part lines a = by_line (needed_in (buffer_of part) needle
 lines_at Count part lines a = absurd a
 
 -- how long a `pace` sleeps: the count divided by the lines of a tick, rounded up
-pub paced_is : (n k : ℕ) → 1 ≤ k → (n + (k - 1)) / k ≡ paced n k
+pub paced_is : (n k : ℕ) → 1 ≤ k → (n + (k - 1)) / k ≡ pace_ticks n k
 paced_is n zero le = absurd (omega (arith, le))
 paced_is n (suc j) le = (let e : suc j - 1 ≡ j = omega arith in ap (λ (x : ℕ). (n + x) / suc j) e)

@@ -2,7 +2,7 @@
 use Rattle.std.specs.Prelude.{◌≡◌, ℕ, Bool, Option, Some, None, List, [], ◌∷◌, ◌++◌, length}
 use Rattle.job_tree.specs.Tree.{Steps}
 use Rattle.job_tree.specs.Blocks.{steps_of}
-use Rattle.nursery_book.specs.Nursery.{opened as opens}
+use Rattle.nursery_book.specs.Nursery.{froms_after_entry as opens}
 use Rattle.nursery_book.specs.Book.{nursery_at}
 use Rattle.nursery_book.specs.Book as book
 use Rattle.exc_groups.specs.Exceptions.{Label}
@@ -11,7 +11,7 @@ use Rattle.cancel_scopes.specs.Tree.{stack_of, outer_of, OthersKeep, SameMarks}
 use Rattle.job_meaning.specs.Log.{Table}
 use Rattle.turn_semantics.specs.Midway.{Place}
 use Rattle.turn_semantics.specs.Names.{IsName, names_at, OwnNames}
-use Rattle.turn_semantics.specs.Steps.{opened, label_among, signs_to, froms_after}
+use Rattle.turn_semantics.specs.Steps.{froms_after_entry, label_among, signs_to, froms_after}
 use Rattle.task_machine.specs.declared.frame.Frame.{Frame}
 use Rattle.task_machine.specs.declared.frame.Frame.TheVariants as frame
 use Rattle.task_machine.specs.declared.task.Own.{Own}
@@ -29,7 +29,7 @@ abbrev pub EntersAt : World → World → Option ℕ → Option ℕ → Label �
 EntersAt before after outer inner label shield deadline =
     (froms : Table) (ps : List Place) → (IsName label.name (names_at ps) → ⊥) →
     AreAt (label_at before) froms (outer_of before.scopes outer) ps →
-    AreAt (label_at after) (opened froms label deadline) (outer_of after.scopes inner) (record { label = label; shield = shield } ∷ ps)
+    AreAt (label_at after) (froms_after_entry froms label deadline) (outer_of after.scopes inner) (record { label = label; shield = shield } ∷ ps)
 
 -- the label of a scope that a task enters: its own indices, followed by the numbers of the passes that it is in
 abbrev pub label_in : Task → List ℕ → Label

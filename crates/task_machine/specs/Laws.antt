@@ -7,7 +7,7 @@ use Rattle.cancel_scopes.specs.Tree as scopes
 use Rattle.job_meaning.specs.Log.{Table}
 use Rattle.turn_semantics.specs.Midway.{Place, stack_at}
 use Rattle.turn_semantics.specs.Names.{IsName, names_at, OwnNames}
-use Rattle.turn_semantics.specs.Steps.{label_among, lowered, opened}
+use Rattle.turn_semantics.specs.Steps.{label_among, froms_after_sign, froms_after_entry}
 use Rattle.task_machine.specs.Labels.{Labels, scope_named}
 use Rattle.task_machine.specs.Stacked.{AreAt, IsKey, SameOn, FoundAs}
 
@@ -35,7 +35,7 @@ abbrev pub SignedAlike : Type 0
 SignedAlike =
     (labels : Labels) (froms : Table) (st : scopes.Stack) (ps : List Place) (key t : ℕ) (label : Label) → labels key ≡ Some label →
     IsKey key st →
-    OwnNames (names_at ps) → AreAt labels froms st ps → AreAt labels (lowered froms label t) (scopes.after_cancel key t st) ps
+    OwnNames (names_at ps) → AreAt labels froms st ps → AreAt labels (froms_after_sign froms label t) (scopes.after_cancel key t st) ps
 
 -- a scope that is entered opens its label, if no enclosing one has its name
 abbrev pub EnteredAlike : Type 0
@@ -43,5 +43,5 @@ EnteredAlike =
     (labels more : Labels) (froms : Table) (st : scopes.Stack) (ps : List Place) (key : ℕ) (label : Label) (shield : Bool) (d : Tick) →
     more key ≡ Some label →
     SameOn labels more st → (IsName label.name (names_at ps) → ⊥) → AreAt labels froms st ps →
-    AreAt more (opened froms label d) (record { label = key; shield = shield; from = d } ∷ st)
+    AreAt more (froms_after_entry froms label d) (record { label = key; shield = shield; from = d } ∷ st)
     (record { label = label; shield = shield } ∷ ps)

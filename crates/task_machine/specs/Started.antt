@@ -31,9 +31,9 @@ pub record IsChild (task : Task) (label : Label) (input : List ℕ) (range : Ran
   pub froms : task.froms.items ≡ []
 
 -- the given number of children that run
-abbrev pub running : ℕ → List End
-running zero = []
-running (suc k) = running k ++ None ∷ []
+abbrev pub running_children : ℕ → List End
+running_children zero = []
+running_children (suc k) = running_children k ++ None ∷ []
 
 -- the home of a child that is started in a nursery after the given number of other new ones
 abbrev pub home_at : ℕ → Nursery → ℕ → Home
@@ -61,7 +61,7 @@ AreChildren self id n name k body tasks (suc i) =
 pub record StartsOver (self : Task) (old new : World) (id : ℕ) (name : List ℕ) (k : ℕ) (body : Steps) (i : ℕ) : Type 0 where
   pub nursery : Nursery
   pub was : nursery_at old.book id ≡ Some nursery
-  pub book : Updates old.book new.book id (Some (record nursery { children = nursery.children ++ running i }))
+  pub book : Updates old.book new.book id (Some (record nursery { children = nursery.children ++ running_children i }))
   pub tasks : List Task
   pub started : new.started.items ≡ old.started.items ++ tasks
   pub children : AreChildren self id nursery name k body tasks i

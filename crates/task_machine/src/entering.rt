@@ -5,7 +5,7 @@ ghost use Rattle.cancel_scopes.specs.Tree.{IsOpen, outer_of};
 ghost use Rattle.job_meaning.specs.Log.{Table};
 ghost use Rattle.turn_semantics.specs.Midway.{Place};
 ghost use Rattle.turn_semantics.specs.Names.{IsName, names_at};
-ghost use Rattle.turn_semantics.specs.Steps.{opened};
+ghost use Rattle.turn_semantics.specs.Steps.{froms_after_entry};
 ghost use Rattle.task_machine.specs.Tasks.{scope_of};
 ghost use Rattle.task_machine.specs.Worlds.{label_at};
 ghost use Rattle.task_machine.specs.Stacked.{AreAt};

@@ -3,7 +3,7 @@ use Rattle.std.specs.Prelude.{◌≡◌, ◌<◌, ◌≤◌, ◌==◌, ℕ, Opti
 use Rattle.std.specs.List.{sum_by, count_by}
 use Rattle.std.specs.Option.{option_map}
 use Rattle.exc_groups.specs.Held.{exc_of}
-use Rattle.job_meaning.specs.Shown.{shown, row_of, ending_of}
+use Rattle.job_meaning.specs.Shown.{as_shown, row_of, ending_of}
 use Rattle.interleavings.specs.Rows as interleaving
 use Rattle.task_table.specs.declared.record.Record.{Record}
 use Rattle.task_machine.specs.declared.entry.ScopeFrom.{ScopeFrom}
@@ -20,7 +20,7 @@ pub record ShowsEnd (input : List ℕ) (row : interleaving.Row) (ended : Ended) 
   pub label : ended.label ≡ row.label
   pub tick : ended.tick ≡ row.end
   pub exc : option_map exc_of (unboxed_exc ended.exc) ≡ row.exc
-  pub entries : map entry_of ended.entries.items ≡ map (shown input) row.entries
+  pub entries : map entry_of ended.entries.items ≡ map (as_shown input) row.entries
   pub slices : All (IsSlice input) ended.entries.items
   pub froms : map from_of ended.froms.items ≡ row.froms
 

@@ -10,7 +10,7 @@ use Rattle.exc_groups.specs.Split.{named, keep, drop}
 use Rattle.cancel_scopes.specs.Sight.{Tick, seen}
 use Rattle.job_meaning.specs.Log.{Table}
 use Rattle.job_meaning.specs.Walk.{Here, far, due, here_in, label_here, label_over, label_if, Kind, a_scope}
-use Rattle.job_meaning.specs.Rest.{Event, starts, starts_over, numbered, Frame, steps_left, in_scope, in_nursery, in_repeat, in_try, in_handler, in_cleanup, inside, asking, frames_weight}
+use Rattle.job_meaning.specs.Rest.{Event, starts, starts_over, consecutive, Frame, steps_left, in_scope, in_nursery, in_repeat, in_try, in_handler, in_cleanup, inside, asking, frames_weight}
 use Rattle.job_meaning.specs.Asking.{Kernel, Purpose, Suits, shows, needs, paces}
 use Rattle.job_meaning.specs.Asking as ask
 use Rattle.turn_semantics.specs.Midway.{Place, stack_at, Midway, Begun, Move}
@@ -280,17 +280,17 @@ start_case t froms here name None body ss fs ps count i b p =
 start_case t froms here name (Some k) body ss fs ps count i b p =
     record {
       placed = (
-        subst (λ (x : Bool). StartsIn x ss) (sym (body_started (numbered count k) fs)) b,
-        placed_started (numbered count k) fs ps p,
+        subst (λ (x : Bool). StartsIn x ss) (sym (body_started (consecutive count k) fs)) b,
+        placed_started (consecutive count k) fs ps p,
       );
-      at_home = home_started (numbered count k) fs ps;
+      at_home = home_started (consecutive count k) fs ps;
       made_now = over_made name here t count (labels_of ps) k;
       places = still_known ps (starts_over name here t count k);
       starts_made = over_starts name here t k body ps count k;
       begun_in = over_begun name here k body ps count (known_after (labels_of ps) (starts_over name here t count k))
           (still_known ps (starts_over name here t count k)) i k;
       stops = tt;
-      weight = let e = weight_started (numbered count k) fs in let h = over_weight name here k body ps count k in omega arith;
+      weight = let e = weight_started (consecutive count k) fs in let h = over_weight name here k body ps count k in omega arith;
     }
 
 -- ---- passes

@@ -6,8 +6,8 @@ use Rattle.exc_groups.specs.Split.{named, keep, drop}
 use Rattle.cancel_scopes.specs.Sight.{seen}
 use Rattle.job_meaning.specs.Log.{Table}
 use Rattle.job_meaning.specs.Walk.{Here, far}
-use Rattle.job_meaning.specs.Rest.{Frame, steps_left, in_scope, in_nursery, in_repeat, in_try, in_handler, in_cleanup, inside, numbered, Stopped}
-use Rattle.turn_semantics.specs.Midway.{Place, stack_at, Midway, Move, moved, then_move}
+use Rattle.job_meaning.specs.Rest.{Frame, steps_left, in_scope, in_nursery, in_repeat, in_try, in_handler, in_cleanup, inside, consecutive, Stopped}
+use Rattle.turn_semantics.specs.Midway.{Place, stack_at, Midway, Move, after_move, then_move}
 use Rattle.turn_semantics.specs.Steps.{sleeps, falls_asleep, with_started, handler_if, step_try, step_on, step_steps, step_frames, step_of, froms_after, turn_of, begins_passes, step_pass}
 use Rattle.turn_semantics.specs.Wakes.{Wake, wake_of, turn_from}
 use Rattle.turn_semantics.specs.Turned.{IsSome}
@@ -73,7 +73,7 @@ module _ (t : ℕ) (froms : Table) (here : Here) where
   shrinks_step at (scope name d shield fail body) ss fs ps count = omega arith
   shrinks_step at (nursery name d shield body) ss fs ps count = omega arith
   shrinks_step at (start name None body) ss fs ps count = let e = length_started (count ∷ []) fs in omega arith
-  shrinks_step at (start name (Some k) body) ss fs ps count = let e = length_started (numbered count k) fs in omega arith
+  shrinks_step at (start name (Some k) body) ss fs ps count = let e = length_started (consecutive count k) fs in omega arith
   shrinks_step at (repeat n body) ss fs ps count = shrinks_passes n _ body (steps_left ss ∷ fs) ps (omega arith)
   shrinks_step at (attempt body handler cleanup) ss fs ps count = omega arith
 
@@ -120,10 +120,10 @@ unfolding turn_of
 turn_ends zero t froms here m lt = absurd (omega arith)
 turn_ends (suc n) t froms here m lt =
     by_stop (step_of froms t here m).stopped refl (step_shrinks t froms here m)
-    (λ le. turn_ends n t (froms_after froms (step_of froms t here m).made) here (moved m (step_of froms t here m)) le)
+    (λ le. turn_ends n t (froms_after froms (step_of froms t here m).made) here (after_move m (step_of froms t here m)) le)
   where
     q : Move
-    q = turn_of n (froms_after froms (step_of froms t here m).made) t here (moved m (step_of froms t here m))
+    q = turn_of n (froms_after froms (step_of froms t here m).made) t here (after_move m (step_of froms t here m))
 
     by_stop : (s : Option Stopped) → (step_of froms t here m).stopped ≡ s →
         Shrinks s (frames_length (step_of froms t here m).frames) (frames_length m.frames) →

@@ -4,7 +4,7 @@ use Rattle.exc_groups.specs.Exceptions.{Label}
 use Rattle.job_meaning.specs.Log.{Table}
 use Rattle.job_meaning.specs.Rest.{Event, noted, signs, enters, starts, ChildOutcomes, fill}
 use Rattle.turn_semantics.specs.Midway.{Place, Begun}
-use Rattle.turn_semantics.specs.Steps.{lowered, opened, froms_after}
+use Rattle.turn_semantics.specs.Steps.{froms_after_sign, froms_after_entry, froms_after}
 use Rattle.turn_semantics.specs.Turned.{AgreesOn, AgreesIn, Known, labels_of, AllKnown, known_after, MadeAt, Starts, BegunIn, weight_of_begun}
 use Rattle.turn_semantics.proofs.Agreeing.{SameFrom, agrees_lowered, agrees_opened, agrees_own}
 
@@ -120,8 +120,8 @@ weight_append (b ∷ bs) cs = let e = weight_append bs cs in omega arith
 pub froms_append : (es fs : List Event) (froms : Table) → froms_after froms (es ++ fs) ≡ froms_after (froms_after froms es) fs
 froms_append [] fs froms = refl
 froms_append (noted t e ∷ es) fs froms = froms_append es fs froms
-froms_append (signs l t ∷ es) fs froms = froms_append es fs (lowered froms l t)
-froms_append (enters l t d ∷ es) fs froms = froms_append es fs (opened froms l d)
+froms_append (signs l t ∷ es) fs froms = froms_append es fs (froms_after_sign froms l t)
+froms_append (enters l t d ∷ es) fs froms = froms_append es fs (froms_after_entry froms l d)
 froms_append (starts i l t ∷ es) fs froms = froms_append es fs froms
 
 -- A table that agrees at t with the froms of known labels, and with the deadlines of those entered, agrees after the
@@ -133,12 +133,12 @@ pub known_agree : (t : ℕ) (table : Table) (told : ChildOutcomes) (es : List Ev
 known_agree t table told [] ls froms a b h l k = h l k
 known_agree t table told (noted u e ∷ es) ls froms a b h l k = known_agree t table told es ls froms a.1 b h l k
 known_agree t table told (signs m u ∷ es) ls froms a b h l k =
-    known_agree t table told es ls (lowered froms m u) a.2 b
-    (λ x i. subst (λ (v : ℕ). SameFrom t table (lowered froms m v) x) (sym a.0) (agrees_lowered t table froms m x (h x i))) l k
-known_agree t table told (enters m u d ∷ es) ls froms a b h l k = known_agree t table told es (m ∷ ls) (opened froms m d) a.1 b.1 grown l k
+    known_agree t table told es ls (froms_after_sign froms m u) a.2 b
+    (λ x i. subst (λ (v : ℕ). SameFrom t table (froms_after_sign froms m v) x) (sym a.0) (agrees_lowered t table froms m x (h x i))) l k
+known_agree t table told (enters m u d ∷ es) ls froms a b h l k = known_agree t table told es (m ∷ ls) (froms_after_entry froms m d) a.1 b.1 grown l k
   where
-    grown : (x : Label) → Known x (m ∷ ls) → SameFrom t table (opened froms m d) x
-    grown x (inl e) = subst (λ (y : Label). SameFrom t table (opened froms m d) y) (sym e) (agrees_own t table froms m d b.0)
+    grown : (x : Label) → Known x (m ∷ ls) → SameFrom t table (froms_after_entry froms m d) x
+    grown x (inl e) = subst (λ (y : Label). SameFrom t table (froms_after_entry froms m d) y) (sym e) (agrees_own t table froms m d b.0)
     grown x (inr i) = agrees_opened t table froms m d x b.0 (h x i)
 known_agree t table told (starts i m u ∷ es) ls froms a b h l k = known_agree t table told es ls froms a.1 b h l k
 

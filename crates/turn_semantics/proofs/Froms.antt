@@ -7,7 +7,7 @@ use Rattle.job_meaning.specs.Log.{Table, same_label, tick_if, from_by}
 use Rattle.job_meaning.specs.Rest.{Event, noted, signs, enters, starts}
 use Rattle.job_meaning.proofs.Touched.{earlier_never}
 use Rattle.job_meaning.proofs.Distinct.{same_label_equal, same_label_itself}
-use Rattle.turn_semantics.specs.Steps.{lowered, lowered_if, opened, opened_if, froms_after}
+use Rattle.turn_semantics.specs.Steps.{froms_after_sign, from_lowered_if, froms_after_entry, from_entered_if, froms_after}
 use Rattle.turn_semantics.specs.Turned.{Known, MadeAt, made_sign, EntersIn, EntersOnceWith}
 
 -- the earliest of three ticks
@@ -30,7 +30,7 @@ next_earlier (Some x) (Some y) = ap (λ (n : ℕ). Some n) (one_more x y)
     one_more x y = grind (arith, nat_tests)
 
 -- a from that is lowered by a sign, and then by others
-one_sign : (b : Bool) (u : ℕ) (d s : Tick) → from_by (lowered_if b u d) s ≡ from_by d (earlier (tick_if b u) s)
+one_sign : (b : Bool) (u : ℕ) (d s : Tick) → from_by (from_lowered_if b u d) s ≡ from_by d (earlier (tick_if b u) s)
 one_sign true u d s = earlier_assoc d (next (Some u)) (next s) ∙ ap (λ (x : Tick). earlier d x) (sym (next_earlier (Some u) s))
 one_sign false u d s = refl
 
@@ -46,10 +46,10 @@ pub from_lowered : (es : List Event) (froms : Table) (l : Label) → (EntersIn l
     froms_after froms es l ≡ from_by (froms l) (made_sign l es)
 from_lowered [] froms l h = sym (earlier_never (froms l))
 from_lowered (noted t e ∷ es) froms l h = from_lowered es froms l h
-from_lowered (signs m t ∷ es) froms l h = from_lowered es (lowered froms m t) l h ∙ one_sign (same_label l m) t (froms l) (made_sign l es)
+from_lowered (signs m t ∷ es) froms l h = from_lowered es (froms_after_sign froms m t) l h ∙ one_sign (same_label l m) t (froms l) (made_sign l es)
 from_lowered (enters m t d ∷ es) froms l h =
-    from_lowered es (opened froms m d) l (λ i. h (inr i))
-    ∙ ap (λ (b : Bool). from_by (opened_if b d (froms l)) (made_sign l es)) (same_differs l m (λ e. h (inl e)))
+    from_lowered es (froms_after_entry froms m d) l (λ i. h (inr i))
+    ∙ ap (λ (b : Bool). from_by (from_entered_if b d (froms l)) (made_sign l es)) (same_differs l m (λ e. h (inl e)))
 from_lowered (starts i m t ∷ es) froms l h = from_lowered es froms l h
 
 -- the from of a label that was entered once, and was not known before, is its deadline, lowered likewise
@@ -59,17 +59,17 @@ pub from_opened : (t : ℕ) (es : List Event) (ls : List Label) (froms : Table) 
 from_opened t [] ls froms l d a k o = absurd o
 from_opened t (noted u e ∷ es) ls froms l d a k o = from_opened t es ls froms l d a.1 k o
 from_opened t (signs m u ∷ es) ls froms l d a k o =
-    from_opened t es ls (lowered froms m u) l d a.2 k o
+    from_opened t es ls (froms_after_sign froms m u) l d a.2 k o
     ∙ ap (λ (b : Bool). from_by d (earlier (tick_if b u) (made_sign l es))) (sym (same_differs l m differs))
   where
     differs : (l ≡ m) → ⊥
     differs e = k (subst (λ (x : Label). Known x ls) (sym e) a.1)
 from_opened t (enters m u c ∷ es) ls froms l d a k (inl o) =
-    from_lowered es (opened froms m c) l o.2
-    ∙ (ap (λ (b : Bool). from_by (opened_if b c (froms l)) (made_sign l es))
+    from_lowered es (froms_after_entry froms m c) l o.2
+    ∙ (ap (λ (b : Bool). from_by (from_entered_if b c (froms l)) (made_sign l es))
     (ap (λ (x : Label). same_label l x) (sym o.0) ∙ same_label_itself l)
     ∙ ap (λ (x : Tick). from_by x (made_sign l es)) (sym o.1))
-from_opened t (enters m u c ∷ es) ls froms l d a k (inr o) = from_opened t es (m ∷ ls) (opened froms m c) l d a.1 new o.1
+from_opened t (enters m u c ∷ es) ls froms l d a k (inr o) = from_opened t es (m ∷ ls) (froms_after_entry froms m c) l d a.1 new o.1
   where
     new : Known l (m ∷ ls) → ⊥
     new (inl e) = o.0 e

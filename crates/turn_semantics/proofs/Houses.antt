@@ -6,12 +6,12 @@ use Rattle.exc_groups.specs.Exceptions.{Exc}
 use Rattle.exc_groups.specs.Split.{named, keep, drop}
 use Rattle.cancel_scopes.specs.Sight.{seen}
 use Rattle.job_meaning.specs.Log.{Table}
-use Rattle.job_meaning.specs.Walk.{Here, far, paced}
-use Rattle.job_meaning.specs.Rest.{numbered, Frame, steps_left, in_scope, in_nursery, in_repeat, in_try, in_handler, in_cleanup, inside, Stopped, to_begin, asking, asleep, awaiting, at_end}
+use Rattle.job_meaning.specs.Walk.{Here, far, pace_ticks}
+use Rattle.job_meaning.specs.Rest.{consecutive, Frame, steps_left, in_scope, in_nursery, in_repeat, in_try, in_handler, in_cleanup, inside, Stopped, to_begin, asking, asleep, awaiting, at_end}
 use Rattle.job_meaning.specs.Asking.{Answer, lines, missing, counted, Purpose, shows, needs, paces}
 use Rattle.turn_semantics.specs.Midway.{Place, stack_at, Midway, Begun, Move}
 use Rattle.turn_semantics.specs.Steps.{sleeps, falls_asleep, with_started, begun_over, handler_if, step_try, step_on, step_steps, step_frames, step_of, begins_passes, step_pass}
-use Rattle.turn_semantics.specs.Wakes.{Wake, begins, sees, is_due, has_answer, settles, goes_on_with, with_answer, settled, wake_of, CanWake, from_start, from_asking, from_sleep, from_due, from_wait}
+use Rattle.turn_semantics.specs.Wakes.{Wake, begins, sees, is_due, has_answer, settles, goes_on_with, with_answer, leaves_settled, wake_of, CanWake, from_start, from_asking, from_sleep, from_due, from_wait}
 use Rattle.turn_semantics.specs.Placed.{in_body, Placed, places_behind, IsAmong, HasChild, HasChildAfter, AllHoused}
 use Rattle.turn_semantics.proofs.Keeps.{last_or_before}
 
@@ -24,14 +24,14 @@ among_right : (i : ℕ) (is js : List ℕ) → IsAmong i js → IsAmong i (is ++
 among_right i [] js a = a
 among_right i (k ∷ is) js a = inr (among_right i is js a)
 
-numbered_has : (first i k : ℕ) → i < k → IsAmong (first + i) (numbered first k)
+numbered_has : (first i k : ℕ) → i < k → IsAmong (first + i) (consecutive first k)
 numbered_has first i zero lt = absurd (omega arith)
 numbered_has first i (suc k) lt = by_last (last_or_before i k lt) (λ l. numbered_has first i k l)
   where
-    by_last : (i ≡ k) ⊎ (i < k) → (i < k → IsAmong (first + i) (numbered first k)) →
-        IsAmong (first + i) (numbered first k ++ (first + k) ∷ [])
-    by_last (inl e) more = among_right (first + i) (numbered first k) ((first + k) ∷ []) (inl (ap (λ (n : ℕ). first + n) e))
-    by_last (inr l) more = among_left (first + i) (numbered first k) ((first + k) ∷ []) (more l)
+    by_last : (i ≡ k) ⊎ (i < k) → (i < k → IsAmong (first + i) (consecutive first k)) →
+        IsAmong (first + i) (consecutive first k ++ (first + k) ∷ [])
+    by_last (inl e) more = among_right (first + i) (consecutive first k) ((first + k) ∷ []) (inl (ap (λ (n : ℕ). first + n) e))
+    by_last (inr l) more = among_left (first + i) (consecutive first k) ((first + k) ∷ []) (more l)
 
 -- a child of a task that continues is one of a nursery among its frames
 pub has_going : (i : ℕ) (home : List Place) (fs : List Frame) (ps : List Place) → HasChildAfter i home None fs ps → HasChild i home fs ps
@@ -103,7 +103,7 @@ module _ (t : ℕ) (froms : Table) (here : Here) (i : ℕ) (home : List Place) w
   stays_step at (scope name d shield fail body) ss fs ps n h = inr h
   stays_step at (nursery name d shield body) ss fs ps n h = inr (inr h)
   stays_step at (start name None body) ss fs ps n h = inr (stays_started (n ∷ []) fs ps h)
-  stays_step at (start name (Some c) body) ss fs ps n h = inr (stays_started (numbered n c) fs ps h)
+  stays_step at (start name (Some c) body) ss fs ps n h = inr (stays_started (consecutive n c) fs ps h)
   stays_step at (repeat m body) ss fs ps n h = stays_passes m body (steps_left ss ∷ fs) ps h
   stays_step at (attempt body handler cleanup) ss fs ps n h = inr h
 
@@ -149,7 +149,7 @@ module _ (t : ℕ) (froms : Table) (here : Here) (i : ℕ) (home : List Place) w
   stays_answered missing (needs name) fs ps h = inr h
   stays_answered missing shows fs ps h = inr h
   stays_answered missing (paces c) fs ps h = inr h
-  stays_answered (counted m) (paces c) fs ps h = stays_sleeps (paced m c) fs ps h
+  stays_answered (counted m) (paces c) fs ps h = stays_sleeps (pace_ticks m c) fs ps h
   stays_answered (counted m) shows fs ps h = inr h
   stays_answered (counted m) (needs name) fs ps h = inr h
 
@@ -195,8 +195,8 @@ module _ (t : ℕ) (froms : Table) (here : Here) where
   housed_start at name None body ss (in_nursery children ∷ fs) (p ∷ ps) n b w =
       (inr (inl (among_right n children (n ∷ []) (inl refl), refl)), tt)
   housed_start at name (Some k) body ss (in_nursery children ∷ fs) (p ∷ ps) n b w =
-      over_housed name at k body (p ∷ ps) n (steps_left ss ∷ in_nursery (children ++ numbered n k) ∷ fs) k
-      (λ i lt. inl (among_right (n + i) children (numbered n k) (numbered_has n i k lt), refl))
+      over_housed name at k body (p ∷ ps) n (steps_left ss ∷ in_nursery (children ++ consecutive n k) ∷ fs) k
+      (λ i lt. inl (among_right (n + i) children (consecutive n k) (numbered_has n i k lt), refl))
   housed_start at name over body ss (in_nursery children ∷ fs) [] n b w = absurd w
   housed_start at name over body ss [] ps n b w = absurd (cc)
   housed_start at name over body ss (steps_left more ∷ fs) ps n b w = absurd (cc)
@@ -275,7 +275,7 @@ module _ (t : ℕ) (froms : Table) (here : Here) where
   housed_answered missing (needs name) fs ps = tt
   housed_answered missing shows fs ps = tt
   housed_answered missing (paces c) fs ps = tt
-  housed_answered (counted m) (paces c) fs ps = housed_sleeps (paced m c) fs ps
+  housed_answered (counted m) (paces c) fs ps = housed_sleeps (pace_ticks m c) fs ps
   housed_answered (counted m) shows fs ps = tt
   housed_answered (counted m) (needs name) fs ps = tt
 
@@ -286,7 +286,7 @@ module _ (t : ℕ) (froms : Table) (here : Here) where
   housed_with a (awaiting children ended exc) fs ps = tt
   housed_with a (at_end u e) fs ps = tt
 
-  housed_settled : (exc : Option Exc) (fs : List Frame) (ps : List Place) → Housed (settled froms t exc fs ps)
+  housed_settled : (exc : Option Exc) (fs : List Frame) (ps : List Place) → Housed (leaves_settled froms t exc fs ps)
   housed_settled exc fs [] = tt
   housed_settled exc fs (p ∷ ps) = tt
 

@@ -10,13 +10,13 @@ use Rattle.exc_groups.specs.Exceptions.{Label, Exc}
 use Rattle.exc_groups.specs.Split.{named, keep, drop}
 use Rattle.cancel_scopes.specs.Sight.{seen}
 use Rattle.job_meaning.specs.Log.{Log, Result, Table}
-use Rattle.job_meaning.specs.Walk.{by_table, Here, walk, walk_step, far, cancelling, sign_of, sign_if, home_of, signed, here_in, label_here, label_over, Kind, a_scope, left_with, done_at, sleeping, needing}
-use Rattle.job_meaning.specs.Rest.{fill, ChildOutcomes, told_members, Frame, steps_left, in_scope, in_nursery, in_repeat, in_try, in_handler, in_cleanup, inside, leaving_log, block_left, waited, finish}
-use Rattle.job_meaning.specs.Asking.{one_line, needs, answered}
+use Rattle.job_meaning.specs.Walk.{by_table, Here, walk, walk_step, far, cancel_result, sign_of, sign_if, home_of, with_sign, here_in, label_here, label_over, Kind, a_scope, left_with, done_at, sleep_result, need_result}
+use Rattle.job_meaning.specs.Rest.{fill, ChildOutcomes, told_members, Frame, steps_left, in_scope, in_nursery, in_repeat, in_try, in_handler, in_cleanup, inside, leaving_log, block_left, wait_result, finish}
+use Rattle.job_meaning.specs.Asking.{one_line, needs, answer_result}
 use Rattle.job_meaning.proofs.Clips.{followed_nil}
 use Rattle.job_meaning.proofs.Finish.{after, finish_after, finish_begin, finish_stop, finish_step, finish_raised, finish_scope, finish_nursery, finish_try, finish_handler, finish_unhandled, finish_no_handler, finish_uncleaned, finish_cleanup, finish_handled, finish_cleaned, finish_leave, finish_wait, finish_start, finish_start_over, finish_no_pass, finish_first_pass, finish_next_pass, finish_last_pass, finish_raised_pass}
-use Rattle.turn_semantics.specs.Midway.{Place, stack_at, Midway, Begun, Move, so_far, behind, going_to, left_after, left_of, none_told, begun_comes_to}
-use Rattle.turn_semantics.specs.Steps.{making, falls_asleep, sleeps, label_among, signs_to, signs_home, begun_one, begun_over, step_on, step_steps, leaves, handler_if, step_try, step_frames, step_of, begins_passes, step_pass}
+use Rattle.turn_semantics.specs.Midway.{Place, stack_at, Midway, Begun, Move, so_far, after_events, going_to, left_after, left_of, none_told, begun_comes_to}
+use Rattle.turn_semantics.specs.Steps.{makes, falls_asleep, sleeps, label_among, signs_to, signs_home, begun_one, begun_over, step_on, step_steps, leaves, handler_if, step_try, step_frames, step_of, begins_passes, step_pass}
 use Rattle.turn_semantics.specs.Placed.{in_body, Placed}
 use Rattle.turn_semantics.specs.Turned.{AgreesOn, AllTold}
 use Rattle.turn_semantics.proofs.Agreeing.{seen_alike, catches_alike, label_at_places, sleep_seen, sleep_none}
@@ -35,7 +35,7 @@ fill_home told table (Some e) (p ∷ ps) t = refl
 
 -- a child's whole walk, as its starter's has it
 pub begun_walk : (table : Table) (t : ℕ) (b : Begun) →
-    begun_comes_to table t b ≡ signed (stack_at table b.places) (walk (by_table table) b.body b.here (stack_at table b.places) t)
+    begun_comes_to table t b ≡ with_sign (stack_at table b.places) (walk (by_table table) b.body b.here (stack_at table b.places) t)
 begun_walk table t b = finish_begin (by_table table) none_told b.body b.here (stack_at table b.places) t
 
 -- what is recorded of children is recorded of the first of them
@@ -60,7 +60,7 @@ last_or_before i k lt = by_order (nat_lt i k) refl
 module _ (table froms : Table) (told : ChildOutcomes) (t : ℕ) (here : Here) where
   -- the move leaves the result of the task unchanged
   abbrev pub Keeps : List Frame → List Place → Option Exc → Move → Type 0
-  Keeps fs ps exc o = going_to table told here t fs ps exc ≡ behind told o.made (left_after table told here t o)
+  Keeps fs ps exc o = going_to table told here t fs ps exc ≡ after_events told o.made (left_after table told here t o)
 
   -- a step that opens no frame, by its result
   first_step : (s : Step) (ss : Steps) (fs : List Frame) (ps : List Place) (r : Result) →
@@ -73,13 +73,13 @@ module _ (table froms : Table) (told : ChildOutcomes) (t : ℕ) (here : Here) wh
 
   -- what is left with a sleep to come
   pub keeps_sleeps : (n : ℕ) (fs : List Frame) (ps : List Place) → AgreesOn t table froms ps →
-      finish (by_table table) told fs here (stack_at table ps) (sleeping (stack_at table ps) n t)
-      ≡ behind told (sleeps froms n t fs ps).made (left_after table told here t (sleeps froms n t fs ps))
+      finish (by_table table) told fs here (stack_at table ps) (sleep_result (stack_at table ps) n t)
+      ≡ after_events told (sleeps froms n t fs ps).made (left_after table told here t (sleeps froms n t fs ps))
   keeps_sleeps n fs ps a = by_sight (seen (stack_at froms ps) t) (seen_alike t table froms ps a) n
     where
       by_sight : (b : Bool) → seen (stack_at table ps) t ≡ b → (n : ℕ) →
-          finish (by_table table) told fs here (stack_at table ps) (sleeping (stack_at table ps) n t)
-          ≡ behind told (falls_asleep b n t fs ps).made (left_after table told here t (falls_asleep b n t fs ps))
+          finish (by_table table) told fs here (stack_at table ps) (sleep_result (stack_at table ps) n t)
+          ≡ after_events told (falls_asleep b n t fs ps).made (left_after table told here t (falls_asleep b n t fs ps))
       by_sight true e n = ap (λ (x : Result). finish (by_table table) told fs here (stack_at table ps) x)
           (sleep_seen (stack_at table ps) n t e)
       by_sight false e zero = ap (λ (x : Result). finish (by_table table) told fs here (stack_at table ps) x)
@@ -88,14 +88,14 @@ module _ (table froms : Table) (told : ChildOutcomes) (t : ℕ) (here : Here) wh
 
   -- a sleep
   keeps_sleep : (s : Step) (n : ℕ) (ss : Steps) (fs : List Frame) (ps : List Place) →
-      walk_step (by_table table) s (inside fs here) (stack_at table ps) t ≡ sleeping (stack_at table ps) n t → AgreesOn t table froms ps →
+      walk_step (by_table table) s (inside fs here) (stack_at table ps) t ≡ sleep_result (stack_at table ps) n t → AgreesOn t table froms ps →
       Keeps (steps_left (step s ss) ∷ fs) ps None (sleeps froms n t (steps_left ss ∷ fs) ps)
-  keeps_sleep s n ss fs ps e a = first_step s ss fs ps (sleeping (stack_at table ps) n t) e ∙ keeps_sleeps n (steps_left ss ∷ fs) ps a
+  keeps_sleep s n ss fs ps e a = first_step s ss fs ps (sleep_result (stack_at table ps) n t) e ∙ keeps_sleeps n (steps_left ss ∷ fs) ps a
 
   -- a `cancel`
   keeps_cancel : (name : List ℕ) (ss : Steps) (fs : List Frame) (ps : List Place) →
-      Keeps (steps_left (step (cancel name) ss) ∷ fs) ps None (making (signs_to (label_among name ps) t) (steps_left ss ∷ fs) ps)
-  unfolding walk cancelling
+      Keeps (steps_left (step (cancel name) ss) ∷ fs) ps None (makes (signs_to (label_among name ps) t) (steps_left ss ∷ fs) ps)
+  unfolding walk cancel_result
   keeps_cancel name ss fs ps =
       first_step (cancel name) ss fs ps (after (fill told (signs_to (label_among name ps) t)) (done_at t))
       (ap (λ (x : Log). record (done_at t) { log = x })
@@ -109,7 +109,7 @@ module _ (table froms : Table) (told : ChildOutcomes) (t : ℕ) (here : Here) wh
       AllTold t table told (begun_over name at of body ps first k) →
       (i : ℕ) → i < k →
       told (first + i)
-      ≡ signed (stack_at table ps) (walk (by_table table) body (here_in (label_over name at i) (cut_of at.input at.part of i) at)
+      ≡ with_sign (stack_at table ps) (walk (by_table table) body (here_in (label_over name at i) (cut_of at.input at.part of i) at)
       (stack_at table ps) t)
   over_told at name of body ps first zero h i lt = absurd (omega arith)
   over_told at name of body ps first (suc k) h i lt =
@@ -124,7 +124,7 @@ module _ (table froms : Table) (told : ChildOutcomes) (t : ℕ) (here : Here) wh
       Tells : ℕ → Type 0
       Tells i =
           told (first + i)
-          ≡ signed (stack_at table ps) (walk (by_table table) body (here_in (label_over name at i) (cut_of at.input at.part of i) at)
+          ≡ with_sign (stack_at table ps) (walk (by_table table) body (here_in (label_over name at i) (cut_of at.input at.part of i) at)
           (stack_at table ps) t)
 
       by_last : (i ≡ k) ⊎ (i < k) → (i < k → Tells i) → Tells i
@@ -157,10 +157,10 @@ module _ (table froms : Table) (told : ChildOutcomes) (t : ℕ) (here : Here) wh
 
   -- `need` asks for a line
   keeps_need : (o : Option Span) (name : List ℕ) (ss : Steps) (fs : List Frame) (ps : List Place) →
-      finish (by_table table) told (steps_left ss ∷ fs) here (stack_at table ps) (needing o name here.task t)
+      finish (by_table table) told (steps_left ss ∷ fs) here (stack_at table ps) (need_result o name here.task t)
       ≡ finish (by_table table) told (steps_left ss ∷ fs) here (stack_at table ps)
-      (answered (one_line o) (needs name) here (stack_at table ps) t)
-  unfolding needing
+      (answer_result (one_line o) (needs name) here (stack_at table ps) t)
+  unfolding need_result
   keeps_need None name ss fs ps = refl
   keeps_need (Some l) name ss fs ps = refl
 
@@ -218,7 +218,7 @@ module _ (table froms : Table) (told : ChildOutcomes) (t : ℕ) (here : Here) wh
   pub block_leaves : (kind : Kind) (fs : List Frame) (p : Place) (ps : List Place) (exc : Option Exc) → AgreesOn t table froms (p ∷ ps) →
       finish (by_table table) told fs here (stack_at table ps) (block_left kind
       (record { label = p.label; shield = p.shield; from = table p.label }) (stack_at table ps) (so_far exc t))
-      ≡ behind told (leaves froms t kind fs p ps exc).made (left_after table told here t (leaves froms t kind fs p ps exc))
+      ≡ after_events told (leaves froms t kind fs p ps exc).made (left_after table told here t (leaves froms t kind fs p ps exc))
   block_leaves kind fs p ps exc a =
       ap (λ (b : Bool). finish (by_table table) told fs here (stack_at table ps)
       (leaving_log kind p.label (left_with b exc) (so_far exc t))) (catches_alike t table froms p ps a)
@@ -241,7 +241,7 @@ module _ (table froms : Table) (told : ChildOutcomes) (t : ℕ) (here : Here) wh
 
   -- a task with no frame left: it signs for its home nursery where it failed
   keeps_end : (ps : List Place) (exc : Option Exc) (count : ℕ) → Keeps [] ps exc (step_frames froms t here [] ps exc count)
-  unfolding finish signed
+  unfolding finish with_sign
   keeps_end ps exc count =
       ap (λ (x : Log). record (so_far exc t) { log = x }) (sym (fill_home told table exc ps t)
       ∙ sym (followed_nil (fill told (signs_home exc ps t))))
@@ -256,7 +256,7 @@ module _ (table froms : Table) (told : ChildOutcomes) (t : ℕ) (here : Here) wh
       (λ (x : Log).
       after x
       (finish (by_table table) told fs here (stack_at table ps)
-      (waited (told_members told children) t exc (record { label = p.label; shield = p.shield; from = table p.label })
+      (wait_result (told_members told children) t exc (record { label = p.label; shield = p.shield; from = table p.label })
       (stack_at table ps))))
       (sym (fill_home told table exc (p ∷ ps) t))
 
@@ -284,6 +284,6 @@ module _ (table froms : Table) (told : ChildOutcomes) (t : ℕ) (here : Here) wh
   -- result of what is left after the step.
   pub step_keeps : (m : Midway) → AgreesOn t table froms m.places → Placed m.frames m.places →
       AllTold t table told (step_of froms t here m).begun →
-      left_of table told here t m ≡ behind told (step_of froms t here m).made (left_after table told here t (step_of froms t here m))
+      left_of table told here t m ≡ after_events told (step_of froms t here m).made (left_after table told here t (step_of froms t here m))
   unfolding step_of
   step_keeps m a w h = keeps_frames m.frames m.places m.exc m.count a w h

@@ -5,12 +5,12 @@ use Rattle.exc_groups.specs.Exceptions.{Exc}
 use Rattle.exc_groups.specs.Split.{named, keep, drop}
 use Rattle.cancel_scopes.specs.Sight.{seen}
 use Rattle.job_meaning.specs.Log.{Table}
-use Rattle.job_meaning.specs.Walk.{Here, far, paced}
-use Rattle.job_meaning.specs.Rest.{numbered, Frame, steps_left, in_scope, in_nursery, in_repeat, in_try, in_handler, in_cleanup, inside, Stopped, to_begin, asking, asleep, awaiting, at_end}
+use Rattle.job_meaning.specs.Walk.{Here, far, pace_ticks}
+use Rattle.job_meaning.specs.Rest.{consecutive, Frame, steps_left, in_scope, in_nursery, in_repeat, in_try, in_handler, in_cleanup, inside, Stopped, to_begin, asking, asleep, awaiting, at_end}
 use Rattle.job_meaning.specs.Asking.{Answer, lines, missing, counted, Purpose, shows, needs, paces}
 use Rattle.turn_semantics.specs.Midway.{Place, stack_at, Midway, Move}
 use Rattle.turn_semantics.specs.Steps.{sleeps, falls_asleep, with_started, handler_if, step_try, step_on, step_steps, step_frames, step_of, begins_passes, step_pass}
-use Rattle.turn_semantics.specs.Wakes.{Wake, begins, sees, is_due, has_answer, settles, goes_on_with, with_answer, settled, wake_of}
+use Rattle.turn_semantics.specs.Wakes.{Wake, begins, sees, is_due, has_answer, settles, goes_on_with, with_answer, leaves_settled, wake_of}
 use Rattle.turn_semantics.specs.Placed.{AllBelow, KidsBelow, KidsAfter}
 use Rattle.turn_semantics.proofs.Cases.{over_length}
 
@@ -37,11 +37,11 @@ all_append : (n : ℕ) (is js : List ℕ) → AllBelow n is → AllBelow n js �
 all_append n [] js a b = b
 all_append n (i ∷ is) js a b = (a.0, all_append n is js a.1 b)
 
-numbered_below : (first k : ℕ) → AllBelow (first + k) (numbered first k)
+numbered_below : (first k : ℕ) → AllBelow (first + k) (consecutive first k)
 numbered_below first zero = tt
 numbered_below first (suc k) =
-    all_append (first + suc k) (numbered first k) ((first + k) ∷ [])
-    (all_grow (first + k) (first + suc k) (omega arith) (numbered first k) (numbered_below first k)) (omega arith, tt)
+    all_append (first + suc k) (consecutive first k) ((first + k) ∷ [])
+    (all_grow (first + k) (first + suc k) (omega arith) (consecutive first k) (numbered_below first k)) (omega arith, tt)
 
 -- children that are started now are below the new count
 kids_started : (n m : ℕ) → n ≤ m → (more : List ℕ) → AllBelow m more → (fs : List Frame) → KidsBelow n fs →
@@ -105,8 +105,8 @@ module _ (t : ℕ) (froms : Table) (here : Here) (n : ℕ) where
   kids_step at (start name None body) ss fs ps k = kids_started n (n + 1) (omega arith) (n ∷ []) (omega arith, tt) fs k
   kids_step at (start name (Some c) body) ss fs ps k =
       let e = over_length name at c body ps n c in
-      kids_started n (n + length (step_on froms t at (start name (Some c) body) ss fs ps n).begun) (omega arith) (numbered n c)
-      (subst (λ (z : ℕ). AllBelow (n + z) (numbered n c)) (sym e) (numbered_below n c)) fs k
+      kids_started n (n + length (step_on froms t at (start name (Some c) body) ss fs ps n).begun) (omega arith) (consecutive n c)
+      (subst (λ (z : ℕ). AllBelow (n + z) (consecutive n c)) (sym e) (numbered_below n c)) fs k
   kids_step at (repeat m body) ss fs ps k = kids_passes m body (steps_left ss ∷ fs) ps k
   kids_step at (attempt body handler cleanup) ss fs ps k = same_kids n fs k
 
@@ -145,7 +145,7 @@ module _ (t : ℕ) (froms : Table) (here : Here) (n : ℕ) where
   kids_answered missing (needs name) fs ps k = same_kids n fs k
   kids_answered missing shows fs ps k = same_kids n fs k
   kids_answered missing (paces c) fs ps k = same_kids n fs k
-  kids_answered (counted m) (paces c) fs ps k = kids_sleeps (paced m c) fs ps k
+  kids_answered (counted m) (paces c) fs ps k = kids_sleeps (pace_ticks m c) fs ps k
   kids_answered (counted m) shows fs ps k = same_kids n fs k
   kids_answered (counted m) (needs name) fs ps k = same_kids n fs k
 
@@ -156,7 +156,7 @@ module _ (t : ℕ) (froms : Table) (here : Here) (n : ℕ) where
   kids_with a (awaiting children ended exc) fs ps k = same_kids n fs k
   kids_with a (at_end u e) fs ps k = same_kids n fs k
 
-  kids_settled : (exc : Option Exc) (fs : List Frame) (ps : List Place) → KidsBelow n fs → Kept (settled froms t exc fs ps)
+  kids_settled : (exc : Option Exc) (fs : List Frame) (ps : List Place) → KidsBelow n fs → Kept (leaves_settled froms t exc fs ps)
   kids_settled exc fs [] k = same_kids n fs k
   kids_settled exc fs (p ∷ ps) k = same_kids n fs k
 

@@ -10,8 +10,8 @@ use Rattle.job_meaning.specs.Walk.{Here}
 use Rattle.job_meaning.specs.Rest.{Frame, steps_left, in_scope, in_nursery, in_repeat, in_try, in_handler, in_cleanup, inside, Stopped, awaiting, Rest}
 use Rattle.job_meaning.specs.Asking.{Answer, lines, missing, counted, Purpose, shows, needs, paces}
 use Rattle.job_meaning.proofs.Distinct.{Among, among_left, among_right, Distinct, distinct_left, distinct_right, distinct_by_bytes}
-use Rattle.turn_semantics.specs.Midway.{Place, stack_at, Midway, Begun, Move, moved, then_move}
-use Rattle.turn_semantics.specs.Wakes.{Wake, goes_on_with, settled, wake_of, turn_from, CanWake, from_start, from_sleep, from_due, from_asking, from_wait}
+use Rattle.turn_semantics.specs.Midway.{Place, stack_at, Midway, Begun, Move, after_move, then_move}
+use Rattle.turn_semantics.specs.Wakes.{Wake, goes_on_with, leaves_settled, wake_of, turn_from, CanWake, from_start, from_sleep, from_due, from_asking, from_wait}
 use Rattle.turn_semantics.specs.Placed.{places_behind}
 use Rattle.turn_semantics.specs.Steps.{falls_asleep, sleeps, with_started, begun_over, step_on, step_steps, handler_if, step_try, step_frames, step_of, froms_after, turn_of, begins_passes, step_pass}
 use Rattle.turn_semantics.specs.Names.{IsName, names_at, OwnNames, AreNew, IsNew, IsNewHandler, IsNewCleanup, NewIn, AllNew, StaysNew}
@@ -206,7 +206,7 @@ answer_new froms t here (counted n) (paces k) fs ps h own = sleeps_new froms _ t
 -- a nursery whose last member ended is left
 settled_new : (froms : Table) (t : ℕ) (exc : Option Exc) (children : List ℕ) (ended : ℕ) (e : Option Exc) (fs : List Frame)
     (ps : List Place) →
-    NewIn fs (places_behind (Some (awaiting children ended e)) ps) → OwnNames (names_at ps) → StaysNew (settled froms t exc fs ps)
+    NewIn fs (places_behind (Some (awaiting children ended e)) ps) → OwnNames (names_at ps) → StaysNew (leaves_settled froms t exc fs ps)
 settled_new froms t exc children ended e fs [] h own = record { frames = h; own = own; begun = tt }
 settled_new froms t exc children ended e fs (p ∷ ps) h own = record { frames = h; own = own.1; begun = tt }
 
@@ -235,8 +235,8 @@ turn_new zero froms t here m h own = record { frames = h; own = own; begun = tt 
 turn_new (suc n) froms t here m h own =
     let o = step_of froms t here m in
     let one : StaysNew o = step_stays_new froms t here m h own in
-    then_new o.stopped o (turn_of n (froms_after froms o.made) t here (moved m o)) refl one
-    (λ e. turn_new n (froms_after froms o.made) t here (moved m o) (not_stopped o e one.frames) one.own)
+    then_new o.stopped o (turn_of n (froms_after froms o.made) t here (after_move m o)) refl one
+    (λ e. turn_new n (froms_after froms o.made) t here (after_move m o) (not_stopped o e one.frames) one.own)
 
 -- a whole turn keeps it
 pub turn_stays_new : (n t : ℕ) (here : Here) (froms : Table) (w : Wake) (rest : Rest) (ps : List Place) (count : ℕ) →

@@ -5,7 +5,7 @@ use Rattle.job_meaning.specs.Log.{Log, nil, entry, sign, entered, task, followed
 use Rattle.job_meaning.specs.Walk.{Here}
 use Rattle.job_meaning.specs.Rest.{Event, ChildOutcomes, fill, Frame, Stopped, to_begin, asking, asleep, awaiting, at_end, frames_weight}
 use Rattle.job_meaning.proofs.Finish.{followed_assoc, fill_append}
-use Rattle.turn_semantics.specs.Midway.{Place, Midway, Move, moved, unmoved, then_move, behind, left_of, left_after, stop_comes_to}
+use Rattle.turn_semantics.specs.Midway.{Place, Midway, Move, after_move, no_move, then_move, after_events, left_of, left_after, stop_comes_to}
 use Rattle.turn_semantics.specs.Steps.{froms_after, step_of, turn_of}
 use Rattle.turn_semantics.specs.Placed.{Placed, PlacedAfter, home_after, KidsAfter, HasChildAfter, AllHoused}
 use Rattle.turn_semantics.specs.Turned.{AgreesOn, AgreesIn, AgreesAhead, AllTold, Known, labels_of, AllKnown, known_after, StopsAt, BegunIn, Turned, Goes}
@@ -18,7 +18,7 @@ use Rattle.turn_semantics.proofs.Kids.{kids_grow, step_kids}
 -- ---- events, one after another
 
 -- events before a result, in two parts
-pub behind_append : (told : ChildOutcomes) (es fs : List Event) (r : Result) → behind told (es ++ fs) r ≡ behind told es (behind told fs r)
+pub behind_append : (told : ChildOutcomes) (es fs : List Event) (r : Result) → after_events told (es ++ fs) r ≡ after_events told es (after_events told fs r)
 behind_append told es fs r =
     ap (λ (x : Log). record r { log = x }) (ap (λ (x : Log). followed_by x r.log) (fill_append told es fs)
     ∙ followed_assoc (fill told es) (fill told fs) r.log)
@@ -62,7 +62,7 @@ turned_step t here froms m p =
     }
 
 -- and a turn of no steps keeps it
-pub turned_nothing : (t : ℕ) (here : Here) (froms : Table) (m : Midway) → Placed m.frames m.places → Goes t here froms m (unmoved m)
+pub turned_nothing : (t : ℕ) (here : Here) (froms : Table) (m : Midway) → Placed m.frames m.places → Goes t here froms m (no_move m)
 turned_nothing t here froms m p =
     record {
       keeps = λ table told g a b h. refl;
@@ -160,25 +160,25 @@ module _ (t : ℕ) (here : Here) (froms : Table) (Given : Table → ChildOutcome
         both : (table : Table) (told : ChildOutcomes) → Given table told → AgreesOn t table froms ps → AgreesIn t table (fill told o.made) →
             AgreesAhead t table (fill told o.made) (before table told).log →
             AgreesAhead t table (fill told q.made) (left_of table told here t after).log → AllTold t table told (o.begun ++ q.begun) →
-            before table told ≡ behind told (o.made ++ q.made) (left_after table told here t q)
+            before table told ≡ after_events told (o.made ++ q.made) (left_after table told here t q)
         both table told g a made ahead more h =
             x.keeps table told g a ahead (told_first t table told o.begun q.begun h)
-            ∙ ap (λ (r : Result). behind told o.made r) (on table told
+            ∙ ap (λ (r : Result). after_events told o.made r) (on table told
             ∙ y.keeps table told tt (turned_agrees o x table told a made) more (told_second t table told o.begun q.begun h))
             ∙ sym (behind_append told o.made q.made (left_after table told here t q))
 
         keeps : (table : Table) (told : ChildOutcomes) → Given table told → AgreesOn t table froms ps →
             AgreesAhead t table (fill told (o.made ++ q.made)) (before table told).log → AllTold t table told (o.begun ++ q.begun) →
-            before table told ≡ behind told (o.made ++ q.made) (left_after table told here t q)
+            before table told ≡ after_events told (o.made ++ q.made) (left_after table told here t q)
         keeps table told g a (inl b) h =
             let parts = subst (λ (l : Log). AgreesIn t table l) (fill_append told o.made q.made) b in
             let made = agrees_in_first t table (fill told o.made) (fill told q.made) parts in
             both table told g a made (inl made) (inl (agrees_in_second t table (fill told o.made) (fill told q.made) parts)) h
         keeps table told g a (inr b) h =
             let left = (left_of table told here t after).log in
-            let first : before table told ≡ behind told o.made (left_of table told here t after) =
+            let first : before table told ≡ after_events told o.made (left_of table told here t after) =
             x.keeps table told g a (inr b) (told_first t table told o.begun q.begun h)
-            ∙ ap (λ (r : Result). behind told o.made r) (on table told) in
+            ∙ ap (λ (r : Result). after_events told o.made r) (on table told) in
             let parts : AgreesIn t table (followed_by (fill told o.made) left) = subst (λ (r : Result). AgreesIn t table r.log) first b in
             both table told g a (agrees_in_first t table (fill told o.made) left parts) (inr b)
             (inr (agrees_in_second t table (fill told o.made) left parts)) h
@@ -202,5 +202,5 @@ turned_turn (suc n) t here froms m p =
     let o = step_of froms t here m in
     turned_on t here froms (λ table told. Unit {0}) (λ table told. left_of table told here t m) (1 + frames_weight m.frames) None m.frames
     m.places m.count
-    o.stopped o (turn_of n (froms_after froms o.made) t here (moved m o)) refl (turned_step t here froms m p)
-    (λ q. turned_turn n t here (froms_after froms o.made) (moved m o) q)
+    o.stopped o (turn_of n (froms_after froms o.made) t here (after_move m o)) refl (turned_step t here froms m p)
+    (λ q. turned_turn n t here (froms_after froms o.made) (after_move m o) q)

@@ -3,17 +3,17 @@ use Rattle.std.proofs.Common.{◌≡◌, ℕ, ◌+◌, ◌-◌, ◌<◌, ◌≤�
 use Rattle.std.proofs.lemmas.Bool.Decides.{nat_tests}
 use Rattle.buffer_parts.specs.Lines.{Span}
 use Rattle.exc_groups.specs.Exceptions.{Label, Exc, cancelled, by_nursery, parts_of, group_of}
-use Rattle.cancel_scopes.specs.Sight.{Tick, reached, sight, seen}
+use Rattle.cancel_scopes.specs.Sight.{Tick, is_reached, sight, seen}
 use Rattle.job_meaning.specs.Log.{Log, entry, line, Result, Table}
-use Rattle.job_meaning.specs.Walk.{Stack, by_table, Here, slept, sleeping, raised_at, done_at, paced, log_of_lines, showing, a_nursery, gathered, with_exc, excs_of, latest}
+use Rattle.job_meaning.specs.Walk.{Stack, by_table, Here, sleep_by_sight, sleep_result, raised_at, done_at, pace_ticks, log_of_lines, lines_result, a_nursery, nursery_result, with_exc, excs_of, latest}
 use Rattle.job_meaning.specs.Rest.{fill, ChildOutcomes, told_members, Frame, Stopped, awaiting, Rest, block_left, finish, finished_from, rest_comes_to, rest_weight, frames_weight, asking_weight, stop_weight}
-use Rattle.job_meaning.specs.Asking.{Answer, lines, missing, counted, answer_of, Purpose, shows, needs, paces, answered}
+use Rattle.job_meaning.specs.Asking.{Answer, lines, missing, counted, answer_of, Purpose, shows, needs, paces, answer_result}
 use Rattle.job_meaning.proofs.Clips.{followed_nil}
 use Rattle.job_meaning.proofs.Finish.{finish_after}
-use Rattle.turn_semantics.specs.Midway.{Place, stack_at, Midway, so_far, behind, left_after}
-use Rattle.turn_semantics.specs.Steps.{making, froms_after, turn_of}
+use Rattle.turn_semantics.specs.Midway.{Place, stack_at, Midway, so_far, after_events, left_after}
+use Rattle.turn_semantics.specs.Steps.{makes, froms_after, turn_of}
 use Rattle.turn_semantics.specs.Placed.{Placed, PlacedStop, home_places, home_after}
-use Rattle.turn_semantics.specs.Wakes.{Wake, lines_made, goes_on_with, settled, wake_of, turn_from, SettlesAt, WakesBy, CanWake, from_start, from_asking, from_sleep, from_due, from_wait}
+use Rattle.turn_semantics.specs.Wakes.{Wake, lines_made, goes_on_with, leaves_settled, wake_of, turn_from, SettlesAt, WakesBy, CanWake, from_start, from_asking, from_sleep, from_due, from_wait}
 use Rattle.turn_semantics.specs.Turned.{AgreesOn, labels_of, MadeAt, Starts, known_after, TurnsOver}
 use Rattle.turn_semantics.proofs.Keeps.{keeps_sleeps, block_leaves}
 use Rattle.turn_semantics.proofs.Events.{all_own, all_grow, known_stays}
@@ -25,8 +25,8 @@ use Rattle.turn_semantics.proofs.Turns.{turned_on, turned_turn}
 -- ---- sleeps
 
 -- a sleeper whose cancellation comes by its due tick is cancelled then
-pub slept_seen : (st : Stack) (n since t : ℕ) → since < t → t ≤ since + n → sight st ≡ Some t → sleeping st n since ≡ raised_at cancelled t
-unfolding sleeping
+pub slept_seen : (st : Stack) (n since t : ℕ) → since < t → t ≤ since + n → sight st ≡ Some t → sleep_result st n since ≡ raised_at cancelled t
+unfolding sleep_result
 slept_seen st n since t lt le e = rw e (rw late (rw soon refl))
   where
     late : nat_le t since ≡ false
@@ -36,14 +36,14 @@ slept_seen st n since t lt le e = rw e (rw late (rw soon refl))
     soon = grind (arith, nat_tests)
 
 -- and another one continues when it is due
-pub slept_due : (st : Stack) (n since : ℕ) → seen st (since + n) ≡ false → sleeping st n since ≡ done_at (since + n)
-unfolding sleeping
+pub slept_due : (st : Stack) (n since : ℕ) → seen st (since + n) ≡ false → sleep_result st n since ≡ done_at (since + n)
+unfolding sleep_result
 slept_due st n since e = by_sight (sight st) e
   where
     not_before : (from : ℕ) → nat_le from (since + n) ≡ false → nat_le from since ≡ false
     not_before from e = grind (arith, nat_tests)
 
-    by_sight : (a : Tick) → reached a (since + n) ≡ false → slept a n since ≡ done_at (since + n)
+    by_sight : (a : Tick) → is_reached a (since + n) ≡ false → sleep_by_sight a n since ≡ done_at (since + n)
     by_sight None e = refl
     by_sight (Some from) e = rw (not_before from e) (rw e refl)
 
@@ -66,9 +66,9 @@ lines_start t n (l ∷ ls) = lines_start t n ls
 module _ (table froms : Table) (told : ChildOutcomes) (t : ℕ) (here : Here) where
   -- lines are noted, and the task continues in the same tick
   wakes_lines : (ls : List Span) (fs : List Frame) (ps : List Place) →
-      finish (by_table table) told fs here (stack_at table ps) (showing ls t)
-      ≡ behind told (lines_made t ls) (left_after table told here t (making (lines_made t ls) fs ps))
-  unfolding showing
+      finish (by_table table) told fs here (stack_at table ps) (lines_result ls t)
+      ≡ after_events told (lines_made t ls) (left_after table told here t (makes (lines_made t ls) fs ps))
+  unfolding lines_result
   wakes_lines ls fs ps =
       ap (λ (x : Log). finish (by_table table) told fs here (stack_at table ps) (record (done_at t) { log = x }))
       (sym (fill_lines told t ls) ∙ sym (followed_nil (fill told (lines_made t ls))))
@@ -76,14 +76,14 @@ module _ (table froms : Table) (told : ChildOutcomes) (t : ℕ) (here : Here) wh
 
   -- an answer, by what it is for
   wakes_answer : (a : Answer) (purpose : Purpose) (fs : List Frame) (ps : List Place) → AgreesOn t table froms ps →
-      finish (by_table table) told fs here (stack_at table ps) (answered a purpose here (stack_at table ps) t)
-      ≡ behind told (goes_on_with froms t here a purpose fs ps).made
+      finish (by_table table) told fs here (stack_at table ps) (answer_result a purpose here (stack_at table ps) t)
+      ≡ after_events told (goes_on_with froms t here a purpose fs ps).made
       (left_after table told here t (goes_on_with froms t here a purpose fs ps))
   wakes_answer (lines ls) purpose fs ps g = wakes_lines ls fs ps
   wakes_answer missing (needs name) fs ps g = refl
   wakes_answer missing shows fs ps g = refl
   wakes_answer missing (paces k) fs ps g = refl
-  wakes_answer (counted n) (paces k) fs ps g = keeps_sleeps table froms told t here (paced n k) fs ps g
+  wakes_answer (counted n) (paces k) fs ps g = keeps_sleeps table froms told t here (pace_ticks n k) fs ps g
   wakes_answer (counted n) shows fs ps g = refl
   wakes_answer (counted n) (needs name) fs ps g = refl
 
@@ -91,8 +91,8 @@ module _ (table froms : Table) (told : ChildOutcomes) (t : ℕ) (here : Here) wh
   wakes_settled : (exc : Option Exc) (children : List ℕ) (ended : ℕ) (e : Option Exc) (u : ℕ) (fs : List Frame) (ps : List Place) →
       AgreesOn t table froms ps → SettlesAt t exc (told_members told children) ended e ps →
       finished_from (by_table table) told (awaiting children ended e) fs here (stack_at table ps) u
-      ≡ behind told (settled froms t exc fs ps).made (left_after table told here t (settled froms t exc fs ps))
-  unfolding gathered
+      ≡ after_events told (leaves_settled froms t exc fs ps).made (left_after table told here t (leaves_settled froms t exc fs ps))
+  unfolding nursery_result
   wakes_settled exc children ended e u fs (p ∷ ps) g s =
       at_last (latest ended (told_members told children)) (group_of (by_nursery p.label)
       (parts_of (with_exc e (excs_of (told_members told children))))) s.0 s.1
@@ -111,12 +111,12 @@ module _ (table froms : Table) (told : ChildOutcomes) (t : ℕ) (here : Here) wh
   pub wake_keeps : (u : ℕ) {w : Wake} {s : Stopped} → CanWake w s → (fs : List Frame) (ps : List Place) →
       AgreesOn t table froms ps → WakesBy table told here u t w s ps →
       finished_from (by_table table) told s fs here (stack_at table ps) u
-      ≡ behind told (wake_of froms t here w s fs ps).made (left_after table told here t (wake_of froms t here w s fs ps))
+      ≡ after_events told (wake_of froms t here w s fs ps).made (left_after table told here t (wake_of froms t here w s fs ps))
   wake_keeps u from_start fs ps g e = ap (λ (v : ℕ). finish (by_table table) told fs here (stack_at table ps) (done_at v)) e
   wake_keeps u (from_asking {a} {kernel} {purpose}) fs ps g e =
       ap (λ (v : ℕ). finish (by_table table) told fs here (stack_at table ps)
-      (answered (answer_of kernel here) purpose here (stack_at table ps) v)) e.0
-      ∙ (ap (λ (b : Answer). finish (by_table table) told fs here (stack_at table ps) (answered b purpose here (stack_at table ps) t))
+      (answer_result (answer_of kernel here) purpose here (stack_at table ps) v)) e.0
+      ∙ (ap (λ (b : Answer). finish (by_table table) told fs here (stack_at table ps) (answer_result b purpose here (stack_at table ps) t))
       (sym e.1)
       ∙ wakes_answer a purpose fs ps g)
   wake_keeps u (from_sleep {n} {since}) fs ps g e =
@@ -137,7 +137,7 @@ asking_weighs (paces k) = omega arith
 
 lines_case : (t : ℕ) (froms : Table) (w : ℕ) (ls : List Span) (fs : List Frame) (ps : List Place) (count : ℕ) → Placed fs ps →
     frames_weight fs ≤ w →
-    Case t froms w (home_places fs ps) ps count (making (lines_made t ls) fs ps)
+    Case t froms w (home_places fs ps) ps count (makes (lines_made t ls) fs ps)
 lines_case t froms w ls fs ps count p le =
     record {
       placed = p;
@@ -160,14 +160,14 @@ answered_case t froms here (lines ls) purpose fs ps count w p e =
 answered_case t froms here missing (needs name) fs ps count w p e = onward_case t froms w _ fs ps _ count p refl (omega arith)
 answered_case t froms here missing shows fs ps count w p e = onward_case t froms w _ fs ps _ count p refl (omega arith)
 answered_case t froms here missing (paces k) fs ps count w p e = onward_case t froms w _ fs ps _ count p refl (omega arith)
-answered_case t froms here (counted n) (paces k) fs ps count w p e = sleep_case t froms (paced n k) w _ fs ps count p refl (omega arith)
+answered_case t froms here (counted n) (paces k) fs ps count w p e = sleep_case t froms (pace_ticks n k) w _ fs ps count p refl (omega arith)
 answered_case t froms here (counted n) shows fs ps count w p e = onward_case t froms w _ fs ps _ count p refl (omega arith)
 answered_case t froms here (counted n) (needs name) fs ps count w p e = onward_case t froms w _ fs ps _ count p refl (omega arith)
 
 settled_case : (t : ℕ) (froms : Table) (exc : Option Exc) (children : List ℕ) (ended : ℕ) (x : Option Exc) (fs : List Frame)
     (ps : List Place) (count w : ℕ) →
     PlacedStop (awaiting children ended x) fs ps → 1 + w ≡ 1 + frames_weight fs →
-    Case t froms w (home_after (Some (awaiting children ended x)) fs ps) ps count (settled froms t exc fs ps)
+    Case t froms w (home_after (Some (awaiting children ended x)) fs ps) ps count (leaves_settled froms t exc fs ps)
 settled_case t froms exc children ended x fs (p ∷ ps) count w q e = leaves_case t froms a_nursery w _ fs p ps exc count q refl (omega arith)
 settled_case t froms exc children ended x fs [] count w q e = absurd q
 

@@ -7,7 +7,7 @@ use Rattle.job_meaning.specs.Log.{Result, Table}
 use Rattle.job_meaning.specs.Walk.{by_table, Here}
 use Rattle.job_meaning.specs.Rest.{Event, ChildOutcomes, fill, steps_left, Stopped, to_begin, Rest, rest_comes_to, task_comes_to, rest_at_start}
 use Rattle.job_meaning.proofs.Finish.{finish_begin}
-use Rattle.turn_semantics.specs.Midway.{Place, stack_at, Begun, Move, behind, left_after, stop_comes_to, begun_comes_to, none_told}
+use Rattle.turn_semantics.specs.Midway.{Place, stack_at, Begun, Move, after_events, left_after, stop_comes_to, begun_comes_to, none_told}
 use Rattle.turn_semantics.specs.Placed.{PlacedStop}
 use Rattle.turn_semantics.specs.Wakes.{Wake, WakesBy}
 use Rattle.turn_semantics.specs.Turned.{AgreesOn, AgreesAhead, AllTold, BegunIn, TurnsOver}
@@ -25,9 +25,9 @@ pub turn_comes_to : (u t : ℕ) (here : Here) (froms : Table) (w : Wake) (rest :
     task_comes_to (by_table table) told made rest here (stack_at table ps) u
     ≡ task_comes_to (by_table table) told (made ++ o.made) (record { stopped = s; frames = o.frames }) here (stack_at table o.places) t
 turn_comes_to u t here froms w rest ps count o made s x e table told g a b h =
-    ap (λ (r : Result). behind told made r) (x.keeps table told g a b h)
+    ap (λ (r : Result). after_events told made r) (x.keeps table told g a b h)
     ∙ (sym (behind_append told made o.made (left_after table told here t o))
-    ∙ ap (λ (z : Option Stopped). behind told (made ++ o.made) (stop_comes_to z table told here t o.frames o.places o.exc)) e)
+    ∙ ap (λ (z : Option Stopped). after_events told (made ++ o.made) (stop_comes_to z table told here t o.frames o.places o.exc)) e)
 
 -- a task that was started, and whose block is no nursery's body, may begin inside any scopes and nurseries
 pub start_placed : (body : Steps) (ps : List Place) → StartsIn false body →

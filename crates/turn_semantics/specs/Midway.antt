@@ -43,12 +43,12 @@ pub record Move : Type 0 where
   pub stopped : Option Stopped
 
 -- the task after a move
-abbrev pub moved : Midway → Move → Midway
-moved m o = record { frames = o.frames; places = o.places; exc = o.exc; count = m.count + length o.begun }
+abbrev pub after_move : Midway → Move → Midway
+after_move m o = record { frames = o.frames; places = o.places; exc = o.exc; count = m.count + length o.begun }
 
 -- no move
-abbrev pub unmoved : Midway → Move
-unmoved m = record { frames = m.frames; places = m.places; exc = m.exc; made = []; begun = []; stopped = None }
+abbrev pub no_move : Midway → Move
+no_move m = record { frames = m.frames; places = m.places; exc = m.exc; made = []; begun = []; stopped = None }
 
 -- one move, and another one after it; a task that stopped does not continue
 abbrev pub then_move : Option Stopped → Move → Move → Move
@@ -61,8 +61,8 @@ abbrev pub so_far : Option Exc → ℕ → Result
 so_far exc t = record { end = t; exc = exc; members = []; log = nil }
 
 -- a result, with these events before it
-abbrev pub behind : ChildOutcomes → List Event → Result → Result
-behind told es r = record r { log = followed_by (fill told es) r.log }
+abbrev pub after_events : ChildOutcomes → List Event → Result → Result
+after_events told es r = record r { log = followed_by (fill told es) r.log }
 
 -- the result of what is left of a task in the middle of a turn, with these frames, enclosing scopes and nurseries,
 -- and exception

@@ -8,35 +8,35 @@ use Rattle.exc_groups.specs.Split.{named, keep, drop}
 use Rattle.cancel_scopes.specs.Sight.{Tick, earlier, next, seen, catches}
 use Rattle.job_meaning.specs.Log.{Table, same_label}
 use Rattle.job_meaning.specs.Walk.{Here, far, due, label_here, label_over, label_if, here_in, Kind, a_scope, left_as, left_with, exc_after, handler_exc, outcome_after}
-use Rattle.job_meaning.specs.Rest.{Event, noted, signs, enters, starts, starts_over, numbered, Frame, steps_left, in_scope, in_nursery, in_repeat, in_try, in_handler, in_cleanup, inside, Stopped, asking, asleep, awaiting, at_end}
+use Rattle.job_meaning.specs.Rest.{Event, noted, signs, enters, starts, starts_over, consecutive, Frame, steps_left, in_scope, in_nursery, in_repeat, in_try, in_handler, in_cleanup, inside, Stopped, asking, asleep, awaiting, at_end}
 use Rattle.job_meaning.specs.Asking.{shows, needs, paces}
 use Rattle.job_meaning.specs.Asking as ask
-use Rattle.turn_semantics.specs.Midway.{Place, stack_at, Midway, Begun, Move, moved, unmoved, then_move}
+use Rattle.turn_semantics.specs.Midway.{Place, stack_at, Midway, Begun, Move, after_move, no_move, then_move}
 
 -- ---- the froms of the world
 
 -- a label is cancelled in a tick, which is seen from the next one on
-abbrev pub lowered_if : Bool → ℕ → Tick → Tick
-lowered_if true t from = earlier from (next (Some t))
-lowered_if false t from = from
+abbrev pub from_lowered_if : Bool → ℕ → Tick → Tick
+from_lowered_if true t from = earlier from (next (Some t))
+from_lowered_if false t from = from
 
-abbrev pub lowered : Table → Label → ℕ → Table
-lowered froms label t l = lowered_if (same_label l label) t (froms l)
+abbrev pub froms_after_sign : Table → Label → ℕ → Table
+froms_after_sign froms label t l = from_lowered_if (same_label l label) t (froms l)
 
 -- a label is entered: its from is its deadline at first
-abbrev pub opened_if : Bool → Tick → Tick → Tick
-opened_if true deadline from = deadline
-opened_if false deadline from = from
+abbrev pub from_entered_if : Bool → Tick → Tick → Tick
+from_entered_if true deadline from = deadline
+from_entered_if false deadline from = from
 
-abbrev pub opened : Table → Label → Tick → Table
-opened froms label deadline l = opened_if (same_label l label) deadline (froms l)
+abbrev pub froms_after_entry : Table → Label → Tick → Table
+froms_after_entry froms label deadline l = from_entered_if (same_label l label) deadline (froms l)
 
 -- the froms after these events
 abbrev pub froms_after : Table → List Event → Table
 froms_after froms [] = froms
 froms_after froms (noted t e ∷ es) = froms_after froms es
-froms_after froms (signs l t ∷ es) = froms_after (lowered froms l t) es
-froms_after froms (enters l t d ∷ es) = froms_after (opened froms l d) es
+froms_after froms (signs l t ∷ es) = froms_after (froms_after_sign froms l t) es
+froms_after froms (enters l t d ∷ es) = froms_after (froms_after_entry froms l d) es
 froms_after froms (starts i l t ∷ es) = froms_after froms es
 
 -- ---- what a step does
@@ -50,8 +50,8 @@ abbrev pub blocks_on : Stopped → List Frame → List Place → Move
 blocks_on s fs ps = record { frames = fs; places = ps; exc = None; made = []; begun = []; stopped = Some s }
 
 -- the task makes these events and continues, with nothing raised
-abbrev pub making : List Event → List Frame → List Place → Move
-making es fs ps = record { frames = fs; places = ps; exc = None; made = es; begun = []; stopped = None }
+abbrev pub makes : List Event → List Frame → List Place → Move
+makes es fs ps = record { frames = fs; places = ps; exc = None; made = es; begun = []; stopped = None }
 
 -- A sleep is a checkpoint: if a cancellation is seen now, it raises at once. A sleep of no tick continues.
 abbrev pub falls_asleep : (seen_now : Bool) → ℕ → ℕ → List Frame → List Place → Move
@@ -97,7 +97,7 @@ begun_over name here of body ps first (suc k) =
 -- a scope or nursery is entered: its body comes first, then its exit
 abbrev pub enters_block : Label → Bool → Tick → ℕ → Steps → Frame → List Frame → List Place → Move
 enters_block label shield deadline t body exit fs ps =
-    making (enters label t deadline ∷ []) (steps_left body ∷ exit ∷ fs) (record { label = label; shield = shield } ∷ ps)
+    makes (enters label t deadline ∷ []) (steps_left body ∷ exit ∷ fs) (record { label = label; shield = shield } ∷ ps)
 
 -- the first pass of a `repeat`, if it has one, before what comes after it
 abbrev pub begins_passes : ℕ → Steps → List Frame → List Place → Move
@@ -116,7 +116,7 @@ step_on froms t here (head n) ss fs ps count = blocks_on (asking (ask.head n) sh
 step_on froms t here longest ss fs ps count = blocks_on (asking ask.longest shows) (steps_left ss ∷ fs) ps
 step_on froms t here (need text name) ss fs ps count = blocks_on (asking (ask.need text) (needs name)) (steps_left ss ∷ fs) ps
 step_on froms t here (raise name) ss fs ps count = onward (steps_left ss ∷ fs) ps (Some (raised name here.task t))
-step_on froms t here (cancel name) ss fs ps count = making (signs_to (label_among name ps) t) (steps_left ss ∷ fs) ps
+step_on froms t here (cancel name) ss fs ps count = makes (signs_to (label_among name ps) t) (steps_left ss ∷ fs) ps
 step_on froms t here (scope name deadline shield fail body) ss fs ps count =
     enters_block (label_here name here) shield (due deadline t) t body (in_scope fail) (steps_left ss ∷ fs) ps
 step_on froms t here (nursery name deadline shield body) ss fs ps count =
@@ -132,7 +132,7 @@ step_on froms t here (start name None body) ss fs ps count =
     }
 step_on froms t here (start name (Some k) body) ss fs ps count =
     record {
-      frames = steps_left ss ∷ with_started (numbered count k) fs;
+      frames = steps_left ss ∷ with_started (consecutive count k) fs;
       places = ps;
       exc = None;
       made = starts_over name here t count k;
@@ -203,7 +203,7 @@ step_of froms t here m = step_frames froms t here m.frames m.places m.exc m.coun
 
 -- a turn: steps until the task stops, at most the given number; each reads the froms that the steps before it left
 unfoldable pub turn_of : ℕ → Table → ℕ → Here → Midway → Move
-turn_of zero froms t here m = unmoved m
+turn_of zero froms t here m = no_move m
 turn_of (suc n) froms t here m =
     let o = step_of froms t here m in
-    then_move o.stopped o (turn_of n (froms_after froms o.made) t here (moved m o))
+    then_move o.stopped o (turn_of n (froms_after froms o.made) t here (after_move m o))

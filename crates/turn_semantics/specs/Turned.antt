@@ -7,7 +7,7 @@ use Rattle.job_meaning.specs.Walk.{by_table, Here}
 use Rattle.job_meaning.specs.Before.{upto}
 use Rattle.job_tree.specs.Starting.{StartsIn}
 use Rattle.job_meaning.specs.Rest.{Event, noted, signs, enters, starts, ChildOutcomes, fill, Frame, Stopped, to_begin, asking, asleep, awaiting, at_end, Rest, rest_comes_to, rest_at_start, rest_weight, frames_weight, stop_weight}
-use Rattle.turn_semantics.specs.Midway.{Place, stack_at, Midway, Begun, Move, behind, left_of, left_after, begun_comes_to}
+use Rattle.turn_semantics.specs.Midway.{Place, stack_at, Midway, Begun, Move, after_events, left_of, left_after, begun_comes_to}
 use Rattle.turn_semantics.specs.Placed.{PlacedAfter, places_behind, home_after, KidsAfter, HasChild, HasChildAfter, AllHoused}
 use Rattle.turn_semantics.specs.Wakes.{Wake, WakesBy}
 use Rattle.turn_semantics.specs.Steps.{froms_after}
@@ -153,7 +153,7 @@ pub record Turned
     pub keeps :
         (table : Table) (told : ChildOutcomes) → Given table told → AgreesOn t table froms places_before →
         AgreesAhead t table (fill told o.made) (before table told).log →
-        AllTold t table told o.begun → before table told ≡ behind told o.made (left_after table told here t o)
+        AllTold t table told o.begun → before table told ≡ after_events told o.made (left_after table told here t o)
     -- the frames that are left fit the enclosing scopes and nurseries
     pub placed : PlacedAfter o.stopped o.frames o.places
     -- outside the scopes and nurseries of the task's own frames are those of its home, as before

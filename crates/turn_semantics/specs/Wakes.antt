@@ -4,11 +4,11 @@ use Rattle.buffer_parts.specs.Lines.{Span}
 use Rattle.exc_groups.specs.Exceptions.{Exc, cancelled, raised, by_nursery, parts_of, group_of}
 use Rattle.cancel_scopes.specs.Sight.{sight, seen}
 use Rattle.job_meaning.specs.Log.{Member, Table, line}
-use Rattle.job_meaning.specs.Walk.{Here, a_nursery, paced, with_exc, excs_of, latest}
+use Rattle.job_meaning.specs.Walk.{Here, a_nursery, pace_ticks, with_exc, excs_of, latest}
 use Rattle.job_meaning.specs.Asking.{Kernel, Answer, lines, missing, counted, answer_of, Purpose, shows, needs, paces}
 use Rattle.job_meaning.specs.Rest.{Event, noted, ChildOutcomes, told_members, Frame, Stopped, to_begin, asking, asleep, awaiting, at_end}
 use Rattle.turn_semantics.specs.Midway.{Place, stack_at, Move, then_move}
-use Rattle.turn_semantics.specs.Steps.{onward, making, sleeps, leaves, froms_after, turn_of}
+use Rattle.turn_semantics.specs.Steps.{onward, makes, sleeps, leaves, froms_after, turn_of}
 
 -- what wakes a task: its first turn, a cancellation that is seen, a sleep that is due, a kernel's answer, or the last
 -- member of its nursery, with the nursery's exception
@@ -26,11 +26,11 @@ lines_made t (l ∷ ls) = noted t (line l) ∷ lines_made t ls
 
 -- what a task does first with an answer: `need` raises if there is no line, and `pace` sleeps by the count
 abbrev pub goes_on_with : Table → ℕ → Here → Answer → Purpose → List Frame → List Place → Move
-goes_on_with froms t here (lines ls) purpose fs ps = making (lines_made t ls) fs ps
+goes_on_with froms t here (lines ls) purpose fs ps = makes (lines_made t ls) fs ps
 goes_on_with froms t here missing (needs name) fs ps = onward fs ps (Some (raised name here.task t))
 goes_on_with froms t here missing shows fs ps = onward fs ps None
 goes_on_with froms t here missing (paces k) fs ps = onward fs ps None
-goes_on_with froms t here (counted n) (paces k) fs ps = sleeps froms (paced n k) t fs ps
+goes_on_with froms t here (counted n) (paces k) fs ps = sleeps froms (pace_ticks n k) t fs ps
 goes_on_with froms t here (counted n) shows fs ps = onward fs ps None
 goes_on_with froms t here (counted n) (needs name) fs ps = onward fs ps None
 
@@ -43,9 +43,9 @@ with_answer froms t here a (awaiting children ended exc) fs ps = onward fs ps No
 with_answer froms t here a (at_end u e) fs ps = onward fs ps None
 
 -- a nursery whose last member ended is left
-abbrev pub settled : Table → ℕ → Option Exc → List Frame → List Place → Move
-settled froms t exc fs [] = onward fs [] exc
-settled froms t exc fs (p ∷ ps) = leaves froms t a_nursery fs p ps exc
+abbrev pub leaves_settled : Table → ℕ → Option Exc → List Frame → List Place → Move
+leaves_settled froms t exc fs [] = onward fs [] exc
+leaves_settled froms t exc fs (p ∷ ps) = leaves froms t a_nursery fs p ps exc
 
 -- what a task that wakes in tick t does first, depending on where it stopped
 abbrev pub wake_of : Table → ℕ → Here → Wake → Stopped → List Frame → List Place → Move
@@ -53,7 +53,7 @@ wake_of froms t here begins s fs ps = onward fs ps None
 wake_of froms t here sees s fs ps = onward fs ps (Some cancelled)
 wake_of froms t here is_due s fs ps = onward fs ps None
 wake_of froms t here (has_answer a) s fs ps = with_answer froms t here a s fs ps
-wake_of froms t here (settles exc) s fs ps = settled froms t exc fs ps
+wake_of froms t here (settles exc) s fs ps = leaves_settled froms t exc fs ps
 
 -- a whole turn of a task that stopped there with these frames and these enclosing scopes and nurseries, and had started
 -- the given number of children: the wake, and then at most n steps

@@ -3,7 +3,7 @@ use Rattle.std.specs.Prelude.{◌≡◌, ℕ, true, false, None, Some, List, [],
 use Rattle.job_tree.specs.Tree.{Step, sleep, checkpoint, find, raise, cancel, stop}
 use Rattle.exc_groups.specs.Exceptions.{cancelled}
 use Rattle.job_meaning.specs.Log.{Result, nil, entry, sign, entered, Table, line, scope_left, nursery_left}
-use Rattle.job_meaning.specs.Walk.{by_table, walk, and_then, sleeping, showing, needing, cancelling, block, signed, gathered, child, handled, cleaned, Here, here_in}
+use Rattle.job_meaning.specs.Walk.{by_table, walk, and_then, sleep_result, lines_result, need_result, cancel_result, block, with_sign, nursery_result, child, handler_result, cleanup_result, Here, here_in}
 use Rattle.job_meaning.specs.Asking.{lines, missing, counted, shows, needs, paces}
 use Rattle.job_meaning.specs.Asking as ask
 use Rattle.job_meaning.specs.Rest.{Event, Rest, rest_at_start, task_comes_to, finish, noted, signs, enters, starts, Frame, steps_left, in_scope, Stopped, to_begin, asking, asleep, awaiting, at_end}
@@ -144,7 +144,7 @@ pace_sleeps = refl
 
 -- the result of `main` by a table in which each label is cancelled from tick 1 on, with nothing recorded of children
 unfoldable pub final_result_of : List Event → Rest → List Place → Result
-unfolding finish walk and_then sleeping showing needing cancelling block signed gathered child handled cleaned
+unfolding finish walk and_then sleep_result lines_result need_result cancel_result block with_sign nursery_result child handler_result cleanup_result
 final_result_of made rest ps = task_comes_to (by_table (λ l. Some 1)) none_told made rest (main_at []) (stack_at (λ l. Some 1) ps) 0
 
 -- it is cancelled in tick 1, and the scope catches that

@@ -12,7 +12,7 @@ use Rattle.job_tree.specs.Tree.{Steps}
 use Rattle.job_tree.specs.Blocks.{step_of, steps_of, handled_of}
 use Rattle.job_tree.specs.Names.{size_of, size_in}
 use Rattle.job_tree.proofs.Weights.{weight_at}
-use Rattle.job_meaning.specs.Walk.{within, home_of, label_over}
+use Rattle.job_meaning.specs.Walk.{stack_inside, home_of, label_over}
 use Rattle.job_story.specs.Events.{event, starts, ends}
 use Rattle.job_story.specs.Held.{boxed, kind_of, event_of, range_in}
 use Rattle.job_story.specs.Story.{Tale, enters, handles, cleans}
@@ -82,7 +82,7 @@ tell_inside-returns-in-Scope t c =
     let body = tells_at _ _ _ c.in_ok-told.told _ _ c.args.body.now _ _ _ c.args.tick c.as_slice.ensures refl c.in_ok-told.ensures in
     rw c.in-Scope.is
     (subst (λ (l : Label). Tells here.task.now c.args.events.now.items c.in_ok-told.told c.tell_steps.new.events.items
-    (tell (table_of here) c.args.body.now (scene_of here) (within l c.args.block.now.shield c.args.block.now.from (scopes_of here))
+    (tell (table_of here) c.args.body.now (scene_of here) (stack_inside l c.args.block.now.shield c.args.block.now.from (scopes_of here))
     c.args.tick))
     c.in_ok-copy.ensures body)
 
@@ -91,7 +91,7 @@ tell_inside-returns t c =
     let here = c.args.here in
     let body = tells_at _ _ _ c.in_ok-told.told _ _ c.args.body.now _ _ _ c.args.tick c.as_slice.ensures refl c.in_ok-told.ensures in
     let inner = subst (λ (l : Label). Tells here.task.now c.args.events.now.items c.in_ok-told.told c.tell_steps.new.events.items
-    (tell (table_of here) c.args.body.now (scene_of here) (within l c.args.block.now.shield c.args.block.now.from (scopes_of here))
+    (tell (table_of here) c.args.body.now (scene_of here) (stack_inside l c.args.block.now.shield c.args.block.now.from (scopes_of here))
     c.args.tick))
     c.in_ok-copy.ensures body in
     rw c.in-Nursery.is (c.in_ok-told-in-Nursery.ensures _ _ inner)

@@ -1,6 +1,6 @@
 use Rattle.std.proofs.Common.{ℕ, Option, None, ◌∷◌, [], subst, sym}
 use Rattle.exc_groups.specs.Exceptions.{Label}
-use Rattle.task_machine.specs.Started.{running, StartsOne, StartsAll}
+use Rattle.task_machine.specs.Started.{running_children, StartsOne, StartsAll}
 use Rattle.task_machine.specs.Worlds.{label_at}
 use Rattle.task_machine.proofs.Bodies.{body_runs}
 use Rattle.task_machine.proofs.TaskFits.{started_fits}
@@ -24,7 +24,7 @@ returns-in_ok-start-in-None-clause-fits c =
 pub returns-in_ok-start_over-in-Some-clause-fits : goal.returns-in_ok-start_over-in-Some-clause-fits
 returns-in_ok-start_over-in-Some-clause-fits c =
     let s = c.in_ok-start_over-in-Some.ensures.started in
-    started_fits c.nursery-nursery.result s.nursery (running c.in-Some.copies) c.args.self.now c.args.world.now c.start_over.new.world
+    started_fits c.nursery-nursery.result s.nursery (running_children c.in-Some.copies) c.args.self.now c.args.world.now c.start_over.new.world
     c.requires.fits s.was s.book c.in_ok-start_over-in-Some.ensures.rest
 
 pub returns-in_ok-start-in-None-clause-children : goal.returns-in_ok-start-in-None-clause-children

@@ -4,10 +4,10 @@ use Rattle.cancel_scopes.specs.Sight.{Tick}
 use Rattle.cancel_scopes.specs.Tree.{outer_of}
 use Rattle.job_meaning.specs.Walk.{due}
 use Rattle.turn_semantics.specs.Midway.{Place}
-use Rattle.turn_semantics.specs.Steps.{opened}
+use Rattle.turn_semantics.specs.Steps.{froms_after_entry}
 use Rattle.task_machine.specs.Stacked.{AreAt}
 use Rattle.task_machine.specs.Worlds.{label_at}
-use Rattle.nursery_book.specs.Nursery.{opened as opens}
+use Rattle.nursery_book.specs.Nursery.{froms_after_entry as opens}
 use Rattle.nursery_book.specs.Book.{nursery_at, Updates}
 use Rattle.nursery_book.specs.declared.book.NurseryBook.{NurseryBook}
 use Rattle.task_machine.specs.declared.frame.Frame.{Frame}
@@ -56,7 +56,7 @@ returns-clause-at c =
     let deadline : c.due-deadline.result ≡ due c.args.block.deadline c.args.world.now.tick =
     c.due-deadline.ensures.due ∙ ap (λ (t : ℕ). due c.args.block.deadline t) c.now.ensures in
     λ froms ps new at.
-    subst (λ (s : Option ℕ). AreAt labels (opened froms label (due c.args.block.deadline c.args.world.now.tick)) (outer_of scopes s)
+    subst (λ (s : Option ℕ). AreAt labels (froms_after_entry froms label (due c.args.block.deadline c.args.world.now.tick)) (outer_of scopes s)
     (place ∷ ps)) (sym scope)
-    (subst (λ (d : Tick). AreAt labels (opened froms label d) (outer_of scopes (scope_of c.enter.new.self)) (place ∷ ps)) deadline
+    (subst (λ (d : Tick). AreAt labels (froms_after_entry froms label d) (outer_of scopes (scope_of c.enter.new.self)) (place ∷ ps)) deadline
     (c.in_ok-scope.ensures.at froms ps new at))
