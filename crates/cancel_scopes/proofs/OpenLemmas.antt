@@ -1,9 +1,9 @@
 -- A scope that is opened keeps the other stacks.
-use Rattle.std.proofs.Common.{◌≡◌, ◌≢◌, ◌⊎◌, ℕ, zero, suc, ◌≤◌, Bool, List, [], ◌∷◌, length, Option, Some, None, is_some, refl, sym, ap, subst, ◌∙◌, arith, inl, inr}
+use Rattle.std.proofs.Common.{◌≡◌, ◌≢◌, ◌⊎◌, ℕ, zero, suc, ◌≤◌, Bool, false, List, [], ◌∷◌, length, Option, Some, None, is_some, refl, sym, ap, subst, ◌∙◌, arith, inl, inr}
 use Rattle.std.proofs.lemmas.Bool.{cases_eq}
 use Rattle.std.specs.Option.{option_map, unwrap_or}
 use Rattle.cancel_scopes.specs.Sight.{Level, Tick, sight}
-use Rattle.cancel_scopes.specs.Tree.{Stack, Tree, stack_of, outer_of, OthersKeep, SameMarks}
+use Rattle.cancel_scopes.specs.Tree.{Stack, Tree, stack_of, outer_of, is_changed, OthersKeep, SameMarks}
 use Rattle.cancel_scopes.specs.Kept.{Outline, Slots, Find, level_of, full, upward, stack_at, scope_in, find_in, outline_of, tree_of, IsUnder, IsTree, own_sight, sight_of, seen_at, place_of, places_in, is_listed, IsListed, Family, IsReady}
 use Rattle.cancel_scopes.proofs.StackLemmas.{stack_of-tree_of, stack_seen, stack_at-kept, upward-under, is_changed-tree_of, mark_seen}
 use Rattle.cancel_scopes.specs.Children.{SameOutlines}
@@ -153,6 +153,10 @@ module _ (slots inserted : Slots) (key : ℕ) (s : Scope) where
       place_at k (inl same) = ap (places_in inserted) same ∙ ap place_of ins.kept ∙ unmarked ∙ sym (ap place_of ins.free)
           ∙ ap (places_in slots) (sym same)
       place_at k (inr differs) = ap place_of (ins.others k differs)
+
+  -- the new scope is not marked as changed
+  pub opened-unmarked : scope_in inserted key ≡ Some s → s.listed ≡ None → is_changed (tree_of inserted) key ≡ false
+  opened-unmarked kept unmarked = is_changed-tree_of inserted key ∙ ap is_listed kept ∙ ap is_some unmarked
 
   -- and no mark changes
   pub opened-marks : (tree : Tree) → tree_of slots ≡ tree → Inserts slots inserted key s → s.listed ≡ None →

@@ -17,5 +17,5 @@ mod ticks;
 mod tree;
 
 pub use scope_id::ScopeId;
-pub use ticks::{earlier, reached};
+pub use ticks::{earlier, is_reached};
 pub use tree::{ScopeTree, stacks_are_chains};

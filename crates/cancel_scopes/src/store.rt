@@ -133,7 +133,7 @@ impl Store {
         ensures changed_room { vec_capacity self.new.changed ≡ vec_capacity self.old.changed }
         ensures lowered_room { vec_capacity self.new.lowered ≡ vec_capacity self.old.lowered }
     {
-        let place = self.listing(key);
+        let place = self.place_in_list(key);
         let scope = &mut self.scopes[key];
         scope.sight = Some(tick);
         scope.listed = Some(place);
@@ -141,7 +141,7 @@ impl Store {
     }
 
     // Returns the place of a scope in the list of changed scopes. Appends the scope if it is not in the list.
-    fn listing(&mut self, key: usize) -> usize
+    fn place_in_list(&mut self, key: usize) -> usize
         requires kept { ContainsKey self.old.scopes key }
         requires listed { IsListed self.old.scopes.slots self.old.changed.items }
         requires room { length self.old.scopes.slots ≤ vec_capacity self.old.changed }

@@ -25,7 +25,7 @@ pub(crate) fn before(first: Option<u64>, second: Option<u64>) -> bool
 
 /// Returns whether `from` is at or before `tick`, so whether a scope that is cancelled from `from` on is cancelled at
 /// `tick`. Returns `false` if `from` is `None`, which means never.
-pub fn reached(from: Option<u64>, tick: u64) -> bool
+pub fn is_reached(from: Option<u64>, tick: u64) -> bool
     ensures { result ≡ has_come from tick }
 {
     match from {

@@ -7,7 +7,7 @@ ghost use Rattle.slab.specs.Slab.{ContainsKey};
 
 use crate::scope_id::{ScopeId, key_of};
 use crate::store::{Scope, Store};
-use crate::ticks::{earlier, reached};
+use crate::ticks::{earlier, is_reached};
 use slab::Slab;
 use std::alloc::{AllocError, Global};
 use std::marker::Model;
@@ -70,6 +70,7 @@ impl ScopeTree {
         ensures opened { IfOk result (λ id. stack_of self.new id ≡
             Some (record { label = id; shield = shield; from = deadline } ∷ outer_of self.old parent)) }
         ensures others { IfOk result (OthersKeep self.old self.new) }
+        ensures unmarked { IfOk result (λ id. is_changed self.new id ≡ false) }
         ensures err { OnErr result (SameStacks self.old self.new) }
         ensures marks { SameMarks self.old self.new }
     {
@@ -130,7 +131,7 @@ impl ScopeTree {
         requires { IsOpen self.now id }
         ensures { ForSome (stack_of self.now id) (λ stack. result ≡ is_seen stack tick) }
     {
-        reached(self.seen_from(id), tick)
+        is_reached(self.seen_from(id), tick)
     }
 
     /// Returns whether this scope catches a `Cancelled` that leaves it at `tick`. It does if it is itself cancelled by
@@ -140,7 +141,7 @@ impl ScopeTree {
         ensures { ForSome (stack_of self.now id) (λ stack. result ≡ catches stack tick) }
     {
         let scope = &self.store.scopes[id.key];
-        if !reached(scope.from, tick) {
+        if !is_reached(scope.from, tick) {
             return false;
         }
         match scope.parent {

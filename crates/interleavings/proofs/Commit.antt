@@ -1,5 +1,5 @@
 -- What a turn moves from what a task has left to what it made and to its children: sums of both stay the same.
-use Rattle.std.proofs.Common.{◌≡◌, ℕ, suc, ◌+◌, ◌<◌, ◌≤◌, min, Bool, true, false, cond, Some, List, [], ◌∷◌, ◌++◌, length, refl, sym, ap, ◌∙◌, subst, inl, inr, arith, eqb}
+use Rattle.std.proofs.Common.{◌≡◌, ℕ, suc, ◌+◌, ◌<◌, ◌≤◌, min, Bool, true, false, ◌==◌, if◌then◌else◌, Some, List, [], ◌∷◌, ◌++◌, length, refl, sym, ap, ◌∙◌, subst, inl, inr, arith}
 use Rattle.std.proofs.lemmas.Bool.Decides.{nat_tests}
 use Rattle.exc_groups.specs.Exceptions.{Label}
 use Rattle.cancel_scopes.specs.Sight.{Tick}
@@ -17,14 +17,14 @@ use Rattle.interleavings.specs.Going.{told_new, children_from, task_after_turn}
 use Rattle.interleavings.proofs.Readings.{first_join, times_join, least_join, left_join}
 use Rattle.interleavings.proofs.Contract.{NumberedFrom, numbers_of, keeps_to}
 
-eqb_same : (a b : ℕ) → a ≡ b → eqb a b ≡ true
-eqb_same a b h = grind (arith, nat_tests)
+same_number : (a b : ℕ) → a ≡ b → (a == b) ≡ true
+same_number a b h = grind (arith, nat_tests)
 
-eqb_less : (a b : ℕ) → a < b → eqb a b ≡ false
-eqb_less a b h = grind (arith, nat_tests)
+less_number : (a b : ℕ) → a < b → (a == b) ≡ false
+less_number a b h = grind (arith, nat_tests)
 
-eqb_more : (a b : ℕ) → b < a → eqb a b ≡ false
-eqb_more a b h = grind (arith, nat_tests)
+more_number : (a b : ℕ) → b < a → (a == b) ≡ false
+more_number a b h = grind (arith, nat_tests)
 
 -- ---- what is recorded of the children
 
@@ -35,20 +35,20 @@ unfolding told_new
 old_told k t told n [] p i h = refl
 old_told k t told n (b ∷ bs) p i h =
     let z : b.number ≡ n = p.0 in
-    ap (λ (c : Bool). cond c (begun_comes_to k t b) (told_new k t told bs i)) (eqb_less i b.number (omega arith))
+    ap (λ (c : Bool). if c then begun_comes_to k t b else told_new k t told bs i) (less_number i b.number (omega arith))
     ∙ old_told k t told (suc n) bs p.1 i (omega arith)
 
 -- of the first of new children its own
 pub first_told : (k : Table) (t : ℕ) (told : ChildOutcomes) (b : Begun) (bs : List Begun) (i : ℕ) → i ≡ b.number →
     told_new k t told (b ∷ bs) i ≡ begun_comes_to k t b
 unfolding told_new
-first_told k t told b bs i h = ap (λ (c : Bool). cond c (begun_comes_to k t b) (told_new k t told bs i)) (eqb_same i b.number h)
+first_told k t told b bs i h = ap (λ (c : Bool). if c then begun_comes_to k t b else told_new k t told bs i) (same_number i b.number h)
 
 -- and of those after the first what is recorded of them
 pub later_told : (k : Table) (t : ℕ) (told : ChildOutcomes) (b : Begun) (bs : List Begun) (i : ℕ) → b.number < i →
     told_new k t told (b ∷ bs) i ≡ told_new k t told bs i
 unfolding told_new
-later_told k t told b bs i h = ap (λ (c : Bool). cond c (begun_comes_to k t b) (told_new k t told bs i)) (eqb_more i b.number h)
+later_told k t told b bs i h = ap (λ (c : Bool). if c then begun_comes_to k t b else told_new k t told bs i) (more_number i b.number h)
 
 all_told : (k : Table) (t : ℕ) (e d : ChildOutcomes) (n : ℕ) (bs : List Begun) → NumberedFrom n bs →
     ((i : ℕ) → n ≤ i → i < n + length bs → d i ≡ told_new k t e bs i) → AllTold t k d bs

@@ -1,6 +1,6 @@
 -- After a turn a run still agrees with the table: this follows from what is promised of a turn
 -- alone.
-use Rattle.std.proofs.Common.{◌≡◌, ℕ, suc, ◌+◌, ◌-◌, ◌<◌, ◌≤◌, min, Bool, cond, Some, List, [], ◌∷◌, ◌++◌, length, refl, sym, ap, ◌∙◌, subst, ◌⊎◌, inl, inr, arith}
+use Rattle.std.proofs.Common.{◌≡◌, ℕ, suc, ◌+◌, ◌-◌, ◌<◌, ◌≤◌, min, Bool, if◌then◌else◌, Some, List, [], ◌∷◌, ◌++◌, length, refl, sym, ap, ◌∙◌, subst, ◌⊎◌, inl, inr, arith}
 use Rattle.std.proofs.lemmas.Bool.{cases_lt, le-ltb, lt-ltb}
 use Rattle.exc_groups.specs.Exceptions.{Label}
 use Rattle.cancel_scopes.specs.Sight.{Tick}
@@ -76,12 +76,12 @@ begun_resumes k t m (b ∷ bs) x (inr i) = begun_resumes k t (suc m) bs x i
 -- serial numbers of children
 pub old_child : (count : ℕ) (child : ℕ → ℕ) (m i : ℕ) → i < count → child_from count child m i ≡ child i
 unfolding child_from
-old_child count child m i h = ap (λ (b : Bool). cond b (child i) (m + (i - count))) (lt-ltb i count h)
+old_child count child m i h = ap (λ (b : Bool). if b then child i else (m + (i - count))) (lt-ltb i count h)
 
 -- children of the turn have serial numbers from m on, in order
 pub later_child : (count : ℕ) (child : ℕ → ℕ) (m i : ℕ) → count ≤ i → child_from count child m i ≡ m + (i - count)
 unfolding child_from
-later_child count child m i h = ap (λ (b : Bool). cond b (child i) (m + (i - count))) (le-ltb i count h)
+later_child count child m i h = ap (λ (b : Bool). if b then child i else (m + (i - count))) (le-ltb i count h)
 
 -- the number of a new child, which was started and whose whole result is recorded
 record NewChild (k : Table) (t m : ℕ) (bs : List Begun) (es : List Event) (told : ChildOutcomes) (x : Started) : Type 0 where

@@ -1,6 +1,6 @@
 -- How a run continues: what is kept of the root before its first turn, and of a task and its new children after a
 -- turn.
-use Rattle.std.specs.Prelude.{ℕ, suc, ◌+◌, ◌-◌, eqb, ltb, cond, List, [], ◌∷◌, ◌++◌, length}
+use Rattle.std.specs.Prelude.{ℕ, suc, ◌+◌, ◌-◌, ◌==◌, nat_lt, if◌then◌else◌, List, [], ◌∷◌, ◌++◌, length}
 use Rattle.job_tree.specs.Tree.{Tree}
 use Rattle.job_meaning.specs.Log.{Table}
 use Rattle.job_meaning.specs.Walk.{by_table}
@@ -30,7 +30,7 @@ root_task k job input =
 -- a record of outcomes, with the results of following the table for the children begun in tick t
 unfoldable pub told_new : Table → ℕ → ChildOutcomes → List Begun → ChildOutcomes
 told_new k t told [] i = told i
-told_new k t told (b ∷ bs) i = cond (eqb i b.number) (begun_comes_to k t b) (told_new k t told bs i)
+told_new k t told (b ∷ bs) i = if i == b.number then begun_comes_to k t b else told_new k t told bs i
 
 -- the children begun in tick t as started tasks, with serial numbers from m on
 unfoldable pub children_from : Table → ℕ → ℕ → List Begun → List Started
@@ -52,7 +52,7 @@ children_from k t m (b ∷ bs) =
 
 -- the serial numbers of a task's children: those before, and m and on
 unfoldable pub child_from : (count : ℕ) → (ℕ → ℕ) → ℕ → ℕ → ℕ
-child_from count child m i = cond (ltb i count) (child i) (m + (i - count))
+child_from count child m i = if nat_lt i count then child i else (m + (i - count))
 
 -- the task after a turn in tick t that stopped so, where new serial numbers start at m
 abbrev pub task_after_turn : Table → ℕ → ℕ → Started → Move → Stopped → Started

@@ -5,7 +5,7 @@ ghost use Rattle.job_meaning.specs.Walk.{label_on, home_of};
 ghost use Rattle.job_story.specs.Tell.{is_from, seer};
 ghost use Rattle.job_teller.specs.Stacks.{stack_of};
 
-use cancel_scopes::{earlier, reached};
+use cancel_scopes::{earlier, is_reached};
 use exc_groups::Label;
 use job_tree::Name;
 
@@ -81,7 +81,7 @@ impl<'s> Stack<'s> {
     pub(crate) fn catches(&self, from: Option<u64>, shield: bool, tick: u64) -> bool
         ensures { result ≡ catches from shield (stack_of self.now) tick }
     {
-        reached(from, tick) && (shield || !reached(self.sight(), tick))
+        is_reached(from, tick) && (shield || !is_reached(self.sight(), tick))
     }
 }
 

@@ -5,7 +5,7 @@
 ghost use Rattle.std.specs.Prelude.{◌<◌, ◌^◌};
 ghost use Rattle.std.specs.Option.{ForSome};
 
-use cancel_scopes::{ScopeId, ScopeTree, earlier, reached, stacks_are_chains};
+use cancel_scopes::{ScopeId, ScopeTree, earlier, is_reached, stacks_are_chains};
 use std::alloc::Global;
 use std::test::Fail;
 
@@ -201,6 +201,6 @@ fn closing_ends_an_id(rt: HostRuntime) -> Result<(), Fail> {
 fn a_tick_may_never_come(rt: HostRuntime) {
     assert!(rt; earlier(Some(4), None) == Some(4));
     assert!(rt; earlier(Some(4), Some(3)) == Some(3));
-    assert!(rt; reached(Some(3), 3));
-    assert!(rt; !reached(None, 3));
+    assert!(rt; is_reached(Some(3), 3));
+    assert!(rt; !is_reached(None, 3));
 }

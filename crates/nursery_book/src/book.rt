@@ -3,7 +3,7 @@ ghost use Rattle.std.specs.Option.{option_map};
 ghost use Rattle.exc_groups.specs.Held.{exc_of};
 
 use crate::children::Children;
-use crate::ending::{MemberEnd, gathered};
+use crate::ending::{MemberEnd, member_excs};
 use crate::nursery_id::{NurseryId, Place};
 use autojump_clock::TaskId;
 use cancel_scopes::ScopeId;
@@ -136,7 +136,7 @@ impl NurseryBook {
     {
         let room = self.nurseries[id.key].children.room(self.alloc)?;
         let members = self.nurseries.remove(id.key);
-        let excs = gathered(room, members.body, members.children.into_ends());
+        let excs = member_excs(room, members.body, members.children.into_ends());
         Ok(group(Whose::Nursery(members.label), excs))
     }
 }

@@ -26,7 +26,7 @@ impl MemberEnd {
 
 // Returns the exceptions of the members in `room`, which has space for them: that of the body first, and then those of the
 // children in order.
-pub(crate) fn gathered(room: Vec<Exc>, body: MemberEnd, children: Vec<MemberEnd>) -> Vec<Exc>
+pub(crate) fn member_excs(room: Vec<Exc>, body: MemberEnd, children: Vec<MemberEnd>) -> Vec<Exc>
     requires empty { room.items ≡ [] }
     requires fits { vec_len children + 1 ≤ vec_capacity room }
     ensures { excs_of result.items ≡ parts_of (with_exc (end_of body) (excs_in (map end_of children.items))) }

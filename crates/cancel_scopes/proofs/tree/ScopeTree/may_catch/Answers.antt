@@ -8,13 +8,13 @@ pub index-scope-requires : goal.index-scope-requires
 index-scope-requires c =
     kept_where_open c.args.self.now c.self.inside.store.scopes.slots c.id.inside.key c.args.id c.self.view_is c.id.view_is c.requires
 
-pub returns-then-not-reached : goal.returns-then-not-reached
-returns-then-not-reached c stack is =
+pub returns-then-not-is_reached : goal.returns-then-not-is_reached
+returns-then-not-is_reached c stack is =
     catches-not (find_in c.self.inside.store.scopes.slots) c.id.inside.key (outline_of c.index-scope.result.now) c.args.tick stack
     (stack_is c.args.self.now c.self.inside.store.scopes.slots c.id.inside.key c.args.id (outline_of c.index-scope.result.now) stack
     c.self.view_is c.id.view_is (found_at c.self.inside.store.scopes.slots c.id.inside.key c.index-scope.result.now
     c.index-scope.ensures) is)
-    (sym c.reached.ensures ∙ c.if-not-reached.true)
+    (sym c.is_reached.ensures ∙ c.if-not-is_reached.true)
 
 pub seen-requires : goal.seen-requires
 seen-requires c =
@@ -29,7 +29,7 @@ returns-then-scope c stack is =
     (stack_is c.args.self.now c.self.inside.store.scopes.slots c.id.inside.key c.args.id (outline_of c.index-scope.result.now) stack
     c.self.view_is c.id.view_is (found_at c.self.inside.store.scopes.slots c.id.inside.key c.index-scope.result.now
     c.index-scope.ensures) is)
-    (sym c.reached.ensures ∙ c.if-not-reached.false) c.if-scope.true
+    (sym c.is_reached.ensures ∙ c.if-not-is_reached.false) c.if-scope.true
 
 pub returns-else-scope : goal.returns-else-scope
 returns-else-scope c stack is =
@@ -38,7 +38,7 @@ returns-else-scope c stack is =
     (stack_is c.args.self.now c.self.inside.store.scopes.slots c.id.inside.key c.args.id (outline_of c.index-scope.result.now) stack
     c.self.view_is c.id.view_is (found_at c.self.inside.store.scopes.slots c.id.inside.key c.index-scope.result.now
     c.index-scope.ensures) is)
-    (sym c.reached.ensures ∙ c.if-not-reached.false)
+    (sym c.is_reached.ensures ∙ c.if-not-is_reached.false)
     c.if-scope.false
     (c.seen.ensures (round (find_in c.self.inside.store.scopes.slots) (outline_of c.index-scope.result.now))
     (stack_round c.args.self.now c.self.inside.store.scopes.slots c.id.inside.key c.in-Some.parent (outline_of c.index-scope.result.now)
@@ -51,7 +51,7 @@ returns-in-None c stack is =
     (stack_is c.args.self.now c.self.inside.store.scopes.slots c.id.inside.key c.args.id (outline_of c.index-scope.result.now) stack
     c.self.view_is c.id.view_is (found_at c.self.inside.store.scopes.slots c.id.inside.key c.index-scope.result.now
     c.index-scope.ensures) is)
-    (sym c.reached.ensures ∙ c.if-not-reached.false)
+    (sym c.is_reached.ensures ∙ c.if-not-is_reached.false)
     (c.self.invariant.tree.placed c.id.inside.key (outline_of c.index-scope.result.now)
     (found_at c.self.inside.store.scopes.slots c.id.inside.key c.index-scope.result.now c.index-scope.ensures))
     c.in-None.is

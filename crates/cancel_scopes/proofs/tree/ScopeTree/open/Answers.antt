@@ -5,7 +5,7 @@ use Rattle.cancel_scopes.specs.Kept.{outline_of, tree_of}
 use Rattle.cancel_scopes.proofs.StackLemmas.{kept_where_open, tree_of-same}
 use Rattle.cancel_scopes.proofs.ChildLemmas.{orphaned, place_stays}
 use Rattle.cancel_scopes.proofs.ReadyLemmas.{roomier-ready}
-use Rattle.cancel_scopes.proofs.OpenLemmas.{Inserts, opens, fresh, opened, opened-others, opened-ready, opened-marks}
+use Rattle.cancel_scopes.proofs.OpenLemmas.{Inserts, opens, fresh, opened, opened-others, opened-ready, opened-marks, opened-unmarked}
 use Rattle.cancel_scopes.proofs.tree.ScopeTree.open.Goals as goal
 
 pub make_room-requires : goal.make_room-requires
@@ -139,6 +139,16 @@ returns-clause-others c other differs =
     ap (λ (t : Tree). stack_of t other) (tree_of-same inserted c.add_child.new.self.scopes.slots child.same.long child.same.finds
     child.same.marks)
     ∙ opened-others c.args.self.now slots inserted key (outline_of s) seen (opens slots inserted key s inserts) ready.tree other differs
+
+pub returns-clause-unmarked : goal.returns-clause-unmarked
+returns-clause-unmarked c =
+    let put = c.insert_reserved-key.ensures in
+    let child = c.add_child.ensures in
+    let key = c.insert_reserved-key.result in
+    ap (λ (t : Tree). is_changed t key) (tree_of-same c.insert_reserved-key.new.self.slots c.add_child.new.self.scopes.slots child.same.long
+    child.same.finds child.same.marks)
+    ∙ opened-unmarked c.make_room.new.self.scopes.slots c.insert_reserved-key.new.self.slots key c.scope_under-scope.result put.updates.changed
+    c.scope_under-scope.ensures.unmarked
 
 pub returns-clause-marks : goal.returns-clause-marks
 returns-clause-marks c at =

@@ -2,7 +2,7 @@ use Rattle.std.proofs.Common.{◌≡◌, ◌+◌, ◌≤◌, ◌++◌, length}
 use Rattle.std.specs.Prelude.{vec_len, vec_capacity}
 use Rattle.std.specs.Vec.Iter.{into_iter_items, into_iter_len}
 use Rattle.nursery_book.specs.Ends.{excs_held}
-use Rattle.nursery_book.proofs.ending.gathered.Given as goal
+use Rattle.nursery_book.proofs.ending.member_excs.Given as goal
 
 abbrev pub invariant-children : goal.invariant-children
 invariant-children l =

@@ -5,7 +5,7 @@ use Rattle.std.proofs.lemmas.List.{append-nil, nil_from_length}
 use Rattle.exc_groups.specs.Held.{excs_of}
 use Rattle.nursery_book.specs.Ends.{exc_held, excs_held}
 use Rattle.nursery_book.proofs.EndLemmas.{held_raised}
-use Rattle.nursery_book.proofs.ending.gathered.Goals as goal
+use Rattle.nursery_book.proofs.ending.member_excs.Goals as goal
 
 pub returns : goal.returns
 returns c =

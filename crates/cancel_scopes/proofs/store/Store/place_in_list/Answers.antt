@@ -1,6 +1,6 @@
 use Rattle.std.proofs.Common.{arith}
 use Rattle.cancel_scopes.proofs.MarkLemmas.{unlisted_fits}
-use Rattle.cancel_scopes.proofs.store.Store.listing.Goals as goal
+use Rattle.cancel_scopes.proofs.store.Store.place_in_list.Goals as goal
 
 pub push_reserved-requires : goal.push_reserved-requires
 push_reserved-requires c =
