@@ -22,16 +22,11 @@ use Rattle.task_machine.specs.declared.stop.TaskState.TheVariants.{ToBegin, Aske
 use Rattle.task_machine.specs.declared.stop.Moved.{Moved}
 use Rattle.task_machine.specs.declared.stop.Moved.TheVariants.{On, Stops}
 use Rattle.task_machine.specs.declared.task.Own.{Own}
-use Rattle.task_machine.specs.declared.task.Task.{Task}
-use Rattle.task_machine.specs.declared.world.World.{World}
-use Rattle.task_machine.specs.Acts.{Scoping, scoping_of, Acts, no_act, act_noted, act_starts, act_signs, act_enters, act_leaves, Signed, key_failed}
-use Rattle.task_machine.specs.Entered.{EntersOne}
+use Rattle.task_machine.specs.Acts.{Scoping, Cancels, Enters, Leaves, Acts, no_act, act_noted, act_starts, act_signs, act_enters, act_leaves, Signed, key_failed}
 use Rattle.task_machine.specs.Fitting.{Block, a_scope, a_nursery, AreOthers, waits_of}
-use Rattle.task_machine.specs.Left.{LeavesOne}
 use Rattle.task_machine.specs.Stacked.{AreAt, FoundAs}
 use Rattle.task_machine.specs.Standing.{HasBlock, HasNurseryOf, waits_by}
 use Rattle.task_machine.specs.Stops.{Numbers, IsTaskState, MovesAs}
-use Rattle.task_machine.specs.Worlds.{label_at}
 
 -- ---- a task that waits for no nursery
 
@@ -132,98 +127,44 @@ starts_acts tick name here t first (suc k) s u e =
 -- ---- signs
 
 -- a scope of this label is signed, and nothing else is changed
-one_signed : (before after : Task) (old new : World) (key : ℕ) (label : Label) → after.own.items ≡ before.own.items →
-    after.froms.items ≡ before.froms.items →
-    label_at new ≡ label_at old → label_at old key ≡ Some label → Signed old new (Some key) →
-    Acts old.tick (scoping_of before old) (signs label old.tick ∷ []) (scoping_of after new)
-one_signed before after old new key label own froms labels labelled signed =
-    act_signs (scoping_of before old) (scoping_of after new) (scoping_of after new) label []
-    (record { key = key; labelled = labelled; cancels = signed; labels = labels; own = own; froms = froms }) (no_act (scoping_of after new))
+one_signed : (tick : ℕ) (s : Scoping) (tree : Tree) (key : ℕ) (label : Label) → s.labels key ≡ Some label → Cancels key tick s.tree tree →
+    Acts tick s (signs label tick ∷ []) (record s { tree = tree })
+one_signed tick s tree key label labelled cancels =
+    act_signs s (record s { tree = tree }) (record s { tree = tree }) label []
+    (record { key = key; labelled = labelled; cancels = cancels; labels = refl; own = refl; froms = refl }) (no_act (record s { tree = tree }))
 
-none_signed : (before after : Task) (old new : World) → after.own.items ≡ before.own.items → after.froms.items ≡ before.froms.items →
-    label_at new ≡ label_at old →
-    Signed old new None → Acts old.tick (scoping_of before old) [] (scoping_of after new)
-none_signed before after old new own froms labels signed = same_acts old.tick (scoping_of before old) (scoping_of after new) same
-  where
-    same : scoping_of after new ≡ scoping_of before old
-    same =
-        let t : new.scopes ≡ old.scopes = signed in
-        let l : label_at new ≡ label_at old = labels in
-        ap (λ x. record { tree = x; labels = label_at new; own = after.own.items; froms = after.froms.items }) t
-        ∙ ap (λ x. record { tree = old.scopes; labels = x; own = after.own.items; froms = after.froms.items }) l
-        ∙ ap (λ x. record { tree = old.scopes; labels = label_at old; own = x; froms = after.froms.items }) own
-        ∙ ap (λ x. record { tree = old.scopes; labels = label_at old; own = before.own.items; froms = x }) froms
+none_signed : (tick : ℕ) (s : Scoping) (tree : Tree) → tree ≡ s.tree → Acts tick s [] (record s { tree = tree })
+none_signed tick s tree e = same_acts tick s (record s { tree = tree }) (ap (λ (x : Tree). record s { tree = x }) e)
 
 -- the scope that a name finds
-pub found_signed : (before after : Task) (old new : World) (found : Option ℕ) (label : Option Label) → after.own.items ≡ before.own.items →
-    after.froms.items ≡ before.froms.items →
-    label_at new ≡ label_at old → FoundAs (label_at old) found label → Signed old new found →
-    Acts old.tick (scoping_of before old) (signs_to label old.tick) (scoping_of after new)
-found_signed before after old new None label own froms labels at signed =
-    subst (λ (o : Option Label). Acts old.tick (scoping_of before old) (signs_to o old.tick) (scoping_of after new)) (sym at)
-    (none_signed before after old new own froms labels signed)
-found_signed before after old new (Some key) label own froms labels at signed =
-    subst (λ (o : Option Label). Acts old.tick (scoping_of before old) (signs_to o old.tick) (scoping_of after new)) (sym at.1.1)
-    (one_signed before after old new key at.1.0 own froms labels (at.0 ∙ at.1.1) signed)
+pub found_signed : (tick : ℕ) (s : Scoping) (tree : Tree) (found : Option ℕ) (label : Option Label) → FoundAs s.labels found label →
+    Signed tick s.tree tree found → Acts tick s (signs_to label tick) (record s { tree = tree })
+found_signed tick s tree None label at signed =
+    subst (λ (o : Option Label). Acts tick s (signs_to o tick) (record s { tree = tree })) (sym at) (none_signed tick s tree signed)
+found_signed tick s tree (Some key) label at signed =
+    subst (λ (o : Option Label). Acts tick s (signs_to o tick) (record s { tree = tree })) (sym at.1.1)
+    (one_signed tick s tree key at.1.0 (at.0 ∙ at.1.1) signed)
 
 -- the innermost scope, by a task or body that failed
-pub home_signed : (before after : Task) (old new : World) (exc : Option Exc) (froms : Table) (st : Stack) (ps : List Place) →
-    after.own.items ≡ before.own.items →
-    after.froms.items ≡ before.froms.items → label_at new ≡ label_at old → AreAt (label_at old) froms st ps →
-    Signed old new (key_failed exc st) →
-    Acts old.tick (scoping_of before old) (signs_home exc ps old.tick) (scoping_of after new)
-home_signed before after old new None table st ps own froms labels at signed = none_signed before after old new own froms labels signed
-home_signed before after old new (Some e) table [] [] own froms labels at signed = none_signed before after old new own froms labels signed
-home_signed before after old new (Some e) table [] (p ∷ ps) own froms labels at signed = absurd at
-home_signed before after old new (Some e) table (l ∷ ls) [] own froms labels at signed = absurd at
-home_signed before after old new (Some e) table (l ∷ ls) (p ∷ ps) own froms labels at signed =
-    one_signed before after old new l.label p.label own froms labels at.0 signed
+pub home_signed : (tick : ℕ) (s : Scoping) (tree : Tree) (exc : Option Exc) (froms : Table) (st : Stack) (ps : List Place) →
+    AreAt s.labels froms st ps → Signed tick s.tree tree (key_failed exc st) →
+    Acts tick s (signs_home exc ps tick) (record s { tree = tree })
+home_signed tick s tree None table st ps at signed = none_signed tick s tree signed
+home_signed tick s tree (Some e) table [] [] at signed = none_signed tick s tree signed
+home_signed tick s tree (Some e) table [] (p ∷ ps) at signed = absurd at
+home_signed tick s tree (Some e) table (l ∷ ls) [] at signed = absurd at
+home_signed tick s tree (Some e) table (l ∷ ls) (p ∷ ps) at signed = one_signed tick s tree l.label p.label at.0 signed
 
 -- ---- scopes that are entered and left
 
 -- a task that opened one scope acted as the event of entering its label says
-pub entered_acts : (before after : Task) (old new : World) (label : Label) (deadline : Tick) →
-    EntersOne before after old new label deadline →
-    Acts old.tick (scoping_of before old) (enters label old.tick deadline ∷ []) (scoping_of after new)
-entered_acts before after old new label deadline e =
-    act_enters (scoping_of before old) (scoping_of after new) (scoping_of after new) label old.tick deadline []
-    (record {
-      scope = e.own;
-      opened = e.opened;
-      place = e.place;
-      froms = e.froms;
-      fresh = e.fresh;
-      level = e.level;
-      parent = _;
-      stack = e.stack;
-      named = e.named;
-      from = e.from;
-      others = e.others;
-      marks = e.marks;
-      labelled = e.labelled;
-    })
-    (no_act (scoping_of after new))
+pub entered_acts : (tick : ℕ) (parent : Option ℕ) (s u : Scoping) (label : Label) (deadline : Tick) → Enters parent label deadline s u →
+    Acts tick s (enters label tick deadline ∷ []) u
+entered_acts tick parent s u label deadline e = act_enters {parent = parent} s u u label tick deadline [] e (no_act u)
 
 -- a task that closed the last of its scopes acted so, with an entry noted
-pub left_acts : (before after : Task) (old new : World) (t : ℕ) (entry : log.Entry) → LeavesOne before after old new →
-    Acts old.tick (scoping_of before old) (noted t entry ∷ []) (scoping_of after new)
-left_acts before after old new t entry e =
-    act_leaves (scoping_of before old) (scoping_of after new) (scoping_of after new) (noted t entry ∷ [])
-    (record {
-      scope = e.last;
-      taken = e.taken;
-      innermost = e.innermost;
-      from = e.from;
-      seen = e.seen;
-      entry = e.entry;
-      was = e.was;
-      froms = e.froms;
-      closed = e.closed;
-      others = e.others;
-      marks = e.marks;
-      unlabelled = e.unlabelled;
-    })
-    (act_noted (scoping_of after new) (scoping_of after new) t entry [] (no_act (scoping_of after new)))
+pub left_acts : (tick : ℕ) (s u : Scoping) (t : ℕ) (entry : log.Entry) → Leaves s u → Acts tick s (noted t entry ∷ []) u
+left_acts tick s u t entry e = act_leaves s u u (noted t entry ∷ []) e (act_noted u u t entry [] (no_act u))
 
 -- ---- scopes of other tasks
 

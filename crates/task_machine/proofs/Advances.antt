@@ -3,9 +3,6 @@ use Rattle.std.proofs.Common.{◌≡◌, ℕ, zero, suc, ◌<◌, Bool, true, fa
 use Rattle.std.proofs.lemmas.List.{append-nil}
 use Rattle.std.specs.Global.{Box}
 use Rattle.std.specs.Option.{option_map, option_copied}
-use Rattle.buffer_parts.specs.Part.{buffer_of}
-use Rattle.buffer_parts.specs.declared.part.Part.{Part}
-use Rattle.cancel_scopes.specs.Tree.{outer_of}
 use Rattle.exc_groups.specs.declared.exc.Exc as held
 use Rattle.exc_groups.specs.Held.{exc_of}
 use Rattle.exc_groups.specs.Exceptions.{Exc}
@@ -14,13 +11,13 @@ use Rattle.job_tree.specs.Tree as tree
 use Rattle.job_tree.specs.Blocks.{steps_of, handled_of, cleaned_of}
 use Rattle.job_tree.specs.declared.step.Step.{Step}
 use Rattle.job_tree.specs.declared.step.Handler.{Handler as HandlerOf}
+use Rattle.cancel_scopes.specs.Tree.{Tree}
 use Rattle.job_meaning.specs.Log.{Table}
-use Rattle.job_meaning.specs.Walk.{Here, handler_exc, outcome_after}
+use Rattle.job_meaning.specs.Walk.{handler_exc, outcome_after}
 use Rattle.job_meaning.specs.Rest as rest
-use Rattle.job_meaning.specs.Rest.{Stopped}
 use Rattle.nursery_book.specs.Nursery.{with_body}
 use Rattle.nursery_book.specs.Book.{Changes}
-use Rattle.task_machine.specs.declared.entry.Entry.{Entry}
+use Rattle.nursery_book.specs.declared.book.NurseryBook.{NurseryBook}
 use Rattle.turn_semantics.specs.Midway.{Place, Move}
 use Rattle.turn_semantics.specs.Steps.{onward, step_pass, handler_if, step_try, step_frames, step_of}
 use Rattle.task_machine.specs.declared.frame.Frame.{Frame}
@@ -30,97 +27,29 @@ use Rattle.task_machine.specs.declared.stop.TaskState.TheVariants.{Awaits, Over}
 use Rattle.task_machine.specs.declared.stop.Moved.{Moved}
 use Rattle.task_machine.specs.declared.stop.Moved.TheVariants.{On, Stops}
 use Rattle.task_machine.specs.declared.stop.Stop.TheVariants.{Wait, Ended}
-use Rattle.task_machine.specs.declared.task.Task.{Task}
-use Rattle.task_machine.specs.declared.world.World.{World}
-use Rattle.task_machine.specs.Acts.{Scoping, scoping_of, Acts}
+use Rattle.task_machine.specs.Acts.{Leaves, scoping_in}
 use Rattle.task_machine.specs.Exits.{ExitsAt, FailsAt}
-use Rattle.task_machine.specs.Left.{LeavesOne}
 use Rattle.task_machine.specs.Fitting.{Block, a_scope, a_nursery, blocks_of}
 use Rattle.task_machine.specs.Frames.{unboxed_exc, frame_of, frames_onto, frames_of}
-use Rattle.task_machine.specs.Stacked.{AreAt}
-use Rattle.task_machine.specs.Standing.{step_at, here_of, waits_by, Stands, AreNoted, Owns, OthersStay, Took, Takes}
-use Rattle.task_machine.specs.Stops.{Numbers, MovesAs}
-use Rattle.task_machine.specs.Tasks.{scope_of}
-use Rattle.task_machine.specs.Worlds.{label_at}
+use Rattle.task_machine.specs.Standing.{Stands, Took, StepsAs, with_frames}
+use Rattle.task_machine.specs.States.{State, here_at}
+use Rattle.task_machine.specs.Stops.{Numbers}
 use Rattle.task_machine.proofs.FrameLemmas.{frames_pushed}
-use Rattle.task_machine.proofs.Tooks.{blocks_pushed, took_onward, took_end, took_exit, took_body}
+use Rattle.task_machine.proofs.Nurseries.{blocks_pushed}
+use Rattle.task_machine.proofs.Tooks.{took_onward, took_end, took_exit, took_body}
 
--- ---- a task of which some part was taken
+-- ---- the definitions' step by the innermost frame
 
--- it has the same state as before, while it is in the same scopes
-pub stands_as : (frames : List Frame) (task before : Task) (world : World) (froms : Table) (numbers : Numbers) (stopped : Option Stopped)
-    (ps : List Place) →
-    scope_of before ≡ scope_of task →
-    Stands frames task world froms numbers stopped ps → Stands frames before world froms numbers stopped ps
-stands_as frames task before world froms numbers stopped ps same stands =
-    record {
-      places = subst (λ (s : Option ℕ). AreAt (label_at world) froms (outer_of world.scopes s) ps) (sym same) stands.places;
-      numbered = stands.numbered;
-      placed = stands.placed;
-      new = stands.new;
-      own = stands.own;
-    }
-
--- and what it does from there is what the whole task does
-pub took_as : (frames : List Frame) (task before after : Task) (old new : World) (goes : Moved) (froms : Table) (numbers : Numbers)
-    (o : Move) → before.part ≡ task.part →
-    before.entries.items ≡ task.entries.items → scoping_of before old ≡ scoping_of task old →
-    Took frames before after old new goes froms numbers o → Took frames task after old new goes froms numbers o
-took_as frames task before after old new goes froms numbers o part noted scoping took =
-    record {
-      numbers_after = took.numbers_after;
-      frames_after = took.frames_after;
-      places = took.places;
-      moves = subst (λ (p : Part). MovesAs took.numbers_after new.book p goes after.task_state o) part took.moves;
-      entries = took.entries;
-      noted = took.noted ∙ ap (λ (es : List Entry). es ++ took.entries) noted;
-      shown = subst (λ (p : Part). AreNoted (buffer_of p) took.entries o.made) part took.shown;
-      tasks = took.tasks;
-      started = took.started;
-      begun = took.begun;
-      grow = took.grow;
-      kept = took.kept;
-      numbered = took.numbered;
-      owned = subst (λ (s : Scoping). Owns (blocks_of frames) s.own s.tree old.book (blocks_of after.frames.items)
-          (waits_by goes after.task_state)) scoping took.owned;
-      covered = took.covered;
-      others = subst (λ (s : Scoping). OthersStay (blocks_of frames) s.own s.tree old.book new.book) scoping took.others;
-      acts = subst (λ (s : Scoping). Acts old.tick s o.made (scoping_of after new)) scoping took.acts;
-    }
-
--- its innermost frame was taken off
-stands_popped : (frames : List Frame) (task before : Task) (world : World) (froms : Table) (numbers : Numbers) (stopped : Option Stopped)
-    (ps : List Place) →
-    before ≡ record task { frames = before.frames } → Stands frames task world froms numbers stopped ps →
-    Stands frames before world froms numbers stopped ps
-stands_popped frames task before world froms numbers stopped ps same stands =
-    stands_as frames task before world froms numbers stopped ps (ap (λ (t : Task). scope_of t) same) stands
-
-took_popped : (frames : List Frame) (task before after : Task) (old new : World) (goes : Moved) (froms : Table) (numbers : Numbers)
-    (o : Move) →
-    before ≡ record task { frames = before.frames } →
-    Took frames before after old new goes froms numbers o → Took frames task after old new goes froms numbers o
-took_popped frames task before after old new goes froms numbers o same took =
-    took_as frames task before after old new goes froms numbers o (ap (λ (t : Task). t.part) same) (ap (λ (t : Task). t.entries.items) same)
-    (ap (λ (t : Task). scoping_of t old) same) took
-
--- what the definitions do by the innermost frame is their step
-pub takes_step : (frames fs : List Frame) (f : Frame) (task before after : Task) (old new : World) (goes : Moved) (exc : Option Exc) →
-    frames ≡ fs ++ f ∷ [] →
-    before ≡ record task { frames = before.frames } →
-    Takes frames before after old new goes (λ froms numbers ps count.
-    step_frames froms old.tick (here_of before) (frame_of numbers f ∷ frames_of numbers fs) ps exc count) →
-    Takes frames task after old new goes (step_at task old frames exc)
+-- what the definitions do by this frame, which was the innermost one, is their step
+pub takes_step : (b u : State) (whole fs : List Frame) (f : Frame) (goes : Moved) (exc : Option Exc) → whole ≡ fs ++ f ∷ [] →
+    ((froms : Table) (numbers : Numbers) (ps : List Place) (count : ℕ) → Stands (with_frames b whole) froms numbers None ps →
+    Took (with_frames b whole) u goes froms numbers
+    (step_frames froms b.tick (here_at b) (frame_of numbers f ∷ frames_of numbers fs) ps exc count)) →
+    StepsAs (with_frames b whole) u exc goes
 unfolding step_of
-takes_step frames fs f task before after old new goes exc popped same takes froms numbers ps count stands =
-    took_popped frames task before after old new goes froms numbers
-    (step_frames froms old.tick (here_of task) (frames_of numbers frames) ps exc count) same
-    (subst (λ (h : Here). Took frames before after old new goes froms numbers
-    (step_frames froms old.tick h (frames_of numbers frames) ps exc count)) (ap (λ (t : Task). here_of t) same)
-    (subst (λ (gs : List rest.Frame). Took frames before after old new goes froms numbers
-    (step_frames froms old.tick (here_of before) gs ps exc count)) (sym
-    (frames_pushed numbers fs frames f popped))
-    (takes froms numbers ps count (stands_popped frames task before old froms numbers None ps same stands))))
+takes_step b u whole fs f goes exc popped takes froms numbers ps count stands =
+    subst (λ (gs : List rest.Frame). Took (with_frames b whole) u goes froms numbers (step_frames froms b.tick (here_at b) gs ps exc count))
+    (sym (frames_pushed numbers fs whole f popped)) (takes froms numbers ps count stands)
 
 -- ---- the blocks among frames
 
@@ -175,50 +104,65 @@ none_left [] none = refl
 none_left (f ∷ fs) none = absurd (let e : false ≡ true = none (omega arith) in cc)
 
 -- the task ends: no frame could be taken off
-pub takes_end : (frames : List Frame) (task before after : Task) (old new : World) (exc : Option held.Exc) (goes : Moved) →
-    frames ≡ before.frames.items ++ [] →
-    (0 < length frames → false ≡ true) →
-    before ≡ record task { frames = before.frames } → goes ≡ Stops (Ended exc) → after ≡ record before { task_state = Over } →
-    new ≡ record old { scopes = new.scopes } →
-    FailsAt old new (scope_of before) (option_map exc_of exc) → Takes frames task after old new goes
-    (step_at task old frames (option_map exc_of exc))
+pub takes_end : (b u : State) (whole : List Frame) (tree : Tree) (exc : Option held.Exc) (goes : Moved) → whole ≡ b.frames ++ [] →
+    (0 < length whole → false ≡ true) → goes ≡ Stops (Ended exc) → u ≡ record b { task_state = Over; tree = tree } →
+    FailsAt b u (option_map exc_of exc) → StepsAs (with_frames b whole) u (option_map exc_of exc) goes
 unfolding step_of
-takes_end frames task before after old new exc goes popped none same goes_is stays world fails froms numbers ps count stands =
-    let empty : frames ≡ [] = none_left frames none in
-    took_popped frames task before after old new goes froms numbers
-    (step_frames froms old.tick (here_of task) (frames_of numbers frames) ps (option_map exc_of exc) count) same
-    (subst (λ (fs : List Frame). Took fs before after old new goes froms numbers
-    (step_frames froms old.tick (here_of task) (frames_of numbers fs) ps
-    (option_map exc_of exc) count)) (sym empty)
-    (took_end before after old new exc goes froms numbers None ps
-    (subst (λ (fs : List Frame). Stands fs before old froms numbers None ps) empty
-    (stands_popped frames task before old froms numbers None ps same stands))
-    (sym (append-nil before.frames.items) ∙ sym popped ∙ empty) goes_is stays world fails))
+takes_end b u whole tree exc goes popped none goes_is stays fails froms numbers ps count stands =
+    let e = option_map exc_of exc in
+    let empty : whole ≡ [] = none_left whole none in
+    subst (λ (m : Moved). Took (with_frames b whole) u m froms numbers
+    (step_frames froms b.tick (here_at b) (frames_of numbers whole) ps e count)) (sym goes_is)
+    (subst (λ (fs : List Frame). Took (with_frames b whole) u (Stops (Ended exc)) froms numbers
+    (step_frames froms b.tick (here_at b) (frames_of numbers fs) ps e count)) (sym empty)
+    (subst (λ (v : State). FailsAt b v e → Took (with_frames b whole) v (Stops (Ended exc)) froms numbers
+    (step_frames froms b.tick (here_at b) [] ps e count)) (sym stays)
+    (took_end b whole froms numbers None ps stands tree exc empty (sym (append-nil b.frames) ∙ sym popped ∙ empty)) fails))
 
 -- the innermost scope is left
-pub takes_exit : (frames : List Frame) (fail : Bool) (task before after : Task) (old new : World) (exc goes : Option held.Exc) →
-    frames ≡ before.frames.items ++ Scope fail ∷ [] →
-    before ≡ record task { frames = before.frames } → after ≡ record before
-    { own = after.own; froms = after.froms; entries = after.entries } →
-    new ≡ record old { scopes = new.scopes; labels = new.labels } →
-    ExitsAt before after old new (kind.Scope fail) (option_map exc_of exc) (option_map exc_of goes) →
-    LeavesOne before after old new → Takes frames task after old new (On goes) (step_at task old frames (option_map exc_of exc))
-takes_exit frames fail task before after old new exc goes popped same stays world exits one =
-    takes_step frames before.frames.items (Scope fail) task before after old new (On goes) (option_map exc_of exc) popped same
-    (λ froms numbers ps count stands. took_exit frames fail before after old new exc goes froms numbers ps (here_of before) count stands
-    popped stays world exits one)
+pub takes_exit : (b u : State) (whole : List Frame) (fail : Bool) (exc goes : Option held.Exc) → whole ≡ b.frames ++ Scope fail ∷ [] →
+    u ≡ record b { own = u.own; froms = u.froms; entries = u.entries; tree = u.tree; labels = u.labels } →
+    ExitsAt b u (kind.Scope fail) (option_map exc_of exc) (option_map exc_of goes) → Leaves (scoping_in b) (scoping_in u) →
+    StepsAs (with_frames b whole) u (option_map exc_of exc) (On goes)
+takes_exit b u whole fail exc goes popped stays exits one =
+    takes_step b u whole b.frames (Scope fail) (On goes) (option_map exc_of exc) popped
+    (λ froms numbers ps count stands.
+    took_exit b whole froms numbers ps stands u fail exc goes (here_at b) count popped (ap (λ (s : State). s.frames) stays)
+    (ap (λ (s : State). s.book) stays) (ap (λ (s : State). s.started) stays) exits one)
 
 -- the body of the innermost nursery has ended
-pub takes_body : (frames : List Frame) (id : ℕ) (task before after : Task) (old new : World) (exc : Option held.Exc) (goes : Moved) →
-    frames ≡ before.frames.items ++ Nursery id ∷ [] →
-    before ≡ record task { frames = before.frames } → goes ≡ Stops (Wait id) → after ≡ record before { task_state = Awaits id old.tick } →
-    new ≡ record old { scopes = new.scopes; book = new.book } → Changes old.book new.book id (with_body (option_map exc_of exc)) →
-    FailsAt old new (scope_of before) (option_map exc_of exc) →
-    Takes frames task after old new goes (step_at task old frames (option_map exc_of exc))
-takes_body frames id task before after old new exc goes popped same goes_is stays world changes fails =
-    takes_step frames before.frames.items (Nursery id) task before after old new goes (option_map exc_of exc) popped same
-    (λ froms numbers ps count stands. took_body frames id before after old new exc goes froms numbers ps (here_of before) count stands
-    popped goes_is stays world changes fails)
+pub takes_body : (b u : State) (whole : List Frame) (id : ℕ) (tree : Tree) (book : NurseryBook) (exc : Option held.Exc) (goes : Moved) →
+    whole ≡ b.frames ++ Nursery id ∷ [] → goes ≡ Stops (Wait id) →
+    u ≡ record b { task_state = Awaits id b.tick; tree = tree; book = book } → Changes b.book book id (with_body (option_map exc_of exc)) →
+    FailsAt b u (option_map exc_of exc) → StepsAs (with_frames b whole) u (option_map exc_of exc) goes
+takes_body b u whole id tree book exc goes popped goes_is stays changes fails =
+    takes_step b u whole b.frames (Nursery id) goes e popped
+    (λ froms numbers ps count stands.
+    subst (λ (m : Moved). Took (with_frames b whole) u m froms numbers
+    (step_frames froms b.tick (here_at b) (rest.in_nursery (numbers id) ∷ frames_of numbers b.frames) ps e count)) (sym goes_is)
+    (subst (λ (v : State). FailsAt b v e → Took (with_frames b whole) v (Stops (Wait id)) froms numbers
+    (step_frames froms b.tick (here_at b) (rest.in_nursery (numbers id) ∷ frames_of numbers b.frames) ps e count)) (sym stays)
+    (took_body b whole froms numbers ps stands id exc tree book (here_at b) count popped changes) fails))
+  where
+    e : Option Exc
+    e = option_map exc_of exc
+
+-- ---- a frame that is no block
+
+-- the task continues with other frames, where the definitions do
+pub takes_onward : (b u : State) (whole : List Frame) (f : Frame) (exc : Option Exc) (goes : Option held.Exc) → whole ≡ b.frames ++ f ∷ [] →
+    blocks_of (f ∷ []) ≡ [] → u ≡ with_frames b u.frames → blocks_of u.frames ≡ blocks_of b.frames →
+    ((froms : Table) (numbers : Numbers) (ps : List Place) (count : ℕ) →
+    step_frames froms b.tick (here_at b) (frame_of numbers f ∷ frames_of numbers b.frames) ps exc count
+    ≡ onward (frames_of numbers u.frames) ps (option_map exc_of goes)) →
+    StepsAs (with_frames b whole) u exc (On goes)
+takes_onward b u whole f exc goes popped none stays same step =
+    takes_step b u whole b.frames f (On goes) exc popped
+    (λ froms numbers ps count stands.
+    subst (λ (v : State). Took (with_frames b whole) v (On goes) froms numbers
+    (step_frames froms b.tick (here_at b) (frame_of numbers f ∷ frames_of numbers b.frames) ps exc count)) (sym stays)
+    (took_onward b whole froms numbers None ps stands u.frames goes _ (same ∙ blocks_off b.frames whole f popped none)
+    (step froms numbers ps count)))
 
 -- ---- a task in a pass of a `repeat`
 
@@ -229,23 +173,16 @@ pass_blocks pass zero body fs ps None = refl
 pass_blocks pass (suc k) body fs ps None = refl
 
 -- a pass of the code that has ended is one step of the definitions: the next one begins, or none
-pub takes_pass : (frames : List Frame) (pass left : ℕ) (body : Bor tree.Steps) (task before after : Task) (world : World)
-    (exc goes : Option held.Exc) →
-    frames ≡ before.frames.items ++ Repeat pass left body ∷ [] → before ≡ record task { frames = before.frames } →
-    after ≡ record before { frames = after.frames } →
-    ((numbers : Numbers) (ps : List Place) → step_pass pass left body.now (frames_of numbers before.frames.items) ps (option_map exc_of exc)
-    ≡ onward (frames_of numbers after.frames.items) ps (option_map exc_of goes)) →
-    Takes frames task after world world (On goes) (step_at task world frames (option_map exc_of exc))
-takes_pass frames pass left body task before after world exc goes popped same stays step =
-    takes_step frames before.frames.items (Repeat pass left body) task before after world world (On goes) (option_map exc_of exc) popped
-    same
-    (λ froms numbers ps count stands.
-    took_onward frames before after world goes froms numbers None ps
-    (step_pass pass left body.now (frames_of numbers before.frames.items) ps (option_map exc_of exc)) stands stays
-    (blocks_same before.frames.items after.frames.items (sym (ap (λ (o : Move). blocks_onto o.frames []) (step own_keys ps))
-    ∙ pass_blocks pass left body.now (frames_of own_keys before.frames.items) ps (option_map exc_of exc))
-    ∙ blocks_off before.frames.items frames (Repeat pass left body) popped refl)
-    (step numbers ps))
+pub takes_pass : (b u : State) (whole : List Frame) (pass left : ℕ) (body : Bor tree.Steps) (exc goes : Option held.Exc) →
+    whole ≡ b.frames ++ Repeat pass left body ∷ [] → u ≡ with_frames b u.frames →
+    ((numbers : Numbers) (ps : List Place) → step_pass pass left body.now (frames_of numbers b.frames) ps (option_map exc_of exc)
+    ≡ onward (frames_of numbers u.frames) ps (option_map exc_of goes)) →
+    StepsAs (with_frames b whole) u (option_map exc_of exc) (On goes)
+takes_pass b u whole pass left body exc goes popped stays step =
+    takes_onward b u whole (Repeat pass left body) (option_map exc_of exc) goes popped refl stays
+    (blocks_same b.frames u.frames (sym (ap (λ (o : Move). blocks_onto o.frames []) (step own_keys []))
+    ∙ pass_blocks pass left body.now (frames_of own_keys b.frames) [] (option_map exc_of exc)))
+    (λ froms numbers ps count. step numbers ps)
 
 -- ---- a task in a `try`
 
@@ -262,117 +199,61 @@ try_blocks (tree.except name body) cleanup fs ps None = refl
 try_blocks (tree.except name body) cleanup fs ps (Some e) = if_blocks (keep (named name) e) (drop (named name) e) e body cleanup fs ps
 
 -- its body has ended
-pub takes_try : (frames : List Frame) (handler : Option (Bor HandlerOf)) (cleanup : Bor (Option tree.Steps)) (task before after : Task)
-    (world : World) (exc goes : Option held.Exc) →
-    frames ≡ before.frames.items ++ Try handler cleanup ∷ [] → before ≡ record task { frames = before.frames } →
-    after ≡ record before { frames = after.frames } →
+pub takes_try : (b u : State) (whole : List Frame) (handler : Option (Bor HandlerOf)) (cleanup : Bor (Option tree.Steps))
+    (exc goes : Option held.Exc) → whole ≡ b.frames ++ Try handler cleanup ∷ [] → u ≡ with_frames b u.frames →
     ((numbers : Numbers) (ps : List Place) → step_try (handled_of (option_copied handler)) (cleaned_of cleanup.now)
-    (frames_of numbers before.frames.items) ps (option_map exc_of exc)
-    ≡ onward (frames_of numbers after.frames.items) ps (option_map exc_of goes)) →
-    Takes frames task after world world (On goes) (step_at task world frames (option_map exc_of exc))
-takes_try frames handler cleanup task before after world exc goes popped same stays step =
-    takes_step frames before.frames.items (Try handler cleanup) task before after world world (On goes) (option_map exc_of exc) popped same
-    (λ froms numbers ps count stands.
-    took_onward frames before after world goes froms numbers None ps
-    (step_try (handled_of (option_copied handler)) (cleaned_of cleanup.now) (frames_of numbers before.frames.items) ps
-    (option_map exc_of exc)) stands stays
-    (blocks_same before.frames.items after.frames.items (sym (ap (λ (o : Move). blocks_onto o.frames []) (step own_keys ps))
-    ∙ try_blocks (handled_of (option_copied handler)) (cleaned_of cleanup.now) (frames_of own_keys before.frames.items) ps
-    (option_map exc_of exc))
-    ∙ blocks_off before.frames.items frames (Try handler cleanup) popped refl)
-    (step numbers ps))
+    (frames_of numbers b.frames) ps (option_map exc_of exc)
+    ≡ onward (frames_of numbers u.frames) ps (option_map exc_of goes)) →
+    StepsAs (with_frames b whole) u (option_map exc_of exc) (On goes)
+takes_try b u whole handler cleanup exc goes popped stays step =
+    takes_onward b u whole (Try handler cleanup) (option_map exc_of exc) goes popped refl stays
+    (blocks_same b.frames u.frames (sym (ap (λ (o : Move). blocks_onto o.frames []) (step own_keys []))
+    ∙ try_blocks (handled_of (option_copied handler)) (cleaned_of cleanup.now) (frames_of own_keys b.frames) [] (option_map exc_of exc)))
+    (λ froms numbers ps count. step numbers ps)
 
 -- its handler has ended
-pub takes_handler : (frames : List Frame) (others : Option (Box held.Exc)) (cleanup : Bor (Option tree.Steps)) (task before after : Task)
-    (world : World) (exc goes : Option held.Exc) →
-    frames ≡ before.frames.items ++ Handler others cleanup ∷ [] → before ≡ record task { frames = before.frames } →
-    after ≡ record before { frames = after.frames } →
-    ((numbers : Numbers) → frames_of numbers after.frames.items ≡ rest.in_try tree.unhandled (cleaned_of cleanup.now)
-    ∷ frames_of numbers before.frames.items) →
+pub takes_handler : (b u : State) (whole : List Frame) (others : Option (Box held.Exc)) (cleanup : Bor (Option tree.Steps))
+    (exc goes : Option held.Exc) → whole ≡ b.frames ++ Handler others cleanup ∷ [] → u ≡ with_frames b u.frames →
+    ((numbers : Numbers) → frames_of numbers u.frames ≡ rest.in_try tree.unhandled (cleaned_of cleanup.now) ∷ frames_of numbers b.frames) →
     option_map exc_of goes ≡ handler_exc (option_map exc_of exc) (option_map exc_of (unboxed_exc others)) →
-    Takes frames task after world world (On goes) (step_at task world frames (option_map exc_of exc))
-takes_handler frames others cleanup task before after world exc goes popped same stays held raised =
-    takes_step frames before.frames.items (Handler others cleanup) task before after world world (On goes) (option_map exc_of exc) popped
-    same
-    (λ froms numbers ps count stands.
-    took_onward frames before after world goes froms numbers None ps
-    (onward (rest.in_try tree.unhandled (cleaned_of cleanup.now) ∷ frames_of numbers before.frames.items) ps
-    (handler_exc (option_map exc_of exc)
-    (option_map exc_of (unboxed_exc others)))) stands stays
-    (blocks_same before.frames.items after.frames.items (ap (λ (fs : List rest.Frame). blocks_onto fs []) (held own_keys))
-    ∙ blocks_off before.frames.items frames (Handler others cleanup) popped refl)
-    (ap (λ (fs : List rest.Frame). onward fs ps (handler_exc (option_map exc_of exc) (option_map exc_of (unboxed_exc others)))) (sym (held numbers))
-    ∙ ap (λ (e : Option Exc). onward (frames_of numbers after.frames.items) ps e) (sym raised)))
+    StepsAs (with_frames b whole) u (option_map exc_of exc) (On goes)
+takes_handler b u whole others cleanup exc goes popped stays held raised =
+    takes_onward b u whole (Handler others cleanup) (option_map exc_of exc) goes popped refl stays
+    (blocks_same b.frames u.frames (ap (λ (fs : List rest.Frame). blocks_onto fs []) (held own_keys)))
+    (λ froms numbers ps count.
+    ap (λ (fs : List rest.Frame). onward fs ps (handler_exc (option_map exc_of exc) (option_map exc_of (unboxed_exc others)))) (sym (held numbers))
+    ∙ ap (λ (e : Option Exc). onward (frames_of numbers u.frames) ps e) (sym raised))
 
 -- its cleanup has ended
-pub takes_cleanup : (frames : List Frame) (outcome : Option (Box held.Exc)) (task after : Task) (world : World) (exc goes : Option held.Exc) →
-    frames ≡ after.frames.items ++ Cleanup outcome ∷ [] →
-    after ≡ record task { frames = after.frames } → option_map exc_of goes
+pub takes_cleanup : (b : State) (whole : List Frame) (outcome : Option (Box held.Exc)) (exc goes : Option held.Exc) →
+    whole ≡ b.frames ++ Cleanup outcome ∷ [] → option_map exc_of goes
     ≡ outcome_after (option_map exc_of (unboxed_exc outcome)) (option_map exc_of exc) →
-    Takes frames task after world world (On goes) (step_at task world frames (option_map exc_of exc))
-takes_cleanup frames outcome task after world exc goes popped same raised =
-    takes_step frames after.frames.items (Cleanup outcome) task after after world world (On goes) (option_map exc_of exc) popped same
-    (λ froms numbers ps count stands.
-    took_onward frames after after world goes froms numbers None ps
-    (onward (frames_of numbers after.frames.items) ps (outcome_after (option_map exc_of (unboxed_exc outcome))
-    (option_map exc_of exc))) stands refl
-    (blocks_off after.frames.items frames (Cleanup outcome) popped refl)
-    (ap (λ (e : Option Exc). onward (frames_of numbers after.frames.items) ps e) (sym raised)))
+    StepsAs (with_frames b whole) b (option_map exc_of exc) (On goes)
+takes_cleanup b whole outcome exc goes popped raised =
+    takes_onward b b whole (Cleanup outcome) (option_map exc_of exc) goes popped refl refl refl
+    (λ froms numbers ps count. ap (λ (e : Option Exc). onward (frames_of numbers b.frames) ps e) (sym raised))
 
 -- ---- a task at the end of steps
 
 -- an exception skips what is left of them
-pub takes_skipped : (frames : List Frame) (steps : Bor (List Step)) (task after : Task) (world : World) (exc : Option held.Exc)
-    (e : held.Exc) →
-    frames ≡ after.frames.items ++ Steps steps ∷ [] →
-    after ≡ record task { frames = after.frames } → exc ≡ Some e →
-    Takes frames task after world world (On (Some e)) (step_at task world frames (option_map exc_of exc))
-takes_skipped frames steps task after world exc e popped same is =
-    subst (λ (x : Option held.Exc). Takes frames task after world world (On (Some e)) (step_at task world frames (option_map exc_of x)))
-    (sym is)
-    (takes_step frames after.frames.items (Steps steps) task after after world world (On (Some e)) (Some (exc_of e)) popped same
-    (λ froms numbers ps count stands.
-    took_onward frames after after world (Some e) froms numbers None ps (onward (frames_of numbers after.frames.items) ps (Some (exc_of e)))
-    stands refl
-    (blocks_off after.frames.items frames (Steps steps) popped refl) refl))
+pub takes_skipped : (b : State) (steps : Bor (List Step)) (exc : Option held.Exc) (e : held.Exc) → exc ≡ Some e →
+    StepsAs (with_frames b (b.frames ++ Steps steps ∷ [])) b (option_map exc_of exc) (On (Some e))
+takes_skipped b steps exc e is =
+    subst (λ (x : Option held.Exc). StepsAs (with_frames b (b.frames ++ Steps steps ∷ [])) b (option_map exc_of x) (On (Some e))) (sym is)
+    (takes_onward b b (b.frames ++ Steps steps ∷ []) (Steps steps) (Some (exc_of e)) (Some e) refl refl refl refl
+    (λ froms numbers ps count. refl))
+
+-- none is left, and nothing was raised
+pub takes_last : (b : State) (steps : Bor (List Step)) (exc : Option held.Exc) → steps.now ≡ [] → exc ≡ None →
+    StepsAs (with_frames b (b.frames ++ Steps steps ∷ [])) b (option_map exc_of exc) (On None)
+takes_last b steps exc none well =
+    subst (λ (x : Option held.Exc). StepsAs (with_frames b (b.frames ++ Steps steps ∷ [])) b (option_map exc_of x) (On None)) (sym well)
+    (takes_onward b b (b.frames ++ Steps steps ∷ []) (Steps steps) None None refl refl refl refl
+    (λ froms numbers ps count.
+    ap (λ (ss : List Step). step_frames froms b.tick (here_at b) (rest.steps_left (steps_of ss) ∷ frames_of numbers b.frames) ps None count)
+    none))
 
 -- where nothing was raised
-pub takes_well : (frames : List Frame) (task after : Task) (old new : World) (goes : Moved) (exc : Option held.Exc) → exc ≡ None →
-    Takes frames task after old new goes (step_at task old frames None) →
-    Takes frames task after old new goes (step_at task old frames (option_map exc_of exc))
-takes_well frames task after old new goes exc is takes =
-    subst (λ (x : Option held.Exc). Takes frames task after old new goes (step_at task old frames (option_map exc_of x))) (sym is) takes
-
--- none is left
-pub takes_last : (frames : List Frame) (steps : Bor (List Step)) (task after : Task) (world : World) (exc : Option held.Exc) →
-    frames ≡ after.frames.items ++ Steps steps ∷ [] →
-    steps.now ≡ [] →
-    after ≡ record task { frames = after.frames } → exc ≡ None →
-    Takes frames task after world world (On None) (step_at task world frames (option_map exc_of exc))
-takes_last frames steps task after world exc popped none same well =
-    takes_well frames task after world world (On None) exc well
-    (takes_step frames after.frames.items (Steps steps) task after after world world (On None) None popped same
-    (λ froms numbers ps count stands.
-    subst
-    (λ (ss : List Step).
-    Took frames after after world world (On None) froms numbers
-    (step_frames froms world.tick (here_of after) (rest.steps_left (steps_of ss) ∷ frames_of numbers after.frames.items) ps None count))
-    (sym none)
-    (took_onward frames after after world None froms numbers None ps (onward (frames_of numbers after.frames.items) ps None) stands refl
-    (blocks_off after.frames.items frames (Steps steps) popped refl) refl)))
-
--- what is said of the task without its innermost frame, and of all frames, is said of the task
-pub takes_popped : (frames gs : List Frame) (task before after : Task) (old new : World) (goes : Moved) (exc : Option Exc) → gs ≡ frames →
-    before ≡ record task { frames = before.frames } →
-    Takes frames before after old new goes (step_at before old frames exc) → Takes gs task after old new goes (step_at task old gs exc)
-unfolding step_of
-takes_popped frames gs task before after old new goes exc whole same takes froms numbers ps count stands =
-    took_popped gs task before after old new goes froms numbers (step_frames froms old.tick (here_of task) (frames_of numbers gs) ps exc
-    count) same
-    (subst (λ (h : Here). Took gs before after old new goes froms numbers
-    (step_frames froms old.tick h (frames_of numbers gs) ps exc count)) (ap (λ (t : Task). here_of t) same)
-    (subst (λ (fs : List Frame). Took fs before after old new goes froms numbers
-    (step_frames froms old.tick (here_of before) (frames_of numbers fs) ps exc count)) (sym whole)
-    (takes froms numbers ps count
-    (subst (λ (fs : List Frame). Stands fs before old froms numbers None ps) whole
-    (stands_popped gs task before old froms numbers None ps same stands)))))
+pub takes_well : (s u : State) (goes : Moved) (exc : Option held.Exc) → exc ≡ None → StepsAs s u None goes →
+    StepsAs s u (option_map exc_of exc) goes
+takes_well s u goes exc is takes = subst (λ (x : Option held.Exc). StepsAs s u (option_map exc_of x) goes) (sym is) takes

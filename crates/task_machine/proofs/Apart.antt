@@ -17,7 +17,7 @@ use Rattle.task_machine.specs.Fitting.{Block, a_scope, a_nursery, blocks_of, Are
 use Rattle.task_machine.specs.Labels.{Labels}
 use Rattle.task_machine.specs.Standing.{HasBlock, HasNurseryOf}
 use Rattle.task_machine.proofs.Blocks.{blocks_append}
-use Rattle.task_machine.proofs.Tooks.{has_last, blocks_pushed}
+use Rattle.task_machine.proofs.Nurseries.{has_last, blocks_pushed}
 
 -- a nursery with the scope of the first does not have one of the others
 not_first : (labels : Labels) (Q : Members → Type 0) (p : Option Members) (o : Own) (own : List Own) (n : Members) → p ≡ Some n →

@@ -1,5 +1,6 @@
 -- The children of a `start`, as a move of the definitions.
 use Rattle.std.proofs.Common.{◌≡◌, ℕ, Option, Some, None, List, [], ◌∷◌, ◌++◌, append_assoc, refl, ap, sym, ◌∙◌}
+use Rattle.std.specs.Option.{option_map}
 use Rattle.job_tree.specs.InRange.{AreInRange}
 use Rattle.job_tree.specs.Tree.{Steps}
 use Rattle.job_tree.specs.declared.step.Step.{Step}
@@ -7,13 +8,11 @@ use Rattle.job_tree.specs.declared.step.Step.TheVariants as code
 use Rattle.task_machine.specs.declared.frame.Frame.{Frame}
 use Rattle.task_machine.specs.declared.frame.Frame.TheVariants.{Nursery}
 use Rattle.task_machine.specs.declared.stop.Moved.TheVariants.{On}
-use Rattle.task_machine.specs.declared.task.Task.{Task}
-use Rattle.task_machine.specs.declared.world.World.{World}
+use Rattle.task_machine.specs.declared.task.Home.{Home}
 use Rattle.task_machine.specs.Fitting.{blocks_of, Fits}
-use Rattle.task_machine.specs.Standing.{HasBlock, Takes, step_at, AtStep}
+use Rattle.task_machine.specs.Standing.{HasBlock, AtStep, before_step, StepsAs}
 use Rattle.task_machine.specs.Started.{StartsAll, StartsChildren}
-use Rattle.task_machine.specs.Tasks.{home_scope}
-use Rattle.task_machine.specs.Worlds.{label_at}
+use Rattle.task_machine.specs.States.{State}
 use Rattle.task_machine.proofs.AdvancesSteps.{takes_start, takes_start_over}
 use Rattle.task_machine.proofs.Apart.{apart_steps}
 
@@ -30,24 +29,20 @@ same_outer (a ∷ xs) (b ∷ ys) x y e =
     ap (λ (z : Frame). z ∷ xs) first ∙ ap (λ (zs : List Frame). b ∷ zs) (same_outer xs ys x y more)
 
 -- a `start`, if the code starts its children in the nursery whose body the task is in, is the definitions' step
-pub takes_children : (frames : List Frame) (first : Step) (task before : Task) (old new : World) (name : List ℕ) (over : Option ℕ)
-    (body : Steps) → Fits before.frames.items before old None →
-    AtStep frames task before first → first ≡ code.Start name over body → new ≡ record old { book = new.book; started = new.started } →
-    StartsChildren before old new name over body →
-    AreInRange body →
-    Takes frames task before old new (On None) (step_at task old frames None)
-takes_children frames first task before old new name over body h a is world s in_range = by_over over is s.started
+pub takes_children : (b u : State) (first : Step) (name : List ℕ) (over : Option ℕ) (body : Steps) → Fits b None →
+    (a : AtStep b first) → first ≡ code.Start name over body → u ≡ record b { book = u.book; started = u.started } →
+    StartsChildren b u name over body → AreInRange body → StepsAs (before_step b first a) u None (On None)
+takes_children b u first name over body h a is world s in_range = by_over over is s.started
   where
     within : a.outer ≡ s.at.outer ++ Nursery s.id ∷ []
     within = same_outer a.outer (s.at.outer ++ Nursery s.id ∷ []) _ s.at.top
         (sym a.held ∙ s.at.is ∙ sym (append_assoc s.at.outer (Nursery s.id ∷ []) (s.at.top ∷ [])))
 
     other : HasBlock s.id (blocks_of s.at.outer) → ⊥
-    other = apart_steps s.at.outer a.outer before.frames.items a.left before.part (home_scope before) before.own.items _ old.scopes
-        (label_at old) old.book s.id a.held within h
+    other = apart_steps s.at.outer a.outer b.frames a.left b.part (option_map (λ (x : Home). x.scope) b.home) b.own _ b.tree b.labels b.book
+        s.id a.held within h
 
-    by_over : (o : Option ℕ) → first ≡ code.Start name o body → StartsAll before old new s.id name o body →
-        Takes frames task before old new (On None) (step_at task old frames None)
-    by_over None e started = takes_start frames s.at.outer s.id first task before old new name body a e within other world started in_range
-    by_over (Some k) e started = takes_start_over frames s.at.outer s.id first task before old new name k body a e within other world
-        started in_range
+    by_over : (o : Option ℕ) → first ≡ code.Start name o body → StartsAll b u s.id name o body →
+        StepsAs (before_step b first a) u None (On None)
+    by_over None e started = takes_start b first a u s.at.outer s.id name body within other world in_range e started
+    by_over (Some k) e started = takes_start_over b first a u s.at.outer s.id name body within other world in_range k e started

@@ -12,14 +12,13 @@ use Rattle.job_meaning.specs.Shown.{shown_at}
 use Rattle.job_meaning.specs.Walk.{Kind, Left, left_as, left_with, exc_after}
 use Rattle.job_meaning.specs.Rest.{noted}
 use Rattle.task_machine.specs.declared.entry.Entry.{Entry}
-use Rattle.task_machine.specs.Noted.{entry_of, IsSlice}
+use Rattle.task_machine.specs.Noted.{entry_of, IsSlice, AreNoted}
 use Rattle.turn_semantics.specs.Midway.{Place}
 use Rattle.turn_semantics.specs.Names.{names_at, OwnNames}
 use Rattle.turn_semantics.specs.Steps.{signs_home, froms_after}
 use Rattle.task_machine.specs.Acts.{key_failed}
 use Rattle.task_machine.specs.Labels.{Labels}
 use Rattle.task_machine.specs.Stacked.{AreAt}
-use Rattle.task_machine.specs.Standing.{AreNoted}
 use Rattle.task_machine.proofs.Cancels.{round_after}
 use Rattle.task_machine.proofs.Stacked.{one_of, signed_alike}
 

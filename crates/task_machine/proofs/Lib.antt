@@ -14,6 +14,8 @@ pub mod Blocks
 pub mod Others
 pub mod Fits
 pub mod Begins
+pub mod Lists
+pub mod Nurseries
 pub mod Taking
 pub mod Kept
 pub mod Settles

@@ -11,9 +11,8 @@ use Rattle.nursery_book.specs.Nursery.{End, Nursery, with_start}
 use Rattle.nursery_book.specs.Book.{nursery_at, HasNursery, Updates, Changes}
 use Rattle.task_machine.specs.declared.task.Home.{Home}
 use Rattle.task_machine.specs.declared.task.Task.{Task}
-use Rattle.task_machine.specs.declared.world.World.{World}
-use Rattle.task_machine.specs.Tasks.{path_of}
 use Rattle.task_machine.specs.Started.{IsChild, running_children, home_at, StartsOne, StartsOver}
+use Rattle.task_machine.specs.States.{State, path_at}
 use Rattle.task_machine.proofs.Stacked.{one_of}
 
 home_is : (id place scope len n : ℕ) → place ≡ len → scope ≡ n →
@@ -21,19 +20,19 @@ home_is : (id place scope len n : ℕ) → place ≡ len → scope ≡ n →
 home_is id place scope len n e f = (let g : place ≡ len + 0 = omega (arith, e) in cc)
 
 -- one child is started, at the place that the book assigns
-pub starts_one : (old new : World) (id : ℕ) (label : Label) (part : Part) (body : Steps) (task : Task) (scope place : ℕ) →
-    HasNursery old.book id (λ n. scope ≡ n.scope) →
-    HasNursery old.book id (λ n. place ≡ length n.children) → Changes old.book new.book id with_start →
-    new.started.items ≡ old.started.items ++ task ∷ [] →
+pub starts_one : (s u : State) (id : ℕ) (label : Label) (part : Part) (body : Steps) (task : Task) (scope place : ℕ) →
+    HasNursery s.book id (λ n. scope ≡ n.scope) →
+    HasNursery s.book id (λ n. place ≡ length n.children) → Changes s.book u.book id with_start →
+    u.started ≡ s.started ++ task ∷ [] →
     IsChild task label (buffer_of part) (range_of part) body (record { nursery = id; place = place; scope = scope }) →
-    StartsOne old new id label part body
-starts_one old new id label part body task scope place s p b started child = by_nursery (nursery_at old.book id) refl s p b
+    StartsOne s u id label part body
+starts_one s u id label part body task scope place has p b started child = by_nursery (nursery_at s.book id) refl has p b
   where
-    by_nursery : (o : Option Nursery) → nursery_at old.book id ≡ o → IsSomeAnd o (λ n. scope ≡ n.scope) →
+    by_nursery : (o : Option Nursery) → nursery_at s.book id ≡ o → IsSomeAnd o (λ n. scope ≡ n.scope) →
         IsSomeAnd o (λ n. place ≡ length n.children) →
-        IsSomeAnd o (λ n. Updates old.book new.book id (Some (with_start n))) → StartsOne old new id label part body
-    by_nursery None e s p b = absurd s
-    by_nursery (Some n) e s p b =
+        IsSomeAnd o (λ n. Updates s.book u.book id (Some (with_start n))) → StartsOne s u id label part body
+    by_nursery None e h p b = absurd h
+    by_nursery (Some n) e h p b =
         record {
           nursery = n;
           was = e;
@@ -45,7 +44,7 @@ starts_one old new id label part body task scope place s p b started child = by_
                 label_is = child.label_is;
                 input_is = child.input_is;
                 range_is = child.range_is;
-                home_is = child.home_is ∙ ap (λ (h : Home). Some h) (home_is id place scope (length n.children) n.scope p s);
+                home_is = child.home_is ∙ ap (λ (h : Home). Some h) (home_is id place scope (length n.children) n.scope p h);
                 frames = child.frames;
                 own = child.own;
                 task_state = child.task_state;
@@ -67,11 +66,11 @@ next_home id i n =
     (let e = length-append n.children (running_children i) in let f = running_length i in omega (arith, e, f))
 
 -- at first none is
-pub starts_none : (self : Task) (world : World) (id k : ℕ) (name : List ℕ) (body : Steps) (P : Nursery → Type 0) →
-    HasNursery world.book id P → StartsOver self world world id name k body 0
-starts_none self world id k name body P has = by_nursery (nursery_at world.book id) refl has
+pub starts_none : (s : State) (id k : ℕ) (name : List ℕ) (body : Steps) (P : Nursery → Type 0) →
+    HasNursery s.book id P → StartsOver s s id name k body 0
+starts_none s id k name body P has = by_nursery (nursery_at s.book id) refl has
   where
-    by_nursery : (o : Option Nursery) → nursery_at world.book id ≡ o → IsSomeAnd o P → StartsOver self world world id name k body 0
+    by_nursery : (o : Option Nursery) → nursery_at s.book id ≡ o → IsSomeAnd o P → StartsOver s s id name k body 0
     by_nursery None e has = absurd has
     by_nursery (Some n) e has =
         record {
@@ -83,17 +82,16 @@ starts_none self world id k name body P has = by_nursery (nursery_at world.book 
                 λ other differs. refl;
           };
           tasks = [];
-          started = sym (append-nil world.started.items);
+          started = sym (append-nil s.started);
           children = refl;
         }
 
 -- with one child more, on the next cut, one more of the children over cuts is started
-pub starts_more : (self : Task) (old mid new : World) (id k i : ℕ) (name : List ℕ) (label : Label) (part : Part) (body : Steps) →
-    StartsOver self old mid id name k body i →
-    StartsOne mid new id label part body → label ≡ record { name = name; indices = path_of self ++ i ∷ [] } →
-    buffer_of part ≡ buffer_of self.part →
-    range_of part ≡ cut_of (buffer_of self.part) (range_of self.part) k i → StartsOver self old new id name k body (suc i)
-starts_more self old mid new id k i name label part body h g named input cut =
+pub starts_more : (s m u : State) (id k i : ℕ) (name : List ℕ) (label : Label) (part : Part) (body : Steps) →
+    StartsOver s m id name k body i → StartsOne m u id label part body → label ≡ record { name = name; indices = path_at s ++ i ∷ [] } →
+    buffer_of part ≡ buffer_of s.part → range_of part ≡ cut_of (buffer_of s.part) (range_of s.part) k i →
+    StartsOver s u id name k body (suc i)
+starts_more s m u id k i name label part body h g named input cut =
     record {
       nursery = h.nursery;
       was = h.was;
@@ -106,7 +104,7 @@ starts_more self old mid new id k i name label part body h g named input cut =
             others = λ other differs. g.book.others other differs ∙ h.book.others other differs;
           };
       tasks = h.tasks ++ g.task ∷ [];
-      started = g.started ∙ ap (λ (ts : List Task). ts ++ g.task ∷ []) h.started ∙ append_assoc old.started.items h.tasks (g.task ∷ []);
+      started = g.started ∙ ap (λ (ts : List Task). ts ++ g.task ∷ []) h.started ∙ append_assoc s.started h.tasks (g.task ∷ []);
       children = (
         h.tasks,
         g.task,
@@ -131,9 +129,8 @@ starts_more self old mid new id k i name label part body h g named input cut =
     same = one_of _ _ (sym g.was ∙ h.book.changed)
 
 -- the body runs on
-pub runs_on : (mid new : World) (id : ℕ) (label : Label) (part : Part) (body : Steps) → StartsOne mid new id label part body →
-    HasNursery mid.book id (λ n. n.body ≡ None) →
-    HasNursery new.book id (λ n. n.body ≡ None)
-runs_on mid new id label part body g r =
+pub runs_on : (m u : State) (id : ℕ) (label : Label) (part : Part) (body : Steps) → StartsOne m u id label part body →
+    HasNursery m.book id (λ n. n.body ≡ None) → HasNursery u.book id (λ n. n.body ≡ None)
+runs_on m u id label part body g r =
     subst (λ (o : Option Nursery). IsSomeAnd o (λ n. n.body ≡ None)) (sym g.book.changed)
     (subst (λ (o : Option Nursery). IsSomeAnd o (λ n. n.body ≡ None)) g.was r)

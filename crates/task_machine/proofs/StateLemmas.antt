@@ -1,5 +1,5 @@
 -- The nurseries of a task with the keys of their scopes, and how a task stopped, for all tasks of the program together.
-use Rattle.std.proofs.Common.{◌≡◌, ◌⊎◌, inl, inr, ℕ, Option, Some, None, List, [], ◌∷◌, ◌++◌, append_assoc, refl, sym, subst}
+use Rattle.std.proofs.Common.{◌≡◌, ◌⊎◌, inl, inr, ℕ, Option, Some, None, List, [], ◌∷◌, ◌++◌, append_assoc, refl, ap, ◌∙◌, sym, subst}
 use Rattle.std.specs.Prelude.{IsSome}
 use Rattle.std.specs.Option.{IsSomeAnd}
 use Rattle.buffer_parts.specs.declared.part.Part.{Part}
@@ -17,12 +17,21 @@ use Rattle.task_machine.specs.declared.stop.TaskState.TheVariants.{ToBegin, Aske
 use Rattle.task_machine.specs.declared.stop.Stop.{Stop}
 use Rattle.task_machine.specs.declared.stop.Stop.TheVariants.{Ask, Sleep, Wait, Ended}
 use Rattle.task_machine.specs.declared.task.Own.{Own}
+use Rattle.task_machine.specs.declared.task.Task.{Task}
+use Rattle.task_machine.specs.declared.world.World.{World}
+use Rattle.task_machine.specs.States.{state_of}
 use Rattle.task_machine.specs.Fitting.{Block, blocks_of, waits_of, IsMine, Opened}
 use Rattle.task_machine.specs.Frames.{frame_of, frames_onto, frames_of}
 use Rattle.task_machine.specs.Labels.{Labels}
 use Rattle.task_machine.specs.Left.{keys_in}
 use Rattle.task_machine.specs.Standing.{HasBlock, HasNurseryOf}
 use Rattle.task_machine.specs.Stops.{Numbers, IsTaskState, IsTold}
+
+-- ---- what contracts see of a task and its world
+
+-- the state follows the task and the world
+pub state_eq : (t f : Task) (w g : World) → t ≡ f → w ≡ g → state_of t w ≡ state_of f g
+state_eq t f w g e h = ap (λ (x : Task). state_of x w) e ∙ ap (λ (x : World). state_of f x) h
 
 -- ---- nurseries with the keys of their scopes
 

@@ -6,7 +6,6 @@ use Rattle.std.specs.Option.{IsSomeAnd, option_map}
 use Rattle.std.specs.List.{slice_get}
 use Rattle.buffer_parts.specs.Part.{buffer_of}
 use Rattle.buffer_parts.specs.declared.part.Part.{Part}
-use Rattle.cancel_scopes.specs.Tree.{outer_of}
 use Rattle.exc_groups.specs.declared.exc.Exc as held
 use Rattle.exc_groups.specs.Held.{exc_of}
 use Rattle.exc_groups.specs.Exceptions.{Exc}
@@ -19,7 +18,7 @@ use Rattle.job_meaning.specs.Walk.{Here}
 use Rattle.job_meaning.specs.Rest as rest
 use Rattle.job_meaning.specs.Rest.{Event, noted, signs, enters, starts, Stopped}
 use Rattle.task_machine.specs.declared.entry.Entry.{Entry}
-use Rattle.task_machine.specs.Noted.{entry_of, IsSlice}
+use Rattle.task_machine.specs.Noted.{entry_of, IsSlice, shown_made, AreNoted}
 use Rattle.turn_semantics.specs.Midway.{Place, Midway, Begun, Move, after_move, no_move, then_move}
 use Rattle.turn_semantics.specs.Steps.{froms_after, step_of, turn_of}
 use Rattle.turn_semantics.specs.Placed.{PlacedAfter, places_behind}
@@ -32,17 +31,17 @@ use Rattle.task_machine.specs.declared.stop.TaskState.{TaskState}
 use Rattle.task_machine.specs.declared.stop.Moved.{Moved}
 use Rattle.task_machine.specs.declared.stop.Moved.TheVariants.{On, Stops}
 use Rattle.task_machine.specs.declared.task.Task.{Task}
-use Rattle.task_machine.specs.declared.world.World.{World}
-use Rattle.task_machine.specs.Acts.{Acts, no_act, scoping_of}
+use Rattle.task_machine.specs.Acts.{Acts, no_act, scoping_in}
 use Rattle.task_machine.specs.Fitting.{Block, blocks_of}
 use Rattle.task_machine.specs.Frames.{frames_of}
 use Rattle.task_machine.specs.Stacked.{AreAt}
-use Rattle.task_machine.specs.Standing.{HasBlock, HasNurseryOf, waits_by, Stands, shown_made, AreNoted, IsBegun, AreBegun, BeginsAt, Grown, Grow, IsOfOther, Owns, Covers, OthersStay, Took}
+use Rattle.task_machine.specs.Standing.{HasBlock, HasNurseryOf, waits_by, Stands, IsBegun, AreBegun, BeginsAt, Grown, Grow, IsOfOther, Owns, Covers, ChangesNurseries, Took, midway_at}
 use Rattle.task_machine.specs.Stops.{Numbers, StopsAs, MovesAs}
-use Rattle.task_machine.specs.Tasks.{scope_of}
-use Rattle.task_machine.specs.Worlds.{label_at}
+use Rattle.task_machine.specs.States.{State, stack_in}
 use Rattle.task_machine.proofs.Acting.{has_or_not, acts_append, acts_stay}
 use Rattle.task_machine.proofs.Begins.{begins_more, begins_last}
+use Rattle.task_machine.proofs.Lists.{got_first}
+use Rattle.task_machine.proofs.Nurseries.{nurseries_same}
 
 -- ---- one more step of a turn
 
@@ -149,16 +148,10 @@ begun_append numbers book blocks waits (t ∷ ts) us (b ∷ bs) cs h k = (h.0, b
 
 -- ---- nurseries that grew
 
--- what is in a list is in a longer one
-got_longer : {A : Type 0} (xs ys : List A) (i : ℕ) (x : A) → slice_get xs i ≡ Some x → slice_get (xs ++ ys) i ≡ Some x
-got_longer [] ys i x e = absurd (let f : None ≡ Some x = e in cc)
-got_longer (y ∷ xs) ys zero x e = e
-got_longer (y ∷ xs) ys (suc i) x e = got_longer xs ys i x e
-
 grown_number : (o : Option Nursery) (n : Nursery) (was are : List ℕ) (i x : ℕ) → IsSomeAnd o (λ m. Grown n m was are) →
     slice_get was i ≡ Some x → slice_get are i ≡ Some x
 grown_number None n was are i x h e = absurd h
-grown_number (Some m) n was are i x h e = subst (λ (l : List ℕ). slice_get l i ≡ Some x) (sym h.numbers) (got_longer was h.added i x e)
+grown_number (Some m) n was are i x h e = subst (λ (l : List ℕ). slice_get l i ≡ Some x) (sym h.numbers) (got_first was h.added i x e)
 
 grown_home : (o : Option Nursery) (n : Nursery) (was are : List ℕ) (scope place : ℕ) → IsSomeAnd o (λ m. Grown n m was are) →
     (n.scope ≡ scope) × (slice_get n.children place ≡ Some None) →
@@ -167,7 +160,7 @@ grown_home None n was are scope place h e = absurd h
 grown_home (Some m) n was are scope place h e = (
   h.scope ∙ e.0,
   subst (λ (es : List End). slice_get es place ≡ Some None) (sym h.children)
-      (got_longer n.children h.more place None e.1),
+      (got_first n.children h.more place None e.1),
 )
 
 grown_twice : (a b c : Nursery) (ns ms ks : List ℕ) → Grown a b ns ms → Grown b c ms ks → Grown a c ns ks
@@ -266,202 +259,145 @@ moves_then : (numbers : Numbers) (book : NurseryBook) (was part : Part) (goes : 
 moves_then numbers book was part (On exc) task_state o q e h = h
 moves_then numbers book was part (Stops stop) task_state o q e h = (h.0, subst (λ (p : Part). StopsAs numbers book p stop task_state q.stopped) e h.1)
 
+-- what two moves do to nurseries, one after the other
+module _ (s m u : State) (waits : Option ℕ) (was between are : Numbers) (ts us : List Task) (bs cs : List Begun) (made : List Event)
+    (first : ChangesNurseries s m None was between ts bs) (second : ChangesNurseries m u waits between are us cs)
+    (acts : Acts s.tick (scoping_in s) made (scoping_in m)) (begun : AreBegun between m.book (blocks_of m.frames) None ts bs) where
+  kept : (id : ℕ) → HasBlock id (blocks_of s.frames) → HasBlock id (blocks_of m.frames)
+  kept id has = goes_with id (blocks_of m.frames) (first.kept id has)
+
+  -- a nursery of another task is one where the first move led
+  still_other : (n : Nursery) → IsOfOther s.own s.tree n → IsOfOther m.own m.tree n
+  still_other n other = acts_stay s.tick (scoping_in s) (scoping_in m) made n.scope acts other
+
+  stays_there : (id : ℕ) (n : Nursery) → nursery_at s.book id ≡ Some n → (HasBlock id (blocks_of s.frames) → ⊥) → IsOfOther s.own s.tree n →
+      HasBlock id (blocks_of m.frames) → ⊥
+  stays_there id n at apart other has = by_owned (first.owned id (inl has))
+    where
+      by_owned : HasBlock id (blocks_of s.frames) ⊎ ((x : Nursery) → nursery_at s.book id ≡ Some x → IsOfOther s.own s.tree x → ⊥) → ⊥
+      by_owned (inl h) = apart h
+      by_owned (inr h) = h n at other
+
+  owned_then : Owns (blocks_of s.frames) s.own s.tree s.book (blocks_of u.frames) waits
+  owned_then id has = by_second (second.owned id has)
+    where
+      by_old : ((n : Nursery) → nursery_at m.book id ≡ Some n → IsOfOther m.own m.tree n → ⊥) → HasBlock id (blocks_of s.frames)
+          ⊎ (HasBlock id (blocks_of s.frames) → ⊥) →
+          HasBlock id (blocks_of s.frames) ⊎ ((n : Nursery) → nursery_at s.book id ≡ Some n → IsOfOther s.own s.tree n → ⊥)
+      by_old h (inl f) = inl f
+      by_old h (inr f) = inr (λ n at other. h n (first.others id n at f other) (still_other n other))
+
+      by_second : HasBlock id (blocks_of m.frames) ⊎ ((n : Nursery) → nursery_at m.book id ≡ Some n → IsOfOther m.own m.tree n → ⊥) →
+          HasBlock id (blocks_of s.frames) ⊎ ((n : Nursery) → nursery_at s.book id ≡ Some n → IsOfOther s.own s.tree n → ⊥)
+      by_second (inl h) = first.owned id (inl h)
+      by_second (inr h) = by_old h (has_or_not id (blocks_of s.frames))
+
+  covered_then : Covers (blocks_of s.frames) was are (blocks_of u.frames) waits (ts ++ us) (bs ++ cs)
+  covered_then id place number has at = by_second (second.covered id place number has at)
+    where
+      by_first : (HasBlock id (blocks_of s.frames) × (slice_get (was id) place ≡ Some number)) ⊎ BeginsAt id place number ts bs →
+          (HasBlock id (blocks_of s.frames) × (slice_get (was id) place ≡ Some number)) ⊎ BeginsAt id place number (ts ++ us) (bs ++ cs)
+      by_first (inl h) = inl h
+      by_first (inr h) = inr (begins_more id place number ts us bs cs h)
+
+      by_second : (HasBlock id (blocks_of m.frames) × (slice_get (between id) place ≡ Some number)) ⊎ BeginsAt id place number us cs →
+          (HasBlock id (blocks_of s.frames) × (slice_get (was id) place ≡ Some number)) ⊎ BeginsAt id place number (ts ++ us) (bs ++ cs)
+      by_second (inl h) = by_first (first.covered id place number (inl h.0) h.1)
+      by_second (inr h) = inr (begins_last id place number between m.book (blocks_of m.frames) None ts us bs cs begun h)
+
+  pub nurseries_then : ChangesNurseries s u waits was are (ts ++ us) (bs ++ cs)
+  nurseries_then =
+      record {
+        grow = grow_then s.frames m.frames was between are s.book m.book u.book first.grow kept second.grow;
+        kept = λ id has. second.kept id (kept id has);
+        numbered = second.numbered;
+        owned = owned_then;
+        covered = covered_then;
+        others = λ id n at apart other.
+            second.others id n (first.others id n at apart other) (stays_there id n at apart other) (still_other n other);
+      }
+
 -- a move after which the task continues, and another from where it led: the move of both, with the numbers of the second
-took_both : (fs : List Frame) (before mid after : Task) (old w new : World) (exc : Option held.Exc) (goes : Moved) (froms : Table)
-    (numbers : Numbers) (o q : Move) →
-    (first : Took fs before mid old w (On exc) froms numbers o) →
-    (second : Took mid.frames.items mid after w new goes (froms_after froms o.made) first.numbers_after q) → mid.part ≡ before.part →
-    w.tick ≡ old.tick →
-    (took : Took fs before after old new goes froms numbers (then_move None o q)) × (took.numbers_after ≡ second.numbers_after)
-took_both fs before mid after old w new exc goes froms numbers o q first second part tick = (both, refl)
-  where
-    kept : (id : ℕ) → HasBlock id (blocks_of fs) → HasBlock id (blocks_of mid.frames.items)
-    kept id has = goes_with id (blocks_of mid.frames.items) (first.kept id has)
-
-    -- a nursery of another task is one where the first move led
-    still_other : (n : Nursery) → IsOfOther before.own.items old.scopes n → IsOfOther mid.own.items w.scopes n
-    still_other n other = acts_stay old.tick (scoping_of before old) (scoping_of mid w) o.made n.scope first.acts other
-
-    stays_there : (id : ℕ) (n : Nursery) → nursery_at old.book id ≡ Some n → (HasBlock id (blocks_of fs) → ⊥) →
-        IsOfOther before.own.items old.scopes n →
-        HasBlock id (blocks_of mid.frames.items) → ⊥
-    stays_there id n at apart other has = by_owned (first.owned id (inl has))
-      where
-        by_owned : HasBlock id (blocks_of fs) ⊎ ((m : Nursery) → nursery_at old.book id ≡ Some m → IsOfOther before.own.items old.scopes m →
-            ⊥) → ⊥
-        by_owned (inl h) = apart h
-        by_owned (inr h) = h n at other
-
-    others_then : OthersStay (blocks_of fs) before.own.items old.scopes old.book new.book
-    others_then id n at apart other =
-        second.others id n (first.others id n at apart other) (stays_there id n at apart other) (still_other n other)
-
-    owned_then : Owns (blocks_of fs) before.own.items old.scopes old.book (blocks_of after.frames.items) (waits_by goes after.task_state)
-    owned_then id has = by_second (second.owned id has)
-      where
-        by_old : ((n : Nursery) → nursery_at w.book id ≡ Some n → IsOfOther mid.own.items w.scopes n → ⊥) → HasBlock id (blocks_of fs)
-            ⊎ (HasBlock id (blocks_of fs) → ⊥) →
-            HasBlock id (blocks_of fs) ⊎ ((n : Nursery) → nursery_at old.book id ≡ Some n → IsOfOther before.own.items old.scopes n → ⊥)
-        by_old h (inl f) = inl f
-        by_old h (inr f) = inr (λ n at other. h n (first.others id n at f other) (still_other n other))
-
-        by_second : HasBlock id (blocks_of mid.frames.items) ⊎ ((n : Nursery) → nursery_at w.book id ≡ Some n →
-            IsOfOther mid.own.items w.scopes n → ⊥) →
-            HasBlock id (blocks_of fs) ⊎ ((n : Nursery) → nursery_at old.book id ≡ Some n → IsOfOther before.own.items old.scopes n → ⊥)
-        by_second (inl h) = first.owned id (inl h)
-        by_second (inr h) = by_old h (has_or_not id (blocks_of fs))
-
-    covered_then : Covers (blocks_of fs) numbers second.numbers_after (blocks_of after.frames.items) (waits_by goes after.task_state)
-        (first.tasks ++ second.tasks) (o.begun ++ q.begun)
-    covered_then id place number has at = by_second (second.covered id place number has at)
-      where
-        by_first : (HasBlock id (blocks_of fs) × (slice_get (numbers id) place ≡ Some number))
-            ⊎ BeginsAt id place number first.tasks o.begun →
-            (HasBlock id (blocks_of fs) × (slice_get (numbers id) place ≡ Some number))
-            ⊎ BeginsAt id place number (first.tasks ++ second.tasks) (o.begun ++ q.begun)
-        by_first (inl h) = inl h
-        by_first (inr h) = inr (begins_more id place number first.tasks second.tasks o.begun q.begun h)
-
-        by_second : (HasBlock id (blocks_of mid.frames.items) × (slice_get (first.numbers_after id) place ≡ Some number))
-            ⊎ BeginsAt id place number second.tasks q.begun →
-            (HasBlock id (blocks_of fs) × (slice_get (numbers id) place ≡ Some number))
-            ⊎ BeginsAt id place number (first.tasks ++ second.tasks) (o.begun ++ q.begun)
-        by_second (inl h) = by_first (first.covered id place number (inl h.0) h.1)
-        by_second (inr h) =
-            inr (begins_last id place number first.numbers_after w.book (blocks_of mid.frames.items) None first.tasks second.tasks o.begun
-            q.begun first.begun h)
-
-    noted_there : AreNoted (buffer_of before.part) second.entries q.made
-    noted_there = subst (λ (p : Part). AreNoted (buffer_of p) second.entries q.made) part second.shown
-
-    both : Took fs before after old new goes froms numbers (then_move None o q)
-    both =
-        record {
-          numbers_after = second.numbers_after;
-          frames_after = second.frames_after;
-          places = subst (λ (f : Table). AreAt (label_at new) f (outer_of new.scopes (scope_of after)) q.places)
-              (sym (froms_append o.made q.made froms)) second.places;
-          moves = moves_then second.numbers_after new.book before.part mid.part goes after.task_state o q part second.moves;
-          entries = first.entries ++ second.entries;
-          noted = grew_twice before.entries.items mid.entries.items after.entries.items first.entries second.entries first.noted
-              second.noted;
-          shown = noted_append (buffer_of before.part) first.entries second.entries o.made q.made first.shown noted_there;
-          tasks = first.tasks ++ second.tasks;
-          started = grew_twice old.started.items w.started.items new.started.items first.tasks second.tasks first.started second.started;
-          begun =
-              begun_append second.numbers_after new.book (blocks_of after.frames.items) (waits_by goes after.task_state) first.tasks second.tasks
-              o.begun q.begun
-              (all_begun_on mid.frames.items first.numbers_after second.numbers_after w.book new.book (blocks_of after.frames.items)
-              (waits_by goes after.task_state)
-              second.grow second.kept first.tasks o.begun first.begun)
-              second.begun;
-          grow = grow_then fs mid.frames.items numbers first.numbers_after second.numbers_after old.book w.book new.book first.grow kept
-              second.grow;
-          kept = λ id has. second.kept id (kept id has);
-          numbered = second.numbered;
-          owned = owned_then;
-          covered = covered_then;
-          others = others_then;
-          acts = acts_append old.tick (scoping_of before old) (scoping_of mid w) (scoping_of after new) o.made q.made first.acts
-              (subst (λ (t : ℕ). Acts t (scoping_of mid w) q.made (scoping_of after new)) tick second.acts);
-        }
+pub took_both : (s m u : State) (exc : Option held.Exc) (goes : Moved) (froms : Table) (numbers : Numbers) (o q : Move) →
+    (first : Took s m (On exc) froms numbers o) →
+    (second : Took m u goes (froms_after froms o.made) first.numbers_after q) → m.part ≡ s.part → m.tick ≡ s.tick →
+    (took : Took s u goes froms numbers (then_move None o q)) × (took.numbers_after ≡ second.numbers_after)
+took_both s m u exc goes froms numbers o q first second part tick = (
+  record {
+    numbers_after = second.numbers_after;
+    frames_after = second.frames_after;
+    places = subst (λ (f : Table). AreAt u.labels f (stack_in u) q.places) (sym (froms_append o.made q.made froms)) second.places;
+    moves = moves_then second.numbers_after u.book s.part m.part goes u.task_state o q part second.moves;
+    entries = first.entries ++ second.entries;
+    noted = grew_twice s.entries m.entries u.entries first.entries second.entries first.noted second.noted;
+    shown = noted_append (buffer_of s.part) first.entries second.entries o.made q.made first.shown
+        (subst (λ (p : Part). AreNoted (buffer_of p) second.entries q.made) part second.shown);
+    tasks = first.tasks ++ second.tasks;
+    started = grew_twice s.started m.started u.started first.tasks second.tasks first.started second.started;
+    begun =
+        begun_append second.numbers_after u.book (blocks_of u.frames) (waits_by goes u.task_state) first.tasks second.tasks o.begun q.begun
+        (all_begun_on m.frames first.numbers_after second.numbers_after m.book u.book (blocks_of u.frames) (waits_by goes u.task_state)
+        second.nurseries.grow second.nurseries.kept first.tasks o.begun first.begun)
+        second.begun;
+    nurseries =
+        nurseries_then s m u (waits_by goes u.task_state) numbers first.numbers_after second.numbers_after first.tasks second.tasks o.begun
+        q.begun o.made first.nurseries second.nurseries first.acts first.begun;
+    acts = acts_append s.tick (scoping_in s) (scoping_in m) (scoping_in u) o.made q.made first.acts
+        (subst (λ (t : ℕ). Acts t (scoping_in m) q.made (scoping_in u)) tick second.acts);
+  },
+  refl,
+)
 
 -- A move of the code after which the task continues, and another from where it led, are the move of both.
-pub took_then : (fs : List Frame) (before mid after : Task) (old w new : World) (exc : Option held.Exc) (goes : Moved) (froms : Table)
-    (numbers : Numbers) (o q : Move) →
-    (first : Took fs before mid old w (On exc) froms numbers o) →
-    Took mid.frames.items mid after w new goes (froms_after froms o.made) first.numbers_after q →
-    mid.part ≡ before.part → w.tick ≡ old.tick → Took fs before after old new goes froms numbers (then_move o.stopped o q)
-took_then fs before mid after old w new exc goes froms numbers o q first second part tick =
-    subst (λ (s : Option Stopped). Took fs before after old new goes froms numbers (then_move s o q)) (sym first.moves.1)
-    (took_both fs before mid after old w new exc goes froms numbers o q first second part tick).0
+pub took_then : (s m u : State) (exc : Option held.Exc) (goes : Moved) (froms : Table) (numbers : Numbers) (o q : Move) →
+    (first : Took s m (On exc) froms numbers o) → Took m u goes (froms_after froms o.made) first.numbers_after q →
+    m.part ≡ s.part → m.tick ≡ s.tick → Took s u goes froms numbers (then_move o.stopped o q)
+took_then s m u exc goes froms numbers o q first second part tick =
+    subst (λ (x : Option Stopped). Took s u goes froms numbers (then_move x o q)) (sym first.moves.1)
+    (took_both s m u exc goes froms numbers o q first second part tick).0
 
 -- ---- the state of a task after a step
 
 -- a task has the state to which a step led, whether it continues or stops
-pub stands_where : (fs : List Frame) (before after : Task) (old new : World) (froms : Table) (numbers : Numbers) (ps : List Place) (t : ℕ)
-    (here : Here) →
-    Stands fs before old froms numbers None ps → (count : ℕ) (exc : Option Exc) (goes : Moved) →
-    (let o = step_of froms t here (record { frames = frames_of numbers fs; places = ps; exc = exc; count = count }) in
-    (took : Took fs before after old new goes froms numbers o) →
-    Stands after.frames.items after new (froms_after froms o.made) took.numbers_after o.stopped o.places)
-stands_where fs before after old new froms numbers ps t here stands count exc goes took =
-    let m : Midway = record { frames = frames_of numbers fs; places = ps; exc = exc; count = count } in
+pub stands_where : (s u : State) (froms : Table) (numbers : Numbers) (ps : List Place) (t : ℕ) (here : Here) →
+    Stands s froms numbers None ps → (count : ℕ) (exc : Option Exc) (goes : Moved) →
+    (let o = step_of froms t here (midway_at s exc numbers ps count) in (took : Took s u goes froms numbers o) →
+    Stands u (froms_after froms o.made) took.numbers_after o.stopped o.places)
+stands_where s u froms numbers ps t here stands count exc goes took =
+    let m : Midway = midway_at s exc numbers ps count in
     let o = step_of froms t here m in
     let step = turned_step t here froms m stands.placed in
     let names = step_stays_new froms t here m stands.new stands.own in
     record {
       places = took.places;
-      numbered = λ id has. took.numbered id (inl has);
+      numbered = λ id has. took.nurseries.numbered id (inl has);
       placed = subst (λ (gs : List rest.Frame). PlacedAfter o.stopped gs o.places) (sym took.frames_after) step.placed;
       new = subst (λ (gs : List rest.Frame). NewIn gs (places_behind o.stopped o.places)) (sym took.frames_after) names.frames;
       own = names.own;
     }
 
--- and one that continues is in the middle of its turn there
-pub stands_after : (fs : List Frame) (before after : Task) (old new : World) (froms : Table) (numbers : Numbers) (ps : List Place) (t : ℕ)
-    (here : Here) →
-    Stands fs before old froms numbers None ps → (count : ℕ) (exc : Option Exc) (goes : Option held.Exc) →
-    (let o = step_of froms t here (record { frames = frames_of numbers fs; places = ps; exc = exc; count = count }) in
-    (took : Took fs before after old new (On goes) froms numbers o) →
-    Stands after.frames.items after new (froms_after froms o.made) took.numbers_after None o.places)
-stands_after fs before after old new froms numbers ps t here stands count exc goes took =
-    let o = step_of froms t here (record { frames = frames_of numbers fs; places = ps; exc = exc; count = count }) in
-    subst (λ (s : Option Stopped). Stands after.frames.items after new (froms_after froms o.made) took.numbers_after s o.places)
-    took.moves.1
-    (stands_where fs before after old new froms numbers ps t here stands count exc (On goes) took)
-
 -- ---- the steps of a turn of the code, one after another
 
--- a nursery that stays as it was
-pub not_grown : (n : Nursery) (ns : List ℕ) → Grown n n ns ns
-not_grown n ns =
-    record {
-      scope = refl;
-      waiter = refl;
-      label = refl;
-      more = [];
-      children = sym (append-nil n.children);
-      run = All-nil (λ (e : End). e ≡ None);
-      added = [];
-      numbers = sym (append-nil ns);
-    }
-
 -- Before its first step a task has taken a turn of no steps.
-pub took_nothing : (task : Task) (world : World) (exc : Option held.Exc) (froms : Table) (numbers : Numbers) (t : ℕ) (here : Here)
-    (ps : List Place) (count : ℕ) →
-    Stands task.frames.items task world froms numbers None ps →
-    (took :
-    Took task.frames.items task task world world (On exc) froms numbers
-    (turn_of zero froms t here (record {
-      frames = frames_of numbers task.frames.items;
-      places = ps;
-      exc = option_map exc_of exc;
-      count =
-          count;
-    })))
+pub took_nothing : (s : State) (exc : Option held.Exc) (froms : Table) (numbers : Numbers) (t : ℕ) (here : Here) (ps : List Place)
+    (count : ℕ) → Stands s froms numbers None ps →
+    (took : Took s s (On exc) froms numbers (turn_of zero froms t here (midway_at s (option_map exc_of exc) numbers ps count)))
     × (took.numbers_after ≡ numbers)
 unfolding turn_of
-took_nothing task world exc froms numbers t here ps count stands = (
+took_nothing s exc froms numbers t here ps count stands = (
   record {
     numbers_after = numbers;
     frames_after = refl;
     places = stands.places;
     moves = (refl, refl);
     entries = [];
-    noted = sym (append-nil task.entries.items);
-    shown = record { shown = refl; slices = All-nil (IsSlice (buffer_of task.part)) };
+    noted = sym (append-nil s.entries);
+    shown = record { shown = refl; slices = All-nil (IsSlice (buffer_of s.part)) };
     tasks = [];
-    started = sym (append-nil world.started.items);
+    started = sym (append-nil s.started);
     begun = tt;
-    grow = λ id has n e. subst (λ (o : Option Nursery). IsSomeAnd o (λ m. Grown n m (numbers id) (numbers id))) (sym e)
-        (not_grown n (numbers id));
-    kept = λ id has. inl has;
-    numbered = λ id has. stands.numbered id (goes_with id (blocks_of task.frames.items) has);
-    owned = λ id has. inl (goes_with id (blocks_of task.frames.items) has);
-    covered = λ id place number has e. inl (goes_with id (blocks_of task.frames.items) has, e);
-    others = λ id n e apart other. e;
-    acts = no_act (scoping_of task world);
+    nurseries = nurseries_same s s None numbers refl refl (λ id has. has) (λ id has. has) stands.numbered;
+    acts = no_act (scoping_in s);
   },
   refl,
 )
@@ -486,48 +422,29 @@ one_more n froms t here m gs exc frames raised going =
 
 -- A turn of some steps, and a step from where it led, are the turn with one step more, and the task has the state to which they
 -- led, with the same numbers, whether it continues or stops.
-pub goes_and_stands : (n : ℕ) (fs : List Frame) (before mid after : Task) (old w new : World) (exc : Option held.Exc) (goes : Moved)
-    (froms : Table) (numbers : Numbers)
-    (t : ℕ) (here : Here) (ps : List Place) (count : ℕ) (exc0 : Option Exc) →
-    (let m : Midway = record { frames = frames_of numbers fs; places = ps; exc = exc0; count = count } in
-    let o = turn_of n froms t here m in
-    let more = turn_of (suc n) froms t here m in
-    (first : Took fs before mid old w (On exc) froms numbers o) →
-    Stands mid.frames.items mid w (froms_after froms o.made) first.numbers_after None o.places →
-    mid.part ≡ before.part → w.tick ≡ old.tick →
-    Took mid.frames.items mid after w new goes (froms_after froms o.made) first.numbers_after
+pub goes_and_stands : (n : ℕ) (s m u : State) (exc : Option held.Exc) (goes : Moved) (froms : Table) (numbers : Numbers) (t : ℕ)
+    (here : Here) (ps : List Place) (count : ℕ) (exc0 : Option Exc) →
+    (let o = turn_of n froms t here (midway_at s exc0 numbers ps count) in
+    let more = turn_of (suc n) froms t here (midway_at s exc0 numbers ps count) in
+    (first : Took s m (On exc) froms numbers o) → Stands m (froms_after froms o.made) first.numbers_after None o.places →
+    m.part ≡ s.part → m.tick ≡ s.tick →
+    Took m u goes (froms_after froms o.made) first.numbers_after
     (step_of (froms_after froms o.made) t here
-    (record {
-      frames = frames_of first.numbers_after mid.frames.items;
-      places = o.places;
-      exc = option_map exc_of exc;
-      count =
-          count + length o.begun;
-    })) →
-    (took : Took fs before after old new goes froms numbers more)
-    × Stands after.frames.items after new (froms_after froms more.made) took.numbers_after more.stopped more.places)
-goes_and_stands n fs before mid after old w new exc goes froms numbers t here ps count exc0 first stands part tick second =
-    let m : Midway = record { frames = frames_of numbers fs; places = ps; exc = exc0; count = count } in
-    let o = turn_of n froms t here m in
+    (midway_at m (option_map exc_of exc) first.numbers_after o.places (count + length o.begun))) →
+    (took : Took s u goes froms numbers more) × Stands u (froms_after froms more.made) took.numbers_after more.stopped more.places)
+goes_and_stands n s m u exc goes froms numbers t here ps count exc0 first stands part tick second =
+    let k : Midway = midway_at s exc0 numbers ps count in
+    let o = turn_of n froms t here k in
     let q = step_of (froms_after froms o.made) t here
-    (record {
-      frames = frames_of first.numbers_after mid.frames.items;
-      places = o.places;
-      exc = option_map exc_of exc;
-      count =
-          count + length o.begun;
-    }) in
-    let both = took_both fs before mid after old w new exc goes froms numbers o q first second part tick in
-    let there = stands_where mid.frames.items mid after w new (froms_after froms o.made) first.numbers_after o.places t here stands
+    (midway_at m (option_map exc_of exc) first.numbers_after o.places (count + length o.begun)) in
+    let both = took_both s m u exc goes froms numbers o q first second part tick in
+    let there = stands_where m u (froms_after froms o.made) first.numbers_after o.places t here stands
     (count + length o.begun) _ goes second in
     subst
-    (λ (p : Move). (took : Took fs before after old new goes froms numbers p)
-    × Stands after.frames.items after new (froms_after froms p.made) took.numbers_after p.stopped p.places)
-    (one_more n froms t here m (frames_of first.numbers_after mid.frames.items) (option_map exc_of exc) first.frames_after first.moves.0
+    (λ (p : Move). (took : Took s u goes froms numbers p) × Stands u (froms_after froms p.made) took.numbers_after p.stopped p.places)
+    (one_more n froms t here k (frames_of first.numbers_after m.frames) (option_map exc_of exc) first.frames_after first.moves.0
     first.moves.1) (
       both.0,
-      subst (λ (ns : Numbers). Stands after.frames.items after new (froms_after froms (o.made ++ q.made)) ns q.stopped q.places)
-          (sym both.1)
-          (subst (λ (f : Table). Stands after.frames.items after new f second.numbers_after q.stopped q.places)
-          (sym (froms_append o.made q.made froms)) there),
+      subst (λ (ns : Numbers). Stands u (froms_after froms (o.made ++ q.made)) ns q.stopped q.places) (sym both.1)
+          (subst (λ (f : Table). Stands u f second.numbers_after q.stopped q.places) (sym (froms_append o.made q.made froms)) there),
     )

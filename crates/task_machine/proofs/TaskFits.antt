@@ -1,12 +1,13 @@
 -- What holds of a task and its world between moves, by what each step says.
-use Rattle.std.proofs.Common.{◌≡◌, ◌≢◌, ◌<◌, ℕ, zero, suc, ◌+◌, ◌*◌, ◌≤◌, Bool, true, false, Option, Some, None, List, [], ◌∷◌, ◌++◌, length, length-append, append_assoc, append-nil, refl, ap, sym, ◌∙◌, subst, arith}
+use Rattle.std.proofs.Common.{◌≡◌, ◌≢◌, ◌<◌, ℕ, zero, suc, ◌+◌, ◌*◌, ◌≤◌, Bool, true, false, Option, Some, None, List, [], ◌∷◌, ◌++◌, length, length-append, append-nil, refl, ap, sym, ◌∙◌, subst, arith}
 use Rattle.std.proofs.Math.Nat.{suc-mul}
 use Rattle.std.proofs.lemmas.List.{length-set}
+use Rattle.std.proofs.lemmas.Option.{none-some}
 use Rattle.std.specs.Prelude.{IsSome}
-use Rattle.std.specs.Option.{IsSomeAnd}
+use Rattle.std.specs.Option.{IsSomeAnd, option_map}
 use Rattle.std.specs.List.{last_or}
 use Rattle.cancel_scopes.specs.Sight.{Tick}
-use Rattle.cancel_scopes.specs.Tree.{IsChain, IsOwn, IsApart}
+use Rattle.cancel_scopes.specs.Tree.{Tree, IsChain, IsOwn, IsApart}
 use Rattle.job_meaning.specs.Rest as rest
 use Rattle.job_tree.specs.declared.limits.TheConstants.{MAX_PASSES}
 use Rattle.job_tree.specs.InRange.{AreInRange, IsInRangeHandler, IsInRangeCleanup}
@@ -24,21 +25,20 @@ use Rattle.nursery_book.specs.declared.book.NurseryBook.{NurseryBook}
 use Rattle.task_machine.specs.declared.entry.ScopeFrom.{ScopeFrom}
 use Rattle.task_machine.specs.declared.frame.Frame.{Frame}
 use Rattle.task_machine.specs.declared.frame.Frame.TheVariants.{Scope, Nursery}
-use Rattle.task_machine.specs.declared.frame.Frame.TheVariants as frames
 use Rattle.task_machine.specs.declared.stop.TaskState.{TaskState}
 use Rattle.task_machine.specs.declared.stop.TaskState.TheVariants.{Awaits}
 use Rattle.task_machine.specs.declared.stop.Wake.TheVariants.{Settled}
+use Rattle.task_machine.specs.declared.task.Home.{Home}
 use Rattle.task_machine.specs.declared.task.Own.{Own}
-use Rattle.task_machine.specs.declared.task.Task.{Task}
-use Rattle.task_machine.specs.declared.world.World.{World}
-use Rattle.task_machine.specs.Entered.{EntersOne, IsBlock, EntersBlock, EntersNursery}
-use Rattle.task_machine.specs.Fitting.{Block, a_scope, a_nursery, blocks_of, block_in, IsMine, Opened, AreInRangeFrames, StartsFit, IsBlockOf, SameKeys, FitsIn, Fits, waits_of}
+use Rattle.task_machine.specs.Acts.{Enters, Leaves, scoping_in}
+use Rattle.task_machine.specs.Entered.{IsBlock, EntersBlock, EntersNursery}
+use Rattle.task_machine.specs.Fitting.{Block, a_scope, a_nursery, blocks_of, IsMine, Opened, AreInRangeFrames, StartsFit, IsBlockOf, SameKeys, FitsIn, Fits, waits_of}
 use Rattle.task_machine.specs.Frames.{frame_of, frames_of}
 use Rattle.task_machine.specs.Labels.{Labels}
-use Rattle.task_machine.specs.Left.{OwnFirst, LeavesOne}
-use Rattle.task_machine.specs.Tasks.{home_scope}
+use Rattle.task_machine.specs.Left.{OwnFirst}
+use Rattle.task_machine.specs.Standing.{with_frames}
+use Rattle.task_machine.specs.States.{State, scope_at}
 use Rattle.task_machine.specs.Waking.{WakesFrom}
-use Rattle.task_machine.specs.Worlds.{label_at}
 use Rattle.task_machine.proofs.Fits.{Ready, fits_frames}
 use Rattle.task_machine.proofs.Blocks.{blocks_append}
 use Rattle.task_machine.proofs.Bodies.{body_block}
@@ -48,272 +48,181 @@ use Rattle.task_machine.proofs.Leaves.{top_of}
 use Rattle.task_machine.proofs.OwnLemmas.{ids, last_pushed}
 use Rattle.task_machine.proofs.Stacked.{one_of}
 use Rattle.task_machine.proofs.Settles.{ready_settled, fits_settled, fits_started}
+use Rattle.task_machine.proofs.TooksEntered.{entered_frames, entered_blocks}
 
--- the laws of a world's scopes
-pub record Laws (world : World) : Type 0 where
-  pub chain : IsChain world.scopes
-  pub own : IsOwn world.scopes
-  pub apart : IsApart world.scopes
+-- the laws of the open scopes
+pub record Laws (tree : Tree) : Type 0 where
+  pub chain : IsChain tree
+  pub own : IsOwn tree
+  pub apart : IsApart tree
 
--- ---- a nursery that is settled
-
--- a task whose nursery is settled may leave its scope
-pub ready_awaits : (self : Task) (world : World) (id since : ℕ) → Laws world → self.task_state ≡ Awaits id since →
-    WakesFrom self.task_state self.part world.book Settled →
-    Fits self.frames.items self world (waits_of self.task_state) → Ready (home_scope self) self.own.items world.scopes (label_at world)
-ready_awaits self world id since laws is wake h =
-    ready_settled self.frames.items id self.part (home_scope self) self.own.items (length self.froms.items) world.scopes (label_at world)
-    world.book laws.chain laws.own laws.apart
-    (subst (λ (x : TaskState). WakesFrom x self.part world.book Settled) is wake)
-    (subst (λ (x : TaskState). Fits self.frames.items self world (waits_of x)) is h)
+-- the scope of the home nursery, if there is one
+abbrev pub home_in : State → Option ℕ
+home_in s = option_map (λ (h : Home). h.scope) s.home
 
 -- ---- a scope that is left
 
--- as many froms as before
-same_froms : (before after : Task) (old new : World) → LeavesOne before after old new → length after.froms.items ≡ length before.froms.items
-same_froms before after old new l = ap (λ (fs : List ScopeFrom). length fs) l.froms
-    ∙ length-set before.froms.items l.last.at (record l.entry { seen = l.from })
+-- a task whose nursery is settled may leave its scope
+pub ready_awaits : (s : State) (id since : ℕ) → Laws s.tree → s.task_state ≡ Awaits id since → WakesFrom s.task_state s.part s.book Settled →
+    Fits s (waits_of s.task_state) → Ready (home_in s) s.own s.tree s.labels
+ready_awaits s id since laws is wake h =
+    ready_settled s.frames id s.part (home_in s) s.own (length s.froms) s.tree s.labels s.book laws.chain laws.own laws.apart
+    (subst (λ (x : TaskState). WakesFrom x s.part s.book Settled) is wake) (subst (λ (x : TaskState). Fits s (waits_of x)) is h)
 
--- the frames and the part of a task that left a scope, and the nurseries of its world, are those from before
-fits_after : (before after : Task) (mid new : World) → after
-    ≡ record before { own = after.own; froms = after.froms; entries = after.entries } →
-    new ≡ record mid { scopes = new.scopes; labels = new.labels } → length after.froms.items ≡ length before.froms.items →
-    FitsIn before.frames.items before.part (home_scope before) after.own.items (length before.froms.items) new.scopes (label_at new)
-    mid.book None → Fits after.frames.items after new None
-fits_after before after mid new stays world same h =
-    subst (λ (w : World). FitsIn after.frames.items after.part (home_scope after) after.own.items (length after.froms.items) new.scopes
-    (label_at new) w.book None) (sym world)
-    (subst (λ (n : ℕ). FitsIn after.frames.items after.part (home_scope after) after.own.items n new.scopes (label_at new) mid.book None)
-    (sym same)
-    (subst (λ (t : Task). FitsIn t.frames.items t.part (home_scope t) after.own.items (length before.froms.items) new.scopes (label_at new)
-    mid.book None) (sym stays) h))
+-- as many froms as before
+same_froms : (s u : State) (l : Leaves (scoping_in s) (scoping_in u)) → length u.froms ≡ length s.froms
+same_froms s u l = ap (λ (fs : List ScopeFrom). length fs) l.froms ∙ length-set s.froms l.scope.at (record l.entry { seen = l.from })
 
 -- what holds of a task is kept when the nursery that it waited for is closed and its scope is left
-pub settled_fits : (before after : Task) (old new : World) (book : NurseryBook) (id since : ℕ) → Laws old → before.task_state ≡ Awaits id since →
-    WakesFrom before.task_state before.part old.book Settled →
-    Fits before.frames.items before old (waits_of before.task_state) → Updates old.book book id None →
-    LeavesOne before after (record old { book = book }) new →
-    OwnFirst new.scopes (home_scope before) after.own.items → after
-    ≡ record before { own = after.own; froms = after.froms; entries = after.entries } →
-    new ≡ record old { book = book; scopes = new.scopes; labels = new.labels } → Fits after.frames.items after new None
-settled_fits before after old new book id since laws is wake h ended l first stays world =
-    fits_after before after (record old { book = book }) new stays world (same_froms before after (record old { book = book }) new l)
-    (fits_settled before.frames.items id before.part (home_scope before) after.own.items l.last (length before.froms.items) old.scopes
-    new.scopes (label_at old) (label_at new) old.book book
+pub settled_fits : (s u : State) (book : NurseryBook) (id since : ℕ) → Laws s.tree → s.task_state ≡ Awaits id since →
+    WakesFrom s.task_state s.part s.book Settled → Fits s (waits_of s.task_state) → Updates s.book book id None →
+    (l : Leaves (scoping_in s) (scoping_in u)) → OwnFirst u.tree (home_in s) u.own →
+    u ≡ record s { own = u.own; froms = u.froms; entries = u.entries; tree = u.tree; labels = u.labels; book = book } → Fits u None
+settled_fits s u book id since laws is wake h ended l first stays =
+    subst (λ (x : State). Fits x None) (sym stays)
+    (subst (λ (n : ℕ). FitsIn s.frames s.part (home_in s) u.own n u.tree u.labels book None) (sym (same_froms s u l))
+    (fits_settled s.frames id s.part (home_in s) u.own l.scope (length s.froms) s.tree u.tree s.labels u.labels s.book book
     laws.chain laws.own laws.apart
-    (top_of old.scopes laws.chain laws.own (home_scope before) before.own.items after.own.items l.last l.taken (waits.scope l.last.id last)
-    waits.first last) l.closed l.others l.unlabelled first
-    (subst (λ (x : TaskState). WakesFrom x before.part old.book Settled) is wake) ended
-    (subst (λ (own : List Own). FitsIn before.frames.items before.part (home_scope before) own (length before.froms.items) old.scopes
-    (label_at old) old.book (Some id)) l.taken waits))
+    (top_of s.tree laws.chain laws.own (home_in s) s.own u.own l.scope l.taken (waits.scope l.scope.id last) waits.first last) l.closed
+    l.others l.unlabelled first (subst (λ (x : TaskState). WakesFrom x s.part s.book Settled) is wake) ended
+    (subst (λ (own : List Own). FitsIn s.frames s.part (home_in s) own (length s.froms) s.tree s.labels s.book (Some id)) l.taken waits)))
   where
-    waits : Fits before.frames.items before old (Some id)
-    waits = subst (λ (x : TaskState). Fits before.frames.items before old (waits_of x)) is h
+    waits : Fits s (Some id)
+    waits = subst (λ (x : TaskState). Fits s (waits_of x)) is h
 
-    last : last_or (home_scope before) (ids before.own.items) ≡ Some l.last.id
-    last = last_pushed (home_scope before) after.own.items before.own.items l.last l.taken
+    last : last_or (home_in s) (ids s.own) ≡ Some l.scope.id
+    last = last_pushed (home_in s) u.own s.own l.scope l.taken
 
 -- what holds of a task is kept when it leaves the scope that is its innermost block
-pub exited_fits : (fail : Bool) (before after : Task) (old new : World) → Laws old →
-    Fits (before.frames.items ++ Scope fail ∷ []) before old None → LeavesOne before after old new →
-    OwnFirst new.scopes (home_scope before) after.own.items → after
-    ≡ record before { own = after.own; froms = after.froms; entries = after.entries } →
-    new ≡ record old { scopes = new.scopes; labels = new.labels } → Fits after.frames.items after new None
-exited_fits fail before after old new laws h l first stays world =
-    fits_after before after old new stays world (same_froms before after old new l)
-    (fits_left before.frames.items fail before.part (home_scope before) after.own.items l.last (length before.froms.items) old.scopes
-    new.scopes (label_at old) (label_at new) old.book laws.chain laws.own laws.apart
-    (top_of old.scopes laws.chain laws.own (home_scope before) before.own.items after.own.items l.last l.taken (h.scope l.last.id last)
-    h.first last) l.closed l.others l.unlabelled first
-    (subst (λ (own : List Own). FitsIn (before.frames.items ++ Scope fail ∷ []) before.part (home_scope before) own
-    (length before.froms.items) old.scopes (label_at old) old.book None) l.taken h))
+pub exited_fits : (fail : Bool) (s u : State) → Laws s.tree → Fits (with_frames s (s.frames ++ Scope fail ∷ [])) None →
+    (l : Leaves (scoping_in s) (scoping_in u)) → OwnFirst u.tree (home_in s) u.own →
+    u ≡ record s { own = u.own; froms = u.froms; entries = u.entries; tree = u.tree; labels = u.labels } → Fits u None
+exited_fits fail s u laws h l first stays =
+    subst (λ (x : State). Fits x None) (sym stays)
+    (subst (λ (n : ℕ). FitsIn s.frames s.part (home_in s) u.own n u.tree u.labels s.book None) (sym (same_froms s u l))
+    (fits_left s.frames fail s.part (home_in s) u.own l.scope (length s.froms) s.tree u.tree s.labels u.labels s.book laws.chain laws.own
+    laws.apart
+    (top_of s.tree laws.chain laws.own (home_in s) s.own u.own l.scope l.taken (h.scope l.scope.id last) h.first last) l.closed l.others
+    l.unlabelled first
+    (subst (λ (own : List Own). FitsIn (s.frames ++ Scope fail ∷ []) s.part (home_in s) own (length s.froms) s.tree s.labels s.book None)
+    l.taken h)))
   where
-    last : last_or (home_scope before) (ids before.own.items) ≡ Some l.last.id
-    last = last_pushed (home_scope before) after.own.items before.own.items l.last l.taken
+    last : last_or (home_in s) (ids s.own) ≡ Some l.scope.id
+    last = last_pushed (home_in s) u.own s.own l.scope l.taken
 
 -- ---- a body that ended, and a task
 
--- the scopes of the world were signed, and the nursery's body ended
-pub waits_fits : (id : ℕ) (exc : Option Exc) (before after : Task) (old new : World) →
-    Fits (before.frames.items ++ Nursery id ∷ []) before old None → SameKeys old.scopes new.scopes →
-    Changes old.book new.book id (with_body exc) → after ≡ record before { task_state = after.task_state } →
-    new ≡ record old { scopes = new.scopes; book = new.book } → Fits after.frames.items after new (Some id)
-waits_fits id exc before after old new h same changes stays world =
-    subst (λ (w : World). FitsIn after.frames.items after.part (home_scope after) after.own.items (length after.froms.items) new.scopes
-    (label_at w) new.book (Some id)) (sym world)
-    (subst (λ (t : Task). FitsIn t.frames.items t.part (home_scope t) t.own.items (length t.froms.items) new.scopes (label_at old) new.book
-    (Some id)) (sym stays)
-    (fits_signed before.frames.items before.part (home_scope before) before.own.items (length before.froms.items) old.scopes new.scopes
-    (label_at old) new.book (Some id) same
-    (fits_awaits before.frames.items id before.part (home_scope before) before.own.items (length before.froms.items) old.scopes
-    (label_at old) old.book new.book exc changes h)))
+-- scopes were signed, and the nursery's body ended
+pub waits_fits : (id : ℕ) (exc : Option Exc) (s u : State) → Fits (with_frames s (s.frames ++ Nursery id ∷ [])) None →
+    SameKeys s.tree u.tree → Changes s.book u.book id (with_body exc) →
+    u ≡ record s { task_state = u.task_state; tree = u.tree; book = u.book } → Fits u (Some id)
+waits_fits id exc s u h same changes stays =
+    subst (λ (x : State). Fits x (Some id)) (sym stays)
+    (fits_signed s.frames s.part (home_in s) s.own (length s.froms) s.tree u.tree s.labels u.book (Some id) same
+    (fits_awaits s.frames id s.part (home_in s) s.own (length s.froms) s.tree s.labels s.book u.book exc changes h))
 
--- the scopes of the world were signed
-pub signed_fits : (before after : Task) (old new : World) (waits : Option ℕ) → Fits before.frames.items before old waits →
-    SameKeys old.scopes new.scopes →
-    after ≡ record before { task_state = after.task_state } → new ≡ record old { scopes = new.scopes } → Fits after.frames.items after new waits
-signed_fits before after old new waits h same stays world =
-    subst (λ (w : World). FitsIn after.frames.items after.part (home_scope after) after.own.items (length after.froms.items) new.scopes
-    (label_at w) w.book waits) (sym world)
-    (subst (λ (t : Task). FitsIn t.frames.items t.part (home_scope t) t.own.items (length t.froms.items) new.scopes (label_at old) old.book
-    waits) (sym stays)
-    (fits_signed before.frames.items before.part (home_scope before) before.own.items (length before.froms.items) old.scopes new.scopes
-    (label_at old) old.book waits same h))
+-- scopes were signed
+pub signed_fits : (s u : State) (waits : Option ℕ) → Fits s waits → SameKeys s.tree u.tree →
+    u ≡ record s { task_state = u.task_state; tree = u.tree } → Fits u waits
+signed_fits s u waits h same stays =
+    subst (λ (x : State). Fits x waits) (sym stays)
+    (fits_signed s.frames s.part (home_in s) s.own (length s.froms) s.tree u.tree s.labels s.book waits same h)
 
 -- ---- frames alone
 
 -- what holds of a task is kept with other frames of the same blocks that can run
-pub frames_fit : (fs : List Frame) (before after : Task) (old : World) → Fits fs before old None →
-    blocks_of after.frames.items ≡ blocks_of fs →
-    AreInRangeFrames (frames_of (λ id. []) after.frames.items) → StartsFit (frames_of (λ id. []) after.frames.items) →
-    after ≡ record before { frames = after.frames; task_state = after.task_state } →
-    Fits after.frames.items after old None
-frames_fit fs before after old h same in_range starts stays =
-    subst (λ (t : Task). FitsIn after.frames.items t.part (home_scope t) t.own.items (length t.froms.items) old.scopes (label_at old)
-    old.book None) (sym stays)
-    (fits_frames fs after.frames.items before.part (home_scope before) before.own.items (length before.froms.items) old.scopes
-    (label_at old) old.book same in_range starts h)
+pub frames_fit : (s : State) (whole : List Frame) (u : State) → Fits (with_frames s whole) None → blocks_of u.frames ≡ blocks_of whole →
+    AreInRangeFrames (frames_of (λ id. []) u.frames) → StartsFit (frames_of (λ id. []) u.frames) → u ≡ with_frames s u.frames → Fits u None
+frames_fit s whole u h same in_range starts stays =
+    subst (λ (x : State). Fits x None) (sym stays)
+    (fits_frames whole u.frames s.part (home_in s) s.own (length s.froms) s.tree s.labels s.book same in_range starts h)
+
+-- the blocks without an innermost frame that is no block
+blocks_but : (fs : List Frame) (f : Frame) → blocks_of (f ∷ []) ≡ [] → blocks_of fs ≡ blocks_of (fs ++ f ∷ [])
+blocks_but fs f none = sym (blocks_append fs (f ∷ []) ∙ ap (λ (bs : List Block). blocks_of fs ++ bs) none ∙ append-nil (blocks_of fs))
 
 -- ---- a scope that is entered
 
 -- what holds of a task is kept when it enters one more block, whatever that is
-pub entered_fits : (b : Block) (label : Label) (before after : Task) (old new : World) → Laws old →
-    Fits before.frames.items before old None → {deadline : Tick} → (e : EntersOne before after old new label deadline) →
-    ((id : ℕ) (m : Members) → nursery_at old.book id ≡ Some m → nursery_at new.book id ≡ Some m) →
-    IsBlockOf (label_at new) new.book b e.own →
-    blocks_of after.frames.items ≡ blocks_of before.frames.items ++ b ∷ [] → AreInRangeFrames (frames_of (λ id. []) after.frames.items) →
-    StartsFit (frames_of (λ id. []) after.frames.items) →
-    after ≡ record before { frames = after.frames; own = after.own; froms = after.froms } → Fits after.frames.items after new None
-entered_fits b label before after old new laws h e stay block blocks in_range starts stays =
-    subst (λ (t : Task). FitsIn after.frames.items t.part (home_scope t) after.own.items (length after.froms.items) new.scopes
-    (label_at new) new.book None) (sym stays)
-    (subst (λ (n : ℕ). FitsIn after.frames.items before.part (home_scope before) after.own.items n new.scopes (label_at new) new.book None)
-    (sym froms)
-    (subst (λ (own : List Own). FitsIn after.frames.items before.part (home_scope before) own (suc (length before.froms.items)) new.scopes
-    (label_at new) new.book None) (sym e.opened)
-    (fits_entered before.frames.items after.frames.items b before.part (home_scope before) before.own.items e.own
-    (length before.froms.items) old.scopes new.scopes (label_at old) (label_at new) old.book
-    new.book label e.level laws.chain e.fresh e.stack e.named e.others e.labelled e.place stay block blocks in_range starts h)))
+pub entered_fits : (b : Block) (label : Label) (s u : State) → Laws s.tree → Fits s None → {deadline : Tick} →
+    (e : Enters (scope_at s) label deadline (scoping_in s) (scoping_in u)) →
+    ((id : ℕ) (m : Members) → nursery_at s.book id ≡ Some m → nursery_at u.book id ≡ Some m) → IsBlockOf u.labels u.book b e.scope →
+    blocks_of u.frames ≡ blocks_of s.frames ++ b ∷ [] → AreInRangeFrames (frames_of (λ id. []) u.frames) →
+    StartsFit (frames_of (λ id. []) u.frames) → u.part ≡ s.part → u.home ≡ s.home → Fits u None
+entered_fits b label s u laws h e stay block blocks in_range starts part home =
+    rw (part, home, froms, e.opened)
+    (fits_entered s.frames u.frames b s.part (home_in s) s.own e.scope (length s.froms) s.tree u.tree s.labels u.labels s.book
+    u.book label e.level laws.chain e.fresh e.stack e.named e.others e.labelled e.place stay block blocks in_range starts h)
   where
-    froms : length after.froms.items ≡ suc (length before.froms.items)
+    froms : length u.froms ≡ suc (length s.froms)
     froms =
         ap (λ (fs : List ScopeFrom). length fs) e.froms
-        ∙ (let f = length-append before.froms.items (record { label = label; seen = None } ∷ []) in omega (arith, f))
+        ∙ (let f = length-append s.froms (record { label = label; seen = None } ∷ []) in omega (arith, f))
+
+-- what holds of a task is kept when it enters a scope
+pub scope_fits : (fail : Bool) (body : Steps) (label : Label) (s u : State) → Laws s.tree → Fits s None → {deadline : Tick} →
+    Enters (scope_at s) label deadline (scoping_in s) (scoping_in u) → EntersBlock s.frames u.frames (Scope fail) body → AreInRange body →
+    StartsIn false body → u.book ≡ s.book → u.part ≡ s.part → u.home ≡ s.home → Fits u None
+scope_fits fail body label s u laws h e inside in_range starts book part home =
+    entered_fits a_scope label s u laws h e (λ id m at. ap (λ (b : NurseryBook). nursery_at b id) book ∙ at)
+    (subst IsSome (sym e.labelled.changed) refl)
+    (entered_blocks s.frames u.frames (Scope fail) inside.top body inside.block inside.frames)
+    (subst AreInRangeFrames (sym (entered_frames (λ id. []) s.frames u.frames (Scope fail) inside.top body inside.block inside.frames))
+    (in_range, h.in_range))
+    (subst StartsFit (sym (entered_frames (λ id. []) s.frames u.frames (Scope fail) inside.top body inside.block inside.frames))
+    (starts, h.starts)) part home
+
+-- what holds of a task is kept when it enters a nursery
+pub nursery_fits : (me : ℕ) (body : Steps) (label : Label) (s u : State) → Laws s.tree → Fits s None → {deadline : Tick} →
+    Enters (scope_at s) label deadline (scoping_in s) (scoping_in u) → EntersNursery me s u label body → AreInRange body →
+    StartsIn true body → u.part ≡ s.part → u.home ≡ s.home → Fits u None
+nursery_fits me body label s u laws h e n in_range starts part home =
+    entered_fits (a_nursery n.id) label s u laws h e (λ id m at. n.stands.others id (differs id m at) ∙ at)
+    (subst (λ (m : Option Members). IsSomeAnd m (λ x. IsMine u.labels e.scope x × (x.body ≡ None))) (sym n.stands.changed)
+    (record { scope = same; label = e.labelled.changed }, refl))
+    (entered_blocks s.frames u.frames (Nursery n.id) n.frames.top body n.frames.block n.frames.frames)
+    (subst AreInRangeFrames
+    (sym (entered_frames (λ id. []) s.frames u.frames (Nursery n.id) n.frames.top body n.frames.block n.frames.frames)) (in_range, h.in_range))
+    (subst StartsFit (sym (entered_frames (λ id. []) s.frames u.frames (Nursery n.id) n.frames.top body n.frames.block n.frames.frames))
+    (starts, h.starts)) part home
+  where
+    differs : (id : ℕ) (m : Members) → nursery_at s.book id ≡ Some m → id ≢ n.id
+    differs id m at f = none-some m (sym n.fresh ∙ sym (ap (nursery_at s.book) f) ∙ at)
+
+    same : n.scope ≡ e.scope.id
+    same = one_of n.scope e.scope.id (sym n.inner ∙ last_pushed (home_in u) s.own u.own e.scope e.opened)
+
+-- a turn has more steps to go once a block is entered: those of its body and one that leaves it
+pub block_length : (fs gs : List Frame) (exit : Frame) (body : Steps) → EntersBlock fs gs exit body →
+    frames_length (frames_of (λ id. []) gs) ≡ frames_length (rest.steps_left body ∷ frame_of (λ id. []) exit ∷ frames_of (λ id. []) fs)
+block_length fs gs exit body e = ap frames_length (entered_frames (λ id. []) fs gs exit e.top body e.block e.frames)
 
 -- ---- children that are started
 
 -- what holds of a task is kept when children are started in a nursery
-pub started_fits : (id : ℕ) (m : Members) (more : List End) (before : Task) (old new : World) → Fits before.frames.items before old None →
-    nursery_at old.book id ≡ Some m →
-    Updates old.book new.book id (Some (record m { children = m.children ++ more })) →
-    new ≡ record old { book = new.book; started = new.started } → Fits before.frames.items before new None
-started_fits id m more before old new h was u world =
-    subst (λ (w : World). FitsIn before.frames.items before.part (home_scope before) before.own.items (length before.froms.items) w.scopes
-    (label_at w) new.book None) (sym world)
-    (fits_started before.frames.items id before.part (home_scope before) before.own.items (length before.froms.items) old.scopes
-    (label_at old) old.book new.book m more was u h)
-
--- ---- what a block's frames are
-
-block_frames : (before after : Task) (exit : Frame) (body : Steps) → EntersBlock before after exit body →
-    frames_of (λ id. []) after.frames.items ≡ rest.steps_left body ∷ frame_of (λ id. []) exit ∷ frames_of (λ id. []) before.frames.items
-block_frames before after exit body e =
-    ap (frames_of (λ id. [])) (e.frames ∙ sym (append_assoc before.frames.items (exit ∷ []) (e.top ∷ [])))
-    ∙ frames_push (λ id. []) (before.frames.items ++ exit ∷ []) e.top
-    ∙ ap (λ (fs : List rest.Frame). frame_of (λ id. []) e.top ∷ fs) (frames_push (λ id. []) before.frames.items exit)
-    ∙ ap (λ (f : rest.Frame). f ∷ frame_of (λ id. []) exit ∷ frames_of (λ id. []) before.frames.items) (by_top e.top e.block)
-  where
-    by_top : (f : Frame) → IsBlock f body → frame_of (λ id. []) f ≡ rest.steps_left body
-    by_top (frames.Steps steps) i = ap rest.steps_left i
-    by_top (frames.Scope fail) i = absurd i
-    by_top (frames.Nursery id) i = absurd i
-    by_top (frames.Repeat pass left body) i = absurd i
-    by_top (frames.Try handler cleanup) i = absurd i
-    by_top (frames.Handler others cleanup) i = absurd i
-    by_top (frames.Cleanup outcome) i = absurd i
-
-block_blocks : (before after : Task) (exit : Frame) (body : Steps) → EntersBlock before after exit body →
-    blocks_of after.frames.items ≡ blocks_of before.frames.items ++ blocks_of (exit ∷ [])
-block_blocks before after exit body e =
-    ap blocks_of e.frames ∙ blocks_append before.frames.items (exit ∷ e.top ∷ [])
-    ∙ ap (λ (bs : List Block). blocks_of before.frames.items ++ bs)
-    (blocks_append (exit ∷ []) (e.top ∷ []) ∙ ap (λ (bs : List Block). blocks_of (exit ∷ []) ++ bs) (by_top e.top e.block)
-    ∙ append-nil (blocks_of (exit ∷ [])))
-  where
-    by_top : (f : Frame) → IsBlock f body → blocks_of (f ∷ []) ≡ []
-    by_top (frames.Steps steps) i = refl
-    by_top (frames.Scope fail) i = absurd i
-    by_top (frames.Nursery id) i = absurd i
-    by_top (frames.Repeat pass left body) i = absurd i
-    by_top (frames.Try handler cleanup) i = absurd i
-    by_top (frames.Handler others cleanup) i = absurd i
-    by_top (frames.Cleanup outcome) i = absurd i
-
--- what holds of a task is kept when it enters a scope
-pub scope_fits : (fail : Bool) (body : Steps) (label : Label) (before after : Task) (old new : World) → Laws old →
-    Fits before.frames.items before old None → {deadline : Tick} → EntersOne before after old new label deadline →
-    EntersBlock before after (Scope fail) body → AreInRange body → StartsIn false body →
-    after ≡ record before { frames = after.frames; own = after.own; froms = after.froms } →
-    new ≡ record old { scopes = new.scopes; labels = new.labels } → Fits after.frames.items after new None
-scope_fits fail body label before after old new laws h e inside in_range starts stays world =
-    entered_fits a_scope label before after old new laws h e (λ id m at. ap (λ (w : World). nursery_at w.book id) world ∙ at)
-    (subst IsSome (sym e.labelled.changed) refl)
-    (block_blocks before after (Scope fail) body inside) (subst AreInRangeFrames (sym (block_frames before after (Scope fail) body inside))
-    (in_range, h.in_range))
-    (subst StartsFit (sym (block_frames before after (Scope fail) body inside)) (starts, h.starts)) stays
-
--- what holds of a task is kept when it enters a nursery
-pub nursery_fits : (me : ℕ) (body : Steps) (label : Label) (before after : Task) (old new : World) → Laws old →
-    Fits before.frames.items before old None → {deadline : Tick} → EntersOne before after old new label deadline →
-    EntersNursery me before after old new label body → AreInRange body → StartsIn true body →
-    after ≡ record before { frames = after.frames; own = after.own; froms = after.froms } →
-    Fits after.frames.items after new None
-nursery_fits me body label before after old new laws h e n in_range starts stays =
-    entered_fits (a_nursery n.id) label before after old new laws h e (λ id m at. n.stands.others id (differs id m at) ∙ at)
-    (subst (λ (m : Option Members). IsSomeAnd m (λ x. IsMine (label_at new) e.own x × (x.body ≡ None))) (sym n.stands.changed)
-    (record { scope = same; label = e.labelled.changed }, refl))
-    (block_blocks before after (Nursery n.id) body n.frames) (subst AreInRangeFrames
-    (sym (block_frames before after (Nursery n.id) body n.frames)) (in_range, h.in_range))
-    (subst StartsFit (sym (block_frames before after (Nursery n.id) body n.frames)) (starts, h.starts)) stays
-  where
-    differs : (id : ℕ) (m : Members) → nursery_at old.book id ≡ Some m → id ≢ n.id
-    differs id m at f = let g : None ≡ Some m = sym n.fresh ∙ sym (ap (nursery_at old.book) f) ∙ at in cc
-
-    same : n.scope ≡ e.own.id
-    same = one_of n.scope e.own.id (sym n.inner ∙ last_pushed (home_scope after) before.own.items after.own.items e.own e.opened)
-
--- a turn has more steps to go once a scope is entered: those of its body and one that leaves it
-pub scope_length : (fail : Bool) (body : Steps) (before after : Task) → EntersBlock before after (Scope fail) body →
-    frames_length (frames_of (λ id. []) after.frames.items) ≡ turn_length body
-    + (1 + frames_length (frames_of (λ id. []) before.frames.items))
-scope_length fail body before after e = ap frames_length (block_frames before after (Scope fail) body e)
-
--- a turn has more steps to go once a nursery is entered: those of its body and one that ends it
-pub nursery_length : (id : ℕ) (body : Steps) (before after : Task) → EntersBlock before after (Nursery id) body →
-    frames_length (frames_of (λ key. []) after.frames.items) ≡ turn_length body
-    + (1 + frames_length (frames_of (λ key. []) before.frames.items))
-nursery_length id body before after e = ap frames_length (block_frames before after (Nursery id) body e)
+pub started_fits : (id : ℕ) (m : Members) (more : List End) (s u : State) → Fits s None → nursery_at s.book id ≡ Some m →
+    Updates s.book u.book id (Some (record m { children = m.children ++ more })) →
+    u ≡ record s { book = u.book; started = u.started } → Fits u None
+started_fits id m more s u h was put world =
+    subst (λ (x : State). Fits x None) (sym world)
+    (fits_started s.frames id s.part (home_in s) s.own (length s.froms) s.tree s.labels s.book u.book m more was put h)
 
 -- ---- the steps of a block
 
--- without its innermost frame, which is no block
-pub frame_off : (fs : List Frame) (f : Frame) (task : Task) (world : World) → blocks_of (f ∷ []) ≡ [] →
-    Fits (fs ++ f ∷ []) task world None → AreInRangeFrames (frames_of (λ id. []) fs) →
-    StartsFit (frames_of (λ id. []) fs) → Fits fs task world None
-frame_off fs f task world none h in_range starts =
-    fits_frames (fs ++ f ∷ []) fs task.part (home_scope task) task.own.items (length task.froms.items) world.scopes (label_at world)
-    world.book
-    (sym (blocks_append fs (f ∷ []) ∙ ap (λ (bs : List Block). blocks_of fs ++ bs) none ∙ append-nil (blocks_of fs))) in_range starts h
+-- what holds of a state is held without the innermost frame, which is no block
+pub frame_off : (s : State) (f : Frame) → blocks_of (f ∷ []) ≡ [] → Fits (with_frames s (s.frames ++ f ∷ [])) None →
+    AreInRangeFrames (frames_of (λ id. []) s.frames) → StartsFit (frames_of (λ id. []) s.frames) → Fits s None
+frame_off s f none h in_range starts = frames_fit s (s.frames ++ f ∷ []) s h (blocks_but s.frames f none) in_range starts refl
 
 -- what holds of the frames with one more
-pub in_range_with : (fs : List Frame) (f : Frame) (task : Task) (world : World) → Fits (fs ++ f ∷ []) task world None →
-    AreInRangeFrames (frame_of (λ id. []) f ∷ frames_of (λ id. []) fs)
-in_range_with fs f task world h = subst AreInRangeFrames (frames_push (λ id. []) fs f) h.in_range
+pub in_range_with : (s : State) (f : Frame) → Fits (with_frames s (s.frames ++ f ∷ [])) None →
+    AreInRangeFrames (frame_of (λ id. []) f ∷ frames_of (λ id. []) s.frames)
+in_range_with s f h = subst AreInRangeFrames (frames_push (λ id. []) s.frames f) h.in_range
 
 -- each `start` in the frames with one more is directly in a nursery
-pub starts_with : (fs : List Frame) (f : Frame) (task : Task) (world : World) → Fits (fs ++ f ∷ []) task world None →
-    StartsFit (frame_of (λ id. []) f ∷ frames_of (λ id. []) fs)
-starts_with fs f task world h = subst StartsFit (frames_push (λ id. []) fs f) h.starts
+pub starts_with : (s : State) (f : Frame) → Fits (with_frames s (s.frames ++ f ∷ [])) None →
+    StartsFit (frame_of (λ id. []) f ∷ frames_of (λ id. []) s.frames)
+starts_with s f h = subst StartsFit (frames_push (λ id. []) s.frames f) h.starts
 
 turn_some : (ss : Steps) → 0 < turn_length ss
 turn_some tree.stop = omega arith
@@ -327,27 +236,22 @@ steps_longer fs f ss e =
     turn_some ss in omega (arith, g, k))
 
 -- another frame instead of the innermost one, neither of them a block
-pub pushed_fits : (fs : List Frame) (f g : Frame) (before after : Task) (world : World) → blocks_of (f ∷ []) ≡ [] →
-    block_in g (blocks_of fs) ≡ blocks_of fs → Fits (fs ++ f ∷ []) before world None →
-    blocks_of after.frames.items ≡ block_in g (blocks_of fs) → frames_of (λ id. []) after.frames.items ≡ frame_of (λ id. []) g
-    ∷ frames_of (λ id. []) fs →
-    AreInRangeFrames (frame_of (λ id. []) g ∷ frames_of (λ id. []) fs) → StartsFit (frame_of (λ id. []) g ∷ frames_of (λ id. []) fs) →
-    after ≡ record before { frames = after.frames } →
-    Fits after.frames.items after world None
-pushed_fits fs f g before after world none same h blocks frames in_range starts stays =
-    frames_fit (fs ++ f ∷ []) before after world h
-    (blocks ∙ same ∙ sym (blocks_append fs (f ∷ []) ∙ ap (λ (bs : List Block). blocks_of fs ++ bs) none ∙ append-nil (blocks_of fs)))
-    (subst AreInRangeFrames (sym frames) in_range)
-    (subst StartsFit (sym frames) starts) (stays ∙ ap (λ (t : Task). record before { frames = after.frames; task_state = t.task_state }) (sym stays))
+pub pushed_fits : (s u : State) (f g : Frame) → blocks_of (f ∷ []) ≡ [] → Fits (with_frames s (s.frames ++ f ∷ [])) None →
+    blocks_of u.frames ≡ blocks_of s.frames → frames_of (λ id. []) u.frames ≡ frame_of (λ id. []) g ∷ frames_of (λ id. []) s.frames →
+    AreInRangeFrames (frame_of (λ id. []) g ∷ frames_of (λ id. []) s.frames) →
+    StartsFit (frame_of (λ id. []) g ∷ frames_of (λ id. []) s.frames) → u ≡ with_frames s u.frames → Fits u None
+pushed_fits s u f g none h blocks frames in_range starts stays =
+    frames_fit s (s.frames ++ f ∷ []) u h (blocks ∙ blocks_but s.frames f none) (subst AreInRangeFrames (sym frames) in_range)
+    (subst StartsFit (sym frames) starts) stays
 
 -- ---- the innermost frame is popped
 
 -- what holds with a frame, whatever it is known as
-pub popped_fits : (before : Task) (fs : List Frame) (f g : Frame) (world : World) → before.frames.items ≡ fs ++ f ∷ [] → f ≡ g →
-    Fits before.frames.items before world None →
-    Fits (fs ++ g ∷ []) before world None
-popped_fits before fs f g world items same h =
-    subst (λ (x : Frame). Fits (fs ++ x ∷ []) before world None) same (subst (λ (xs : List Frame). Fits xs before world None) items h)
+pub popped_fits : (s : State) (whole : List Frame) (f g : Frame) → whole ≡ s.frames ++ f ∷ [] → f ≡ g → Fits (with_frames s whole) None →
+    Fits (with_frames s (s.frames ++ g ∷ [])) None
+popped_fits s whole f g items same h =
+    subst (λ (x : Frame). Fits (with_frames s (s.frames ++ x ∷ [])) None) same
+    (subst (λ (xs : List Frame). Fits (with_frames s xs) None) items h)
 
 -- how many steps are left to a turn, with its innermost frame given separately
 pub popped_length : (all fs : List Frame) (f g : Frame) → all ≡ fs ++ f ∷ [] → f ≡ g →
@@ -382,25 +286,23 @@ passes_shorter zero body fs ps = omega arith
 passes_shorter (suc k) body fs ps = let e = suc-mul k (1 + turn_length body) in omega (arith, e)
 
 -- a `repeat` has begun: the task still fits
-pub repeat_fits : (count : ℕ) (body : Steps) (before after : Task) (world : World) → Fits before.frames.items before world None →
-    count ≤ MAX_PASSES → AreInRange body → StartsIn false body → blocks_of after.frames.items ≡ blocks_of before.frames.items →
-    begins_passes count body (frames_of (λ id. []) before.frames.items) [] ≡ onward (frames_of (λ id. []) after.frames.items) [] None →
-    after ≡ record before { frames = after.frames } → Fits after.frames.items after world None
-repeat_fits count body before after world fits few b s blocks step stays =
-    frames_fit before.frames.items before after world fits blocks
+pub repeat_fits : (count : ℕ) (body : Steps) (s u : State) → Fits s None → count ≤ MAX_PASSES → AreInRange body → StartsIn false body →
+    blocks_of u.frames ≡ blocks_of s.frames →
+    begins_passes count body (frames_of (λ id. []) s.frames) [] ≡ onward (frames_of (λ id. []) u.frames) [] None →
+    u ≡ with_frames s u.frames → Fits u None
+repeat_fits count body s u fits few b starts blocks step stays =
+    frames_fit s s.frames u fits blocks
     (subst AreInRangeFrames (ap (λ (o : Move). o.frames) step)
-    (passes_in_range count body (frames_of (λ id. []) before.frames.items) [] few b fits.in_range))
+    (passes_in_range count body (frames_of (λ id. []) s.frames) [] few b fits.in_range))
     (subst StartsFit (ap (λ (o : Move). o.frames) step)
-    (passes_starts count body (frames_of (λ id. []) before.frames.items) [] s fits.starts))
-    (stays ∙ ap (λ (t : Task). record before { frames = after.frames; task_state = t.task_state }) (sym stays))
+    (passes_starts count body (frames_of (λ id. []) s.frames) [] starts fits.starts)) stays
 
 -- a `repeat` that has begun has fewer steps left than its step had
-pub repeat_length : (count : ℕ) (body : Steps) (before after : Task) →
-    begins_passes count body (frames_of (λ id. []) before.frames.items) [] ≡ onward (frames_of (λ id. []) after.frames.items) [] None →
-    frames_length (frames_of (λ id. []) after.frames.items)
-    < 1 + count * (1 + turn_length body) + frames_length (frames_of (λ id. []) before.frames.items)
-repeat_length count body before after step =
-    let e = passes_shorter count body (frames_of (λ id. []) before.frames.items) [] in
+pub repeat_length : (count : ℕ) (body : Steps) (fs gs : List Frame) →
+    begins_passes count body (frames_of (λ id. []) fs) [] ≡ onward (frames_of (λ id. []) gs) [] None →
+    frames_length (frames_of (λ id. []) gs) < 1 + count * (1 + turn_length body) + frames_length (frames_of (λ id. []) fs)
+repeat_length count body fs gs step =
+    let e = passes_shorter count body (frames_of (λ id. []) fs) [] in
     let f = ap (λ (o : Move). frames_length o.frames) step in
     omega (arith, e, f)
 
@@ -423,26 +325,29 @@ pass_shorter pass left body fs ps (Some e) = omega arith
 pass_shorter pass zero body fs ps None = omega arith
 pass_shorter pass (suc k) body fs ps None = let e = suc-mul k (1 + turn_length body) in omega (arith, e)
 
--- a pass of a `repeat` has ended: the task still fits
-pub passed_fits : (pass left : ℕ) (body : Steps) (fs : List Frame) (f : Frame) (exc after_exc : Option Exc) (before after : Task)
-    (world : World) → blocks_of (f ∷ []) ≡ [] →
-    frame_of (λ id. []) f ≡ rest.in_repeat pass left body → Fits (fs ++ f ∷ []) before world None →
-    step_pass pass left body (frames_of (λ id. []) fs) [] exc ≡ onward (frames_of (λ id. []) after.frames.items) [] after_exc →
-    blocks_of after.frames.items ≡ blocks_of fs → after ≡ record before { frames = after.frames } → Fits after.frames.items after world None
-passed_fits pass left body fs f exc after_exc before after world none is fits step blocks stays =
-    frames_fit (fs ++ f ∷ []) before after world fits
-    (blocks ∙ sym (blocks_append fs (f ∷ []) ∙ ap (λ (bs : List Block). blocks_of fs ++ bs) none ∙ append-nil (blocks_of fs)))
-    (subst AreInRangeFrames (ap (λ (o : Move). o.frames) step)
-    (pass_in_range pass left body (frames_of (λ id. []) fs) [] exc in_range.0 in_range.1 in_range.2))
-    (subst StartsFit (ap (λ (o : Move). o.frames) step)
-    (pass_starts pass left body (frames_of (λ id. []) fs) [] exc starts.0 starts.1))
-    (stays ∙ ap (λ (t : Task). record before { frames = after.frames; task_state = t.task_state }) (sym stays))
-  where
-    in_range : AreInRangeFrames (rest.in_repeat pass left body ∷ frames_of (λ id. []) fs)
-    in_range = subst (λ (x : rest.Frame). AreInRangeFrames (x ∷ frames_of (λ id. []) fs)) is (in_range_with fs f before world fits)
+-- a frame that is no block has ended, and the task continues where the definitions do, with frames that can run: it still fits
+stepped_fits : (s u : State) (f : Frame) (o : Move) (exc : Option Exc) → blocks_of (f ∷ []) ≡ [] →
+    Fits (with_frames s (s.frames ++ f ∷ [])) None → o ≡ onward (frames_of (λ id. []) u.frames) [] exc → AreInRangeFrames o.frames →
+    StartsFit o.frames → blocks_of u.frames ≡ blocks_of s.frames → u ≡ with_frames s u.frames → Fits u None
+stepped_fits s u f o exc none h step in_range starts blocks stays =
+    frames_fit s (s.frames ++ f ∷ []) u h (blocks ∙ blocks_but s.frames f none)
+    (subst AreInRangeFrames (ap (λ (x : Move). x.frames) step) in_range) (subst StartsFit (ap (λ (x : Move). x.frames) step) starts) stays
 
-    starts : StartsFit (rest.in_repeat pass left body ∷ frames_of (λ id. []) fs)
-    starts = subst (λ (x : rest.Frame). StartsFit (x ∷ frames_of (λ id. []) fs)) is (starts_with fs f before world fits)
+-- a pass of a `repeat` has ended: the task still fits
+pub passed_fits : (pass left : ℕ) (body : Steps) (s u : State) (f : Frame) (exc after_exc : Option Exc) → blocks_of (f ∷ []) ≡ [] →
+    frame_of (λ id. []) f ≡ rest.in_repeat pass left body → Fits (with_frames s (s.frames ++ f ∷ [])) None →
+    step_pass pass left body (frames_of (λ id. []) s.frames) [] exc ≡ onward (frames_of (λ id. []) u.frames) [] after_exc →
+    blocks_of u.frames ≡ blocks_of s.frames → u ≡ with_frames s u.frames → Fits u None
+passed_fits pass left body s u f exc after_exc none is fits step blocks stays =
+    stepped_fits s u f (step_pass pass left body (frames_of (λ id. []) s.frames) [] exc) after_exc none fits step
+    (pass_in_range pass left body (frames_of (λ id. []) s.frames) [] exc in_range.0 in_range.1 in_range.2)
+    (pass_starts pass left body (frames_of (λ id. []) s.frames) [] exc starts.0 starts.1) blocks stays
+  where
+    in_range : AreInRangeFrames (rest.in_repeat pass left body ∷ frames_of (λ id. []) s.frames)
+    in_range = subst (λ (x : rest.Frame). AreInRangeFrames (x ∷ frames_of (λ id. []) s.frames)) is (in_range_with s f fits)
+
+    starts : StartsFit (rest.in_repeat pass left body ∷ frames_of (λ id. []) s.frames)
+    starts = subst (λ (x : rest.Frame). StartsFit (x ∷ frames_of (λ id. []) s.frames)) is (starts_with s f fits)
 
 -- ---- a `try`
 
@@ -483,39 +388,32 @@ try_shorter (tree.except name body) cleanup fs ps (Some e) = by_match (keep (nam
 
 -- what holds of a task is kept when the body of a `try` ends: its handler, its cleanup or what comes after it is
 -- left
-pub tried_fits : (h : tree.Handled) (k : tree.Cleaned) (fs : List Frame) (f : Frame) (exc after_exc : Option Exc) (before after : Task)
-    (world : World) → blocks_of (f ∷ []) ≡ [] →
-    frame_of (λ id. []) f ≡ rest.in_try h k → Fits (fs ++ f ∷ []) before world None →
-    step_try h k (frames_of (λ id. []) fs) [] exc ≡ onward (frames_of (λ id. []) after.frames.items) [] after_exc →
-    blocks_of after.frames.items ≡ blocks_of fs → after ≡ record before { frames = after.frames } → Fits after.frames.items after world None
-tried_fits h k fs f exc after_exc before after world none is fits step blocks stays =
-    frames_fit (fs ++ f ∷ []) before after world fits
-    (blocks ∙ sym (blocks_append fs (f ∷ []) ∙ ap (λ (bs : List Block). blocks_of fs ++ bs) none ∙ append-nil (blocks_of fs)))
-    (subst AreInRangeFrames (ap (λ (o : Move). o.frames) step) (try_in_range h k (frames_of (λ id. []) fs) [] exc in_range.0 in_range.1 in_range.2))
-    (subst StartsFit (ap (λ (o : Move). o.frames) step) (try_starts h k (frames_of (λ id. []) fs) [] exc starts.0 starts.1 starts.2))
-    (stays ∙ ap (λ (t : Task). record before { frames = after.frames; task_state = t.task_state }) (sym stays))
+pub tried_fits : (h : tree.Handled) (k : tree.Cleaned) (s u : State) (f : Frame) (exc after_exc : Option Exc) → blocks_of (f ∷ []) ≡ [] →
+    frame_of (λ id. []) f ≡ rest.in_try h k → Fits (with_frames s (s.frames ++ f ∷ [])) None →
+    step_try h k (frames_of (λ id. []) s.frames) [] exc ≡ onward (frames_of (λ id. []) u.frames) [] after_exc →
+    blocks_of u.frames ≡ blocks_of s.frames → u ≡ with_frames s u.frames → Fits u None
+tried_fits h k s u f exc after_exc none is fits step blocks stays =
+    stepped_fits s u f (step_try h k (frames_of (λ id. []) s.frames) [] exc) after_exc none fits step
+    (try_in_range h k (frames_of (λ id. []) s.frames) [] exc in_range.0 in_range.1 in_range.2)
+    (try_starts h k (frames_of (λ id. []) s.frames) [] exc starts.0 starts.1 starts.2) blocks stays
   where
-    in_range : AreInRangeFrames (rest.in_try h k ∷ frames_of (λ id. []) fs)
-    in_range = subst (λ (x : rest.Frame). AreInRangeFrames (x ∷ frames_of (λ id. []) fs)) is (in_range_with fs f before world fits)
+    in_range : AreInRangeFrames (rest.in_try h k ∷ frames_of (λ id. []) s.frames)
+    in_range = subst (λ (x : rest.Frame). AreInRangeFrames (x ∷ frames_of (λ id. []) s.frames)) is (in_range_with s f fits)
 
-    starts : StartsFit (rest.in_try h k ∷ frames_of (λ id. []) fs)
-    starts = subst (λ (x : rest.Frame). StartsFit (x ∷ frames_of (λ id. []) fs)) is (starts_with fs f before world fits)
+    starts : StartsFit (rest.in_try h k ∷ frames_of (λ id. []) s.frames)
+    starts = subst (λ (x : rest.Frame). StartsFit (x ∷ frames_of (λ id. []) s.frames)) is (starts_with s f fits)
 
 -- a handler ended: what is left of its `try` is the cleanup
-pub handled_fits : (k : tree.Cleaned) (o : Option Exc) (fs : List Frame) (f : Frame) (before after : Task) (world : World) →
-    blocks_of (f ∷ []) ≡ [] → frame_of (λ id. []) f ≡ rest.in_handler o k →
-    Fits (fs ++ f ∷ []) before world None → frames_of (λ id. []) after.frames.items ≡ rest.in_try tree.unhandled k
-    ∷ frames_of (λ id. []) fs → blocks_of after.frames.items ≡ blocks_of fs →
-    after ≡ record before { frames = after.frames } → Fits after.frames.items after world None
-handled_fits k o fs f before after world none is fits frames blocks stays =
-    frames_fit (fs ++ f ∷ []) before after world fits
-    (blocks ∙ sym (blocks_append fs (f ∷ []) ∙ ap (λ (bs : List Block). blocks_of fs ++ bs) none ∙ append-nil (blocks_of fs)))
-    (subst AreInRangeFrames (sym frames) (tt, in_range.0, in_range.1))
-    (subst StartsFit (sym frames) (tt, starts.0, starts.1)) (stays
-    ∙ ap (λ (t : Task). record before { frames = after.frames; task_state = t.task_state }) (sym stays))
+pub handled_fits : (k : tree.Cleaned) (o : Option Exc) (s u : State) (f : Frame) → blocks_of (f ∷ []) ≡ [] →
+    frame_of (λ id. []) f ≡ rest.in_handler o k → Fits (with_frames s (s.frames ++ f ∷ [])) None →
+    frames_of (λ id. []) u.frames ≡ rest.in_try tree.unhandled k ∷ frames_of (λ id. []) s.frames →
+    blocks_of u.frames ≡ blocks_of s.frames → u ≡ with_frames s u.frames → Fits u None
+handled_fits k o s u f none is fits frames blocks stays =
+    frames_fit s (s.frames ++ f ∷ []) u fits (blocks ∙ blocks_but s.frames f none)
+    (subst AreInRangeFrames (sym frames) (tt, in_range.0, in_range.1)) (subst StartsFit (sym frames) (tt, starts.0, starts.1)) stays
   where
-    in_range : AreInRangeFrames (rest.in_handler o k ∷ frames_of (λ id. []) fs)
-    in_range = subst (λ (x : rest.Frame). AreInRangeFrames (x ∷ frames_of (λ id. []) fs)) is (in_range_with fs f before world fits)
+    in_range : AreInRangeFrames (rest.in_handler o k ∷ frames_of (λ id. []) s.frames)
+    in_range = subst (λ (x : rest.Frame). AreInRangeFrames (x ∷ frames_of (λ id. []) s.frames)) is (in_range_with s f fits)
 
-    starts : StartsFit (rest.in_handler o k ∷ frames_of (λ id. []) fs)
-    starts = subst (λ (x : rest.Frame). StartsFit (x ∷ frames_of (λ id. []) fs)) is (starts_with fs f before world fits)
+    starts : StartsFit (rest.in_handler o k ∷ frames_of (λ id. []) s.frames)
+    starts = subst (λ (x : rest.Frame). StartsFit (x ∷ frames_of (λ id. []) s.frames)) is (starts_with s f fits)

@@ -1,8 +1,9 @@
--- A task that enters a scope or a nursery, as a move of the definitions. The task is `before` with the steps that come after put back.
+-- A task that enters a scope or a nursery, as a move of the definitions. The state is the one in which the steps that come after were put
+-- back.
 use Rattle.std.proofs.Common.{◌≡◌, ◌≢◌, ◌⊎◌, inl, inr, ℕ, ◌==◌, Bool, true, false, Option, Some, None, List, [], ◌∷◌, ◌++◌, length, refl, ap, sym, ◌∙◌, subst, append_assoc}
 use Rattle.std.proofs.lemmas.Bool.{eqb-true, eq-eqb}
 use Rattle.std.proofs.lemmas.List.{append-nil}
-use Rattle.std.proofs.lemmas.List.Elements.{All-nil}
+use Rattle.std.proofs.lemmas.Option.{none-some}
 use Rattle.std.specs.Option.{IsSomeAnd}
 use Rattle.std.specs.List.{slice_get}
 use Rattle.buffer_parts.specs.Part.{buffer_of}
@@ -12,27 +13,26 @@ use Rattle.job_tree.specs.Tree as tree
 use Rattle.job_meaning.specs.Log.{Table}
 use Rattle.job_meaning.specs.Rest as rest
 use Rattle.job_meaning.specs.Rest.{Stopped}
-use Rattle.nursery_book.specs.Nursery.{Nursery as Members, new_nursery as opens}
+use Rattle.nursery_book.specs.Nursery.{Nursery as Members, new_nursery}
 use Rattle.nursery_book.specs.Book.{nursery_at, HasNursery}
-use Rattle.task_machine.specs.Noted.{IsSlice}
 use Rattle.turn_semantics.specs.Midway.{Place}
 use Rattle.turn_semantics.specs.Names.{IsName, names_at}
 use Rattle.turn_semantics.specs.Steps.{enters_block}
 use Rattle.task_machine.specs.declared.frame.Frame.{Frame}
 use Rattle.task_machine.specs.declared.frame.Frame.TheVariants.{Steps, Scope, Nursery, Repeat, Try, Handler, Cleanup}
 use Rattle.task_machine.specs.declared.stop.Moved.TheVariants.{On}
-use Rattle.task_machine.specs.declared.task.Task.{Task}
-use Rattle.task_machine.specs.declared.world.World.{World}
-use Rattle.task_machine.specs.Entered.{EntersAt, EntersOne, IsBlock, EntersBlock, EntersNursery}
+use Rattle.task_machine.specs.Acts.{Enters, scoping_in}
+use Rattle.task_machine.specs.Entered.{EntersAt, IsBlock, EntersBlock, EntersNursery}
 use Rattle.task_machine.specs.Fitting.{Block, a_scope, a_nursery, blocks_of}
 use Rattle.task_machine.specs.Frames.{frame_of, frames_onto, frames_of}
-use Rattle.task_machine.specs.Standing.{HasBlock, HasNurseryOf, Stands, Grown, IsOfOther, Took}
+use Rattle.task_machine.specs.Standing.{HasBlock, HasNurseryOf, Stands, Grown, IsOfOther, ChangesNurseries, Took, with_frames}
+use Rattle.task_machine.specs.States.{State, scope_at}
 use Rattle.task_machine.specs.Stops.{Numbers}
-use Rattle.task_machine.specs.Tasks.{scope_of}
 use Rattle.task_machine.proofs.Acting.{block_of, entered_acts}
 use Rattle.task_machine.proofs.Blocks.{blocks_append}
 use Rattle.task_machine.proofs.FrameLemmas.{frames_push}
-use Rattle.task_machine.proofs.Tooks.{has_more, has_either, not_grown, took_with, updated_has, is_at}
+use Rattle.task_machine.proofs.Nurseries.{has_more, has_either, not_grown, updated_has, is_at}
+use Rattle.task_machine.proofs.Tooks.{none_noted, IsQuiet, took_quiet}
 
 -- ---- a block's body inside its exit
 
@@ -72,44 +72,6 @@ entered_blocks fs gs exit top body block e =
     ∙ ap (λ (bs : List Block). blocks_of fs ++ bs) (blocks_append (exit ∷ []) (top ∷ [])
     ∙ ap (λ (bs : List Block). blocks_of (exit ∷ []) ++ bs)
     (no_block top body block) ∙ append-nil (blocks_of (exit ∷ [])))
-
--- a scope is entered, whose name no enclosing one has
-pub took_scope : (frames : List Frame) (before after : Task) (old new : World) (froms : Table) (numbers : Numbers)
-    (stopped : Option Stopped) (ps : List Place) (label : Label)
-    (shield fail : Bool)
-    (deadline : Tick) (body : tree.Steps) → Stands frames before old froms numbers stopped ps →
-    blocks_of before.frames.items ≡ blocks_of frames →
-    (IsName label.name (names_at ps) → ⊥) →
-    after ≡ record before { frames = after.frames; own = after.own; froms = after.froms } → EntersBlock before after (Scope fail) body →
-    new ≡ record old { scopes = new.scopes; labels = new.labels } →
-    EntersAt old new (scope_of before) (scope_of after) label shield deadline →
-    EntersOne before after old new label deadline → Took frames before after old new (On None) froms numbers
-    (enters_block label shield deadline old.tick body (rest.in_scope fail) (frames_of numbers before.frames.items) ps)
-took_scope frames before after old new froms numbers stopped ps label shield fail deadline body stands same fresh stays block world enters
-    one =
-    took_with frames before after old new (On None) froms numbers
-    (enters_block label shield deadline old.tick body (rest.in_scope fail) (frames_of numbers before.frames.items) ps) []
-    stands.numbered (ap (λ (w : World). w.book) world) (ap (λ (w : World). w.started.items) world)
-    (ap (λ (t : Task). t.entries.items) stays ∙ sym (append-nil before.entries.items))
-    (record { shown = refl; slices = All-nil (IsSlice (buffer_of before.part)) }) refl kept back
-    (entered_frames numbers before.frames.items after.frames.items (Scope fail) block.top body block.block block.frames)
-    (enters froms ps fresh stands.places) (refl, refl) refl
-    (entered_acts before after old new label deadline one)
-  where
-    blocks : blocks_of after.frames.items ≡ blocks_of frames ++ a_scope ∷ []
-    blocks =
-        entered_blocks before.frames.items after.frames.items (Scope fail) block.top body block.block block.frames
-        ∙ ap (λ (bs : List Block). bs ++ a_scope ∷ []) same
-
-    kept : (id : ℕ) → HasBlock id (blocks_of frames) → HasNurseryOf id (blocks_of after.frames.items) None
-    kept id has = inl (subst (λ (bs : List Block). HasBlock id bs) (sym blocks) (has_more id (blocks_of frames) (a_scope ∷ []) has))
-
-    back : (id : ℕ) → HasBlock id (blocks_of after.frames.items) → HasBlock id (blocks_of frames)
-    back id has = by_either (has_either id (blocks_of frames) (a_scope ∷ []) (subst (λ (bs : List Block). HasBlock id bs) blocks has))
-      where
-        by_either : HasBlock id (blocks_of frames) ⊎ ⊥ → HasBlock id (blocks_of frames)
-        by_either (inl h) = h
-        by_either (inr h) = absurd h
 
 -- ---- the numbers of the children of one nursery
 
@@ -156,105 +118,135 @@ pub frames_others : (numbers more : Numbers) (fs : List Frame) → ((key : ℕ) 
     frames_of more fs ≡ frames_of numbers fs
 frames_others numbers more fs same = onto_others numbers more fs [] same
 
--- a nursery is entered, whose name no enclosing one has: no child was started in it
-pub took_nursery : (me : ℕ) (frames : List Frame) (before after : Task) (old new : World) (froms : Table) (numbers : Numbers)
-    (stopped : Option Stopped) (ps : List Place)
-    (label : Label)
-    (shield : Bool) (deadline : Tick) (body : tree.Steps) → Stands frames before old froms numbers stopped ps →
-    blocks_of before.frames.items ≡ blocks_of frames → (IsName label.name (names_at ps) → ⊥) →
-    after ≡ record before { frames = after.frames; own = after.own; froms = after.froms } →
-    EntersNursery me before after old new label body →
-    new ≡ record old { scopes = new.scopes; labels = new.labels; book = new.book } →
-    EntersAt old new (scope_of before) (scope_of after) label shield deadline →
-    EntersOne before after old new label deadline → Took frames before after old new (On None) froms numbers
-    (enters_block label shield deadline old.tick body (rest.in_nursery []) (frames_of numbers before.frames.items) ps)
-took_nursery me frames before after old new froms numbers stopped ps label shield deadline body stands same fresh stays n world enters one =
-    record {
-      numbers_after = more;
-      frames_after =
-          entered_frames more before.frames.items after.frames.items (Nursery n.id) n.frames.top body n.frames.block n.frames.frames
-          ∙ ap (λ (ns : List ℕ). rest.steps_left body ∷ rest.in_nursery ns ∷ frames_of more before.frames.items)
-          (numbers_put numbers n.id [] n.id refl)
-          ∙ ap (λ (gs : List rest.Frame). rest.steps_left body ∷ rest.in_nursery [] ∷ gs)
-          (frames_others numbers more before.frames.items (λ key has. else_where key
-          (subst (λ (bs : List Block). HasBlock key bs) same has)));
-      places = enters froms ps fresh stands.places;
-      moves = (refl, refl);
-      entries = [];
-      noted = ap (λ (t : Task). t.entries.items) stays ∙ sym (append-nil before.entries.items);
-      shown = record { shown = refl; slices = All-nil (IsSlice (buffer_of before.part)) };
-      tasks = [];
-      started = ap (λ (w : World). w.started.items) world ∙ sym (append-nil old.started.items);
-      begun = tt;
-      grow =
-          λ key has m at.
-          updated_has old.book new.book n.id (Some (opens n.scope me label)) key (λ x. x ≡ m) (λ x. Grown m x (numbers key) (more key))
-          n.stands
-          (λ is x found one. absurd (closed key x is found))
-          (λ differs x found one.
-          subst (λ (ns : List ℕ). Grown m x (numbers key) ns) (sym (numbers_else numbers n.id [] key differs))
-          (subst (λ (y : Members). Grown y x (numbers key) (numbers key)) one (not_grown x (numbers key))))
-          (is_at (nursery_at old.book key) m at);
-      kept = λ key has. inl (subst (λ (bs : List Block). HasBlock key bs) (sym blocks)
-          (has_more key (blocks_of frames) (a_nursery n.id ∷ []) has));
-      numbered = λ key has. by_either key (old_or_new key has);
-      owned = λ key has. by_owned key (old_or_new key has);
-      covered = λ key place number has at. by_covered key place number (old_or_new key has) at;
-      others = λ key m at apart other. n.stands.others key (λ is. absurd (closed key m is at)) ∙ at;
-      acts = entered_acts before after old new label deadline one;
-    }
-  where
-    more : Numbers
-    more = with_numbers numbers n.id []
+-- ---- a scope or nursery is entered, whose name no enclosing one has
 
-    blocks : blocks_of after.frames.items ≡ blocks_of frames ++ a_nursery n.id ∷ []
-    blocks =
-        entered_blocks before.frames.items after.frames.items (Nursery n.id) n.frames.top body n.frames.block n.frames.frames
-        ∙ ap (λ (bs : List Block). bs ++ a_nursery n.id ∷ []) same
+module _ (b : State) (whole : List Frame) (froms : Table) (numbers : Numbers) (stopped : Option Stopped) (ps : List Place)
+    (stands : Stands (with_frames b whole) froms numbers stopped ps) (u : State) (label : Label) (shield : Bool) (deadline : Tick)
+    (body : tree.Steps) (same : blocks_of b.frames ≡ blocks_of whole) (fresh : IsName label.name (names_at ps) → ⊥)
+    (started : u.started ≡ b.started) (entries : u.entries ≡ b.entries) (enters : EntersAt b u label shield deadline)
+    (one : Enters (scope_at b) label deadline (scoping_in b) (scoping_in u)) where
+  -- a scope
+  pub took_scope : (fail : Bool) → u.book ≡ b.book → EntersBlock b.frames u.frames (Scope fail) body →
+      Took (with_frames b whole) u (On None) froms numbers
+      (enters_block label shield deadline b.tick body (rest.in_scope fail) (frames_of numbers b.frames) ps)
+  took_scope fail book block =
+      took_quiet b whole froms numbers stopped ps stands u (On None)
+      (enters_block label shield deadline b.tick body (rest.in_scope fail) (frames_of numbers b.frames) ps) []
+      (record { book = book; started = started; noted = entries ∙ sym (append-nil b.entries); kept = kept; back = back })
+      (none_noted (buffer_of b.part) (rest.enters label b.tick deadline ∷ []) refl) refl
+      (entered_frames numbers b.frames u.frames (Scope fail) block.top body block.block block.frames)
+      (enters froms ps fresh stands.places) (refl, refl) refl
+      (entered_acts b.tick (scope_at b) (scoping_in b) (scoping_in u) label deadline one)
+    where
+      blocks : blocks_of u.frames ≡ blocks_of whole ++ a_scope ∷ []
+      blocks =
+          entered_blocks b.frames u.frames (Scope fail) block.top body block.block block.frames
+          ∙ ap (λ (bs : List Block). bs ++ a_scope ∷ []) same
 
-    -- the key had no nursery
-    closed : (key : ℕ) (x : Members) → key ≡ n.id → nursery_at old.book key ≡ Some x → ⊥
-    closed key x is found = let e : None ≡ Some x = sym n.fresh ∙ ap (nursery_at old.book) (sym is) ∙ found in absurd (cc)
+      kept : (id : ℕ) → HasBlock id (blocks_of whole) → HasBlock id (blocks_of u.frames)
+      kept id has = subst (λ (bs : List Block). HasBlock id bs) (sym blocks) (has_more id (blocks_of whole) (a_scope ∷ []) has)
 
-    else_where : (key : ℕ) → HasBlock key (blocks_of frames) → more key ≡ numbers key
-    else_where key has = numbers_else numbers n.id [] key (λ is. by_nursery is (nursery_at old.book key) refl (stands.numbered key has))
-      where
-        by_nursery : key ≡ n.id → (o : Option Members) → nursery_at old.book key ≡ o →
-            IsSomeAnd o (λ x. length (numbers key) ≡ length x.children) → ⊥
-        by_nursery is None found h = h
-        by_nursery is (Some x) found h = closed key x is found
+      back : (id : ℕ) → HasBlock id (blocks_of u.frames) → HasBlock id (blocks_of whole)
+      back id has = by_either (has_either id (blocks_of whole) (a_scope ∷ []) (subst (λ (bs : List Block). HasBlock id bs) blocks has))
+        where
+          by_either : HasBlock id (blocks_of whole) ⊎ ⊥ → HasBlock id (blocks_of whole)
+          by_either (inl h) = h
+          by_either (inr h) = absurd h
 
-    -- a nursery of the task is an old one, or the one entered
-    old_or_new : (key : ℕ) → HasNurseryOf key (blocks_of after.frames.items) None → HasBlock key (blocks_of frames) ⊎ ((key ≡ n.id) ⊎ ⊥)
-    old_or_new key has =
-        has_either key (blocks_of frames) (a_nursery n.id ∷ []) (subst (λ (bs : List Block). HasBlock key bs) blocks
-        (block_of key (blocks_of after.frames.items) None refl has))
+  -- a nursery, in which no child was started
+  pub took_nursery : (me : ℕ) → EntersNursery me b u label body →
+      Took (with_frames b whole) u (On None) froms numbers
+      (enters_block label shield deadline b.tick body (rest.in_nursery []) (frames_of numbers b.frames) ps)
+  took_nursery me n =
+      record {
+        numbers_after = more;
+        frames_after =
+            entered_frames more b.frames u.frames (Nursery n.id) n.frames.top body n.frames.block n.frames.frames
+            ∙ ap (λ (ns : List ℕ). rest.steps_left body ∷ rest.in_nursery ns ∷ frames_of more b.frames) (numbers_put numbers n.id [] n.id refl)
+            ∙ ap (λ (gs : List rest.Frame). rest.steps_left body ∷ rest.in_nursery [] ∷ gs)
+            (frames_others numbers more b.frames (λ key has. else_where key (subst (λ (bs : List Block). HasBlock key bs) same has)));
+        places = enters froms ps fresh stands.places;
+        moves = (refl, refl);
+        entries = [];
+        noted = entries ∙ sym (append-nil b.entries);
+        shown = none_noted (buffer_of b.part) (rest.enters label b.tick deadline ∷ []) refl;
+        tasks = [];
+        started = started ∙ sym (append-nil b.started);
+        begun = tt;
+        nurseries = nurseries;
+        acts = entered_acts b.tick (scope_at b) (scoping_in b) (scoping_in u) label deadline one;
+      }
+    where
+      more : Numbers
+      more = with_numbers numbers n.id []
 
-    by_owned : (key : ℕ) → HasBlock key (blocks_of frames) ⊎ ((key ≡ n.id) ⊎ ⊥) →
-        HasBlock key (blocks_of frames) ⊎ ((m : Members) → nursery_at old.book key ≡ Some m → IsOfOther before.own.items old.scopes m → ⊥)
-    by_owned key (inl has) = inl has
-    by_owned key (inr (inl is)) = inr (λ m at other. closed key m is at)
-    by_owned key (inr (inr h)) = absurd h
+      blocks : blocks_of u.frames ≡ blocks_of whole ++ a_nursery n.id ∷ []
+      blocks =
+          entered_blocks b.frames u.frames (Nursery n.id) n.frames.top body n.frames.block n.frames.frames
+          ∙ ap (λ (bs : List Block). bs ++ a_nursery n.id ∷ []) same
 
-    by_covered : (key place number : ℕ) → HasBlock key (blocks_of frames) ⊎ ((key ≡ n.id) ⊎ ⊥) → slice_get (more key) place ≡ Some number →
-        (HasBlock key (blocks_of frames) × (slice_get (numbers key) place ≡ Some number)) ⊎ ⊥
-    by_covered key place number (inl has) at = inl (has, subst (λ (ns : List ℕ). slice_get ns place ≡ Some number) (else_where key has) at)
-    by_covered key place number (inr (inl is)) at =
-        absurd (let e : None ≡ Some number = subst (λ (ns : List ℕ). slice_get ns place ≡ Some number) (numbers_put numbers n.id [] key is)
-        at in cc)
-    by_covered key place number (inr (inr h)) at = absurd h
+      -- the key had no nursery
+      closed : (key : ℕ) (x : Members) → key ≡ n.id → nursery_at b.book key ≡ Some x → ⊥
+      closed key x is found = none-some x (sym n.fresh ∙ ap (nursery_at b.book) (sym is) ∙ found)
 
-    Numbered : ℕ → Members → Type 0
-    Numbered key x = length (more key) ≡ length x.children
+      else_where : (key : ℕ) → HasBlock key (blocks_of whole) → more key ≡ numbers key
+      else_where key has = numbers_else numbers n.id [] key (λ is. by_nursery is (nursery_at b.book key) refl (stands.numbered key has))
+        where
+          by_nursery : key ≡ n.id → (o : Option Members) → nursery_at b.book key ≡ o →
+              IsSomeAnd o (λ x. length (numbers key) ≡ length x.children) → ⊥
+          by_nursery is None found h = h
+          by_nursery is (Some x) found h = closed key x is found
 
-    by_either : (key : ℕ) → HasBlock key (blocks_of frames) ⊎ ((key ≡ n.id) ⊎ ⊥) → HasNursery new.book key (Numbered key)
-    by_either key (inl has) =
-        updated_has old.book new.book n.id (Some (opens n.scope me label)) key (λ x. length (numbers key) ≡ length x.children)
-        (Numbered key) n.stands
-        (λ is x found long. absurd (closed key x is found)) (λ differs x found long. ap (λ (ns : List ℕ). length ns) (else_where key has)
-        ∙ long) (stands.numbered key has)
-    by_either key (inr (inl is)) =
-        subst (λ (o : Option Members). IsSomeAnd o (Numbered key)) (sym (ap (nursery_at new.book) is ∙ n.stands.changed))
-        (ap (λ (ns : List ℕ). length ns)
-        (numbers_put numbers n.id [] key is))
-    by_either key (inr (inr h)) = absurd h
+      -- a nursery of the task is an old one, or the one entered
+      old_or_new : (key : ℕ) → HasNurseryOf key (blocks_of u.frames) None → HasBlock key (blocks_of whole) ⊎ ((key ≡ n.id) ⊎ ⊥)
+      old_or_new key has =
+          has_either key (blocks_of whole) (a_nursery n.id ∷ []) (subst (λ (bs : List Block). HasBlock key bs) blocks
+          (block_of key (blocks_of u.frames) None refl has))
+
+      by_owned : (key : ℕ) → HasBlock key (blocks_of whole) ⊎ ((key ≡ n.id) ⊎ ⊥) →
+          HasBlock key (blocks_of whole) ⊎ ((m : Members) → nursery_at b.book key ≡ Some m → IsOfOther b.own b.tree m → ⊥)
+      by_owned key (inl has) = inl has
+      by_owned key (inr (inl is)) = inr (λ m at other. closed key m is at)
+      by_owned key (inr (inr h)) = absurd h
+
+      by_covered : (key place number : ℕ) → HasBlock key (blocks_of whole) ⊎ ((key ≡ n.id) ⊎ ⊥) →
+          slice_get (more key) place ≡ Some number → (HasBlock key (blocks_of whole) × (slice_get (numbers key) place ≡ Some number)) ⊎ ⊥
+      by_covered key place number (inl has) at =
+          inl (has, subst (λ (ns : List ℕ). slice_get ns place ≡ Some number) (else_where key has) at)
+      by_covered key place number (inr (inl is)) at =
+          absurd (none-some number (subst (λ (ns : List ℕ). slice_get ns place ≡ Some number) (numbers_put numbers n.id [] key is) at))
+      by_covered key place number (inr (inr h)) at = absurd h
+
+      Numbered : ℕ → Members → Type 0
+      Numbered key x = length (more key) ≡ length x.children
+
+      by_either : (key : ℕ) → HasBlock key (blocks_of whole) ⊎ ((key ≡ n.id) ⊎ ⊥) → HasNursery u.book key (Numbered key)
+      by_either key (inl has) =
+          updated_has b.book u.book n.id (Some (new_nursery n.scope me label)) key (λ x. length (numbers key) ≡ length x.children)
+          (Numbered key) n.stands
+          (λ is x found long. absurd (closed key x is found)) (λ differs x found long. ap (λ (ns : List ℕ). length ns) (else_where key has)
+          ∙ long) (stands.numbered key has)
+      by_either key (inr (inl is)) =
+          subst (λ (o : Option Members). IsSomeAnd o (Numbered key)) (sym (ap (nursery_at u.book) is ∙ n.stands.changed))
+          (ap (λ (ns : List ℕ). length ns)
+          (numbers_put numbers n.id [] key is))
+      by_either key (inr (inr h)) = absurd h
+
+      nurseries : ChangesNurseries (with_frames b whole) u None numbers more [] []
+      nurseries =
+          record {
+            grow = λ key has m at.
+                updated_has b.book u.book n.id (Some (new_nursery n.scope me label)) key (λ x. x ≡ m)
+                (λ x. Grown m x (numbers key) (more key)) n.stands
+                (λ is x found one. absurd (closed key x is found))
+                (λ differs x found one.
+                subst (λ (ns : List ℕ). Grown m x (numbers key) ns) (sym (numbers_else numbers n.id [] key differs))
+                (subst (λ (y : Members). Grown y x (numbers key) (numbers key)) one (not_grown x (numbers key))))
+                (is_at (nursery_at b.book key) m at);
+            kept = λ key has. inl (subst (λ (bs : List Block). HasBlock key bs) (sym blocks)
+                (has_more key (blocks_of whole) (a_nursery n.id ∷ []) has));
+            numbered = λ key has. by_either key (old_or_new key has);
+            owned = λ key has. by_owned key (old_or_new key has);
+            covered = λ key place number has at. by_covered key place number (old_or_new key has) at;
+            others = λ key m at apart other. n.stands.others key (λ is. absurd (closed key m is at)) ∙ at;
+          }

@@ -10,7 +10,9 @@ use Rattle.nursery_book.specs.Nursery.{Nursery, with_body}
 use Rattle.nursery_book.specs.declared.book.NurseryBook.{NurseryBook}
 use Rattle.task_machine.specs.Entered.{EntersNursery}
 use Rattle.task_machine.specs.Started.{StartsAll, StartsChildren}
-use Rattle.task_machine.specs.Waiters.{HadWaiter, SameWaiters, OpenedBy}
+use Rattle.task_machine.specs.States.{State}
+use Rattle.task_machine.specs.Waiters.{HadWaiter, SameWaiters, OpenedBy, KeepsRest}
+use Rattle.task_machine.specs.Waking.{IsInRangeTaskState}
 use Rattle.task_machine.specs.declared.task.Task.{Task}
 use Rattle.task_machine.specs.declared.world.World.{World}
 
@@ -54,13 +56,13 @@ ended_waiters old new key exc h = by_nursery (nursery_at old key) refl h
     by_nursery None e u = absurd u
     by_nursery (Some n) e u = grown_waiters old new key n (with_body exc n) e u refl
 
-pub started_waiters : (self : Task) (old new : World) (name : List ℕ) (over : Option ℕ) (body : Steps) →
-    StartsChildren self old new name over body → SameWaiters old.book new.book
-started_waiters self old new name over body h = by_over over h.started
+pub started_waiters : (s u : State) (name : List ℕ) (over : Option ℕ) (body : Steps) → StartsChildren s u name over body →
+    SameWaiters s.book u.book
+started_waiters s u name over body h = by_over over h.started
   where
-    by_over : (o : Option ℕ) → StartsAll self old new h.id name o body → SameWaiters old.book new.book
-    by_over None s = grown_waiters old.book new.book h.id s.nursery _ s.was s.book refl
-    by_over (Some k) s = grown_waiters old.book new.book h.id s.nursery _ s.was s.book refl
+    by_over : (o : Option ℕ) → StartsAll s u h.id name o body → SameWaiters s.book u.book
+    by_over None x = grown_waiters s.book u.book h.id x.nursery _ x.was x.book refl
+    by_over (Some k) x = grown_waiters s.book u.book h.id x.nursery _ x.was x.book refl
 
 -- where no nursery was opened, none was by another task
 pub opened_none : (me : ℕ) (old new : NurseryBook) → SameWaiters old new → OpenedBy me old new
@@ -69,10 +71,9 @@ opened_none me old new h id n at = inr (h id n at)
 pub opened_still : (me : ℕ) (book : NurseryBook) → OpenedBy me book book
 opened_still me book = opened_none me book book (same_book book book refl)
 
-pub opened_one : (me : ℕ) (before after : Task) (old new : World) (label : Label) (body : Steps) →
-    EntersNursery me before after old new label body → OpenedBy me old.book new.book
-opened_one me before after old new label body h =
-    updated (λ id n. (n.waiter ≡ me) ⊎ HadWaiter old.book id n.waiter) old.book new.book h.id _ h.stands
+pub opened_one : (me : ℕ) (s u : State) (label : Label) (body : Steps) → EntersNursery me s u label body → OpenedBy me s.book u.book
+opened_one me s u label body h =
+    updated (λ id n. (n.waiter ≡ me) ⊎ HadWaiter s.book id n.waiter) s.book u.book h.id _ h.stands
     (λ n e. inl (sym (ap (λ (m : Nursery). m.waiter) (same_Some _ n e)))) (λ id n w. inr w)
 
 -- one move after another
@@ -86,3 +87,94 @@ opened_then me old mid new h k id n at = by_case (k id n at)
     by_case : (n.waiter ≡ me) ⊎ HadWaiter mid id n.waiter → (n.waiter ≡ me) ⊎ HadWaiter old id n.waiter
     by_case (inl e) = inl e
     by_case (inr w) = had (nursery_at mid id) refl w
+
+-- what one move after another leaves as it was
+pub keeps_then : (me : ℕ) (before mid after : Task) (old w new : World) → KeepsRest me before mid old w → KeepsRest me mid after w new →
+    KeepsRest me before after old new
+keeps_then me before mid after old w new h k =
+    record {
+      task =
+          k.task
+          ∙ ap
+          (λ (t : Task).
+          record t {
+            frames = after.frames;
+            own = after.own;
+            task_state = after.task_state;
+            entries = after.entries;
+            froms = after.froms;
+          }) h.task;
+      world =
+          k.world
+          ∙ ap (λ (x : World). record x { scopes = new.scopes; labels = new.labels; book = new.book; started = new.started }) h.world;
+      in_range = k.in_range;
+      waiters = opened_then me old.book w.book new.book h.waiters k.waiters;
+    }
+
+-- what a wake leaves as it was
+pub keeps_woken : (me : ℕ) (before after : Task) (old new : World) →
+    after ≡ record before { own = after.own; task_state = after.task_state; entries = after.entries; froms = after.froms } →
+    new ≡ record old { scopes = new.scopes; labels = new.labels; book = new.book } → IsInRangeTaskState after.task_state →
+    SameWaiters old.book new.book → KeepsRest me before after old new
+keeps_woken me before after old new task world in_range waiters =
+    record {
+      task =
+          task
+          ∙ ap
+          (λ (t : Task).
+          record before {
+            frames = t.frames;
+            own = after.own;
+            task_state = after.task_state;
+            entries = after.entries;
+            froms = after.froms;
+          }) (sym task);
+      world = world ∙ ap (λ (w : World). record old { scopes = new.scopes; labels = new.labels; book = new.book; started = w.started }) (sym world);
+      in_range = in_range;
+      waiters = opened_none me old.book new.book waiters;
+    }
+
+-- a step of the task alone, with other frames and another blocked state
+pub keeps_task : (me : ℕ) (before after : Task) (world : World) →
+    after ≡ record before { frames = after.frames; task_state = after.task_state } → IsInRangeTaskState after.task_state →
+    KeepsRest me before after world world
+keeps_task me before after world task in_range =
+    record {
+      task =
+          task
+          ∙ ap
+          (λ (t : Task).
+          record before {
+            frames = after.frames;
+            own = t.own;
+            task_state = after.task_state;
+            entries = t.entries;
+            froms = t.froms;
+          }) (sym task);
+      world = refl;
+      in_range = in_range;
+      waiters = opened_still me world.book;
+    }
+
+-- what a task that entered a scope or nursery left as it was
+pub keeps_entered : (me : ℕ) (before after : Task) (old new : World) →
+    after ≡ record before { frames = after.frames; own = after.own; froms = after.froms } →
+    new ≡ record old { scopes = new.scopes; labels = new.labels; book = new.book } → IsInRangeTaskState before.task_state →
+    OpenedBy me old.book new.book → KeepsRest me before after old new
+keeps_entered me before after old new task world in_range waiters =
+    record {
+      task =
+          task
+          ∙ ap
+          (λ (t : Task).
+          record before {
+            frames = after.frames;
+            own = after.own;
+            task_state = t.task_state;
+            entries = t.entries;
+            froms = after.froms;
+          }) (sym task);
+      world = world ∙ ap (λ (w : World). record old { scopes = new.scopes; labels = new.labels; book = new.book; started = w.started }) (sym world);
+      in_range = subst IsInRangeTaskState (sym (ap (λ (t : Task). t.task_state) task)) in_range;
+      waiters = waiters;
+    }

@@ -24,10 +24,9 @@ use Rattle.task_machine.specs.declared.stop.Moved.TheVariants.{On, Stops}
 use Rattle.task_machine.specs.declared.stop.Stop.{Stop}
 use Rattle.task_machine.specs.declared.stop.Wake.{Wake}
 use Rattle.task_machine.specs.declared.stop.Wake.TheVariants.{Begin, Due, Seen, Answer, Settled}
-use Rattle.task_machine.specs.declared.task.Task.{Task}
-use Rattle.task_machine.specs.declared.world.World.{World}
 use Rattle.task_machine.specs.Frames.{frames_of}
-use Rattle.task_machine.specs.Standing.{here_of, Stands, Took, StopsAfter, wake_at, TookTurn}
+use Rattle.task_machine.specs.Standing.{Stands, Took, StopsAfter, wake_at, TookTurn, midway_at}
+use Rattle.task_machine.specs.States.{State, here_at}
 use Rattle.task_machine.specs.Stops.{Numbers, IsTaskState, StopsAs}
 use Rattle.task_machine.specs.Waking.{WakesFrom, wake_in}
 use Rattle.task_machine.proofs.Taking.{took_then}
@@ -103,25 +102,24 @@ names_on o froms t here count e h =
     (turn_of zero froms t here (record { frames = o.frames; places = o.places; exc = o.exc; count = count })))) e h in (k.frames, k.own)
 
 -- a task that woke and continues is in the middle of its turn, where the wake of the definitions leaves it
-pub wake_stands : (task after : Task) (old new : World) (exc : Option held.Exc) (froms : Table) (numbers : Numbers) (ps : List Place)
-    (count : ℕ) (stopped : Stopped) (w : wakes.Wake) → CanWake w stopped →
-    Stands task.frames.items task old froms numbers (Some stopped) ps →
-    (took : Took task.frames.items task after old new (On exc) froms numbers (wake_at task old w stopped froms numbers ps)) →
-    Stands after.frames.items after new (froms_after froms (wake_at task old w stopped froms numbers ps).made) took.numbers_after None
-    (wake_at task old w stopped froms numbers ps).places
+pub wake_stands : (s u : State) (exc : Option held.Exc) (froms : Table) (numbers : Numbers) (ps : List Place) (count : ℕ)
+    (stopped : Stopped) (w : wakes.Wake) → CanWake w stopped → Stands s froms numbers (Some stopped) ps →
+    (took : Took s u (On exc) froms numbers (wake_at s w stopped froms numbers ps)) →
+    Stands u (froms_after froms (wake_at s w stopped froms numbers ps).made) took.numbers_after None
+    (wake_at s w stopped froms numbers ps).places
 unfolding turn_from
-wake_stands task after old new exc froms numbers ps count stopped w can stands took =
-    let o = wake_at task old w stopped froms numbers ps in
-    let r : rest.Rest = record { stopped = stopped; frames = frames_of numbers task.frames.items } in
-    let kept = (turned_from zero old.tick old.tick (here_of task) froms w r ps count can stands.placed).placed in
+wake_stands s u exc froms numbers ps count stopped w can stands took =
+    let o = wake_at s w stopped froms numbers ps in
+    let r : rest.Rest = record { stopped = stopped; frames = frames_of numbers s.frames } in
+    let kept = (turned_from zero s.tick s.tick (here_at s) froms w r ps count can stands.placed).placed in
     let none : o.stopped ≡ None = took.moves.1 in
-    let names = names_on o _ old.tick (here_of task) _ none (turn_stays_new zero old.tick (here_of task) froms w r ps count can stands.new
+    let names = names_on o _ s.tick (here_at s) _ none (turn_stays_new zero s.tick (here_at s) froms w r ps count can stands.new
     stands.own) in
     record {
       places = took.places;
-      numbered = λ id has. took.numbered id (inl has);
+      numbered = λ id has. took.nurseries.numbered id (inl has);
       placed = subst (λ (fs : List rest.Frame). PlacedAfter None fs o.places) (sym took.frames_after)
-          (placed_on o _ old.tick (here_of task) _ none kept);
+          (placed_on o _ s.tick (here_at s) _ none kept);
       new = subst (λ (fs : List rest.Frame). NewIn fs o.places) (sym took.frames_after) names.0;
       own = names.1;
     }
@@ -129,61 +127,53 @@ wake_stands task after old new exc froms numbers ps count stopped w can stands t
 -- ---- the whole turn
 
 -- it stopped in its wake
-pub turns_at_once : (task after : Task) (old new : World) (wake : Wake) (stop : Stop) (froms : Table) (numbers : Numbers) (ps : List Place)
-    (count : ℕ) (stopped : Stopped) →
-    Took task.frames.items task after old new (Stops stop) froms numbers
-    (wake_at task old (wake_in old.book task.task_state wake) stopped froms numbers ps) →
-    TookTurn task after old new wake stop froms numbers stopped ps count
+pub turns_at_once : (s u : State) (wake : Wake) (stop : Stop) (froms : Table) (numbers : Numbers) (ps : List Place) (count : ℕ)
+    (stopped : Stopped) →
+    Took s u (Stops stop) froms numbers (wake_at s (wake_in s.book s.task_state wake) stopped froms numbers ps) →
+    TookTurn s u wake stop froms numbers stopped ps count
 unfolding turn_from
-turns_at_once task after old new wake stop froms numbers ps count stopped took =
-    let o = wake_at task old (wake_in old.book task.task_state wake) stopped froms numbers ps in
+turns_at_once s u wake stop froms numbers ps count stopped took =
+    let o = wake_at s (wake_in s.book s.task_state wake) stopped froms numbers ps in
     record {
       steps = zero;
-      took = subst (λ (p : Move). Took task.frames.items task after old new (Stops stop) froms numbers p)
-          (sym (then_none o.stopped o _ took.moves.1)) took;
+      took = subst (λ (p : Move). Took s u (Stops stop) froms numbers p) (sym (then_none o.stopped o _ took.moves.1)) took;
     }
   where
-    then_none : (s : Option Stopped) (o q : Move) → StopsAs took.numbers_after new.book task.part stop after.task_state s → then_move s o q ≡ o
+    then_none : (x : Option Stopped) (o q : Move) → StopsAs took.numbers_after u.book s.part stop u.task_state x → then_move x o q ≡ o
     then_none None o q h = absurd h
-    then_none (Some s) o q h = refl
+    then_none (Some x) o q h = refl
 
 -- it went on, and stopped later
-pub turns_later : (task mid after : Task) (old w new : World) (wake : Wake) (exc : Option held.Exc) (stop : Stop) (froms : Table)
-    (numbers : Numbers) (ps : List Place) (count : ℕ) (stopped : Stopped) →
-    mid.part ≡ task.part → mid.label ≡ task.label → w.tick ≡ old.tick → CanWake (wake_in old.book task.task_state wake) stopped →
-    Stands task.frames.items task old froms numbers (Some stopped) ps →
-    Took task.frames.items task mid old w (On exc) froms numbers
-    (wake_at task old (wake_in old.book task.task_state wake) stopped froms numbers ps) →
-    StopsAfter mid after w new (option_map exc_of exc) stop →
-    TookTurn task after old new wake stop froms numbers stopped ps count
+pub turns_later : (s m u : State) (wake : Wake) (exc : Option held.Exc) (stop : Stop) (froms : Table) (numbers : Numbers)
+    (ps : List Place) (count : ℕ) (stopped : Stopped) → m.part ≡ s.part → m.label ≡ s.label → m.tick ≡ s.tick →
+    CanWake (wake_in s.book s.task_state wake) stopped → Stands s froms numbers (Some stopped) ps →
+    Took s m (On exc) froms numbers (wake_at s (wake_in s.book s.task_state wake) stopped froms numbers ps) →
+    StopsAfter m u (option_map exc_of exc) stop → TookTurn s u wake stop froms numbers stopped ps count
 unfolding turn_from
-turns_later task mid after old w new wake exc stop froms numbers ps count stopped part label tick can stands took steps =
-    let o = wake_at task old (wake_in old.book task.task_state wake) stopped froms numbers ps in
-    let s = steps (froms_after froms o.made) took.numbers_after o.places (count + length o.begun)
-    (wake_stands task mid old w exc froms numbers ps count stopped (wake_in old.book task.task_state wake) can stands took) in
+turns_later s m u wake exc stop froms numbers ps count stopped part label tick can stands took steps =
+    let o = wake_at s (wake_in s.book s.task_state wake) stopped froms numbers ps in
+    let k : Midway = record { frames = o.frames; places = o.places; exc = o.exc; count = count + length o.begun } in
+    let x = steps (froms_after froms o.made) took.numbers_after o.places (count + length o.begun)
+    (wake_stands s m exc froms numbers ps count stopped (wake_in s.book s.task_state wake) can stands took) in
     record {
-      steps = s.steps;
+      steps = x.steps;
       took =
-          took_then task.frames.items task mid after old w new exc (Stops stop) froms numbers o
-          (turn_of s.steps (froms_after froms o.made) old.tick (here_of task)
-          (record { frames = o.frames; places = o.places; exc = o.exc; count = count + length o.begun })) took
-          (subst (λ (t : ℕ). Took mid.frames.items mid after w new (Stops stop) (froms_after froms o.made) took.numbers_after
-          (turn_of s.steps (froms_after froms o.made) t (here_of task)
-          (record { frames = o.frames; places = o.places; exc = o.exc; count = count + length o.begun }))) tick
-          (subst (λ (h : Here). Took mid.frames.items mid after w new (Stops stop) (froms_after froms o.made) took.numbers_after
-          (turn_of s.steps (froms_after froms o.made) w.tick h (record
-          { frames = o.frames; places = o.places; exc = o.exc; count = count + length o.begun }))) here
-          (subst (λ (m : Midway). Took mid.frames.items mid after w new (Stops stop) (froms_after froms o.made) took.numbers_after
-          (turn_of s.steps (froms_after froms o.made) w.tick (here_of mid) m))
-          (same (frames_of took.numbers_after mid.frames.items) o.frames (option_map exc_of exc) o.exc took.frames_after took.moves.0)
-          s.took)))
+          took_then s m u exc (Stops stop) froms numbers o (turn_of x.steps (froms_after froms o.made) s.tick (here_at s) k) took
+          (subst (λ (t : ℕ). Took m u (Stops stop) (froms_after froms o.made) took.numbers_after
+          (turn_of x.steps (froms_after froms o.made) t (here_at s) k)) tick
+          (subst (λ (h : Here). Took m u (Stops stop) (froms_after froms o.made) took.numbers_after
+          (turn_of x.steps (froms_after froms o.made) m.tick h k)) here
+          (subst (λ (y : Midway). Took m u (Stops stop) (froms_after froms o.made) took.numbers_after
+          (turn_of x.steps (froms_after froms o.made) m.tick (here_at m) y))
+          (same (frames_of took.numbers_after m.frames) o.frames (option_map exc_of exc) o.exc took.frames_after took.moves.0)
+          x.took)))
           part tick;
     }
   where
-    here : here_of mid ≡ here_of task
+    here : here_at m ≡ here_at s
     here = cc
 
     same : {ps : List Place} {n : ℕ} (fs gs : List rest.Frame) (d e : Option Exc) → fs ≡ gs → d ≡ e →
-        (let m : Midway = record { frames = fs; places = ps; exc = d; count = n } in m)
+        (let y : Midway = record { frames = fs; places = ps; exc = d; count = n } in y)
         ≡ record { frames = gs; places = ps; exc = e; count = n }
     same fs gs d e f g = cc

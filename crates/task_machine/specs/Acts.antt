@@ -11,6 +11,7 @@ use Rattle.task_machine.specs.declared.task.Own.{Own}
 use Rattle.task_machine.specs.declared.task.Task.{Task}
 use Rattle.task_machine.specs.declared.world.World.{World}
 use Rattle.task_machine.specs.Labels.{Labels, Updates}
+use Rattle.task_machine.specs.States.{State}
 use Rattle.task_machine.specs.Worlds.{label_at}
 
 -- the open scopes of a world, their labels, and the scopes that a task opened, and its froms
@@ -22,6 +23,10 @@ pub record Scoping : Type 0 where
 
 abbrev pub scoping_of : Task → World → Scoping
 scoping_of task world = record { tree = world.scopes; labels = label_at world; own = task.own.items; froms = task.froms.items }
+
+-- the same of a state
+abbrev pub scoping_in : State → Scoping
+scoping_in s = record { tree = s.tree; labels = s.labels; own = s.own; froms = s.froms }
 
 -- the scope with this key is cancelled in a tick: this changes it in each stack, and each scope whose effective deadline
 -- (`sight`) is lowered by it is marked as changed
@@ -40,15 +45,15 @@ pub record Signs (tick : ℕ) (label : Label) (old new : Scoping) : Type 0 where
   pub own : new.own ≡ old.own
   pub froms : new.froms ≡ old.froms
 
--- a scope is opened with this label and deadline, the last that the task opened, with a new place at the end of its froms
-pub record Enters (label : Label) (deadline : Tick) (old new : Scoping) : Type 0 where
+-- A scope that was not open is opened with this label and deadline inside the parent, the last that the task opened, with a new
+-- place at the end of its froms. Every other scope stays, and keeps its label.
+pub record Enters (parent : Option ℕ) (label : Label) (deadline : Tick) (old new : Scoping) : Type 0 where
   pub scope : Own
   pub opened : new.own ≡ old.own ++ scope ∷ []
   pub place : scope.at ≡ length old.froms
   pub froms : new.froms ≡ old.froms ++ record { label = label; seen = None } ∷ []
   pub fresh : stack_of old.tree scope.id ≡ None
   pub level : Level ℕ
-  pub parent : Option ℕ
   pub stack : stack_of new.tree scope.id ≡ Some (level ∷ outer_of old.tree parent)
   pub named : level.label ≡ scope.id
   pub from : level.from ≡ deadline
@@ -56,7 +61,8 @@ pub record Enters (label : Label) (deadline : Tick) (old new : Scoping) : Type 0
   pub marks : SameMarks old.tree new.tree
   pub labelled : Updates old.labels new.labels scope.id (Some label)
 
--- the last scope that the task opened is closed, which has no open children, and its from is kept at its place
+-- The last scope that the task opened is closed, which has no open children, and its from is kept at its place. Every other scope
+-- stays, and keeps its label.
 pub record Leaves (old new : Scoping) : Type 0 where
   pub scope : Own
   pub taken : old.own ≡ new.own ++ scope ∷ []
@@ -78,14 +84,14 @@ pub data Acts (tick : ℕ) : Scoping → List Event → Scoping → Type 0 where
   act_noted : (s u : Scoping) (t : ℕ) (e : log.Entry) (es : List Event) → Acts tick s es u → Acts tick s (noted t e ∷ es) u
   act_starts : (s u : Scoping) (i : ℕ) (l : Label) (t : ℕ) (es : List Event) → Acts tick s es u → Acts tick s (starts i l t ∷ es) u
   act_signs : (s m u : Scoping) (l : Label) (es : List Event) → Signs tick l s m → Acts tick m es u → Acts tick s (signs l tick ∷ es) u
-  act_enters : (s m u : Scoping) (l : Label) (t : ℕ) (d : Tick) (es : List Event) → Enters l d s m → Acts tick m es u →
-      Acts tick s (enters l t d ∷ es) u
+  act_enters : {parent : Option ℕ} (s m u : Scoping) (l : Label) (t : ℕ) (d : Tick) (es : List Event) → Enters parent l d s m →
+      Acts tick m es u → Acts tick s (enters l t d ∷ es) u
   act_leaves : (s m u : Scoping) (es : List Event) → Leaves s m → Acts tick m es u → Acts tick s es u
 
--- the scope of this key is cancelled in the tick of a world, or none is
-abbrev pub Signed : World → World → Option ℕ → Type 0
-Signed old new None = new.scopes ≡ old.scopes
-Signed old new (Some key) = Cancels key old.tick old.scopes new.scopes
+-- the scope of this key is cancelled in a tick, or none is
+abbrev pub Signed : ℕ → Tree → Tree → Option ℕ → Type 0
+Signed tick old new None = new ≡ old
+Signed tick old new (Some key) = Cancels key tick old new
 
 -- a task or body that ends with an exception signs for the innermost scope
 abbrev pub key_failed : Option Exc → Stack → Option ℕ

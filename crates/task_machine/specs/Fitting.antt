@@ -3,6 +3,7 @@ use Rattle.std.specs.Prelude.{◌≡◌, ◌≢◌, ◌⊎◌, ℕ, zero, suc, �
 use Rattle.std.specs.Option.{ForSome, option_map}
 use Rattle.std.specs.List.{last_or}
 use Rattle.job_tree.specs.Starting.{StartsIn, HandlerStarts, CleanupStarts}
+use Rattle.job_tree.specs.Tree as tree
 use Rattle.turn_semantics.specs.Placed.{in_body}
 use Rattle.job_tree.specs.declared.limits.TheConstants.{MAX_PASSES}
 use Rattle.job_tree.specs.InRange.{AreInRange, IsInRangeHandler, IsInRangeCleanup}
@@ -19,15 +20,13 @@ use Rattle.task_machine.specs.declared.frame.Frame.{Frame}
 use Rattle.task_machine.specs.declared.frame.Frame.TheVariants.{Steps, Scope, Nursery, Repeat, Try, Handler, Cleanup}
 use Rattle.task_machine.specs.declared.stop.TaskState.{TaskState}
 use Rattle.task_machine.specs.declared.stop.TaskState.TheVariants.{ToBegin, Asked, Asleep, Awaits, Over}
+use Rattle.task_machine.specs.declared.task.Home.{Home}
 use Rattle.task_machine.specs.declared.task.Own.{Own}
-use Rattle.task_machine.specs.declared.task.Task.{Task}
-use Rattle.task_machine.specs.declared.world.World.{World}
 use Rattle.task_machine.specs.Frames.{frames_of}
 use Rattle.task_machine.specs.Left.{keys_of, OwnFirst}
 use Rattle.task_machine.specs.Stacked.{IsKey}
 use Rattle.task_machine.specs.Labels.{Labels}
-use Rattle.task_machine.specs.Tasks.{home_scope}
-use Rattle.task_machine.specs.Worlds.{label_at}
+use Rattle.task_machine.specs.States.{State}
 
 -- all numbers of the steps and of the passes that are left are in range
 abbrev pub AreInRangeFrames : List rest.Frame → Type 0
@@ -50,6 +49,15 @@ StartsFit (rest.in_repeat pass left body ∷ fs) = StartsIn false body × Starts
 StartsFit (rest.in_try handler cleanup ∷ fs) = HandlerStarts handler × CleanupStarts cleanup × StartsFit fs
 StartsFit (rest.in_handler others cleanup ∷ fs) = CleanupStarts cleanup × StartsFit fs
 StartsFit (rest.in_cleanup outcome ∷ fs) = StartsFit fs
+
+-- a step with a block, which begins it or starts children with it
+abbrev pub HasBody : tree.Step → Type 0
+HasBody (tree.scope name deadline shield fail body) = Unit {0}
+HasBody (tree.nursery name deadline shield body) = Unit {0}
+HasBody (tree.start name over body) = Unit {0}
+HasBody (tree.repeat count body) = Unit {0}
+HasBody (tree.attempt body handler cleanup) = Unit {0}
+HasBody _ = ⊥
 
 -- the frames that enclose the innermost one
 abbrev pub frames_behind : List rest.Frame → List rest.Frame
@@ -167,6 +175,6 @@ pub record FitsIn
     pub opened : Opened labels book (blocks_of frames) own waits
     pub others : OthersRun tree book (blocks_of frames) own waits
 
-abbrev pub Fits : List Frame → Task → World → Option ℕ → Type 0
-Fits frames task world waits =
-    FitsIn frames task.part (home_scope task) task.own.items (length task.froms.items) world.scopes (label_at world) world.book waits
+abbrev pub Fits : State → Option ℕ → Type 0
+Fits s waits =
+    FitsIn s.frames s.part (option_map (λ (h : Home). h.scope) s.home) s.own (length s.froms) s.tree s.labels s.book waits

@@ -1,8 +1,8 @@
 -- The state of a task between two moves, and what a move of the code does to it.
-use Rattle.std.specs.Prelude.{◌≡◌, ◌⊎◌, ℕ, List, [], ◌∷◌, ◌++◌, Option, Some, None, map, All, length, slice_get}
+use Rattle.std.specs.Prelude.{◌≡◌, ◌⊎◌, ℕ, List, [], ◌∷◌, ◌++◌, Option, Some, None, All, length, slice_get}
 use Rattle.std.specs.Borrow.{Bor}
 use Rattle.buffer_parts.specs.Part.{buffer_of, range_of}
-use Rattle.cancel_scopes.specs.Tree.{Tree, outer_of, IsOpen}
+use Rattle.cancel_scopes.specs.Tree.{Tree, IsOpen}
 use Rattle.nursery_book.specs.Nursery.{End, Nursery}
 use Rattle.nursery_book.specs.Book.{nursery_at, HasNursery}
 use Rattle.nursery_book.specs.declared.book.NurseryBook.{NurseryBook}
@@ -11,12 +11,11 @@ use Rattle.job_tree.specs.declared.step.Step as held
 use Rattle.job_tree.specs.InRange.{AreInRange}
 use Rattle.job_meaning.specs.Log.{Table}
 use Rattle.job_meaning.specs.Walk.{Here}
-use Rattle.job_meaning.specs.Shown.{Shown, shown_at}
 use Rattle.job_meaning.specs.Rest as rest
-use Rattle.job_meaning.specs.Rest.{Event, noted, signs, enters, starts, Stopped}
+use Rattle.job_meaning.specs.Rest.{Stopped}
 use Rattle.task_machine.specs.declared.entry.Entry.{Entry}
-use Rattle.task_machine.specs.Noted.{entry_of, IsSlice}
-use Rattle.turn_semantics.specs.Midway.{Place, Begun, Move}
+use Rattle.task_machine.specs.Noted.{AreNoted}
+use Rattle.turn_semantics.specs.Midway.{Place, Midway, Begun, Move}
 use Rattle.turn_semantics.specs.Placed.{PlacedAfter, places_behind}
 use Rattle.turn_semantics.specs.Names.{NewIn, OwnNames, names_at}
 use Rattle.turn_semantics.specs.Steps.{froms_after, step_of, turn_of}
@@ -33,15 +32,14 @@ use Rattle.task_machine.specs.declared.stop.Wake.{Wake}
 use Rattle.task_machine.specs.declared.task.Home.{Home}
 use Rattle.task_machine.specs.declared.task.Own.{Own}
 use Rattle.task_machine.specs.declared.task.Task.{Task}
-use Rattle.task_machine.specs.declared.world.World.{World}
-use Rattle.task_machine.specs.Acts.{Acts, scoping_of}
+use Rattle.task_machine.specs.Acts.{Acts, scoping_in}
 use Rattle.task_machine.specs.Fitting.{Block, a_scope, a_nursery, blocks_of, waits_of, AreOthers}
 use Rattle.task_machine.specs.Frames.{frames_of}
 use Rattle.task_machine.specs.Stacked.{AreAt}
 use Rattle.task_machine.specs.Stops.{Numbers, IsTaskState, MovesAs}
-use Rattle.task_machine.specs.Tasks.{scope_of, home_of}
+use Rattle.task_machine.specs.States.{State, here_at, stack_in}
+use Rattle.task_machine.specs.Tasks.{home_of}
 use Rattle.task_machine.specs.Waking.{wake_in}
-use Rattle.task_machine.specs.Worlds.{label_at}
 
 -- where a task is
 abbrev pub here_of : Task → Here
@@ -76,31 +74,14 @@ abbrev pub AllNumbered : Numbers → NurseryBook → List Frame → Option ℕ �
 AllNumbered numbers book fs waits = (id : ℕ) → HasNurseryOf id (blocks_of fs) waits →
     HasNursery book id (λ n. length (numbers id) ≡ length n.children)
 
--- A task with these frames, in the middle of a turn or where it stopped, is in these places (the scopes and nurseries that
--- enclose it) with the froms of a table, and numbered its children so. Each scope and nursery has its place, and nested ones
--- have different names.
-pub record Stands
-    (frames : List Frame) (task : Task) (world : World) (froms : Table) (numbers : Numbers) (stopped : Option Stopped)
-    (ps : List Place) : Type 0
-  where
-    pub places : AreAt (label_at world) froms (outer_of world.scopes (scope_of task)) ps
-    pub numbered : AreNumbered numbers world.book frames
-    pub placed : PlacedAfter stopped (frames_of numbers frames) ps
-    pub new : NewIn (frames_of numbers frames) (places_behind stopped ps)
-    pub own : OwnNames (names_at ps)
-
--- the entries among these events as they are shown, in order
-abbrev pub shown_made : List ℕ → List Event → List Shown
-shown_made input [] = []
-shown_made input (noted t e ∷ es) = shown_at input t e ∷ shown_made input es
-shown_made input (signs l t ∷ es) = shown_made input es
-shown_made input (enters l t d ∷ es) = shown_made input es
-shown_made input (starts i l t ∷ es) = shown_made input es
-
--- the entries that a task noted correspond to these events, and their lines are slices of the input
-pub record AreNoted (input : List ℕ) (entries : List Entry) (made : List Event) : Type 0 where
-  pub shown : map entry_of entries ≡ shown_made input made
-  pub slices : All (IsSlice input) entries
+-- A task in the middle of a turn or where it stopped is in these places (the scopes and nurseries that enclose it) with the froms
+-- of a table, and numbered its children so. Each scope and nursery has its place, and nested ones have different names.
+pub record Stands (s : State) (froms : Table) (numbers : Numbers) (stopped : Option Stopped) (ps : List Place) : Type 0 where
+  pub places : AreAt s.labels froms (stack_in s) ps
+  pub numbered : AreNumbered numbers s.book s.frames
+  pub placed : PlacedAfter stopped (frames_of numbers s.frames) ps
+  pub new : NewIn (frames_of numbers s.frames) (places_behind stopped ps)
+  pub own : OwnNames (names_at ps)
 
 -- A task that was started is this child: it has not begun its steps, and runs at its place of its nursery, which has its
 -- number there.
@@ -166,119 +147,117 @@ abbrev pub OthersStay : List Block → List Own → Tree → NurseryBook → Nur
 OthersStay bs own tree old new =
     (id : ℕ) (n : Nursery) → nursery_at old id ≡ Some n → (HasBlock id bs → ⊥) → IsOfOther own tree n → nursery_at new id ≡ Some n
 
--- A move of the code from one state of a task and its world to another is this move of the definitions.
-pub record Took
-    (frames : List Frame) (before after : Task) (old new : World) (moved : Moved) (froms : Table) (numbers : Numbers) (o : Move) : Type 0
+-- What a move does to the nurseries in the book. The task then waits for one, or not, and its children are numbered anew.
+pub record ChangesNurseries
+    (before after : State) (waits : Option ℕ) (was are : Numbers) (tasks : List Task) (begun : List Begun) : Type 0
   where
-    pub numbers_after : Numbers
-    pub frames_after : frames_of numbers_after after.frames.items ≡ o.frames
-    pub places : AreAt (label_at new) (froms_after froms o.made) (outer_of new.scopes (scope_of after)) o.places
-    pub moves : MovesAs numbers_after new.book before.part moved after.task_state o
-    pub entries : List Entry
-    pub noted : after.entries.items ≡ before.entries.items ++ entries
-    pub shown : AreNoted (buffer_of before.part) entries o.made
-    pub tasks : List Task
-    pub started : new.started.items ≡ old.started.items ++ tasks
-    pub begun : AreBegun numbers_after new.book (blocks_of after.frames.items) (waits_by moved after.task_state) tasks o.begun
-    pub grow : Grow frames numbers numbers_after old.book new.book
-    pub kept : (id : ℕ) → HasBlock id (blocks_of frames) → HasNurseryOf id (blocks_of after.frames.items) (waits_by moved after.task_state)
-    pub numbered : AllNumbered numbers_after new.book after.frames.items (waits_by moved after.task_state)
+    pub grow : Grow before.frames was are before.book after.book
+    pub kept : (id : ℕ) → HasBlock id (blocks_of before.frames) → HasNurseryOf id (blocks_of after.frames) waits
+    pub numbered : AllNumbered are after.book after.frames waits
     -- a nursery of the task was one before, or was opened
-    pub owned : Owns (blocks_of frames) before.own.items old.scopes old.book (blocks_of after.frames.items) (waits_by moved after.task_state)
+    pub owned : Owns (blocks_of before.frames) before.own before.tree before.book (blocks_of after.frames) waits
     -- each number of a child was there before, or is that of a child begun
-    pub covered : Covers (blocks_of frames) numbers numbers_after (blocks_of after.frames.items) (waits_by moved after.task_state) tasks o.begun
+    pub covered : Covers (blocks_of before.frames) was are (blocks_of after.frames) waits tasks begun
     -- the nurseries of other tasks stay as they are
-    pub others : OthersStay (blocks_of frames) before.own.items old.scopes old.book new.book
-    pub acts : Acts old.tick (scoping_of before old) o.made (scoping_of after new)
+    pub others : OthersStay (blocks_of before.frames) before.own before.tree before.book after.book
 
--- the same for each table of froms, each numbering, and any places and counts, from the state of the task with these frames
-abbrev pub Takes :
-    List Frame → Task → Task → World → World → Moved → (Table → Numbers → List Place → ℕ → Move) → Type 0
-Takes frames before after old new moved move =
-    (froms : Table) (numbers : Numbers) (ps : List Place) (count : ℕ) → Stands frames before old froms numbers None ps →
-    Took frames before after old new moved froms numbers (move froms numbers ps count)
+-- A move of the code from one state to another is this move of the definitions.
+pub record Took (before after : State) (moved : Moved) (froms : Table) (numbers : Numbers) (o : Move) : Type 0 where
+  pub numbers_after : Numbers
+  pub frames_after : frames_of numbers_after after.frames ≡ o.frames
+  pub places : AreAt after.labels (froms_after froms o.made) (stack_in after) o.places
+  pub moves : MovesAs numbers_after after.book before.part moved after.task_state o
+  pub entries : List Entry
+  pub noted : after.entries ≡ before.entries ++ entries
+  pub shown : AreNoted (buffer_of before.part) entries o.made
+  pub tasks : List Task
+  pub started : after.started ≡ before.started ++ tasks
+  pub begun : AreBegun numbers_after after.book (blocks_of after.frames) (waits_by moved after.task_state) tasks o.begun
+  pub nurseries : ChangesNurseries before after (waits_by moved after.task_state) numbers numbers_after tasks o.begun
+  pub acts : Acts before.tick (scoping_in before) o.made (scoping_in after)
 
--- one step of the definitions in this world, of a task with these frames and this exception
-abbrev pub step_at : Task → World → List Frame → Option Exc → Table → Numbers → List Place → ℕ → Move
-step_at task world frames exc froms numbers ps count =
-    step_of froms world.tick (here_of task) (record { frames = frames_of numbers frames; places = ps; exc = exc; count = count })
+-- the same for each table of froms, each numbering, and any places and counts
+abbrev pub Takes : State → State → Moved → (Table → Numbers → List Place → ℕ → Move) → Type 0
+Takes before after moved move =
+    (froms : Table) (numbers : Numbers) (ps : List Place) (count : ℕ) → Stands before froms numbers None ps →
+    Took before after moved froms numbers (move froms numbers ps count)
+
+-- a task of this state in the definitions, with this exception
+abbrev pub midway_at : State → Option Exc → Numbers → List Place → ℕ → Midway
+midway_at s exc numbers ps count = record { frames = frames_of numbers s.frames; places = ps; exc = exc; count = count }
+
+-- one step of the definitions from this state, with this exception
+abbrev pub step_at : State → Option Exc → Table → Numbers → List Place → ℕ → Move
+step_at s exc froms numbers ps count = step_of froms s.tick (here_at s) (midway_at s exc numbers ps count)
 
 -- one step of the code corresponds to that of the definitions
-abbrev pub StepsAs : Task → Task → World → World → Option Exc → Moved → Type 0
-StepsAs before after old new exc moved = Takes before.frames.items before after old new moved (step_at before old before.frames.items exc)
+abbrev pub StepsAs : State → State → Option Exc → Moved → Type 0
+StepsAs before after exc moved = Takes before after moved (step_at before exc)
+
+-- a state with other frames
+abbrev pub with_frames : State → List Frame → State
+with_frames s frames = record s { frames = frames }
 
 -- the same for a task whose innermost frame, the steps of a block, was removed
-abbrev pub BlockStepsAs : Bor (List held.Step) → Task → Task → World → World → Option Exc → Moved → Type 0
-BlockStepsAs steps before after old new exc moved =
-    (frames : List Frame) (task : Task) → frames ≡ before.frames.items ++ code.Steps steps ∷ [] →
-    before ≡ record task { frames = before.frames } →
-    Takes frames task after old new moved (step_at task old frames exc)
+abbrev pub BlockStepsAs : Bor (List held.Step) → State → State → Option Exc → Moved → Type 0
+BlockStepsAs steps before after exc moved = StepsAs (with_frames before (before.frames ++ code.Steps steps ∷ [])) after exc moved
 
 -- The innermost frame of a task, which had this step first, was removed, and the steps after it were put back.
-pub record AtStep (frames : List Frame) (task before : Task) (first : held.Step) : Type 0 where
+pub record AtStep (before : State) (first : held.Step) : Type 0 where
   pub outer : List Frame
   pub steps : Bor (List held.Step)
   pub left : Bor (List held.Step)
-  pub popped : frames ≡ outer ++ code.Steps steps ∷ []
   pub first_is : steps.now ≡ first ∷ left.now
-  pub held : before.frames.items ≡ outer ++ code.Steps left ∷ []
-  pub same : before ≡ record task { frames = before.frames }
+  pub held : before.frames ≡ outer ++ code.Steps left ∷ []
 
-abbrev pub RunsAs : Task → Task → World → World → held.Step → Moved → Type 0
-RunsAs before after old new first moved =
-    (frames : List Frame) (task : Task) → AtStep frames task before first →
-    Takes frames task after old new moved (step_at task old frames None)
+-- the state before that
+abbrev pub before_step : (s : State) (first : held.Step) → AtStep s first → State
+before_step s first a = with_frames s (a.outer ++ code.Steps a.steps ∷ [])
+
+abbrev pub RunsAs : State → State → held.Step → Moved → Type 0
+RunsAs before after first moved = (a : AtStep before first) → StepsAs (before_step before first a) after None moved
 
 -- steps of the code until it stops correspond to the given number of steps of the definitions
 pub record TookSteps
-    (before after : Task) (old new : World) (exc : Option Exc) (stop : Stop) (froms : Table) (numbers : Numbers) (ps : List Place)
+    (before after : State) (exc : Option Exc) (stop : Stop) (froms : Table) (numbers : Numbers) (ps : List Place) (count : ℕ) : Type 0
+  where
+    pub steps : ℕ
+    pub took :
+        Took before after (Stops stop) froms numbers (turn_of steps froms before.tick (here_at before) (midway_at before exc numbers ps count))
+
+abbrev pub StopsAfter : State → State → Option Exc → Stop → Type 0
+StopsAfter before after exc stop =
+    (froms : Table) (numbers : Numbers) (ps : List Place) (count : ℕ) → Stands before froms numbers None ps →
+    TookSteps before after exc stop froms numbers ps count
+
+-- the wake of the definitions in this state
+abbrev pub wake_at : State → wakes.Wake → Stopped → Table → Numbers → List Place → Move
+wake_at s w stopped froms numbers ps = wake_of froms s.tick (here_at s) w stopped (frames_of numbers s.frames) ps
+
+-- The code does what the wake of the definitions does, for each stop that the blocked state of the task corresponds to.
+abbrev pub Wakens : State → State → Moved → wakes.Wake → Type 0
+Wakens before after goes w =
+    (froms : Table) (numbers : Numbers) (stopped : Stopped) (ps : List Place) → Stands before froms numbers (Some stopped) ps →
+    IsTaskState numbers before.book before.task_state stopped →
+    Took before after goes froms numbers (wake_at before w stopped froms numbers ps)
+
+-- a move that stops
+abbrev pub TookTo : State → State → Stop → Table → Numbers → Move → Type 0
+TookTo before after stop = Took before after (Stops stop)
+
+-- A turn of the code corresponds to one of the definitions, with at most the given number of steps.
+pub record TookTurn
+    (before after : State) (wake : Wake) (stop : Stop) (froms : Table) (numbers : Numbers) (stopped : Stopped) (ps : List Place)
     (count : ℕ) : Type 0
   where
     pub steps : ℕ
     pub took :
-        Took before.frames.items before after old new (Stops stop) froms numbers
-        (turn_of steps froms old.tick (here_of before) (record {
-          frames = frames_of numbers before.frames.items;
-          places = ps;
-          exc =
-              exc;
-          count = count;
-        }))
+        TookTo before after stop froms numbers
+        (turn_from steps froms before.tick (here_at before) (wake_in before.book before.task_state wake) stopped
+        (frames_of numbers before.frames) ps count)
 
-abbrev pub StopsAfter : Task → Task → World → World → Option Exc → Stop → Type 0
-StopsAfter before after old new exc stop =
-    (froms : Table) (numbers : Numbers) (ps : List Place) (count : ℕ) → Stands before.frames.items before old froms numbers None ps →
-    TookSteps before after old new exc stop froms numbers ps count
-
--- the wake of the definitions of a task in this world
-abbrev pub wake_at : Task → World → wakes.Wake → Stopped → Table → Numbers → List Place → Move
-wake_at task world w stopped froms numbers ps = wake_of froms world.tick (here_of task) w stopped (frames_of numbers task.frames.items) ps
-
--- The code does what the wake of the definitions does, for each stop that the blocked state of the task corresponds to.
-abbrev pub Wakens : Task → Task → World → World → Moved → wakes.Wake → Type 0
-Wakens task after old new goes w =
-    (froms : Table) (numbers : Numbers) (stopped : Stopped) (ps : List Place) →
-    Stands task.frames.items task old froms numbers (Some stopped) ps →
-    IsTaskState numbers old.book task.task_state stopped → Took task.frames.items task after old new goes froms numbers
-    (wake_at task old w stopped froms numbers ps)
-
--- a move that stops
-abbrev pub TookTo : Task → Task → World → World → Stop → Table → Numbers → Move → Type 0
-TookTo before after old new stop = Took before.frames.items before after old new (Stops stop)
-
--- A turn of the code corresponds to one of the definitions, with at most the given number of steps.
-pub record TookTurn
-    (before after : Task) (old new : World) (wake : Wake) (stop : Stop) (froms : Table) (numbers : Numbers) (stopped : Stopped)
-    (ps : List Place) (count : ℕ) : Type 0
-  where
-    pub steps : ℕ
-    pub took :
-        TookTo before after old new stop froms numbers
-        (turn_from steps froms old.tick (here_of before) (wake_in old.book before.task_state wake) stopped (frames_of numbers before.frames.items)
-        ps count)
-
-abbrev pub TurnsAs : Task → Task → World → World → Wake → Stop → Type 0
-TurnsAs before after old new wake stop =
-    (froms : Table) (numbers : Numbers) (ps : List Place) (count : ℕ) (stopped : Stopped) → IsTaskState numbers old.book before.task_state stopped →
-    Stands before.frames.items before old froms numbers (Some stopped) ps →
-    TookTurn before after old new wake stop froms numbers stopped ps count
+abbrev pub TurnsAs : State → State → Wake → Stop → Type 0
+TurnsAs before after wake stop =
+    (froms : Table) (numbers : Numbers) (ps : List Place) (count : ℕ) (stopped : Stopped) →
+    IsTaskState numbers before.book before.task_state stopped → Stands before froms numbers (Some stopped) ps →
+    TookTurn before after wake stop froms numbers stopped ps count

@@ -12,11 +12,10 @@ use Rattle.nursery_book.specs.Book.{nursery_at, Updates}
 use Rattle.task_machine.specs.declared.stop.TaskState.TheVariants.{ToBegin}
 use Rattle.task_machine.specs.declared.task.Home.{Home}
 use Rattle.task_machine.specs.declared.task.Task.{Task}
-use Rattle.task_machine.specs.declared.world.World.{World}
 use Rattle.task_machine.specs.Fitting.{InBody}
 use Rattle.task_machine.specs.Frames.{frames_of}
 use Rattle.task_machine.specs.Stops.{Numbers}
-use Rattle.task_machine.specs.Tasks.{path_of}
+use Rattle.task_machine.specs.States.{State, path_at}
 
 -- a task that was started with this label on this range of an input: it has not begun these steps, at this home
 pub record IsChild (task : Task) (label : Label) (input : List ℕ) (range : Range) (body : Steps) (home : Home) : Type 0 where
@@ -40,38 +39,38 @@ abbrev pub home_at : ℕ → Nursery → ℕ → Home
 home_at id n before = record { nursery = id; place = length n.children + before; scope = n.scope }
 
 -- A child was started: it runs in the nursery with this key, and was not taken yet.
-pub record StartsOne (old new : World) (id : ℕ) (label : Label) (part : Part) (body : Steps) : Type 0 where
+pub record StartsOne (before after : State) (id : ℕ) (label : Label) (part : Part) (body : Steps) : Type 0 where
   pub nursery : Nursery
-  pub was : nursery_at old.book id ≡ Some nursery
-  pub book : Updates old.book new.book id (Some (with_start nursery))
+  pub was : nursery_at before.book id ≡ Some nursery
+  pub book : Updates before.book after.book id (Some (with_start nursery))
   pub task : Task
-  pub started : new.started.items ≡ old.started.items ++ task ∷ []
+  pub started : after.started ≡ before.started ++ task ∷ []
   pub child : IsChild task label (buffer_of part) (range_of part) body (home_at id nursery 0)
 
 -- the children 0 to i - 1 of a `start .. over` of k cuts
-abbrev pub AreChildren : Task → ℕ → Nursery → List ℕ → ℕ → Steps → List Task → ℕ → Type 0
-AreChildren self id n name k body tasks zero = tasks ≡ []
-AreChildren self id n name k body tasks (suc i) =
-    (before : List Task) × (last : Task) × (tasks ≡ before ++ last ∷ []) × AreChildren self id n name k body before i
-    × IsChild last (record { name = name; indices = path_of self ++ i ∷ [] }) (buffer_of self.part)
-    (cut_of (buffer_of self.part) (range_of self.part) k i) body
+abbrev pub AreChildren : State → ℕ → Nursery → List ℕ → ℕ → Steps → List Task → ℕ → Type 0
+AreChildren s id n name k body tasks zero = tasks ≡ []
+AreChildren s id n name k body tasks (suc i) =
+    (before : List Task) × (last : Task) × (tasks ≡ before ++ last ∷ []) × AreChildren s id n name k body before i
+    × IsChild last (record { name = name; indices = path_at s ++ i ∷ [] }) (buffer_of s.part)
+    (cut_of (buffer_of s.part) (range_of s.part) k i) body
     (home_at id n i)
 
 -- the given number of them were started
-pub record StartsOver (self : Task) (old new : World) (id : ℕ) (name : List ℕ) (k : ℕ) (body : Steps) (i : ℕ) : Type 0 where
+pub record StartsOver (before after : State) (id : ℕ) (name : List ℕ) (k : ℕ) (body : Steps) (i : ℕ) : Type 0 where
   pub nursery : Nursery
-  pub was : nursery_at old.book id ≡ Some nursery
-  pub book : Updates old.book new.book id (Some (record nursery { children = nursery.children ++ running_children i }))
+  pub was : nursery_at before.book id ≡ Some nursery
+  pub book : Updates before.book after.book id (Some (record nursery { children = nursery.children ++ running_children i }))
   pub tasks : List Task
-  pub started : new.started.items ≡ old.started.items ++ tasks
-  pub children : AreChildren self id nursery name k body tasks i
+  pub started : after.started ≡ before.started ++ tasks
+  pub children : AreChildren before id nursery name k body tasks i
 
 -- the children of a `start`, in the nursery in whose body the task is
-abbrev pub StartsAll : Task → World → World → ℕ → List ℕ → Option ℕ → Steps → Type 0
-StartsAll self old new id name None body = StartsOne old new id (record { name = name; indices = path_of self }) self.part body
-StartsAll self old new id name (Some k) body = StartsOver self old new id name k body k
+abbrev pub StartsAll : State → State → ℕ → List ℕ → Option ℕ → Steps → Type 0
+StartsAll before after id name None body = StartsOne before after id (record { name = name; indices = path_at before }) before.part body
+StartsAll before after id name (Some k) body = StartsOver before after id name k body k
 
-pub record StartsChildren (self : Task) (old new : World) (name : List ℕ) (over : Option ℕ) (body : Steps) : Type 0 where
+pub record StartsChildren (before after : State) (name : List ℕ) (over : Option ℕ) (body : Steps) : Type 0 where
   pub id : ℕ
-  pub at : InBody self.frames.items id
-  pub started : StartsAll self old new id name over body
+  pub at : InBody before.frames id
+  pub started : StartsAll before after id name over body

@@ -1,8 +1,11 @@
--- Which tasks wait for the nurseries that are in the book after a move.
+-- Which tasks wait for the nurseries that are in the book after a move, and what a turn leaves as it was.
 use Rattle.std.specs.Prelude.{◌≡◌, ◌⊎◌, ℕ, Some}
 use Rattle.nursery_book.specs.Book.{nursery_at, HasNursery}
 use Rattle.nursery_book.specs.Nursery.{Nursery}
 use Rattle.nursery_book.specs.declared.book.NurseryBook.{NurseryBook}
+use Rattle.task_machine.specs.declared.task.Task.{Task}
+use Rattle.task_machine.specs.declared.world.World.{World}
+use Rattle.task_machine.specs.Waking.{IsInRangeTaskState}
 
 -- a nursery with this waiter was there before
 abbrev pub HadWaiter : NurseryBook → ℕ → ℕ → Type 0
@@ -15,3 +18,12 @@ SameWaiters old new = (id : ℕ) (n : Nursery) → nursery_at new id ≡ Some n 
 -- each nursery that was opened has this task as its waiter, and every other one keeps its own
 abbrev pub OpenedBy : ℕ → NurseryBook → NurseryBook → Type 0
 OpenedBy me old new = (id : ℕ) (n : Nursery) → nursery_at new id ≡ Some n → (n.waiter ≡ me) ⊎ HadWaiter old id n.waiter
+
+-- What a turn leaves as it was. The task keeps its label, its part and its home, and is in range again; the world keeps its tick;
+-- and each nursery that was opened has the task as its waiter.
+pub record KeepsRest (me : ℕ) (before after : Task) (old new : World) : Type 0 where
+  pub task :
+      after ≡ record before { frames = after.frames; own = after.own; task_state = after.task_state; entries = after.entries; froms = after.froms }
+  pub world : new ≡ record old { scopes = new.scopes; labels = new.labels; book = new.book; started = new.started }
+  pub in_range : IsInRangeTaskState after.task_state
+  pub waiters : OpenedBy me old.book new.book

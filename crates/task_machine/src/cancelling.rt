@@ -4,6 +4,7 @@ ghost use Rattle.cancel_scopes.specs.Tree.{IsOpen};
 ghost use Rattle.task_machine.specs.Tasks.{scope_of};
 ghost use Rattle.task_machine.specs.Entered.{CancelsAt};
 ghost use Rattle.task_machine.specs.Fitting.{SameKeys};
+ghost use Rattle.task_machine.specs.States.{state_of};
 
 use crate::task::Task;
 use crate::world::World;
@@ -18,7 +19,7 @@ impl<'a> Task<'a> {
         requires tick { world.old.tick + 1 < 2 ^ 63 }
         ensures rest { world.new ≡ record world.old { scopes = world.new.scopes } }
         ensures keys { SameKeys world.old.scopes world.new.scopes }
-        ensures at { CancelsAt world.old world.new (scope_of self.now) name }
+        ensures at { CancelsAt (state_of self.now world.old) (state_of self.now world.new) name }
     {
         stacks_are_chains(&world.scopes);
         if let Some(id) = world.find(self.scope(), name) {

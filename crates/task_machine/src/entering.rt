@@ -1,15 +1,10 @@
-ghost use Rattle.std.specs.Prelude.{◌≡◌, ℕ, ◌<◌, ◌≤◌, ◌^◌, false, ◌++◌, [], ◌∷◌, List, Some, None, IfOk, OnOk, length};
+ghost use Rattle.std.specs.Prelude.{◌≡◌, ◌<◌, ◌≤◌, ◌^◌, Some, IfOk, OnOk};
 ghost use Rattle.std.specs.Option.{ForSome};
-ghost use Rattle.exc_groups.specs.Exceptions.{Label as Named};
-ghost use Rattle.cancel_scopes.specs.Tree.{IsOpen, outer_of};
-ghost use Rattle.job_meaning.specs.Log.{Table};
-ghost use Rattle.turn_semantics.specs.Midway.{Place};
-ghost use Rattle.turn_semantics.specs.Names.{IsName, names_at};
-ghost use Rattle.turn_semantics.specs.Steps.{froms_after_entry};
+ghost use Rattle.cancel_scopes.specs.Tree.{IsOpen};
 ghost use Rattle.task_machine.specs.Tasks.{scope_of};
-ghost use Rattle.task_machine.specs.Worlds.{label_at};
-ghost use Rattle.task_machine.specs.Stacked.{AreAt};
-ghost use Rattle.task_machine.specs.Entered.{EntersAt, EntersOne, EntersBlock, EntersNursery, label_in};
+ghost use Rattle.task_machine.specs.Acts.{Enters, scoping_of};
+ghost use Rattle.task_machine.specs.Entered.{EntersAt, EntersBlock, EntersNursery, label_in};
+ghost use Rattle.task_machine.specs.States.{state_of};
 ghost use Rattle.task_machine.specs.declared.frame.Frame.TheVariants.{Scope};
 ghost use Rattle.job_tree.specs.InRange.{IsInRangeDeadline};
 ghost use Rattle.job_meaning.specs.Walk.{due};
@@ -20,6 +15,7 @@ use crate::task::{Own, Task};
 use crate::world::World;
 use autojump_clock::TaskId;
 use cancel_scopes::{ScopeId, stacks_are_chains};
+use exc_groups::Label;
 use job_tree::{Body, Deadline, Name};
 use std::alloc::AllocError;
 
@@ -33,10 +29,11 @@ pub(crate) struct Block<'a> {
 }
 
 impl<'a> Task<'a> {
-    // Enters a scope, inside those that enclose the task. After an error the task and the world can only be dropped.
+    // Enters a scope with that label, inside those that enclose the task. After an error the task and the world can only be
+    // dropped.
     pub(crate) fn enter(
         &mut self,
-        name: Name,
+        label: Label,
         shield: bool,
         deadline: Option<u64>,
         world: &mut World<'a>,
@@ -45,16 +42,14 @@ impl<'a> Task<'a> {
         requires deadline { ForSome deadline (λ tick. tick < 2 ^ 63) }
         ensures stays { OnOk result (self.new ≡ record self.old { own = self.new.own; froms = self.new.froms }) }
         ensures inner { IfOk result (λ id. scope_of self.new ≡ Some id) }
-        ensures own { OnOk result (EntersOne self.old self.new world.old world.new (label_in self.old name) deadline) }
+        ensures own { OnOk result (Enters (scope_of self.old) label deadline (scoping_of self.old world.old) (scoping_of self.new world.new)) }
         ensures world { OnOk result (world.new ≡ record world.old { scopes = world.new.scopes; labels = world.new.labels }) }
-        ensures at { OnOk result (EntersAt world.old world.new (scope_of self.old) (scope_of self.new)
-            (label_in self.old name) shield deadline) }
+        ensures at { OnOk result (EntersAt (state_of self.old world.old) (state_of self.new world.new) label shield deadline) }
     {
         stacks_are_chains(&world.scopes);
-        let label = self.label_here(name)?;
+        let kept = label.copy(self.alloc)?;
         let id = world.enter(self.scope(), label, shield, deadline)?;
         let at = self.froms.len();
-        let kept = self.label_here(name)?;
         self.froms.push(ScopeFrom {
             label: kept,
             seen: None,
@@ -75,15 +70,16 @@ impl<'a> Task<'a> {
         requires tick { world.old.tick ≤ 2 ^ 62 }
         ensures stays { OnOk result (self.new
             ≡ record self.old { frames = self.new.frames; own = self.new.own; froms = self.new.froms }) }
-        ensures frames { OnOk result (EntersBlock self.old self.new (Scope fail) block.entry.body.now) }
-        ensures own { OnOk result (EntersOne self.old self.new world.old world.new (label_in self.old block.entry.name)
-            (due block.entry.deadline world.old.tick)) }
+        ensures frames { OnOk result (EntersBlock self.old.frames.items self.new.frames.items (Scope fail) block.entry.body.now) }
+        ensures own { OnOk result (Enters (scope_of self.old) (label_in self.old block.entry.name)
+            (due block.entry.deadline world.old.tick) (scoping_of self.old world.old) (scoping_of self.new world.new)) }
         ensures world { OnOk result (world.new ≡ record world.old { scopes = world.new.scopes; labels = world.new.labels }) }
-        ensures at { OnOk result (EntersAt world.old world.new (scope_of self.old) (scope_of self.new)
+        ensures at { OnOk result (EntersAt (state_of self.old world.old) (state_of self.new world.new)
             (label_in self.old block.entry.name) block.entry.shield (due block.entry.deadline world.old.tick)) }
     {
         let deadline = due(block.deadline, world.now());
-        self.enter(block.name, block.shield, deadline, world)?;
+        let label = self.label_here(block.name)?;
+        self.enter(label, block.shield, deadline, world)?;
         self.push(Frame::Scope { fail })?;
         self.push(Frame::Steps(block.body.as_slice()))
     }
@@ -101,18 +97,19 @@ impl<'a> Task<'a> {
         requires tick { world.old.tick ≤ 2 ^ 62 }
         ensures stays { OnOk result (self.new
             ≡ record self.old { frames = self.new.frames; own = self.new.own; froms = self.new.froms }) }
-        ensures nursery { OnOk result (EntersNursery me self.old self.new world.old world.new
+        ensures nursery { OnOk result (EntersNursery me (state_of self.old world.old) (state_of self.new world.new)
             (label_in self.old block.entry.name) block.entry.body.now) }
-        ensures own { OnOk result (EntersOne self.old self.new world.old world.new (label_in self.old block.entry.name)
-            (due block.entry.deadline world.old.tick)) }
+        ensures own { OnOk result (Enters (scope_of self.old) (label_in self.old block.entry.name)
+            (due block.entry.deadline world.old.tick) (scoping_of self.old world.old) (scoping_of self.new world.new)) }
         ensures world { OnOk result (world.new
             ≡ record world.old { scopes = world.new.scopes; labels = world.new.labels; book = world.new.book }) }
-        ensures at { OnOk result (EntersAt world.old world.new (scope_of self.old) (scope_of self.new)
+        ensures at { OnOk result (EntersAt (state_of self.old world.old) (state_of self.new world.new)
             (label_in self.old block.entry.name) block.entry.shield (due block.entry.deadline world.old.tick)) }
     {
         let deadline = due(block.deadline, world.now());
-        let scope = self.enter(block.name, block.shield, deadline, world)?;
         let label = self.label_here(block.name)?;
+        let kept = label.copy(self.alloc)?;
+        let scope = self.enter(kept, block.shield, deadline, world)?;
         let id = world.book.open(scope, me, label)?;
         self.push(Frame::Nursery { id })?;
         self.push(Frame::Steps(block.body.as_slice()))?;

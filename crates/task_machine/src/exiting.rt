@@ -10,9 +10,11 @@ ghost use Rattle.task_machine.specs.declared.stop.Moved.TheVariants.{Stops};
 ghost use Rattle.task_machine.specs.declared.stop.Stop.TheVariants.{Wait, Ended};
 ghost use Rattle.task_machine.specs.Tasks.{scope_of, home_scope};
 ghost use Rattle.task_machine.specs.Worlds.{label_at};
-ghost use Rattle.task_machine.specs.Left.{OwnFirst, LeavesOne};
+ghost use Rattle.task_machine.specs.Acts.{Leaves, scoping_of};
+ghost use Rattle.task_machine.specs.Left.{OwnFirst};
 ghost use Rattle.task_machine.specs.Exits.{ExitsAt, FailsAt};
 ghost use Rattle.task_machine.specs.Fitting.{SameKeys};
+ghost use Rattle.task_machine.specs.States.{state_of};
 
 use crate::leaving::Closed;
 use crate::outcome::{Kind, exc_after, left_with};
@@ -42,9 +44,9 @@ impl<'a> Task<'a> {
         ensures stays { OnOk result (self.new
             ≡ record self.old { own = self.new.own; froms = self.new.froms; entries = self.new.entries }) }
         ensures world { OnOk result (world.new ≡ record world.old { scopes = world.new.scopes; labels = world.new.labels }) }
-        ensures left { OnOk result (LeavesOne self.old self.new world.old world.new) }
+        ensures left { OnOk result (Leaves (scoping_of self.old world.old) (scoping_of self.new world.new)) }
         ensures own { OnOk result (OwnFirst world.new.scopes (home_scope self.old) self.new.own.items) }
-        ensures at { IfOk result (λ after. ExitsAt self.old self.new world.old world.new kind (option_map exc_of exc)
+        ensures at { IfOk result (λ after. ExitsAt (state_of self.old world.old) (state_of self.new world.new) kind (option_map exc_of exc)
             (option_map exc_of after)) }
     {
         let Closed { label, catches } = self.leave(world);
@@ -63,7 +65,7 @@ impl<'a> Task<'a> {
         requires tick { world.old.tick + 1 < 2 ^ 63 }
         ensures rest { world.new ≡ record world.old { scopes = world.new.scopes } }
         ensures keys { SameKeys world.old.scopes world.new.scopes }
-        ensures at { FailsAt world.old world.new (scope_of self.now) (option_map exc_of exc.now) }
+        ensures at { FailsAt (state_of self.now world.old) (state_of self.now world.new) (option_map exc_of exc.now) }
     {
         stacks_are_chains(&world.scopes);
         if exc.is_none() {
@@ -89,7 +91,7 @@ impl<'a> Task<'a> {
         ensures rest { world.new ≡ record world.old { scopes = world.new.scopes; book = world.new.book } }
         ensures ended { Changes world.old.book world.new.book nursery (with_body (option_map exc_of exc)) }
         ensures keys { SameKeys world.old.scopes world.new.scopes }
-        ensures at { FailsAt world.old world.new (scope_of self.old) (option_map exc_of exc) }
+        ensures at { FailsAt (state_of self.old world.old) (state_of self.new world.new) (option_map exc_of exc) }
     {
         self.fail(&exc, world);
         world.book.body_ended(nursery, exc);
@@ -108,7 +110,7 @@ impl<'a> Task<'a> {
         ensures stays { self.new ≡ record self.old { task_state = Over } }
         ensures rest { world.new ≡ record world.old { scopes = world.new.scopes } }
         ensures keys { SameKeys world.old.scopes world.new.scopes }
-        ensures at { FailsAt world.old world.new (scope_of self.old) (option_map exc_of exc) }
+        ensures at { FailsAt (state_of self.old world.old) (state_of self.new world.new) (option_map exc_of exc) }
     {
         self.fail(&exc, world);
         self.task_state = TaskState::Over;

@@ -4,7 +4,9 @@ ghost use Rattle.std.specs.List.{All};
 ghost use Rattle.cancel_scopes.specs.Tree.{IsOpen, IsInnermost};
 ghost use Rattle.task_machine.specs.Tasks.{scope_of, home_scope};
 ghost use Rattle.task_machine.specs.Worlds.{label_at};
-ghost use Rattle.task_machine.specs.Left.{OwnFirst, LeavesAt, LeavesOne};
+ghost use Rattle.task_machine.specs.Acts.{Leaves, scoping_of};
+ghost use Rattle.task_machine.specs.Left.{OwnFirst, LeavesAt};
+ghost use Rattle.task_machine.specs.States.{state_of};
 
 use crate::task::Task;
 use crate::world::World;
@@ -29,9 +31,9 @@ impl<'a> Task<'a> {
         requires own { OwnFirst world.old.scopes (home_scope self.old) self.old.own.items }
         ensures stays { self.new ≡ record self.old { own = self.new.own; froms = self.new.froms } }
         ensures world { world.new ≡ record world.old { scopes = world.new.scopes; labels = world.new.labels } }
-        ensures left { LeavesOne self.old self.new world.old world.new }
+        ensures left { Leaves (scoping_of self.old world.old) (scoping_of self.new world.new) }
         ensures own { OwnFirst world.new.scopes (home_scope self.old) self.new.own.items }
-        ensures at { LeavesAt world.old world.new (scope_of self.old) (scope_of self.new) result }
+        ensures at { LeavesAt (state_of self.old world.old) (state_of self.new world.new) result }
     {
         stacks_are_chains(&world.scopes);
         let Some(own) = self.own.pop() else {

@@ -22,6 +22,7 @@ mod leaving;
 mod outcome;
 mod pausing;
 mod repeating;
+mod running;
 mod starting;
 mod stop;
 mod task;

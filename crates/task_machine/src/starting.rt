@@ -10,6 +10,7 @@ ghost use Rattle.task_machine.specs.Fitting.{Fits, frames_behind, InBody};
 ghost use Rattle.task_machine.specs.Frames.{frames_of};
 ghost use Rattle.task_machine.specs.Stops.{Numbers};
 ghost use Rattle.task_machine.specs.Started.{StartsOne, StartsOver, StartsChildren};
+ghost use Rattle.task_machine.specs.States.{state_of};
 
 use crate::frame::Frame;
 use crate::stop::TaskState;
@@ -67,7 +68,7 @@ impl<'a> Task<'a> {
     ) -> Result<(), AllocError>
         requires { HasNursery world.old.book nursery (λ n. n.body ≡ None) }
         ensures rest { OnOk result (world.new ≡ record world.old { book = world.new.book; started = world.new.started }) }
-        ensures started { OnOk result (StartsOne world.old world.new nursery label part.entry body.now) }
+        ensures started { OnOk result (StartsOne (state_of self.now world.old) (state_of self.now world.new) nursery label part.entry body.now) }
     {
         let scope = world.book.scope(nursery);
         let place = world.book.start(nursery)?;
@@ -94,7 +95,8 @@ impl<'a> Task<'a> {
         requires few { copies ≤ 64 }
         requires nursery { HasNursery world.old.book nursery (λ n. n.body ≡ None) }
         ensures rest { OnOk result (world.new ≡ record world.old { book = world.new.book; started = world.new.started }) }
-        ensures started { OnOk result (StartsOver self.now world.old world.new nursery name copies body.now copies) }
+        ensures started { OnOk result (StartsOver (state_of self.now world.old) (state_of self.now world.new) nursery name copies body.now
+            copies) }
     {
         let mut cuts = self.part.cuts(copies as usize);
         'copies: for i in 0..copies {
@@ -113,12 +115,12 @@ impl<'a> Task<'a> {
         body: &'a Body,
         world: &mut World<'a>,
     ) -> Result<(), AllocError>
-        requires fits { Fits self.now.frames.items self.now world.old None }
+        requires fits { Fits (state_of self.now world.old) None }
         requires over { IsInRangeOver over }
         requires body { IsTrue (in_body (frames_behind (frames_of (λ id. []) self.now.frames.items))) }
         ensures rest { OnOk result (world.new ≡ record world.old { book = world.new.book; started = world.new.started }) }
-        ensures fits { OnOk result (Fits self.now.frames.items self.now world.new None) }
-        ensures children { OnOk result (StartsChildren self.now world.old world.new name over body.now) }
+        ensures fits { OnOk result (Fits (state_of self.now world.new) None) }
+        ensures children { OnOk result (StartsChildren (state_of self.now world.old) (state_of self.now world.new) name over body.now) }
     {
         let nursery = self.nursery();
         match over {

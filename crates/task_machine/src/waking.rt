@@ -11,6 +11,7 @@ ghost use Rattle.task_machine.specs.declared.stop.TaskState.TheVariants.{Asked};
 ghost use Rattle.turn_semantics.specs.Wakes.{has_answer, settles};
 ghost use Rattle.task_machine.specs.Fitting.{Fits, waits_of};
 ghost use Rattle.task_machine.specs.Standing.{waits_by, Wakens};
+ghost use Rattle.task_machine.specs.States.{state_of};
 ghost use Rattle.task_machine.specs.Tasks.{scope_of};
 ghost use Rattle.task_machine.specs.Waiters.{SameWaiters};
 ghost use Rattle.task_machine.specs.Waking.{WakesFrom, wake_in, answer_in, settled_exc, IsInRangeTaskState, IsInRangePurpose};
@@ -33,7 +34,7 @@ impl<'a> Task<'a> {
         wake: Wake<'a>,
         world: &mut World<'a>,
     ) -> Result<Moved<'a>, AllocError>
-        requires fits { Fits self.old.frames.items self.old world.old (waits_of self.old.task_state) }
+        requires fits { Fits (state_of self.old world.old) (waits_of self.old.task_state) }
         requires tick { world.old.tick ≤ 2 ^ 62 }
         requires task_state { IsInRangeTaskState self.old.task_state }
         requires wake { WakesFrom self.old.task_state self.old.part world.old.book wake }
@@ -42,9 +43,9 @@ impl<'a> Task<'a> {
         ensures world { OnOk result (world.new
             ≡ record world.old { scopes = world.new.scopes; labels = world.new.labels; book = world.new.book }) }
         ensures task_state { OnOk result (IsInRangeTaskState self.new.task_state) }
-        ensures fits { IfOk result (λ moved. Fits self.new.frames.items self.new world.new (waits_by moved self.new.task_state)) }
+        ensures fits { IfOk result (λ moved. Fits (state_of self.new world.new) (waits_by moved self.new.task_state)) }
         ensures waiters { OnOk result (SameWaiters world.old.book world.new.book) }
-        ensures wakes { IfOk result (λ moved. Wakens self.old self.new world.old world.new moved
+        ensures wakes { IfOk result (λ moved. Wakens (state_of self.old world.old) (state_of self.new world.new) moved
             (wake_in world.old.book self.old.task_state wake.entry)) }
     {
         match wake {
@@ -76,7 +77,7 @@ impl<'a> Task<'a> {
         ensures stays { OnOk result (self.new ≡ record self.old { task_state = self.new.task_state; entries = self.new.entries }) }
         ensures task_state { OnOk result (IsInRangeTaskState self.new.task_state) }
         ensures waits { IfOk result (λ moved. waits_by moved self.new.task_state ≡ None) }
-        ensures wakes { IfOk result (λ moved. Wakens self.old self.new world.now world.now moved (has_answer (answer_in answer.entry))) }
+        ensures wakes { IfOk result (λ moved. Wakens (state_of self.old world.now) (state_of self.new world.now) moved (has_answer (answer_in answer.entry))) }
     {
         let TaskState::Asked { purpose, .. } = &self.task_state else {
             unreachable!()
@@ -99,7 +100,7 @@ impl<'a> Task<'a> {
     fn miss(&self, purpose: Purpose, world: &World<'a>) -> Result<Moved<'a>, AllocError>
         ensures waits { IfOk result (λ moved. waits_by moved self.now.task_state ≡ None) }
         ensures wakes { IfOk result (λ moved. (kernel : Kernel) → self.now.task_state ≡ Asked kernel purpose →
-            Wakens self.now self.now world.now world.now moved (has_answer missing)) }
+            Wakens (state_of self.now world.now) (state_of self.now world.now) moved (has_answer missing)) }
     {
         match purpose {
             Purpose::Needs(name) => {
@@ -121,7 +122,7 @@ impl<'a> Task<'a> {
         ensures task_state { IsInRangeTaskState self.old.task_state → IsInRangeTaskState self.new.task_state }
         ensures waits { waits_by result self.new.task_state ≡ None }
         ensures wakes { (kernel : Kernel) → self.old.task_state ≡ Asked kernel purpose →
-            Wakens self.old self.new world.now world.now result (has_answer (counted count)) }
+            Wakens (state_of self.old world.now) (state_of self.new world.now) result (has_answer (counted count)) }
     {
         match purpose {
             Purpose::Paces(per_tick) => self.sleep((count + (per_tick - 1)) / per_tick, world),
@@ -132,15 +133,15 @@ impl<'a> Task<'a> {
 
     // The nursery that the task waits for is settled: it is left with the group of what its members raised.
     fn settle(&mut self, world: &mut World<'a>) -> Result<Moved<'a>, AllocError>
-        requires fits { Fits self.old.frames.items self.old world.old (waits_of self.old.task_state) }
+        requires fits { Fits (state_of self.old world.old) (waits_of self.old.task_state) }
         requires wake { WakesFrom self.old.task_state self.old.part world.old.book wakes.Settled }
         ensures stays { OnOk result (self.new
             ≡ record self.old { own = self.new.own; entries = self.new.entries; froms = self.new.froms }) }
         ensures world { OnOk result (world.new
             ≡ record world.old { scopes = world.new.scopes; labels = world.new.labels; book = world.new.book }) }
-        ensures fits { IfOk result (λ moved. Fits self.new.frames.items self.new world.new (waits_by moved self.new.task_state)) }
+        ensures fits { IfOk result (λ moved. Fits (state_of self.new world.new) (waits_by moved self.new.task_state)) }
         ensures waiters { OnOk result (SameWaiters world.old.book world.new.book) }
-        ensures wakes { IfOk result (λ moved. Wakens self.old self.new world.old world.new moved
+        ensures wakes { IfOk result (λ moved. Wakens (state_of self.old world.old) (state_of self.new world.new) moved
             (settles (settled_exc world.old.book self.old.task_state))) }
     {
         stacks_are_chains(&world.scopes);

@@ -22,7 +22,6 @@ use std::collections::VecDeque;
 /// Ticks are at most 4,611,686,018,427,387,904 (2 to the 62).
 #[derive(Drop)]
 pub struct World<'a> {
-    pub(crate) alloc: Global,
     pub(crate) tick: u64,
     pub(crate) scopes: ScopeTree,
     // Indexed by the keys of the scopes.
@@ -46,7 +45,6 @@ impl<'a> World<'a> {
         ensures started { result.started.items ≡ [] }
     {
         World {
-            alloc,
             tick: 0,
             scopes: ScopeTree::new(alloc),
             labels: Vec::new(alloc),

@@ -1,4 +1,4 @@
-use Rattle.std.proofs.Common.{Option, [], ◌∷◌, ◌++◌, ap, sym, ◌∙◌, subst, refl, arith}
+use Rattle.std.proofs.Common.{◌≡◌, Option, List, [], ◌∷◌, ◌++◌, ap, sym, ◌∙◌, subst, refl, arith}
 use Rattle.std.specs.Option.{option_map, option_copied}
 use Rattle.exc_groups.specs.declared.exc.Exc as held
 use Rattle.exc_groups.specs.Held.{exc_of}
@@ -6,21 +6,24 @@ use Rattle.job_tree.specs.Blocks.{handled_of, cleaned_of}
 use Rattle.job_meaning.specs.Walk.{outcome_after}
 use Rattle.turn_semantics.specs.Bound.{frames_length}
 use Rattle.turn_semantics.specs.Midway.{Move}
-use Rattle.task_machine.specs.declared.frame.Frame.TheVariants.{Scope, Nursery, Repeat, Try, Handler, Cleanup}
+use Rattle.task_machine.specs.declared.frame.Frame.TheVariants.{Steps, Scope, Nursery, Repeat, Try, Handler, Cleanup}
 use Rattle.task_machine.specs.declared.frame.Frame.{Frame}
 use Rattle.task_machine.specs.declared.stop.TaskState.{TaskState}
+use Rattle.task_machine.specs.declared.stop.TaskState.TheVariants.{Awaits, Over}
 use Rattle.task_machine.specs.declared.stop.Moved.{Moved}
 use Rattle.task_machine.specs.declared.task.Task.{Task}
+use Rattle.task_machine.specs.declared.world.World.{World}
 use Rattle.task_machine.specs.Fitting.{Fits, waits_of}
-use Rattle.task_machine.specs.Standing.{waits_by}
+use Rattle.task_machine.specs.Standing.{waits_by, StepsAs, with_frames}
 use Rattle.task_machine.specs.Frames.{unboxed_exc, frames_of}
+use Rattle.task_machine.specs.States.{state_of}
 use Rattle.task_machine.specs.Tasks.{home_scope}
 use Rattle.task_machine.specs.Worlds.{label_at}
 use Rattle.task_machine.proofs.Fits.{ready_scope}
-use Rattle.task_machine.proofs.TaskFits.{exited_fits, waits_fits, frame_off, in_range_with, starts_with, popped_fits, popped_length, popped_body, pass_shorter, passed_fits, try_shorter, tried_fits, handled_fits}
+use Rattle.task_machine.proofs.StateLemmas.{state_eq}
+use Rattle.task_machine.proofs.TaskFits.{exited_fits, waits_fits, signed_fits, frame_off, in_range_with, starts_with, popped_fits, popped_length, popped_body, pass_shorter, passed_fits, try_shorter, tried_fits, handled_fits}
 use Rattle.task_machine.proofs.Advances.{takes_end, takes_exit, takes_body, takes_pass, takes_try, takes_handler, takes_cleanup}
-use Rattle.task_machine.specs.declared.world.World.{World}
-use Rattle.task_machine.proofs.Waiters.{same_book, opened_none, opened_still, ended_waiters}
+use Rattle.task_machine.proofs.Waiters.{same_book, opened_none, opened_still, ended_waiters, keeps_task, keeps_woken}
 use Rattle.task_machine.proofs.task.Task.advance.Goals as goal
 
 pub exit-requires-clause-some : goal.exit-requires-clause-some
@@ -29,8 +32,7 @@ exit-requires-clause-some c =
     let laws = c.stacks_are_chains.ensures in
     (ready_scope c.pop.new.self.items c.in-Scope.fail self.part (home_scope self) self.own.items _ c.args.world.now.scopes
     (label_at c.args.world.now) c.args.world.now.book laws.chain laws.own laws.apart
-    (popped_fits self c.pop.new.self.items c.in-Some.frame (Scope c.in-Scope.fail) c.args.world.now c.in-Some.ensures.items c.in-Scope.is
-    c.requires.fits)).some
+    (popped_fits (state_of (record c.args.self.now { frames = c.pop.new.self }) c.args.world.now) c.args.self.now.frames.items c.in-Some.frame (Scope c.in-Scope.fail) c.in-Some.ensures.items c.in-Scope.is c.requires.fits)).some
 
 pub exit-requires-clause-innermost : goal.exit-requires-clause-innermost
 exit-requires-clause-innermost c =
@@ -38,8 +40,7 @@ exit-requires-clause-innermost c =
     let laws = c.stacks_are_chains.ensures in
     (ready_scope c.pop.new.self.items c.in-Scope.fail self.part (home_scope self) self.own.items _ c.args.world.now.scopes
     (label_at c.args.world.now) c.args.world.now.book laws.chain laws.own laws.apart
-    (popped_fits self c.pop.new.self.items c.in-Some.frame (Scope c.in-Scope.fail) c.args.world.now c.in-Some.ensures.items c.in-Scope.is
-    c.requires.fits)).innermost
+    (popped_fits (state_of (record c.args.self.now { frames = c.pop.new.self }) c.args.world.now) c.args.self.now.frames.items c.in-Some.frame (Scope c.in-Scope.fail) c.in-Some.ensures.items c.in-Scope.is c.requires.fits)).innermost
 
 pub exit-requires-clause-labelled : goal.exit-requires-clause-labelled
 exit-requires-clause-labelled c =
@@ -47,25 +48,21 @@ exit-requires-clause-labelled c =
     let laws = c.stacks_are_chains.ensures in
     (ready_scope c.pop.new.self.items c.in-Scope.fail self.part (home_scope self) self.own.items _ c.args.world.now.scopes
     (label_at c.args.world.now) c.args.world.now.book laws.chain laws.own laws.apart
-    (popped_fits self c.pop.new.self.items c.in-Some.frame (Scope c.in-Scope.fail) c.args.world.now c.in-Some.ensures.items c.in-Scope.is
-    c.requires.fits)).labelled
+    (popped_fits (state_of (record c.args.self.now { frames = c.pop.new.self }) c.args.world.now) c.args.self.now.frames.items c.in-Some.frame (Scope c.in-Scope.fail) c.in-Some.ensures.items c.in-Scope.is c.requires.fits)).labelled
 
 pub end_body-requires-clause-nursery : goal.end_body-requires-clause-nursery
 end_body-requires-clause-nursery c =
     let self = c.args.self.now in
     popped_body (label_at c.args.world.now) c.args.world.now.book c.pop.new.self.items c.in-Nursery.id self.own.items
-    (popped_fits self c.pop.new.self.items c.in-Some.frame (Nursery c.in-Nursery.id) c.args.world.now c.in-Some.ensures.items
-    c.in-Nursery.is c.requires.fits).opened
+    (popped_fits (state_of (record c.args.self.now { frames = c.pop.new.self }) c.args.world.now) c.args.self.now.frames.items c.in-Some.frame (Nursery c.in-Nursery.id) c.in-Some.ensures.items c.in-Nursery.is c.requires.fits).opened
 
 pub returns-in_ok-exc-in-Scope-clause-fits : goal.returns-in_ok-exc-in-Scope-clause-fits
 returns-in_ok-exc-in-Scope-clause-fits c =
-    let self = c.args.self.now in
     let laws = c.stacks_are_chains.ensures in
     let e = c.in_ok-exc-in-Scope.ensures in
-    exited_fits c.in-Scope.fail (record self { frames = c.pop.new.self }) c.exit.new.self c.args.world.now c.exit.new.world
+    exited_fits c.in-Scope.fail (state_of (record c.args.self.now { frames = c.pop.new.self }) c.args.world.now) (state_of c.exit.new.self c.exit.new.world)
     (record { chain = laws.chain; own = laws.own; apart = laws.apart })
-    (popped_fits self c.pop.new.self.items c.in-Some.frame (Scope c.in-Scope.fail) c.args.world.now c.in-Some.ensures.items c.in-Scope.is
-    c.requires.fits) e.left e.own e.stays e.world
+    (popped_fits (state_of (record c.args.self.now { frames = c.pop.new.self }) c.args.world.now) c.args.self.now.frames.items c.in-Some.frame (Scope c.in-Scope.fail) c.in-Some.ensures.items c.in-Scope.is c.requires.fits) e.left e.own (state_eq _ _ _ _ e.stays e.world)
 
 pub returns-in_ok-exc-in-Scope-clause-shorter : goal.returns-in_ok-exc-in-Scope-clause-shorter
 returns-in_ok-exc-in-Scope-clause-shorter c =
@@ -75,30 +72,43 @@ returns-in_ok-exc-in-Scope-clause-shorter c =
     let after = ap (λ (t : Task). frames_length (frames_of (λ id. []) t.frames.items)) c.in_ok-exc-in-Scope.ensures.stays in
     omega (arith, before, after)
 
+pub returns-in_ok-exc-in-Scope-clause-step : goal.returns-in_ok-exc-in-Scope-clause-step
+returns-in_ok-exc-in-Scope-clause-step c =
+    let e = c.in_ok-exc-in-Scope.ensures in
+    takes_exit (state_of (record c.args.self.now { frames = c.pop.new.self }) c.args.world.now) (state_of c.exit.new.self c.exit.new.world) c.args.self.now.frames.items c.in-Scope.fail c.args.exc
+    c.in_ok-exc-in-Scope.exc (c.in-Some.ensures.items ∙ ap (λ (f : Frame). c.pop.new.self.items ++ f ∷ []) c.in-Scope.is) (state_eq _ _ _ _ e.stays e.world) e.at e.left
+
 pub returns-in-Nursery-clause-fits : goal.returns-in-Nursery-clause-fits
 returns-in-Nursery-clause-fits c =
-    let self = c.args.self.now in
     let e = c.end_body.ensures in
-    subst (λ (m : Moved). Fits c.end_body.new.self.frames.items c.end_body.new.self c.end_body.new.world
-    (waits_by m c.end_body.new.self.task_state)) (sym e.moved)
-    (subst (λ (h : TaskState). Fits c.end_body.new.self.frames.items c.end_body.new.self c.end_body.new.world (waits_of h))
-    (sym (ap (λ (t : Task). t.task_state) e.stays))
-    (waits_fits c.in-Nursery.id (option_map exc_of c.args.exc) (record self { frames = c.pop.new.self }) c.end_body.new.self
-    c.args.world.now c.end_body.new.world
-    (popped_fits self c.pop.new.self.items c.in-Some.frame (Nursery c.in-Nursery.id) c.args.world.now c.in-Some.ensures.items
-    c.in-Nursery.is c.requires.fits) e.keys e.ended
-    (e.stays ∙ ap (λ (t : Task). record self { frames = c.pop.new.self; task_state = t.task_state }) (sym e.stays)) e.rest))
+    let u = state_of c.end_body.new.self c.end_body.new.world in
+    subst (λ (m : Moved). Fits u (waits_by m c.end_body.new.self.task_state)) (sym e.moved)
+    (subst (λ (h : TaskState). Fits u (waits_of h)) (sym (ap (λ (t : Task). t.task_state) e.stays))
+    (waits_fits c.in-Nursery.id (option_map exc_of c.args.exc) (state_of (record c.args.self.now { frames = c.pop.new.self }) c.args.world.now) u
+    (popped_fits (state_of (record c.args.self.now { frames = c.pop.new.self }) c.args.world.now) c.args.self.now.frames.items c.in-Some.frame (Nursery c.in-Nursery.id) c.in-Some.ensures.items c.in-Nursery.is c.requires.fits) e.keys e.ended
+    (state_eq _ _ _ _ (e.stays ∙ ap (λ (t : Task). record c.args.self.now { frames = c.pop.new.self; task_state = t.task_state }) (sym e.stays))
+    e.rest)))
+
+pub returns-in-Nursery-clause-step : goal.returns-in-Nursery-clause-step
+returns-in-Nursery-clause-step c =
+    let e = c.end_body.ensures in
+    takes_body (state_of (record c.args.self.now { frames = c.pop.new.self }) c.args.world.now) (state_of c.end_body.new.self c.end_body.new.world) c.args.self.now.frames.items c.in-Nursery.id
+    c.end_body.new.world.scopes c.end_body.new.world.book c.args.exc c.end_body.result (c.in-Some.ensures.items ∙ ap (λ (f : Frame). c.pop.new.self.items ++ f ∷ []) c.in-Nursery.is) e.moved
+    (state_eq _ _ _ _ e.stays e.rest) e.ended e.at
+
+pub returns-in_default-clause-step : goal.returns-in_default-clause-step
+returns-in_default-clause-step c =
+    let e = c.end.ensures in
+    takes_end (state_of (record c.args.self.now { frames = c.pop.new.self }) c.args.world.now) (state_of c.end.new.self c.end.new.world) c.args.self.now.frames.items c.end.new.world.scopes c.args.exc c.end.result
+    c.in_default.ensures.items c.in_default.ensures.variant.1 e.moved (state_eq _ _ _ _ e.stays e.rest) e.at
 
 pub returns-in_ok-exc-in-Try-clause-fits : goal.returns-in_ok-exc-in-Try-clause-fits
 returns-in_ok-exc-in-Try-clause-fits c =
-    let self = c.args.self.now in
     let e = c.in_ok-exc-in-Try.ensures in
-    let f = Try c.in-Try.handler c.in-Try.cleanup in
-    tried_fits (handled_of (option_copied c.in-Try.handler)) (cleaned_of c.in-Try.cleanup.now) c.pop.new.self.items f
-    (option_map exc_of c.args.exc) (option_map exc_of c.in_ok-exc-in-Try.exc)
-    (record self { frames = c.pop.new.self }) c.end_try.new.self c.args.world.now refl refl
-    (popped_fits self c.pop.new.self.items c.in-Some.frame f c.args.world.now c.in-Some.ensures.items c.in-Try.is c.requires.fits)
-    (e.step (λ id. []) []) e.blocks e.stays
+    tried_fits (handled_of (option_copied c.in-Try.handler)) (cleaned_of c.in-Try.cleanup.now) (state_of (record c.args.self.now { frames = c.pop.new.self }) c.args.world.now)
+    (state_of c.end_try.new.self c.args.world.now) (Try c.in-Try.handler c.in-Try.cleanup) (option_map exc_of c.args.exc) (option_map exc_of c.in_ok-exc-in-Try.exc) refl
+    refl (popped_fits (state_of (record c.args.self.now { frames = c.pop.new.self }) c.args.world.now) c.args.self.now.frames.items c.in-Some.frame (Try c.in-Try.handler c.in-Try.cleanup) c.in-Some.ensures.items c.in-Try.is c.requires.fits)
+    (e.step (λ id. []) []) e.blocks (ap (λ (t : Task). state_of t c.args.world.now) e.stays)
 
 pub returns-in_ok-exc-in-Try-clause-shorter : goal.returns-in_ok-exc-in-Try-clause-shorter
 returns-in_ok-exc-in-Try-clause-shorter c =
@@ -110,15 +120,19 @@ returns-in_ok-exc-in-Try-clause-shorter c =
     (frames_of (λ id. []) c.pop.new.self.items) [] (option_map exc_of c.args.exc) in
     omega (arith, before, after, less)
 
+pub returns-in_ok-exc-in-Try-clause-step : goal.returns-in_ok-exc-in-Try-clause-step
+returns-in_ok-exc-in-Try-clause-step c =
+    let e = c.in_ok-exc-in-Try.ensures in
+    takes_try (state_of (record c.args.self.now { frames = c.pop.new.self }) c.args.world.now) (state_of c.end_try.new.self c.args.world.now) c.args.self.now.frames.items c.in-Try.handler c.in-Try.cleanup c.args.exc
+    c.in_ok-exc-in-Try.exc (c.in-Some.ensures.items ∙ ap (λ (f : Frame). c.pop.new.self.items ++ f ∷ []) c.in-Try.is) (ap (λ (t : Task). state_of t c.args.world.now) e.stays) e.step
+
 pub returns-in_ok-exc-in-Handler-clause-fits : goal.returns-in_ok-exc-in-Handler-clause-fits
 returns-in_ok-exc-in-Handler-clause-fits c =
-    let self = c.args.self.now in
     let e = c.in_ok-exc-in-Handler.ensures in
-    let f = Handler c.in-Handler.rest c.in-Handler.cleanup in
-    handled_fits (cleaned_of c.in-Handler.cleanup.now) (option_map exc_of (unboxed_exc c.in-Handler.rest)) c.pop.new.self.items f
-    (record self { frames = c.pop.new.self }) c.end_handler.new.self c.args.world.now refl refl
-    (popped_fits self c.pop.new.self.items c.in-Some.frame f c.args.world.now c.in-Some.ensures.items c.in-Handler.is c.requires.fits)
-    (e.frames (λ id. [])) e.blocks e.stays
+    handled_fits (cleaned_of c.in-Handler.cleanup.now) (option_map exc_of (unboxed_exc c.in-Handler.rest)) (state_of (record c.args.self.now { frames = c.pop.new.self }) c.args.world.now)
+    (state_of c.end_handler.new.self c.args.world.now) (Handler c.in-Handler.rest c.in-Handler.cleanup) refl refl
+    (popped_fits (state_of (record c.args.self.now { frames = c.pop.new.self }) c.args.world.now) c.args.self.now.frames.items c.in-Some.frame (Handler c.in-Handler.rest c.in-Handler.cleanup) c.in-Some.ensures.items c.in-Handler.is c.requires.fits)
+    (e.frames (λ id. [])) e.blocks (ap (λ (t : Task). state_of t c.args.world.now) e.stays)
 
 pub returns-in_ok-exc-in-Handler-clause-shorter : goal.returns-in_ok-exc-in-Handler-clause-shorter
 returns-in_ok-exc-in-Handler-clause-shorter c =
@@ -129,14 +143,17 @@ returns-in_ok-exc-in-Handler-clause-shorter c =
     let after = ap frames_length (c.in_ok-exc-in-Handler.ensures.frames (λ id. [])) in
     omega (arith, before, after)
 
+pub returns-in_ok-exc-in-Handler-clause-step : goal.returns-in_ok-exc-in-Handler-clause-step
+returns-in_ok-exc-in-Handler-clause-step c =
+    let e = c.in_ok-exc-in-Handler.ensures in
+    takes_handler (state_of (record c.args.self.now { frames = c.pop.new.self }) c.args.world.now) (state_of c.end_handler.new.self c.args.world.now) c.args.self.now.frames.items c.in-Handler.rest c.in-Handler.cleanup
+    c.args.exc c.in_ok-exc-in-Handler.exc (c.in-Some.ensures.items ∙ ap (λ (f : Frame). c.pop.new.self.items ++ f ∷ []) c.in-Handler.is) (ap (λ (t : Task). state_of t c.args.world.now) e.stays) e.frames e.exc
+
 pub returns-in-Cleanup-clause-fits : goal.returns-in-Cleanup-clause-fits
 returns-in-Cleanup-clause-fits c =
-    let self = c.args.self.now in
-    let fs = c.pop.new.self.items in
     let f = Cleanup c.in-Cleanup.outcome in
-    let fits = popped_fits self fs c.in-Some.frame f c.args.world.now c.in-Some.ensures.items c.in-Cleanup.is c.requires.fits in
-    frame_off fs f self c.args.world.now refl fits (in_range_with fs f self c.args.world.now fits)
-    (starts_with fs f self c.args.world.now fits)
+    let fits = (popped_fits (state_of (record c.args.self.now { frames = c.pop.new.self }) c.args.world.now) c.args.self.now.frames.items c.in-Some.frame (Cleanup c.in-Cleanup.outcome) c.in-Some.ensures.items c.in-Cleanup.is c.requires.fits) in
+    frame_off (state_of (record c.args.self.now { frames = c.pop.new.self }) c.args.world.now) f refl fits (in_range_with (state_of (record c.args.self.now { frames = c.pop.new.self }) c.args.world.now) f fits) (starts_with (state_of (record c.args.self.now { frames = c.pop.new.self }) c.args.world.now) f fits)
 
 pub returns-in-Cleanup-clause-shorter : goal.returns-in-Cleanup-clause-shorter
 returns-in-Cleanup-clause-shorter c =
@@ -145,78 +162,28 @@ returns-in-Cleanup-clause-shorter c =
     c.in-Some.ensures.items c.in-Cleanup.is in
     omega (arith, before)
 
-pub returns-in_default-clause-step : goal.returns-in_default-clause-step
-returns-in_default-clause-step c =
-    let self = c.args.self.now in
-    let e = c.end.ensures in
-    takes_end self.frames.items self (record self { frames = c.pop.new.self }) c.end.new.self c.args.world.now c.end.new.world c.args.exc
-    c.end.result c.in_default.ensures.items c.in_default.ensures.variant.1 refl
-    e.moved e.stays e.rest e.at
-
-pub returns-in_ok-exc-in-Scope-clause-step : goal.returns-in_ok-exc-in-Scope-clause-step
-returns-in_ok-exc-in-Scope-clause-step c =
-    let self = c.args.self.now in
-    let e = c.in_ok-exc-in-Scope.ensures in
-    takes_exit self.frames.items c.in-Scope.fail self (record self { frames = c.pop.new.self }) c.exit.new.self c.args.world.now
-    c.exit.new.world c.args.exc c.in_ok-exc-in-Scope.exc (c.in-Some.ensures.items
-    ∙ ap (λ (f : Frame). c.pop.new.self.items ++ f ∷ []) c.in-Scope.is)
-    refl e.stays e.world e.at e.left
-
-pub returns-in-Nursery-clause-step : goal.returns-in-Nursery-clause-step
-returns-in-Nursery-clause-step c =
-    let self = c.args.self.now in
-    let e = c.end_body.ensures in
-    takes_body self.frames.items c.in-Nursery.id self (record self { frames = c.pop.new.self }) c.end_body.new.self c.args.world.now
-    c.end_body.new.world c.args.exc c.end_body.result (c.in-Some.ensures.items
-    ∙ ap (λ (f : Frame). c.pop.new.self.items ++ f ∷ []) c.in-Nursery.is)
-    refl e.moved e.stays e.rest e.ended e.at
-
-pub returns-in_ok-exc-in-Try-clause-step : goal.returns-in_ok-exc-in-Try-clause-step
-returns-in_ok-exc-in-Try-clause-step c =
-    let self = c.args.self.now in
-    let e = c.in_ok-exc-in-Try.ensures in
-    takes_try self.frames.items c.in-Try.handler c.in-Try.cleanup self (record self { frames = c.pop.new.self }) c.end_try.new.self
-    c.args.world.now c.args.exc c.in_ok-exc-in-Try.exc (c.in-Some.ensures.items
-    ∙ ap (λ (f : Frame). c.pop.new.self.items ++ f ∷ []) c.in-Try.is)
-    refl e.stays e.step
-
-pub returns-in_ok-exc-in-Handler-clause-step : goal.returns-in_ok-exc-in-Handler-clause-step
-returns-in_ok-exc-in-Handler-clause-step c =
-    let self = c.args.self.now in
-    let e = c.in_ok-exc-in-Handler.ensures in
-    takes_handler self.frames.items c.in-Handler.rest c.in-Handler.cleanup self (record self { frames = c.pop.new.self })
-    c.end_handler.new.self c.args.world.now c.args.exc c.in_ok-exc-in-Handler.exc
-    (c.in-Some.ensures.items ∙ ap (λ (f : Frame). c.pop.new.self.items ++ f ∷ []) c.in-Handler.is) refl e.stays e.frames e.exc
-
 pub returns-in-Cleanup-clause-step : goal.returns-in-Cleanup-clause-step
 returns-in-Cleanup-clause-step c =
-    let self = c.args.self.now in
-    takes_cleanup self.frames.items c.in-Cleanup.outcome self (record self { frames = c.pop.new.self }) c.args.world.now c.args.exc
-    c.outcome_after.result (c.in-Some.ensures.items ∙ ap (λ (f : Frame). c.pop.new.self.items ++ f ∷ []) c.in-Cleanup.is) refl
+    takes_cleanup (state_of (record c.args.self.now { frames = c.pop.new.self }) c.args.world.now) c.args.self.now.frames.items c.in-Cleanup.outcome c.args.exc c.outcome_after.result (c.in-Some.ensures.items ∙ ap (λ (f : Frame). c.pop.new.self.items ++ f ∷ []) c.in-Cleanup.is)
     (c.outcome_after.ensures ∙ ap (λ (o : Option held.Exc). outcome_after (option_map exc_of o) (option_map exc_of c.args.exc)) c.unbox_exc.ensures)
 
 pub returns-in_ok-moved-in-Steps-clause-step : goal.returns-in_ok-moved-in-Steps-clause-step
-returns-in_ok-moved-in-Steps-clause-step c = c.in_ok-moved-in-Steps.ensures.step c.args.self.now.frames.items c.args.self.now
-    (c.in-Some.ensures.items ∙ ap (λ (f : Frame). c.pop.new.self.items ++ f ∷ []) c.in-Steps.is) refl
+returns-in_ok-moved-in-Steps-clause-step c =
+    subst (λ (whole : List Frame). StepsAs (with_frames (state_of (record c.args.self.now { frames = c.pop.new.self }) c.args.world.now) whole) (state_of c.go_on.new.self c.go_on.new.world) (option_map exc_of c.args.exc)
+    c.in_ok-moved-in-Steps.moved) (sym (c.in-Some.ensures.items ∙ ap (λ (f : Frame). c.pop.new.self.items ++ f ∷ []) c.in-Steps.is)) c.in_ok-moved-in-Steps.ensures.step
 
 pub next_pass-requires : goal.next_pass-requires
 next_pass-requires c =
-    let self = c.args.self.now in
-    let f = Repeat c.in-Repeat.pass c.in-Repeat.left c.in-Repeat.body in
-    (in_range_with c.pop.new.self.items f self c.args.world.now
-    (popped_fits self c.pop.new.self.items c.in-Some.frame f c.args.world.now c.in-Some.ensures.items c.in-Repeat.is
-    c.requires.fits)).1
+    (in_range_with (state_of (record c.args.self.now { frames = c.pop.new.self }) c.args.world.now) (Repeat c.in-Repeat.pass c.in-Repeat.left c.in-Repeat.body)
+    (popped_fits (state_of (record c.args.self.now { frames = c.pop.new.self }) c.args.world.now) c.args.self.now.frames.items c.in-Some.frame (Repeat c.in-Repeat.pass c.in-Repeat.left c.in-Repeat.body) c.in-Some.ensures.items c.in-Repeat.is c.requires.fits)).1
 
 pub returns-in_ok-exc-in-Repeat-clause-fits : goal.returns-in_ok-exc-in-Repeat-clause-fits
 returns-in_ok-exc-in-Repeat-clause-fits c =
-    let self = c.args.self.now in
     let e = c.in_ok-exc-in-Repeat.ensures in
-    let f = Repeat c.in-Repeat.pass c.in-Repeat.left c.in-Repeat.body in
-    passed_fits c.in-Repeat.pass c.in-Repeat.left c.in-Repeat.body.now c.pop.new.self.items f
-    (option_map exc_of c.args.exc) (option_map exc_of c.in_ok-exc-in-Repeat.exc)
-    (record self { frames = c.pop.new.self }) c.next_pass.new.self c.args.world.now refl refl
-    (popped_fits self c.pop.new.self.items c.in-Some.frame f c.args.world.now c.in-Some.ensures.items c.in-Repeat.is c.requires.fits)
-    (e.step (λ id. []) []) e.blocks e.stays
+    passed_fits c.in-Repeat.pass c.in-Repeat.left c.in-Repeat.body.now (state_of (record c.args.self.now { frames = c.pop.new.self }) c.args.world.now) (state_of c.next_pass.new.self c.args.world.now)
+    (Repeat c.in-Repeat.pass c.in-Repeat.left c.in-Repeat.body) (option_map exc_of c.args.exc) (option_map exc_of c.in_ok-exc-in-Repeat.exc) refl refl
+    (popped_fits (state_of (record c.args.self.now { frames = c.pop.new.self }) c.args.world.now) c.args.self.now.frames.items c.in-Some.frame (Repeat c.in-Repeat.pass c.in-Repeat.left c.in-Repeat.body) c.in-Some.ensures.items c.in-Repeat.is c.requires.fits)
+    (e.step (λ id. []) []) e.blocks (ap (λ (t : Task). state_of t c.args.world.now) e.stays)
 
 pub returns-in_ok-exc-in-Repeat-clause-shorter : goal.returns-in_ok-exc-in-Repeat-clause-shorter
 returns-in_ok-exc-in-Repeat-clause-shorter c =
@@ -230,38 +197,6 @@ returns-in_ok-exc-in-Repeat-clause-shorter c =
 
 pub returns-in_ok-exc-in-Repeat-clause-step : goal.returns-in_ok-exc-in-Repeat-clause-step
 returns-in_ok-exc-in-Repeat-clause-step c =
-    let self = c.args.self.now in
     let e = c.in_ok-exc-in-Repeat.ensures in
-    takes_pass self.frames.items c.in-Repeat.pass c.in-Repeat.left c.in-Repeat.body self (record self { frames = c.pop.new.self })
-    c.next_pass.new.self c.args.world.now c.args.exc c.in_ok-exc-in-Repeat.exc (c.in-Some.ensures.items
-    ∙ ap (λ (f : Frame). c.pop.new.self.items ++ f ∷ []) c.in-Repeat.is)
-    refl e.stays e.step
-
-pub returns-in_default-clause-waiters : goal.returns-in_default-clause-waiters
-returns-in_default-clause-waiters c =
-    opened_none c.args.me c.args.world.now.book c.end.new.world.book (same_book _ _ (ap (λ (w : World). w.book) c.end.ensures.rest))
-
-pub returns-in_ok-moved-in-Steps-clause-waiters : goal.returns-in_ok-moved-in-Steps-clause-waiters
-returns-in_ok-moved-in-Steps-clause-waiters c = c.in_ok-moved-in-Steps.ensures.waiters
-
-pub returns-in_ok-exc-in-Scope-clause-waiters : goal.returns-in_ok-exc-in-Scope-clause-waiters
-returns-in_ok-exc-in-Scope-clause-waiters c =
-    opened_none c.args.me c.args.world.now.book c.exit.new.world.book
-    (same_book _ _ (ap (λ (w : World). w.book) c.in_ok-exc-in-Scope.ensures.world))
-
-pub returns-in-Nursery-clause-waiters : goal.returns-in-Nursery-clause-waiters
-returns-in-Nursery-clause-waiters c =
-    opened_none c.args.me c.args.world.now.book c.end_body.new.world.book
-    (ended_waiters c.args.world.now.book c.end_body.new.world.book c.in-Nursery.id _ c.end_body.ensures.ended)
-
-pub returns-in_ok-exc-in-Repeat-clause-waiters : goal.returns-in_ok-exc-in-Repeat-clause-waiters
-returns-in_ok-exc-in-Repeat-clause-waiters c = opened_still c.args.me c.args.world.now.book
-
-pub returns-in_ok-exc-in-Try-clause-waiters : goal.returns-in_ok-exc-in-Try-clause-waiters
-returns-in_ok-exc-in-Try-clause-waiters c = opened_still c.args.me c.args.world.now.book
-
-pub returns-in_ok-exc-in-Handler-clause-waiters : goal.returns-in_ok-exc-in-Handler-clause-waiters
-returns-in_ok-exc-in-Handler-clause-waiters c = opened_still c.args.me c.args.world.now.book
-
-pub returns-in-Cleanup-clause-waiters : goal.returns-in-Cleanup-clause-waiters
-returns-in-Cleanup-clause-waiters c = opened_still c.args.me c.args.world.now.book
+    takes_pass (state_of (record c.args.self.now { frames = c.pop.new.self }) c.args.world.now) (state_of c.next_pass.new.self c.args.world.now) c.args.self.now.frames.items c.in-Repeat.pass c.in-Repeat.left
+    c.in-Repeat.body c.args.exc c.in_ok-exc-in-Repeat.exc (c.in-Some.ensures.items ∙ ap (λ (f : Frame). c.pop.new.self.items ++ f ∷ []) c.in-Repeat.is) (ap (λ (t : Task). state_of t c.args.world.now) e.stays) e.step

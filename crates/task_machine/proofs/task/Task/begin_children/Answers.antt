@@ -1,7 +1,9 @@
-use Rattle.std.proofs.Common.{ℕ, Option, None, ◌∷◌, [], subst, sym}
+use Rattle.std.proofs.Common.{ℕ, Option, None, ◌∷◌, [], ap, subst, sym}
 use Rattle.exc_groups.specs.Exceptions.{Label}
 use Rattle.task_machine.specs.Started.{running_children, StartsOne, StartsAll}
+use Rattle.task_machine.specs.States.{state_of}
 use Rattle.task_machine.specs.Worlds.{label_at}
+use Rattle.task_machine.specs.declared.world.World.{World}
 use Rattle.task_machine.proofs.Bodies.{body_runs}
 use Rattle.task_machine.proofs.TaskFits.{started_fits}
 use Rattle.task_machine.proofs.task.Task.begin_children.Goals as goal
@@ -18,14 +20,16 @@ start_over-requires-clause-nursery c =
 pub returns-in_ok-start-in-None-clause-fits : goal.returns-in_ok-start-in-None-clause-fits
 returns-in_ok-start-in-None-clause-fits c =
     let s = c.in_ok-start-in-None.ensures.started in
-    started_fits c.nursery-nursery.result s.nursery (None ∷ []) c.args.self.now c.args.world.now c.start.new.world c.requires.fits s.was
-    s.book c.in_ok-start-in-None.ensures.rest
+    started_fits c.nursery-nursery.result s.nursery (None ∷ []) (state_of c.args.self.now c.args.world.now)
+    (state_of c.args.self.now c.start.new.world) c.requires.fits s.was s.book
+    (ap (λ (w : World). state_of c.args.self.now w) c.in_ok-start-in-None.ensures.rest)
 
 pub returns-in_ok-start_over-in-Some-clause-fits : goal.returns-in_ok-start_over-in-Some-clause-fits
 returns-in_ok-start_over-in-Some-clause-fits c =
     let s = c.in_ok-start_over-in-Some.ensures.started in
-    started_fits c.nursery-nursery.result s.nursery (running_children c.in-Some.copies) c.args.self.now c.args.world.now c.start_over.new.world
-    c.requires.fits s.was s.book c.in_ok-start_over-in-Some.ensures.rest
+    started_fits c.nursery-nursery.result s.nursery (running_children c.in-Some.copies) (state_of c.args.self.now c.args.world.now)
+    (state_of c.args.self.now c.start_over.new.world) c.requires.fits s.was s.book
+    (ap (λ (w : World). state_of c.args.self.now w) c.in_ok-start_over-in-Some.ensures.rest)
 
 pub returns-in_ok-start-in-None-clause-children : goal.returns-in_ok-start-in-None-clause-children
 returns-in_ok-start-in-None-clause-children c =
@@ -33,9 +37,9 @@ returns-in_ok-start-in-None-clause-children c =
       id = c.nursery-nursery.result;
       at = c.nursery-nursery.ensures;
       started =
-          subst (λ (o : Option ℕ). StartsAll c.args.self.now c.args.world.now c.start.new.world c.nursery-nursery.result c.args.name o
+          subst (λ (o : Option ℕ). StartsAll (state_of c.args.self.now c.args.world.now) (state_of c.args.self.now c.start.new.world) c.nursery-nursery.result c.args.name o
           c.args.body.now) (sym c.in-None.is)
-          (subst (λ (l : Label). StartsOne c.args.world.now c.start.new.world c.nursery-nursery.result l c.args.self.now.part
+          (subst (λ (l : Label). StartsOne (state_of c.args.self.now c.args.world.now) (state_of c.args.self.now c.start.new.world) c.nursery-nursery.result l c.args.self.now.part
           c.args.body.now) c.in_ok-label-in-None.ensures
           c.in_ok-start-in-None.ensures.started);
     }
@@ -46,7 +50,7 @@ returns-in_ok-start_over-in-Some-clause-children c =
       id = c.nursery-nursery.result;
       at = c.nursery-nursery.ensures;
       started =
-          subst (λ (o : Option ℕ). StartsAll c.args.self.now c.args.world.now c.start_over.new.world c.nursery-nursery.result c.args.name o
+          subst (λ (o : Option ℕ). StartsAll (state_of c.args.self.now c.args.world.now) (state_of c.args.self.now c.start_over.new.world) c.nursery-nursery.result c.args.name o
           c.args.body.now) (sym c.in-Some.is)
           c.in_ok-start_over-in-Some.ensures.started;
     }

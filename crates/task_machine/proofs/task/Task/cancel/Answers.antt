@@ -17,25 +17,22 @@ pub returns-in-Some-clause-at : goal.returns-in-Some-clause-at
 returns-in-Some-clause-at c =
     let world = c.args.world.now in
     let found = ap (λ (s : Option ℕ). scope_named (label_at world) c.args.name (outer_of world.scopes s)) (sym c.scope.ensures)
-    ∙ sym c.find.ensures ∙ c.in-Some.is in
-    record {
-      signed = subst (λ (o : Option ℕ). Signed world c.sign.new.self o) (sym found)
-          (record { stacks = c.sign.ensures.stacks; marks = c.sign.ensures.marks });
-      lowered =
-          cancels_at (label_at world) (label_at c.sign.new.self) world.scopes c.sign.new.self.scopes _ c.args.name c.in-Some.id world.tick
+    ∙ sym c.find.ensures ∙ c.in-Some.is in (
+      subst (λ (o : Option ℕ). Signed world.tick world.scopes c.sign.new.self.scopes o) (sym found)
+          (record { stacks = c.sign.ensures.stacks; marks = c.sign.ensures.marks }),
+      cancels_at (label_at world) (label_at c.sign.new.self) world.scopes c.sign.new.self.scopes _ c.args.name c.in-Some.id world.tick
           (ap label_at c.sign.ensures.rest)
-          c.sign.ensures.stacks found;
-    }
+          c.sign.ensures.stacks found,
+    )
 
 pub returns-in_default-clause-at : goal.returns-in_default-clause-at
 returns-in_default-clause-at c =
     let world = c.args.world.now in
     let none = ap (λ (s : Option ℕ). scope_named (label_at world) c.args.name (outer_of world.scopes s)) (sym c.scope.ensures)
-    ∙ sym c.find.ensures ∙ c.in_default.is in
-    record {
-      signed = subst (λ (o : Option ℕ). Signed world world o) (sym none) refl;
-      lowered = λ froms ps own a. cancels_none (label_at world) _ c.args.name world.tick none froms ps a;
-    }
+    ∙ sym c.find.ensures ∙ c.in_default.is in (
+      subst (λ (o : Option ℕ). Signed world.tick world.scopes world.scopes o) (sym none) refl,
+      λ froms ps own a. cancels_none (label_at world) _ c.args.name world.tick none froms ps a,
+    )
 
 pub returns-in-Some-clause-keys : goal.returns-in-Some-clause-keys
 returns-in-Some-clause-keys c =

@@ -17,7 +17,7 @@ returns-clause-at c =
     c.stacks_are_chains.ensures.chain entered.fresh
     (entered.opened ∙ ap (λ (s : Option ℕ). Some (record { label = c.in_ok-id.id; shield = c.args.shield; from = c.args.deadline }
     ∷ outer_of world.scopes s)) c.scope.ensures)
-    (subst (λ (l : Label). Updates (label_at world) (label_at c.enter.new.self) c.in_ok-id.id (Some l)) c.in_ok-label.ensures entered.label)
+    entered.label
     (last_pushed _ _ _ _ c.in_ok-push-2.ensures.items) froms ps named a
 
 pub returns-clause-inner : goal.returns-clause-inner
@@ -28,7 +28,7 @@ returns-clause-own c =
     let world = c.args.world.now in
     let entered = c.in_ok-id.ensures in
     record {
-      own = record { id = c.in_ok-id.id; at = c.len-at.result };
+      scope = record { id = c.in_ok-id.id; at = c.len-at.result };
       opened = c.in_ok-push-2.ensures.items;
       place = (let e = c.len-at.ensures in let f = c.args.self.now.froms.ok in cc);
       froms = c.in_ok-push.ensures.items ∙ ap (λ (l : Label). c.args.self.now.froms.items ++ record { label = l; seen = None } ∷ [])
@@ -41,6 +41,5 @@ returns-clause-own c =
       from = refl;
       others = entered.others;
       marks = c.enter.ensures.marks;
-      labelled = subst (λ (l : Label). Updates (label_at world) (label_at c.enter.new.self) c.in_ok-id.id (Some l)) c.in_ok-label.ensures
-          entered.label;
+      labelled = entered.label;
     }

@@ -7,14 +7,15 @@ use Rattle.turn_semantics.specs.Midway.{Place}
 use Rattle.turn_semantics.specs.Steps.{froms_after_entry}
 use Rattle.task_machine.specs.Stacked.{AreAt}
 use Rattle.task_machine.specs.Worlds.{label_at}
-use Rattle.nursery_book.specs.Nursery.{froms_after_entry as opens}
+use Rattle.nursery_book.specs.Nursery.{new_nursery as opens}
 use Rattle.nursery_book.specs.Book.{nursery_at, Updates}
 use Rattle.nursery_book.specs.declared.book.NurseryBook.{NurseryBook}
 use Rattle.task_machine.specs.declared.frame.Frame.{Frame}
 use Rattle.task_machine.specs.declared.frame.Frame.TheVariants.{Nursery, Steps}
 use Rattle.task_machine.specs.declared.task.Task.{Task}
 use Rattle.task_machine.specs.declared.world.World.{World}
-use Rattle.task_machine.specs.Entered.{label_in}
+use Rattle.task_machine.specs.Entered.{EntersAt, label_in}
+use Rattle.task_machine.specs.States.{state_of}
 use Rattle.task_machine.specs.Tasks.{scope_of}
 use Rattle.task_machine.proofs.task.Task.enter_nursery.Goals as goal
 
@@ -31,8 +32,7 @@ returns-clause-nursery c =
           subst (λ (b : NurseryBook). Updates b c.open.new.self c.in_ok-id.id (Some (opens c.in_ok-scope.scope c.args.me label))) book
           (subst (λ (l : Label). Updates c.enter.new.world.book c.open.new.self c.in_ok-id.id
           (Some (opens c.in_ok-scope.scope c.args.me l)))
-          (c.in_ok-label.ensures ∙ ap (λ (t : Task). label_in t c.args.block.name) c.in_ok-scope.ensures.stays)
-          c.in_ok-id.ensures.opened);
+          c.in_ok-label.ensures c.in_ok-id.ensures.opened);
       frames =
           record {
             top = Steps c.as_slice.result;
@@ -55,8 +55,11 @@ returns-clause-at c =
     ap scope_of c.in_ok-push-2.ensures.stays ∙ ap scope_of c.in_ok-push.ensures.stays in
     let deadline : c.due-deadline.result ≡ due c.args.block.deadline c.args.world.now.tick =
     c.due-deadline.ensures.due ∙ ap (λ (t : ℕ). due c.args.block.deadline t) c.now.ensures in
+    let entered =
+    subst (λ (l : Label). EntersAt (state_of c.args.self.now c.args.world.now) (state_of c.enter.new.self c.enter.new.world) l
+    c.args.block.shield c.due-deadline.result) (c.in_ok-kept.ensures ∙ c.in_ok-label.ensures) c.in_ok-scope.ensures.at in
     λ froms ps new at.
     subst (λ (s : Option ℕ). AreAt labels (froms_after_entry froms label (due c.args.block.deadline c.args.world.now.tick)) (outer_of scopes s)
     (place ∷ ps)) (sym scope)
     (subst (λ (d : Tick). AreAt labels (froms_after_entry froms label d) (outer_of scopes (scope_of c.enter.new.self)) (place ∷ ps)) deadline
-    (c.in_ok-scope.ensures.at froms ps new at))
+    (entered froms ps new at))

@@ -8,19 +8,16 @@ use Rattle.task_machine.proofs.task.Task.fail.Goals as goal
 pub returns-in-Some-clause-at : goal.returns-in-Some-clause-at
 returns-in-Some-clause-at c =
     let world = c.args.world.now in
-    let within = sym c.scope.ensures ∙ c.in-Some.is in
-    record {
-      signed =
-          subst (λ (o : Option ℕ). Signed world c.sign.new.self o)
+    let within = sym c.scope.ensures ∙ c.in-Some.is in (
+      subst (λ (o : Option ℕ). Signed world.tick world.scopes c.sign.new.self.scopes o)
           (sym (failed_at world.scopes _ c.in-Some.id c.args.exc.now c.is_none.result c.is_none.ensures c.if-is_none.false
           c.stacks_are_chains.ensures.own within (c.requires.scope c.in-Some.id within)))
-          (record { stacks = c.sign.ensures.stacks; marks = c.sign.ensures.marks });
-      lowered =
-          fails_if (label_at world) (label_at c.sign.new.self) world.scopes c.sign.new.self.scopes _ c.in-Some.id world.tick c.args.exc.now
+          (record { stacks = c.sign.ensures.stacks; marks = c.sign.ensures.marks }),
+      fails_if (label_at world) (label_at c.sign.new.self) world.scopes c.sign.new.self.scopes _ c.in-Some.id world.tick c.args.exc.now
           c.is_none.result c.is_none.ensures c.if-is_none.false (ap label_at c.sign.ensures.rest) c.stacks_are_chains.ensures.own within
           (c.requires.scope c.in-Some.id within)
-          c.sign.ensures.stacks;
-    }
+          c.sign.ensures.stacks,
+    )
 
 pub returns-in-Some-clause-keys : goal.returns-in-Some-clause-keys
 returns-in-Some-clause-keys c =

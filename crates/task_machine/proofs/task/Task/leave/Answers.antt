@@ -30,7 +30,7 @@ returns-clause-left c =
     let below = last_below (length froms) c.pop.new.self.items c.in-Some.own
     (subst (λ (own : List Own). All (λ (o : Own). o.at < length froms) own) c.in-Some.ensures.items c.requires.froms) in
     record {
-      last = c.in-Some.own;
+      scope = c.in-Some.own;
       taken = c.in-Some.ensures.items;
       innermost = c.requires.innermost c.in-Some.own.id (last_pushed _ _ _ _ c.in-Some.ensures.items);
       from = c.leave-label.result.1;

@@ -3,6 +3,7 @@ use Rattle.job_meaning.specs.Asking as ask
 use Rattle.turn_semantics.specs.Wakes.{goes_on_with}
 use Rattle.task_machine.specs.declared.stop.Purpose.{Purpose}
 use Rattle.task_machine.specs.Standing.{here_of}
+use Rattle.task_machine.specs.States.{state_of}
 use Rattle.task_machine.specs.Stops.{purpose_in}
 use Rattle.task_machine.proofs.Wakens.{wakes_answered, wakes_missing}
 use Rattle.task_machine.proofs.task.Task.miss.Goals as goal
@@ -11,14 +12,14 @@ pub returns-in_ok-moved-in-Needs-clause-wakes : goal.returns-in_ok-moved-in-Need
 returns-in_ok-moved-in-Needs-clause-wakes c =
     let self = c.args.self.now in
     λ kernel asked.
-    wakes_missing self self self c.args.world.now c.in_ok-moved-in-Needs.moved kernel c.args.purpose c.in-Needs.name refl asked
-    (ap purpose_in c.in-Needs.is) refl c.in_ok-moved-in-Needs.ensures.raises
+    wakes_missing (state_of self c.args.world.now) kernel c.args.purpose asked c.in_ok-moved-in-Needs.moved c.in-Needs.name
+    (ap purpose_in c.in-Needs.is) c.in_ok-moved-in-Needs.ensures.raises
 
 pub returns-in-Shows-clause-wakes : goal.returns-in-Shows-clause-wakes
 returns-in-Shows-clause-wakes c =
     let self = c.args.self.now in
     λ kernel asked.
-    wakes_answered self self c.args.world.now kernel c.args.purpose ask.missing refl asked
+    wakes_answered (state_of self c.args.world.now) kernel c.args.purpose asked ask.missing
     (λ froms fs ps. ap (λ (p : Purpose). goes_on_with froms c.args.world.now.tick (here_of self) ask.missing (purpose_in p) fs ps)
     c.in-Shows.is)
 
@@ -26,6 +27,6 @@ pub returns-in-Paces-clause-wakes : goal.returns-in-Paces-clause-wakes
 returns-in-Paces-clause-wakes c =
     let self = c.args.self.now in
     λ kernel asked.
-    wakes_answered self self c.args.world.now kernel c.args.purpose ask.missing refl asked
+    wakes_answered (state_of self c.args.world.now) kernel c.args.purpose asked ask.missing
     (λ froms fs ps. ap (λ (p : Purpose). goes_on_with froms c.args.world.now.tick (here_of self) ask.missing (purpose_in p) fs ps)
     c.in-Paces.is)

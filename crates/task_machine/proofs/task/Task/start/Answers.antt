@@ -1,12 +1,13 @@
 use Rattle.std.proofs.Common.{ap}
 use Rattle.buffer_parts.specs.Part.{buffer_of, range_of}
+use Rattle.task_machine.specs.States.{state_of}
 use Rattle.task_machine.proofs.Starts.{starts_one}
 use Rattle.task_machine.proofs.task.Task.start.Goals as goal
 
 pub returns-clause-started : goal.returns-clause-started
 returns-clause-started c =
     let child = c.in_ok-child.ensures in
-    starts_one c.args.world.now _ c.args.nursery c.args.label c.args.part c.args.body.now c.in_ok-child.child c.scope-scope.result
+    starts_one (state_of c.args.self.now c.args.world.now) _ c.args.nursery c.args.label c.args.part c.args.body.now c.in_ok-child.child c.scope-scope.result
     c.in_ok-place.place
     c.scope-scope.ensures c.in_ok-place.ensures.place c.in_ok-place.ensures.started c.in_ok-push_back.ensures.items
     (record {

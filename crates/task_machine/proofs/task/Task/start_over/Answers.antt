@@ -4,6 +4,7 @@ use Rattle.exc_groups.specs.Exceptions.{Label}
 use Rattle.task_machine.specs.declared.world.World.{World}
 use Rattle.task_machine.specs.Started.{StartsOver}
 use Rattle.task_machine.specs.Tasks.{path_of}
+use Rattle.task_machine.specs.States.{state_of}
 use Rattle.task_machine.proofs.Starts.{starts_none, starts_more, runs_on}
 use Rattle.task_machine.proofs.task.Task.start_over.Goals as goal
 
@@ -19,12 +20,13 @@ copies-preserved c =
     let count = c.copies.invariant.5 in
     let given = c.copies.invariant.6 in (
       omega (arith, c.copies-test.true),
-      subst (λ (j : ℕ). StartsOver c.args.self.now c.args.world.now c.start.new.world c.args.nursery c.args.name c.args.copies
-          c.args.body.now j) next
-          (starts_more c.args.self.now c.args.world.now c.copies.world c.start.new.world c.args.nursery c.args.copies i c.args.name
+      subst (λ (j : ℕ). StartsOver (state_of c.args.self.now c.args.world.now) (state_of c.args.self.now c.start.new.world) c.args.nursery c.args.name
+          c.args.copies c.args.body.now j) next
+          (starts_more (state_of c.args.self.now c.args.world.now) (state_of c.args.self.now c.copies.world)
+          (state_of c.args.self.now c.start.new.world) c.args.nursery c.args.copies i c.args.name
           c.in_ok-label.label c.next_cut-part.result c.args.body.now
           c.copies.invariant.1 started.started name (gives.buffer ∙ ap buffer_of whole) (rw (whole, count, given) at gives.range)),
-      runs_on c.copies.world c.start.new.world c.args.nursery c.in_ok-label.label c.next_cut-part.result c.args.body.now started.started
+      runs_on (state_of c.args.self.now c.copies.world) (state_of c.args.self.now c.start.new.world) c.args.nursery c.in_ok-label.label c.next_cut-part.result c.args.body.now started.started
           c.copies.invariant.2,
       started.rest ∙ ap (λ (w : World). record w { book = c.start.new.world.book; started = c.start.new.world.started })
           c.copies.invariant.3,
@@ -35,6 +37,6 @@ copies-preserved c =
 
 pub copies-init : goal.copies-init
 copies-init c =
-    let none = starts_none c.args.self.now c.args.world.now c.args.nursery c.args.copies c.args.name c.args.body.now (λ n. n.body ≡ None)
+    let none = starts_none (state_of c.args.self.now c.args.world.now) c.args.nursery c.args.copies c.args.name c.args.body.now (λ n. n.body ≡ None)
     c.requires.nursery in
     (omega arith, none, c.requires.nursery, refl, c.cuts-cuts.ensures.part, c.cuts-cuts.ensures.count, c.cuts-cuts.ensures.given)

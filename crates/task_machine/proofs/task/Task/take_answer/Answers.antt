@@ -5,6 +5,9 @@ use Rattle.task_machine.specs.declared.entry.Entry.TheVariants as entries
 use Rattle.turn_semantics.specs.Wakes.{has_answer}
 use Rattle.task_machine.specs.declared.stop.Moved.TheVariants.{On}
 use Rattle.task_machine.specs.Standing.{Wakens}
+use Rattle.task_machine.specs.States.{state_of}
+use Rattle.task_machine.specs.declared.entry.Entry.{Entry}
+use Rattle.job_meaning.specs.Asking as ask
 use Rattle.line_kernels.specs.Answers.{IsAnswer}
 use Rattle.line_kernels.specs.declared.answers.Answer as held
 use Rattle.task_machine.specs.declared.stop.TaskState.{TaskState}
@@ -25,25 +28,27 @@ pub returns-in_ok-push_lines-in-Lines-clause-wakes : goal.returns-in_ok-push_lin
 returns-in_ok-push_lines-in-Lines-clause-wakes c =
     let self = c.args.self.now in
     let lines = c.in-Lines.lines in
-    subst (λ (a : held.Answer). Wakens self (record self { entries = c.push_lines.new.entries }) c.args.world.now c.args.world.now (On None)
+    subst (λ (a : held.Answer). Wakens (state_of self c.args.world.now)
+    (state_of (record self { entries = c.push_lines.new.entries }) c.args.world.now) (On None)
     (has_answer (answer_in a))) (sym c.in-Lines.is)
-    (wakes_lines self self (record self { entries = c.push_lines.new.entries }) c.args.world.now c.in-Asked.kernel c.in-Asked.purpose
-    (map span_of lines) lines refl c.in-Asked.is refl
-    (c.in_ok-push_lines-in-Lines.ensures ∙ ap (λ (ls : List Line). self.entries.items ++ map entries.Line ls) c.as_slice.ensures)
+    (subst (λ (es : List Entry). Wakens (state_of self c.args.world.now)
+    (record (state_of self c.args.world.now) { entries = es }) (On None) (has_answer (ask.lines (map span_of lines))))
+    (sym (c.in_ok-push_lines-in-Lines.ensures ∙ ap (λ (ls : List Line). self.entries.items ++ map entries.Line ls) c.as_slice.ensures))
+    (wakes_lines (state_of self c.args.world.now) c.in-Asked.kernel c.in-Asked.purpose c.in-Asked.is (map span_of lines) lines
     (lines_at c.in-Asked.kernel self.part lines
     (subst (λ (a : held.Answer). IsAnswer c.in-Asked.kernel self.part a) c.in-Lines.is
-    (subst (λ (h : TaskState). WakesFrom h self.part c.args.world.now.book (Answer c.args.answer)) c.in-Asked.is c.requires.wake))))
+    (subst (λ (h : TaskState). WakesFrom h self.part c.args.world.now.book (Answer c.args.answer)) c.in-Asked.is c.requires.wake)))))
 
 pub returns-in_ok-moved-in-Missing-clause-wakes : goal.returns-in_ok-moved-in-Missing-clause-wakes
 returns-in_ok-moved-in-Missing-clause-wakes c =
     let self = c.args.self.now in
-    subst (λ (a : held.Answer). Wakens self self c.args.world.now c.args.world.now c.in_ok-moved-in-Missing.moved
+    subst (λ (a : held.Answer). Wakens (state_of self c.args.world.now) (state_of self c.args.world.now) c.in_ok-moved-in-Missing.moved
     (has_answer (answer_in a))) (sym c.in-Missing.is)
     (c.in_ok-moved-in-Missing.ensures.wakes c.in-Asked.kernel c.in-Asked.is)
 
 pub returns-in-Count-clause-wakes : goal.returns-in-Count-clause-wakes
 returns-in-Count-clause-wakes c =
     let self = c.args.self.now in
-    subst (λ (a : held.Answer). Wakens self c.pace.new.self c.args.world.now c.args.world.now c.pace.result (has_answer (answer_in a)))
+    subst (λ (a : held.Answer). Wakens (state_of self c.args.world.now) (state_of c.pace.new.self c.args.world.now) c.pace.result (has_answer (answer_in a)))
     (sym c.in-Count.is)
     (c.pace.ensures.wakes c.in-Asked.kernel c.in-Asked.is)

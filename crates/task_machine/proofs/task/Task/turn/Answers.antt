@@ -1,41 +1,51 @@
-use Rattle.std.proofs.Common.{ap, subst}
+use Rattle.std.proofs.Common.{◌≡◌, ap, refl, ◌∙◌, subst}
 use Rattle.task_machine.specs.declared.stop.Moved.{Moved}
 use Rattle.task_machine.specs.declared.task.Task.{Task}
 use Rattle.task_machine.specs.declared.world.World.{World}
 use Rattle.task_machine.specs.Standing.{Took, wake_at}
+use Rattle.task_machine.specs.States.{state_of}
+use Rattle.task_machine.specs.Waiters.{KeepsRest}
 use Rattle.task_machine.specs.Waking.{wake_in}
 use Rattle.task_machine.proofs.WholeTurn.{can_wake, turns_at_once, turns_later}
-use Rattle.task_machine.proofs.Waiters.{opened_none, opened_then}
+use Rattle.task_machine.proofs.Waiters.{opened_none, keeps_then, keeps_woken}
 use Rattle.task_machine.proofs.task.Task.turn.Goals as goal
 
 pub returns-in_ok-stop-in-On-clause-turn : goal.returns-in_ok-stop-in-On-clause-turn
 returns-in_ok-stop-in-On-clause-turn c =
     let self = c.args.self.now in
     let world = c.args.world.now in
+    let s = state_of self world in
+    let m = state_of c.wake.new.self c.wake.new.world in
     let woke = c.in_ok-exc.ensures in
     λ froms numbers ps count stopped task_state stands.
-    turns_later self c.wake.new.self c.go_to_stop.new.self world c.wake.new.world c.go_to_stop.new.world c.args.wake c.in-On.exc
+    turns_later s m (state_of c.go_to_stop.new.self c.go_to_stop.new.world) c.args.wake c.in-On.exc
     c.in_ok-stop-in-On.stop froms numbers ps count stopped
     (ap (λ (t : Task). t.part) woke.stays) (ap (λ (t : Task). t.label) woke.stays) (ap (λ (w : World). w.tick) woke.world)
     (can_wake self.task_state self.part world.book numbers c.args.wake stopped c.requires.wake task_state) stands
-    (subst (λ (m : Moved). Took self.frames.items self c.wake.new.self world c.wake.new.world m froms numbers
-    (wake_at self world (wake_in world.book self.task_state c.args.wake) stopped froms numbers ps)) c.in-On.is
+    (subst (λ (x : Moved). Took s m x froms numbers
+    (wake_at s (wake_in world.book self.task_state c.args.wake) stopped froms numbers ps)) c.in-On.is
     (woke.wakes froms numbers stopped ps stands task_state)) c.in_ok-stop-in-On.ensures.steps
 
 pub returns-in-Stops-clause-turn : goal.returns-in-Stops-clause-turn
 returns-in-Stops-clause-turn c =
     let self = c.args.self.now in
     let world = c.args.world.now in
+    let s = state_of self world in
+    let m = state_of c.wake.new.self c.wake.new.world in
     λ froms numbers ps count stopped task_state stands.
-    turns_at_once self c.wake.new.self world c.wake.new.world c.args.wake c.in-Stops.stop froms numbers ps count stopped
-    (subst (λ (m : Moved). Took self.frames.items self c.wake.new.self world c.wake.new.world m froms numbers
-    (wake_at self world (wake_in world.book self.task_state c.args.wake) stopped froms numbers ps)) c.in-Stops.is
+    turns_at_once s m c.args.wake c.in-Stops.stop froms numbers ps count stopped
+    (subst (λ (x : Moved). Took s m x froms numbers
+    (wake_at s (wake_in world.book self.task_state c.args.wake) stopped froms numbers ps)) c.in-Stops.is
     (c.in_ok-exc.ensures.wakes froms numbers stopped ps stands task_state))
 
-pub returns-in_ok-stop-in-On-clause-waiters : goal.returns-in_ok-stop-in-On-clause-waiters
-returns-in_ok-stop-in-On-clause-waiters c =
-    opened_then c.args.me c.args.world.now.book c.wake.new.world.book c.go_to_stop.new.world.book
-    (opened_none c.args.me c.args.world.now.book c.wake.new.world.book c.in_ok-exc.ensures.waiters) c.in_ok-stop-in-On.ensures.waiters
+pub returns-in_ok-stop-in-On-clause-keeps : goal.returns-in_ok-stop-in-On-clause-keeps
+returns-in_ok-stop-in-On-clause-keeps c =
+    let woke = c.in_ok-exc.ensures in
+    keeps_then c.args.me c.args.self.now c.wake.new.self c.go_to_stop.new.self c.args.world.now c.wake.new.world c.go_to_stop.new.world
+    (keeps_woken c.args.me c.args.self.now c.wake.new.self c.args.world.now c.wake.new.world woke.stays woke.world woke.task_state woke.waiters)
+    c.in_ok-stop-in-On.ensures.keeps
 
-pub returns-in-Stops-clause-waiters : goal.returns-in-Stops-clause-waiters
-returns-in-Stops-clause-waiters c = opened_none c.args.me c.args.world.now.book c.wake.new.world.book c.in_ok-exc.ensures.waiters
+pub returns-in-Stops-clause-keeps : goal.returns-in-Stops-clause-keeps
+returns-in-Stops-clause-keeps c =
+    let woke = c.in_ok-exc.ensures in
+    keeps_woken c.args.me c.args.self.now c.wake.new.self c.args.world.now c.wake.new.world woke.stays woke.world woke.task_state woke.waiters

@@ -3,6 +3,7 @@ use Rattle.exc_groups.specs.declared.exc.Exc.TheVariants.{Cancelled}
 use Rattle.task_machine.specs.declared.stop.Moved.TheVariants.{On}
 use Rattle.task_machine.specs.declared.stop.Wake as held
 use Rattle.task_machine.specs.Standing.{Wakens}
+use Rattle.task_machine.specs.States.{state_of}
 use Rattle.task_machine.specs.Waking.{wake_in}
 use Rattle.task_machine.proofs.Wakens.{wakes_begin, wakes_due, wakes_seen}
 use Rattle.task_machine.proofs.Waiters.{same_book}
@@ -12,35 +13,35 @@ pub returns-in-Begin-clause-wakes : goal.returns-in-Begin-clause-wakes
 returns-in-Begin-clause-wakes c =
     let self = c.args.self.now in
     let world = c.args.world.now in
-    subst (λ (w : held.Wake). Wakens self self world world (On None) (wake_in world.book self.task_state w)) (sym c.in-Begin.is)
-    (wakes_begin self self world refl)
+    subst (λ (w : held.Wake). Wakens (state_of self world) (state_of self world) (On None) (wake_in world.book self.task_state w)) (sym c.in-Begin.is)
+    (wakes_begin (state_of self world))
 
 pub returns-in-Due-clause-wakes : goal.returns-in-Due-clause-wakes
 returns-in-Due-clause-wakes c =
     let self = c.args.self.now in
     let world = c.args.world.now in
-    subst (λ (w : held.Wake). Wakens self self world world (On None) (wake_in world.book self.task_state w)) (sym c.in-Due.is)
-    (wakes_due self self world refl)
+    subst (λ (w : held.Wake). Wakens (state_of self world) (state_of self world) (On None) (wake_in world.book self.task_state w)) (sym c.in-Due.is)
+    (wakes_due (state_of self world))
 
 pub returns-in-Seen-clause-wakes : goal.returns-in-Seen-clause-wakes
 returns-in-Seen-clause-wakes c =
     let self = c.args.self.now in
     let world = c.args.world.now in
-    subst (λ (w : held.Wake). Wakens self self world world (On (Some Cancelled)) (wake_in world.book self.task_state w)) (sym c.in-Seen.is)
-    (wakes_seen self self world (Some Cancelled) refl refl)
+    subst (λ (w : held.Wake). Wakens (state_of self world) (state_of self world) (On (Some Cancelled)) (wake_in world.book self.task_state w)) (sym c.in-Seen.is)
+    (wakes_seen (state_of self world) (Some Cancelled) refl)
 
 pub returns-in_ok-moved-in-Answer-clause-wakes : goal.returns-in_ok-moved-in-Answer-clause-wakes
 returns-in_ok-moved-in-Answer-clause-wakes c =
     let self = c.args.self.now in
     let world = c.args.world.now in
-    subst (λ (w : held.Wake). Wakens self c.take_answer.new.self world world c.in_ok-moved-in-Answer.moved (wake_in world.book self.task_state w))
+    subst (λ (w : held.Wake). Wakens (state_of self world) (state_of c.take_answer.new.self world) c.in_ok-moved-in-Answer.moved (wake_in world.book self.task_state w))
     (sym c.in-Answer.is) (c.in_ok-moved-in-Answer.ensures.wakes)
 
 pub returns-in_ok-moved-in-Settled-clause-wakes : goal.returns-in_ok-moved-in-Settled-clause-wakes
 returns-in_ok-moved-in-Settled-clause-wakes c =
     let self = c.args.self.now in
     let world = c.args.world.now in
-    subst (λ (w : held.Wake). Wakens self c.settle.new.self world c.settle.new.world c.in_ok-moved-in-Settled.moved
+    subst (λ (w : held.Wake). Wakens (state_of self world) (state_of c.settle.new.self c.settle.new.world) c.in_ok-moved-in-Settled.moved
     (wake_in world.book self.task_state w)) (sym c.in-Settled.is) (c.in_ok-moved-in-Settled.ensures.wakes)
 
 pub returns-in-Begin-clause-waiters : goal.returns-in-Begin-clause-waiters
