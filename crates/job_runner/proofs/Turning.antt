@@ -37,7 +37,8 @@ use Rattle.run_refinement.specs.RunState.{RunState, Follows, Refines}
 use Rattle.run_refinement.specs.Moved.{SameTasks}
 use Rattle.run_refinement.specs.Ready.{IsTimely, MayGo, AreHomesOf}
 use Rattle.run_refinement.specs.Step.{TakesTurn, StopSays, EndsAs, StoppedIn}
-use Rattle.run_refinement.specs.Turn.{Turning, numbers_then, leaving_by, serials_from}
+use Rattle.run_refinement.specs.Turn.{numbers_then, leaving_by, serials_from}
+use Rattle.run_refinement.specs.Turning.{Turning}
 use Rattle.run_refinement.specs.Turn as turns
 use Rattle.run_refinement.proofs.Blocks.{state_turns}
 use Rattle.run_refinement.proofs.StateFits.{state_fits}

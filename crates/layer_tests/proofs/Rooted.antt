@@ -20,6 +20,7 @@ use Rattle.turn_semantics.specs.Midway.{Move}
 use Rattle.turn_semantics.specs.Names.{NewIn}
 use Rattle.turn_semantics.specs.Placed.{Placed}
 use Rattle.turn_semantics.proofs.Names.{new_job}
+use Rattle.task_machine.specs.States.{state_of}
 use Rattle.task_machine.specs.declared.stop.TaskState.{TaskState}
 use Rattle.task_machine.specs.declared.stop.TaskState.TheVariants.{ToBegin, Asked, Asleep, Awaits, Over}
 use Rattle.task_machine.specs.declared.stop.Stop.{Stop}
@@ -64,12 +65,12 @@ module _ (job : Job) (root : Task) (home : root.home ≡ None) (own : root.own.i
   -- a root that has not begun fits a world in which no scope is open
   pub root_fits : (world : World) → AreInRange job.steps → StartsInNurseries job →
       length (bytes_of (buffer_of root.part) (range_of root.part)) ≤ MAX_INPUT →
-      ((key : ℕ) → stack_of world.scopes key ≡ None) → Fits root.frames.items root world (waits_of root.task_state)
+      ((key : ℕ) → stack_of world.scopes key ≡ None) → Fits (state_of root world) (waits_of root.task_state)
   root_fits world in_range starting small none =
       record {
+        runs = record {
         in_range = subst AreInRangeFrames (sym (frames no_numbers)) (in_range, tt);
         starts = subst StartsFit (sym (frames no_numbers)) (starting, tt);
-        small = small;
         home = subst (λ (o : Option ℕ). ForSome o (IsOpen world.scopes)) (sym no_home) (λ x e. absurd (let f : None ≡ Some x = e in cc));
         scope = subst (λ (o : Option ℕ). ForSome o (IsOpen world.scopes)) (sym no_scope) (λ x e. absurd (let f : None ≡ Some x = e in cc));
         first = subst (OwnFirst world.scopes (home_scope root)) (sym own) refl;
@@ -77,13 +78,14 @@ module _ (job : Job) (root : Task) (home : root.home ≡ None) (own : root.own.i
             (All-nil (λ (o : Own). o.at < length root.froms.items));
         opened = subst (λ (bs : List Block). Opened (label_at world) world.book bs root.own.items (waits_of root.task_state)) (sym blocks)
             (subst (λ (os : List Own). Opened (label_at world) world.book [] os (waits_of root.task_state)) (sym own)
-            (subst (λ (w : Option ℕ). Opened (label_at world) world.book [] [] w) (sym (ap waits_of task_state)) tt));
+            (subst (λ (w : Option ℕ). Opened (label_at world) world.book [] [] w) (sym (ap waits_of task_state)) tt)); };
+        small = small;
         others = λ key st found apart i o at inside. absurd (let f : None ≡ Some st = sym (none key) ∙ found in cc);
       }
 
   -- and its state is that of the definitions
   root_stands : (world : World) → StartsInNurseries job → GivesNamesOnce job →
-      Stands root.frames.items root world no_froms no_numbers (Some rest.to_begin) []
+      Stands (state_of root world) no_froms no_numbers (Some rest.to_begin) []
   root_stands world starting names =
       record {
         places = subst (λ (st : Stack). AreAt (label_at world) no_froms st []) (sym (ap (outer_of world.scopes) no_scope)) tt;
@@ -95,7 +97,7 @@ module _ (job : Job) (root : Task) (home : root.home ≡ None) (own : root.own.i
 
   -- so it continues when it is due, if its first turn said that it sleeps
   pub root_sleeps : (world now : World) (after : Task) (stop : Stop) → StartsInNurseries job → GivesNamesOnce job →
-      TurnsAs root after world now Begin stop → (due : ℕ) → stop ≡ Sleep due → (part : Part) → WakesFrom after.task_state part now.book Due
+      TurnsAs (state_of root world) (state_of after now) Begin stop → (due : ℕ) → stop ≡ Sleep due → (part : Part) → WakesFrom after.task_state part now.book Due
   root_sleeps world now after stop starting names turn due is part =
       by_took _ (turn no_froms no_numbers [] 0 rest.to_begin
       (subst (λ (h : TaskState). IsTaskState no_numbers world.book h rest.to_begin) (sym task_state) tt) (root_stands world starting names)).took
@@ -109,7 +111,7 @@ module _ (job : Job) (root : Task) (home : root.home ≡ None) (own : root.own.i
       by_task_state numbers (Some s) (Awaits id since) says = absurd says.1
       by_task_state numbers (Some s) Over says = absurd says.1
 
-      by_took : (o : Move) → TookTo root after world now stop no_froms no_numbers o → WakesFrom after.task_state part now.book Due
+      by_took : (o : Move) → TookTo (state_of root world) (state_of after now) stop no_froms no_numbers o → WakesFrom after.task_state part now.book Due
       by_took o took =
           by_task_state took.numbers_after o.stopped after.task_state
           (subst (λ (s : Stop). StopsAs took.numbers_after now.book root.part s after.task_state o.stopped) is took.moves.1)

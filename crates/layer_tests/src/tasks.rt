@@ -2,6 +2,7 @@
 
 ghost use Rattle.std.specs.Prelude.{◌≡◌, ℕ, ◌≤◌, ◌^◌, IfOk};
 ghost use Rattle.task_machine.specs.Fitting.{Fits, waits_of};
+ghost use Rattle.task_machine.specs.States.{state_of};
 ghost use Rattle.task_machine.specs.Waking.{IsInRangeTaskState, WakesFrom};
 ghost use Rattle.task_machine.specs.declared.stop.Stop.TheVariants as stops;
 ghost use Rattle.task_machine.specs.declared.stop.Wake.TheVariants as wakes;
@@ -30,7 +31,7 @@ fn first_turn<'a>(alloc: Global, job: &'a Job, tick: u64) -> Result<Turned<'a>, 
     requires { tick ≤ 2 ^ 62 }
     ensures tick { IfOk result (λ t. t.world.tick ≡ tick) }
     ensures in_range { IfOk result (λ t. IsInRangeTaskState t.task.task_state) }
-    ensures fits { IfOk result (λ t. Fits t.task.frames.items t.task t.world (waits_of t.task.task_state)) }
+    ensures fits { IfOk result (λ t. Fits (state_of t.task t.world) (waits_of t.task.task_state)) }
     ensures asleep { IfOk result (λ t. (due : ℕ) → t.stop ≡ stops.Sleep due →
         WakesFrom t.task.task_state t.task.part t.world.book wakes.Due) }
 {
@@ -267,7 +268,7 @@ fn stop_when_due<'a>(
     world: &mut World<'a>,
     due: u64,
 ) -> Result<Stop<'a>, AllocError>
-    requires fits { Fits task.old.frames.items task.old world.old (waits_of task.old.task_state) }
+    requires fits { Fits (state_of task.old world.old) (waits_of task.old.task_state) }
     requires in_range { IsInRangeTaskState task.old.task_state }
     requires asleep { WakesFrom task.old.task_state task.old.part world.old.book wakes.Due }
     requires later { world.old.tick ≤ due }

@@ -1,5 +1,5 @@
 -- What a task does to scopes, by the froms of labels: other tasks see what they see by the new froms.
-use Rattle.std.proofs.Common.{◌≡◌, ◌⊎◌, inl, inr, ℕ, Bool, true, false, Some, List, [], ◌∷◌, refl, ap, sym, ◌∙◌, subst}
+use Rattle.std.proofs.Common.{◌≡◌, ◌⊎◌, inl, inr, ℕ, Bool, true, false, Some, List, [], ◌∷◌, refl, ap, sym, ◌∙◌, subst, Option}
 use Rattle.std.specs.Option.{option_map}
 use Rattle.exc_groups.specs.Exceptions.{Label}
 use Rattle.cancel_scopes.specs.Sight.{Tick}
@@ -48,7 +48,7 @@ pub none_signs : {t : ℕ} {label : Label} {s m : Scoping} → Signs t label s m
 none_signs g l none key e = none key (sym (ap (λ (z : Labels). z key) g.labels) ∙ e)
 
 -- it is that of none after a scope is entered with another label
-pub none_enters : {label : Label} {d : Tick} {s m : Scoping} → Enters label d s m → (l : Label) → (l ≡ label → ⊥) → NoneHas l s →
+pub none_enters : {parent : Option ℕ} {label : Label} {d : Tick} {s m : Scoping} → Enters parent label d s m → (l : Label) → (l ≡ label → ⊥) → NoneHas l s →
     NoneHas l m
 none_enters {label} {d} {s} {m} g l differs none key e = by_key (labelled_before g.labelled key l e)
   where
@@ -108,8 +108,8 @@ at_signs {t} {label} {s} {m} key f st ps g h e a = (
 )
 
 -- if one is entered with a new label, the stack of a scope that is none of the task's stays, with its places
-pub at_enters : {label : Label} {d : Tick} {s m : Scoping} → (known : Label → Type 0) (key : ℕ) (f : Table) (st : Stack) (ps : List Place) →
-    Enters label d s m → Sound s → HasKnown known s →
+pub at_enters : {parent : Option ℕ} {label : Label} {d : Tick} {s m : Scoping} → (known : Label → Type 0) (key : ℕ) (f : Table) (st : Stack) (ps : List Place) →
+    Enters parent label d s m → Sound s → HasKnown known s →
     (known label → ⊥) → stack_of s.tree key ≡ Some st → AreOthers key s.own → AreAt s.labels f st ps → (stack_of m.tree key ≡ Some st)
     × AreAt m.labels (froms_after_entry f label d) st ps
 at_enters {label} {d} {s} {m} known key f st ps g h k new e others a =

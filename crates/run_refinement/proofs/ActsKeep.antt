@@ -152,11 +152,11 @@ round_parent {s} h (Some p) k i = by_stack (stack_of s.tree p) refl i
     by_stack (Some st) e j = h.round p st e k j
 
 -- stacks stay sound where a scope is entered
-pub sound_enters : {label : Label} {d : Tick} {s m : Scoping} → Enters label d s m → Sound s → Sound m
-sound_enters {label} {d} {s} {m} g h =
+pub sound_enters : {parent : Option ℕ} {label : Label} {d : Tick} {s m : Scoping} → Enters parent label d s m → Sound s → Sound m
+sound_enters {parent} {label} {d} {s} {m} g h =
     record { own = λ key st e. own key st e (same_or key g.scope.id); round = λ key st e k i. round key st e k i (same_or key g.scope.id) }
   where
-    stack_is : (key : ℕ) (st : Stack) → stack_of m.tree key ≡ Some st → key ≡ g.scope.id → g.level ∷ outer_of s.tree g.parent ≡ st
+    stack_is : (key : ℕ) (st : Stack) → stack_of m.tree key ≡ Some st → key ≡ g.scope.id → g.level ∷ outer_of s.tree parent ≡ st
     stack_is key st e f = one_of _ _ (sym g.stack ∙ (sym (ap (stack_of m.tree) f) ∙ e))
 
     own : (key : ℕ) (st : Stack) → stack_of m.tree key ≡ Some st → (key ≡ g.scope.id) ⊎ (key ≢ g.scope.id) → own_label st ≡ Some key
@@ -166,9 +166,9 @@ sound_enters {label} {d} {s} {m} g h =
     still : (k : ℕ) → IsOpen s.tree k → IsOpen m.tree k
     still k i = open_else s.tree m.tree g.scope.id k g.others (open_differs s.tree g.scope.id k g.fresh i) i
 
-    inside : (k : ℕ) → IsKey k (g.level ∷ outer_of s.tree g.parent) → IsOpen m.tree k
-    inside k (inl e) = is_open m.tree k (g.level ∷ outer_of s.tree g.parent) (ap (stack_of m.tree) (e ∙ g.named) ∙ g.stack)
-    inside k (inr i) = still k (round_parent h g.parent k i)
+    inside : (k : ℕ) → IsKey k (g.level ∷ outer_of s.tree parent) → IsOpen m.tree k
+    inside k (inl e) = is_open m.tree k (g.level ∷ outer_of s.tree parent) (ap (stack_of m.tree) (e ∙ g.named) ∙ g.stack)
+    inside k (inr i) = still k (round_parent h parent k i)
 
     round : (key : ℕ) (st : Stack) → stack_of m.tree key ≡ Some st → (k : ℕ) → IsKey k st → (key ≡ g.scope.id) ⊎ (key ≢ g.scope.id) →
         IsOpen m.tree k
@@ -217,7 +217,7 @@ pub apart_signs : {t : ℕ} → (known : Label → Type 0) → {label : Label} {
 apart_signs known g h k = labels_at known g.labels h k
 
 -- labels of scopes stay apart where a scope is entered with a new one, which is known then
-pub apart_enters : (known : Label → Type 0) → {label : Label} {d : Tick} {s m : Scoping} → Enters label d s m → (known label → ⊥) →
+pub apart_enters : (known : Label → Type 0) → {parent : Option ℕ} {label : Label} {d : Tick} {s m : Scoping} → Enters parent label d s m → (known label → ⊥) →
     Apart s → HasKnown known s →
     Apart m × HasKnown (λ l. (l ≡ label) ⊎ known l) m
 apart_enters known {label} {d} {s} {m} g new h k = (

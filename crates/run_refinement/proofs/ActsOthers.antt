@@ -1,5 +1,5 @@
 -- What a task does to scopes leaves the froms of other tasks' scopes to the table, and a label to no scope that is not open.
-use Rattle.std.proofs.Common.{◌≡◌, ◌≢◌, ◌⊎◌, inl, inr, ℕ, Some, List, ap, sym, ◌∙◌, subst}
+use Rattle.std.proofs.Common.{◌≡◌, ◌≢◌, ◌⊎◌, inl, inr, ℕ, Some, List, ap, sym, ◌∙◌, subst, Option}
 use Rattle.std.specs.Prelude.{IsSome}
 use Rattle.std.specs.Option.{option_map}
 use Rattle.exc_groups.specs.Exceptions.{Label}
@@ -33,7 +33,7 @@ kept_signs {t} {label} {s} {m} f key l g sound apart k = (
   own_from_signed f k.0 key l g apart (sound.own key k.0 k.1) k.2 k.3,
 )
 
-kept_enters : {label : Label} {d : Tick} {s m : Scoping} → (known : Label → Type 0) (f : Table) (key : ℕ) (l : Label) → Enters label d s m →
+kept_enters : {parent : Option ℕ} {label : Label} {d : Tick} {s m : Scoping} → (known : Label → Type 0) (f : Table) (key : ℕ) (l : Label) → Enters parent label d s m →
     HasKnown known s → (known label → ⊥) →
     IsKept f s key l → IsKept (froms_after_entry f label d) m key l
 kept_enters {label} {d} {s} {m} known f key l g has new k = (
@@ -82,7 +82,7 @@ labelled_signs {t} {label} {s} {m} g h key l e =
     subst IsSome (sym (g.cancels.stacks key)) (mapped_is (after_cancel g.key t) (stack_of s.tree key)
     (h key l (sym (ap (λ (z : Labels). z key) g.labels) ∙ e)))
 
-labelled_enters : {label : Label} {d : Tick} {s m : Scoping} → Enters label d s m → AreLabelled s → AreLabelled m
+labelled_enters : {parent : Option ℕ} {label : Label} {d : Tick} {s m : Scoping} → Enters parent label d s m → AreLabelled s → AreLabelled m
 labelled_enters {label} {d} {s} {m} g h key l e = by_key (labelled_before g.labelled key l e)
   where
     by_key : ((key ≡ g.scope.id) × (Some label ≡ Some l)) ⊎ ((key ≢ g.scope.id) × (s.labels key ≡ Some l)) → IsOpen m.tree key

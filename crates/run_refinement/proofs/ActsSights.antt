@@ -1,6 +1,6 @@
 -- What a task does to scopes lowers the effective deadline (`sight`) of no scope that it does not
 -- mark as changed.
-use Rattle.std.proofs.Common.{◌≡◌, ◌≢◌, ◌⊎◌, inl, inr, ℕ, suc, ◌+◌, ◌<◌, ◌≤◌, Bool, true, false, ◌==◌, ◌||◌, if◌then◌else◌, Some, None, List, [], ◌∷◌, refl, ap, sym, ◌∙◌, arith}
+use Rattle.std.proofs.Common.{◌≡◌, ◌≢◌, ◌⊎◌, inl, inr, ℕ, suc, ◌+◌, ◌<◌, ◌≤◌, Bool, true, false, ◌==◌, ◌||◌, if◌then◌else◌, Some, None, List, [], ◌∷◌, refl, ap, sym, ◌∙◌, arith, Option}
 use Rattle.std.specs.Prelude.{nat_le, nat_lt}
 use Rattle.std.specs.Option.{option_map}
 use Rattle.std.proofs.lemmas.Bool.{le-leb, cases_eq}
@@ -105,7 +105,7 @@ shows_signs {t} {label} {s} {m} key kept g h =
         by_sight (inl f) = inl (f ∙ e)
         by_sight (inr f) = inr (marks ∙ or_right (is_changed s.tree key) (before (sight after) (sight h.stack)) f)
 
-shows_enters : {label : Label} {d : Tick} {s m : Scoping} → (key : ℕ) (kept : Tick) → Enters label d s m → Shows s.tree key kept →
+shows_enters : {parent : Option ℕ} {label : Label} {d : Tick} {s m : Scoping} → (key : ℕ) (kept : Tick) → Enters parent label d s m → Shows s.tree key kept →
     Shows m.tree key kept
 shows_enters {label} {d} {s} {m} key kept g h =
     record { stack = h.stack; opened = g.others key differs ∙ h.opened; known = by_mark h.known }

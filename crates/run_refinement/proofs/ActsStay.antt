@@ -89,7 +89,7 @@ pub record Keeps (key : ℕ) (st : Stack) (s m : Scoping) : Type 0 where
   pub others : AreOthers key m.own
 
 -- a scope that is none of the task's keeps its stack and the labels in it when one is entered
-pub keeps_enters : {label : Label} {d : Tick} {s m : Scoping} {key : ℕ} {st : Stack} → Enters label d s m → Sound s →
+pub keeps_enters : {parent : Option ℕ} {label : Label} {d : Tick} {s m : Scoping} {key : ℕ} {st : Stack} → Enters parent label d s m → Sound s →
     stack_of s.tree key ≡ Some st → AreOthers key s.own → Keeps key st s m
 keeps_enters {label} {d} {s} {m} {key} {st} g h e others =
     record {
@@ -159,7 +159,7 @@ else_signs {t} {label} {s} {m} {key} g i =
     (mapped_was (after_cancel g.key t) (stack_of s.tree key) (subst IsSome (g.cancels.stacks key) i.0), subst (AreOthers key) g.own i.1)
 
 -- a scope that is open and none of the task's was so before one was entered
-pub else_enters : {label : Label} {d : Tick} {s m : Scoping} {key : ℕ} → Enters label d s m → IsElse key m → IsElse key s
+pub else_enters : {parent : Option ℕ} {label : Label} {d : Tick} {s m : Scoping} {key : ℕ} → Enters parent label d s m → IsElse key m → IsElse key s
 else_enters {label} {d} {s} {m} {key} g i =
     let split : AreOthers key (s.own ++ g.scope ∷ []) = subst (AreOthers key) g.opened i.1 in (
       subst IsSome (g.others key (λ f. all_last (λ (o : Own). o.id ≢ key) s.own g.scope split (sym f))) i.0,

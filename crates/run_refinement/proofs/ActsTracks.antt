@@ -1,5 +1,5 @@
 -- The froms that a task keeps of the scopes that it opened are those of the world, whatever it does to scopes.
-use Rattle.std.proofs.Common.{◌≡◌, ◌≢◌, ◌⊎◌, inl, inr, ℕ, zero, suc, Bool, Some, None, List, [], ◌∷◌, ◌++◌, length, map, append_assoc, append-nil, refl, ap, sym, ◌∙◌, subst}
+use Rattle.std.proofs.Common.{◌≡◌, ◌≢◌, ◌⊎◌, inl, inr, ℕ, zero, suc, Bool, Some, None, List, [], ◌∷◌, ◌++◌, length, map, append_assoc, append-nil, refl, ap, sym, ◌∙◌, subst, Option}
 use Rattle.std.proofs.lemmas.List.{map-append}
 use Rattle.std.proofs.lemmas.List.Elements.{All-nil, All-cons, All-head, All-tail, All-append}
 use Rattle.std.specs.Prelude.{All, slice_get, slice_set}
@@ -176,10 +176,10 @@ tracks_signs {known} {f} {entered} {t} {label} {s} {m} g sound apart h =
 -- ---- a scope is entered
 
 -- where a task enters a scope with a new label, its froms are those of the world, with the new label last
-pub tracks_enters : {known : Label → Type 0} {f : Table} {entered : List Label} {label : Label} {d : Tick} {s m : Scoping} →
-    Enters label d s m → HasKnown known s → (known label → ⊥) →
+pub tracks_enters : {known : Label → Type 0} {f : Table} {entered : List Label} {parent : Option ℕ} {label : Label} {d : Tick} {s m : Scoping} →
+    Enters parent label d s m → HasKnown known s → (known label → ⊥) →
     Tracks known f s entered → Tracks (λ l. (l ≡ label) ⊎ known l) (froms_after_entry f label d) m (entered ++ label ∷ [])
-tracks_enters {known} {f} {entered} {label} {d} {s} {m} g has new h =
+tracks_enters {known} {f} {entered} {parent} {label} {d} {s} {m} g has new h =
     record {
       labels =
           ap (map (λ (x : ScopeFrom). x.label)) g.froms
@@ -232,7 +232,7 @@ tracks_enters {known} {f} {entered} {label} {d} {s} {m} g has new h =
     kept o {i} (inr e) =
         subst (λ (z : Own). (st : Stack) × (l : Label) × (stack_of m.tree z.id ≡ Some st) × (m.labels z.id ≡ Some l)
         × (own_from st ≡ froms_after_entry f label d l)) e.1 (
-          g.level ∷ outer_of s.tree g.parent,
+          g.level ∷ outer_of s.tree parent,
           label,
           g.stack,
           g.labelled.changed,

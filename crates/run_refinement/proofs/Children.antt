@@ -19,7 +19,8 @@ use Rattle.interleavings.specs.Rows.{children_made}
 use Rattle.interleavings.proofs.Running.{runs_keep_invariant}
 use Rattle.interleavings.proofs.Turning.{old_child, later_child}
 use Rattle.run_refinement.specs.RunState.{RunState, Refines}
-use Rattle.run_refinement.specs.Turn.{serials_from, Turning}
+use Rattle.run_refinement.specs.Turn.{serials_from}
+use Rattle.run_refinement.specs.Turning.{Turning}
 
 -- ---- the children among events
 
@@ -96,7 +97,7 @@ children_kept k job input t m s old new before after stop settled names starting
     by_same false e true f =
         let lower : p < m = grind (arith, nat_tests) in
         let differs : p ≢ s = λ g. absurd (let x : true ≡ false = sym (eq-eqb p s g) ∙ e in cc) in
-        turn.children_after p lower differs ∙ c.children p lower ∙ ap (λ (x : Started). children_made x.child x.made)
+        turn.code.children_after p lower differs ∙ c.children p lower ∙ ap (λ (x : Started). children_made x.child x.made)
         (sym (turn.of_other p lower differs))
     by_same false e false f =
         let upper : m ≤ p = grind (arith, nat_tests) in

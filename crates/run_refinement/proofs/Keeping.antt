@@ -41,7 +41,8 @@ use Rattle.interleavings.proofs.Running.{runs_keep_invariant}
 use Rattle.run_refinement.specs.RunState.{RunState, LivesIn, HasHome, Follows, Refines}
 use Rattle.run_refinement.specs.Leaving.{Leaving}
 use Rattle.run_refinement.specs.Ready.{IsTimely, MayGo, Keeps, AreHomesOf}
-use Rattle.run_refinement.specs.Turn.{Turning, numbers_then, leaving_by}
+use Rattle.run_refinement.specs.Turn.{numbers_then, leaving_by}
+use Rattle.run_refinement.specs.Turning.{Turning}
 use Rattle.run_refinement.proofs.ActsKeep.{not_both, same_or}
 use Rattle.run_refinement.proofs.StateTurn.{nursery_same}
 use Rattle.run_refinement.proofs.Left.{ended_blocks, over_task_state}
@@ -131,7 +132,7 @@ still_goes {t = t} {old = old} {new = new} settled names starting c T u below di
     }
   where
     tick : new.world.tick ≡ old.world.tick
-    tick = ap (λ (w : World). w.tick) T.world
+    tick = ap (λ (w : World). w.tick) T.code.world
 
     same : seen (outer_of new.world.scopes (scope_of task)) new.world.tick ≡ seen (outer_of old.world.scopes (scope_of task)) old.world.tick
     same =
@@ -175,12 +176,12 @@ homes_kept {k} {job} {input} {t} {m} {s} {old} {new} {before} {after} {stop} c T
 
         by_parent : (l.parent ≡ s) ⊎ (l.parent ≢ s) → Keeps new (parent p) home.nursery
         by_parent (inl e) = subst (λ (n : ℕ). Keeps new n home.nursery) (sym e ∙ one)
-            (record { task = after; lives = T.task_after; owned = (mover_owned c T p home l e).1 })
+            (record { task = after; lives = T.code.task_after; owned = (mover_owned c T p home l e).1 })
         by_parent (inr differs) =
             let low : l.parent < m = (let a : l.parent < p = l.earlier in omega (arith, a, below)) in
             subst (λ (n : ℕ). Keeps new n home.nursery) one (record {
               task = l.starter;
-              lives = T.other_after l.parent low differs
+              lives = T.code.other_after l.parent low differs
                   ∙ l.lives;
               owned = l.owned;
             })
@@ -190,10 +191,10 @@ homes_kept {k} {job} {input} {t} {m} {s} {old} {new} {before} {after} {stop} c T
       where
         by_mover : (p ≡ s) ⊎ (p ≢ s) → Keeps new (parent p) home.nursery
         by_mover (inl e) =
-            let is : x ≡ after = one_of x after (sym lives ∙ (ap new.task e ∙ T.task_after)) in
-            old_home below before (ap old.task e ∙ T.task) (sym (ap (λ (z : Task). z.home) T.stays) ∙ ap (λ (z : Task). z.home) (sym is)
+            let is : x ≡ after = one_of x after (sym lives ∙ (ap new.task e ∙ T.code.task_after)) in
+            old_home below before (ap old.task e ∙ T.code.task) (sym (ap (λ (z : Task). z.home) T.code.stays) ∙ ap (λ (z : Task). z.home) (sym is)
             ∙ at_home)
-        by_mover (inr differs) = old_home below x (sym (T.other_after p below differs) ∙ lives) at_home
+        by_mover (inr differs) = old_home below x (sym (T.code.other_after p below differs) ∙ lives) at_home
 
     -- that of one that was started
     new_home : (i : ℕ) → new.task (m + i) ≡ Some x → Keeps new (next (m + i)) home.nursery
@@ -201,7 +202,7 @@ homes_kept {k} {job} {input} {t} {m} {s} {old} {new} {before} {after} {stop} c T
         subst (λ (n : ℕ). Keeps new n home.nursery) (sym (born i (below_length T.move.begun i b.0 b.1)))
         (record {
           task = after;
-          lives = T.task_after;
+          lives = T.code.task_after;
           owned = subst (λ (h : Home).
               HasNurseryOf h.nursery (blocks_of after.frames.items) (waits_of after.task_state)) is b.2.owned;
         })

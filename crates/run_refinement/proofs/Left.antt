@@ -13,6 +13,7 @@ use Rattle.job_meaning.specs.Rest as rest
 use Rattle.nursery_book.specs.Nursery.{End, Nursery, with_child}
 use Rattle.nursery_book.specs.Book.{nursery_at, HasNursery}
 use Rattle.nursery_book.specs.declared.book.NurseryBook.{NurseryBook}
+use Rattle.task_machine.specs.States.{state_of}
 use Rattle.task_machine.specs.declared.entry.ScopeFrom.{ScopeFrom}
 use Rattle.task_machine.specs.Noted.{from_of}
 use Rattle.turn_semantics.specs.Midway.{Place}
@@ -97,8 +98,8 @@ task_state_kept numbers old new Over (rest.awaiting children u exc) like h = abs
 -- The state of a task, and how it continues, in a world with another book.
 stands_kept : (task : Task) (w : World) (book : NurseryBook) (f : Table) (numbers : Numbers) (stopped : rest.Stopped) (ps : List Place) →
     AllLike w.book book →
-    Stands task.frames.items task w f numbers (Some stopped) ps →
-    Stands task.frames.items task (record w { book = book }) f numbers (Some stopped) ps
+    Stands (state_of task w) f numbers (Some stopped) ps →
+    Stands (state_of task (record w { book = book })) f numbers (Some stopped) ps
 stands_kept task w book f numbers stopped ps like h =
     record {
       places = h.places;
@@ -368,7 +369,7 @@ state_left k job input t m s old new task exc c l =
           lives = λ no. g.lives (λ z. let w : s ≡ p = cc in there p x e (sym w));
           frames = g.frames;
           stands =
-              subst (λ (w : World). Stands x.frames.items x w f (c.numbers p) (Some r.rest.stopped) r.places) (sym l.world)
+              subst (λ (w : World). Stands (state_of x w) f (c.numbers p) (Some r.rest.stopped) r.places) (sym l.world)
               (stands_kept x old.world book f (c.numbers p) r.rest.stopped r.places like g.stands);
           task_state = task_state_kept (c.numbers p) old.world.book book x.task_state r.rest.stopped like g.task_state;
           in_range = g.in_range;

@@ -17,7 +17,7 @@ use Rattle.interleavings.specs.Interleaving.{Started, live}
 use Rattle.interleavings.specs.Going.{task_after_turn}
 use Rattle.interleavings.proofs.Turning.{old_child, later_child}
 use Rattle.run_refinement.specs.RunState.{RunState, IsMember, HasMembers, Follows, Refines}
-use Rattle.run_refinement.specs.Turn.{Turning}
+use Rattle.run_refinement.specs.Turning.{Turning}
 use Rattle.run_refinement.proofs.ActsKeep.{not_both}
 use Rattle.run_refinement.proofs.Parts.{begun_at, BeginsThere, begins_there, numbered_on}
 use Rattle.run_refinement.proofs.RunStates.{gone_below, home_earlier}
@@ -29,7 +29,7 @@ module _ (k : Table) (job : Job) (input : List ℕ) (t m s : ℕ) (old new : Run
     (c : Refines k job input t m None old)
     (T : Turning k job input t m s old new c.numbers before after stop c.interleaving) where
   mover : Follows old c.interleaving.froms input t c.interleaving.at c.numbers None s before
-  mover = c.follows s before T.task
+  mover = c.follows s before T.code.task
 
   -- the task after its turn
   abbrev pub moved_to : Started
@@ -41,11 +41,11 @@ module _ (k : Table) (job : Job) (input : List ℕ) (t m s : ℕ) (old new : Run
       IsMember new T.is.at t id place serial (Some x)
   member_stays id place serial None has h =
       let below : serial < m = below_of c serial h.0 h.1 in
-      let later : s < serial = home_earlier k job input t m None old c serial h.0 h.1 id place h.2 s before T.task (inl has) in
-      (h.0, T.other_after serial below (λ e. omega (arith, later, e)) ∙ h.1, h.2)
+      let later : s < serial = home_earlier k job input t m None old c serial h.0 h.1 id place h.2 s before T.code.task (inl has) in
+      (h.0, T.code.other_after serial below (λ e. omega (arith, later, e)) ∙ h.1, h.2)
   member_stays id place serial (Some exc) has h = (
     h.0,
-    T.gone_after serial ∙ h.1,
+    T.code.gone_after serial ∙ h.1,
     h.2,
     ap (λ (q : Started). q.rest.stopped)
         (T.of_other serial (gone_below k job input t m None old c serial h.0 h.1) differs) ∙ h.3,
@@ -67,7 +67,7 @@ module _ (k : Table) (job : Job) (input : List ℕ) (t m s : ℕ) (old new : Run
       (number < moved_to.count) × IsMember new T.is.at t id place (moved_to.child number) (slice_get n.children place)
   old_member id place number n at has was =
       let o = finds old.world.book id _ (mover.nurseries id (inl has)) in
-      let g = finds new.world.book id _ (T.took.grow id has o.0 o.1) in
+      let g = finds new.world.book id _ (T.took.nurseries.grow id has o.0 o.1) in
       let one = o.2.members place number was in
       let below : number < (c.interleaving.at s).count = one.0 in
       let longer : slice_get n.children place ≡ slice_get (o.0.children ++ g.2.more) place =
@@ -127,11 +127,11 @@ module _ (k : Table) (job : Job) (input : List ℕ) (t m s : ℕ) (old new : Run
   members_after id has = puts new.world.book id found.0 _ found.1 (record { long = found.2; members = members })
     where
       found : (n : Nursery) × (nursery_at new.world.book id ≡ Some n) × (length (T.took.numbers_after id) ≡ length n.children)
-      found = finds new.world.book id (λ n. length (T.took.numbers_after id) ≡ length n.children) (T.took.numbered id has)
+      found = finds new.world.book id (λ n. length (T.took.numbers_after id) ≡ length n.children) (T.took.nurseries.numbered id has)
 
       members : (place number : ℕ) → slice_get (T.took.numbers_after id) place ≡ Some number →
           (number < moved_to.count) × IsMember new T.is.at t id place (moved_to.child number) (slice_get found.0.children place)
-      members place number at = by_cover (T.took.covered id place number has at)
+      members place number at = by_cover (T.took.nurseries.covered id place number has at)
         where
           by_cover : (HasBlock id (blocks_of before.frames.items) × (slice_get (c.numbers s id) place ≡ Some number))
               ⊎ BeginsAt id place number T.took.tasks T.move.begun →

@@ -16,7 +16,8 @@ use Rattle.job_meaning.specs.Walk.{Here}
 use Rattle.job_meaning.specs.Shown.{Shown}
 use Rattle.job_meaning.specs.Rest as rest
 use Rattle.job_meaning.specs.Rest.{Stopped, to_begin, asking, asleep, awaiting, at_end}
-use Rattle.task_machine.specs.Noted.{entry_of, IsSlice}
+use Rattle.task_machine.specs.States.{state_of}
+use Rattle.task_machine.specs.Noted.{entry_of, IsSlice, shown_made, AreNoted}
 use Rattle.turn_semantics.specs.Names.{NewIn}
 use Rattle.turn_semantics.specs.Placed.{PlacedAfter, places_behind}
 use Rattle.turn_semantics.specs.Turned.{Known}
@@ -27,14 +28,15 @@ use Rattle.task_machine.specs.declared.task.Task.{Task}
 use Rattle.task_machine.specs.Acts.{scoping_of}
 use Rattle.task_machine.specs.Fitting.{blocks_of, waits_of, AreOthers}
 use Rattle.task_machine.specs.Stacked.{AreAt, IsKey}
-use Rattle.task_machine.specs.Standing.{here_of, shown_made, AreNoted, HasBlock, Stands}
+use Rattle.task_machine.specs.Standing.{here_of, HasBlock, Stands}
 use Rattle.task_machine.specs.Stops.{Numbers, IsTaskState, IsTold, StopsAs}
 use Rattle.task_machine.specs.Tasks.{scope_of}
 use Rattle.task_machine.specs.Worlds.{label_at}
 use Rattle.interleavings.specs.Interleaving.{Started, live}
 use Rattle.interleavings.specs.Rows.{entered_made}
 use Rattle.run_refinement.specs.RunState.{RunState, Notes, Tracks, CanGoOn, LivesIn, HasHome, Follows, OpenedBy, Refines}
-use Rattle.run_refinement.specs.Turn.{IsEntered, numbers_then, Turning, leaving_by}
+use Rattle.run_refinement.specs.Turn.{IsEntered, numbers_then, leaving_by}
+use Rattle.run_refinement.specs.Turning.{Turning}
 use Rattle.run_refinement.proofs.ActsKeep.{Sound, Apart, KnownWith, labels_entered, same_or}
 use Rattle.run_refinement.proofs.ActsTracks.{tracked, tracks_more}
 use Rattle.run_refinement.proofs.Parts.{numbers_mover, numbers_other, own_or, entered_append, entered_same, known_first, known_last}
@@ -50,7 +52,7 @@ module _ (k : Table) (job : Job) (input : List ℕ) (t m s : ℕ) (old new : Run
     (c : Refines k job input t m None old)
     (T : Turning k job input t m s old new c.numbers before after stop c.interleaving) where
   mover : Follows old c.interleaving.froms input t c.interleaving.at c.numbers None s before
-  mover = c.follows s before T.task
+  mover = c.follows s before T.code.task
 
   abbrev result : Started
   result = moved_to k job input t m s old new before after stop c T
@@ -94,12 +96,12 @@ module _ (k : Table) (job : Job) (input : List ℕ) (t m s : ℕ) (old new : Run
 
   -- ---- its state
 
-  stands_after : Stands after.frames.items after new.world T.is.froms now (Some T.stopped) T.move.places
+  stands_after : Stands (state_of after new.world) T.is.froms now (Some T.stopped) T.move.places
   stands_after =
       record {
         places = subst (λ (f : Table). AreAt (label_at new.world) f (outer_of new.world.scopes (scope_of after)) T.move.places)
             (sym T.froms) T.took.places;
-        numbered = λ id has. T.took.numbered id (inl has);
+        numbered = λ id has. T.took.nurseries.numbered id (inl has);
         placed =
             subst (λ (gs : List rest.Frame). PlacedAfter (Some T.stopped) gs T.move.places) (sym T.took.frames_after)
             (subst (λ (o : Option Stopped). PlacedAfter o T.move.frames T.move.places) T.stops T.promise.placed);
@@ -110,16 +112,7 @@ module _ (k : Table) (job : Job) (input : List ℕ) (t m s : ℕ) (old new : Run
       }
 
   goes_after : CanGoOn after new.world
-  goes_after =
-      record {
-        in_range = T.fits_after.in_range;
-        starts = T.fits_after.starts;
-        home = T.fits_after.home;
-        scope = T.fits_after.scope;
-        first = T.fits_after.first;
-        froms = T.fits_after.froms;
-        opened = T.fits_after.opened;
-      }
+  goes_after = T.code.fits_after.runs
 
   -- ---- its home
 
@@ -147,7 +140,7 @@ module _ (k : Table) (job : Job) (input : List ℕ) (t m s : ℕ) (old new : Run
         by_own (inl h) = h
         by_own (inr h) =
             let mine : OpenedBy old there.0.scope s =
-            record { task = before; lives = T.task; place = h.0; scope = h.1; own = h.2; is = h.3 } in
+            record { task = before; lives = T.code.task; place = h.0; scope = h.1; own = h.2; is = h.3 } in
             absurd (differs (c.apart there.0.scope l.parent s
             (owner k job input t m None old c l.parent l.starter l.lives home.nursery there.0 l.owned there.1) mine))
 
@@ -165,12 +158,12 @@ module _ (k : Table) (job : Job) (input : List ℕ) (t m s : ℕ) (old new : Run
         record {
           parent = l.parent;
           starter = l.starter;
-          lives = T.other_after l.parent below differs ∙ l.lives;
+          lives = T.code.other_after l.parent below differs ∙ l.lives;
           earlier = l.earlier;
           owned = l.owned;
           runs =
               puts new.world.book home.nursery there.0 (λ n. (n.scope ≡ home.scope) × (slice_get n.children home.place ≡ Some None))
-              (T.took.others home.nursery there.0 there.1 no_block (is_open, others)) there.2;
+              (T.took.nurseries.others home.nursery there.0 there.1 no_block (is_open, others)) there.2;
           number = l.number;
           stands =
               subst (λ (n : Numbers). slice_get (n home.nursery) home.place ≡ Some l.number)
@@ -181,7 +174,7 @@ module _ (k : Table) (job : Job) (input : List ℕ) (t m s : ℕ) (old new : Run
 
   home_after : HasHome new T.is.at (numbers_then c.numbers s m now) s after.home
   home_after =
-      subst (HasHome new T.is.at (numbers_then c.numbers s m now) s) (sym (ap (λ (z : Task). z.home) T.stays))
+      subst (HasHome new T.is.at (numbers_then c.numbers s m now) s) (sym (ap (λ (z : Task). z.home) T.code.stays))
       (by_home before.home refl mover.home)
     where
       by_home : (h : Option Home) → before.home ≡ h → HasHome old c.interleaving.at c.numbers s h →
@@ -192,11 +185,11 @@ module _ (k : Table) (job : Job) (input : List ℕ) (t m s : ℕ) (old new : Run
   -- ---- its froms
 
   sound : Sound (scoping_of before old.world)
-  sound = record { own = T.sound.own; round = round }
+  sound = record { own = T.code.sound.own; round = round }
     where
       round : (key : ℕ) (st : Stack) → stack_of old.world.scopes key ≡ Some st → (at : ℕ) → IsKey at st → IsOpen old.world.scopes at
       round key st e at i =
-          open_round old.world.scopes T.sound.chain (Some key) at (subst (IsKey at) (ap (λ (o : Option Stack). unwrap_or o []) (sym e)) i)
+          open_round old.world.scopes T.code.sound.chain (Some key) at (subst (IsKey at) (ap (λ (o : Option Stack). unwrap_or o []) (sym e)) i)
 
   module _ (quiet : (p : ℕ) → m ≤ p → entered_made (c.interleaving.at p).made ≡ [])
       (labels_apart : (a b : ℕ) (l : Label) → label_at old.world a ≡ Some l → label_at old.world b ≡ Some l → a ≡ b)
@@ -240,13 +233,13 @@ module _ (k : Table) (job : Job) (input : List ℕ) (t m s : ℕ) (old new : Run
     stood : Stood new T.is.froms input t T.is.at (leaving_by stop s) s after now result
     stood =
         record {
-          here = ap (λ (z : Task). here_of z) T.stays ∙ mover.here;
+          here = ap (λ (z : Task). here_of z) T.code.stays ∙ mover.here;
           input_is = mover.input_is;
           lives = lives_on T.stopped blocks_on.0 blocks_on.1;
           frames = T.took.frames_after;
           stands = stands_after;
           task_state = blocks_on.0;
-          in_range = T.in_range;
+          in_range = T.code.in_range;
           goes = goes_after;
           notes = noted_after;
           tracks = tracks_after;

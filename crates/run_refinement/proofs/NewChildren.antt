@@ -14,6 +14,7 @@ use Rattle.job_tree.specs.Tree.{Tree as Job}
 use Rattle.job_meaning.specs.Log.{Table}
 use Rattle.job_meaning.specs.Rest as rest
 use Rattle.job_meaning.specs.Rest.{Stopped, to_begin}
+use Rattle.task_machine.specs.States.{state_of}
 use Rattle.task_machine.specs.declared.entry.ScopeFrom.{ScopeFrom}
 use Rattle.task_machine.specs.Noted.{entry_of, IsSlice}
 use Rattle.turn_semantics.specs.Midway.{Begun}
@@ -38,7 +39,8 @@ use Rattle.task_machine.specs.Worlds.{label_at}
 use Rattle.interleavings.specs.Interleaving.{Started}
 use Rattle.interleavings.proofs.Turning.{later_child}
 use Rattle.run_refinement.specs.RunState.{RunState, Differ, Tracks, CanGoOn, LivesIn, HasHome, Follows, Refines}
-use Rattle.run_refinement.specs.Turn.{IsEntered, child_at, numbers_then, Turning}
+use Rattle.run_refinement.specs.Turn.{IsEntered, child_at, numbers_then}
+use Rattle.run_refinement.specs.Turning.{Turning}
 use Rattle.run_refinement.proofs.ActsKeep.{not_both}
 use Rattle.run_refinement.proofs.Homes.{HomeIn, home_there, chain_round}
 use Rattle.run_refinement.proofs.Parts.{numbers_mover, numbers_child, among_got, begun_at, begins_there, numbered_on, starts_at, new_at, housed_at}
@@ -95,10 +97,10 @@ module _ (k : Table) (job : Job) (input : List ℕ) (t m s : ℕ) (old new : Run
 
   keyed_after : KeyedAfter IsNursery (waits_of after.task_state) now T.move.frames (keys_of stack)
   keyed_after =
-      subst (λ (ks : List ℕ). KeyedAfter IsNursery (waits_of after.task_state) now T.move.frames ks) (sym T.fits_after.first)
+      subst (λ (ks : List ℕ). KeyedAfter IsNursery (waits_of after.task_state) now T.move.frames ks) (sym T.code.fits_after.runs.first)
       (subst (λ (gs : List rest.Frame). KeyedAfter IsNursery (waits_of after.task_state) now gs _) T.took.frames_after
       (keyed_by IsNursery now (label_at new.world) new.world.book after.frames.items after.own.items (waits_of after.task_state)
-      (keys_of (outer_of new.world.scopes (home_scope after))) (λ id o has n. (has, n)) T.fits_after.opened))
+      (keys_of (outer_of new.world.scopes (home_scope after))) (λ id o has n. (has, n)) T.code.fits_after.runs.opened))
 
   task_state_after : IsTaskState now new.world.book after.task_state T.stopped
   task_state_after = (subst (λ (o : Option Stopped). StopsAs now new.world.book before.part stop after.task_state o) T.stops T.took.moves.1).0
@@ -122,7 +124,7 @@ module _ (k : Table) (job : Job) (input : List ℕ) (t m s : ℕ) (old new : Run
 
     -- is its home
     same_nursery : h.home.nursery ≡ found.id
-    same_nursery = by_cover (T.took.covered found.id place.0 b.number found.is.0 place.1)
+    same_nursery = by_cover (T.took.nurseries.covered found.id place.0 b.number found.is.0 place.1)
       where
         place : (j : ℕ) × (slice_get (now found.id) j ≡ Some b.number)
         place = among_got b.number (now found.id) found.among
@@ -131,7 +133,7 @@ module _ (k : Table) (job : Job) (input : List ℕ) (t m s : ℕ) (old new : Run
             ⊎ BeginsAt found.id place.0 b.number T.took.tasks T.move.begun →
             h.home.nursery ≡ found.id
         by_cover (inl o) =
-            let n = finds old.world.book found.id _ ((c.follows s before T.task).nurseries found.id (inl o.0)) in
+            let n = finds old.world.book found.id _ ((c.follows s before T.code.task).nurseries found.id (inl o.0)) in
             let below : b.number < (c.interleaving.at s).count = (n.2.members place.0 b.number o.1).0 in
             absurd (omega (arith, below, numbered))
         by_cover (inr o) =
@@ -152,7 +154,7 @@ module _ (k : Table) (job : Job) (input : List ℕ) (t m s : ℕ) (old new : Run
     home_stack : stack_of new.world.scopes h.home.scope ≡ Some (found.level ∷ found.behind)
     home_stack =
         ap (stack_of new.world.scopes) same_scope
-        ∙ chain_round new.world.scopes T.sound_after.chain (scope_of after) found.before found.level found.behind found.split
+        ∙ chain_round new.world.scopes T.code.sound_after.chain (scope_of after) found.before found.level found.behind found.split
 
     home_open : IsOpen new.world.scopes h.home.scope
     home_open = subst IsSome (sym home_stack) refl
@@ -178,7 +180,7 @@ module _ (k : Table) (job : Job) (input : List ℕ) (t m s : ℕ) (old new : Run
     frames_are : frames_of (λ id. []) task.frames.items ≡ rest.steps_left b.body ∷ []
     frames_are = h.frames (λ id. [])
 
-    stands_there : Stands task.frames.items task new.world T.is.froms (λ id. []) (Some to_begin) b.places
+    stands_there : Stands (state_of task new.world) T.is.froms (λ id. []) (Some to_begin) b.places
     stands_there =
         let new_names : names.AreNew (names_at b.places) b.body × OwnNames (names_at b.places) =
         new_at T.move.begun T.names.begun i b begun in
@@ -215,7 +217,7 @@ module _ (k : Table) (job : Job) (input : List ℕ) (t m s : ℕ) (old new : Run
         record {
           parent = s;
           starter = after;
-          lives = T.task_after;
+          lives = T.code.task_after;
           earlier = omega (arith, first);
           owned = h.owned;
           runs = h.nursery;

@@ -18,7 +18,8 @@ use Rattle.task_machine.specs.Tasks.{scope_of}
 use Rattle.task_machine.specs.Worlds.{label_at}
 use Rattle.interleavings.specs.Interleaving.{Started}
 use Rattle.run_refinement.specs.RunState.{RunState, LivesIn, HasHome, Refines}
-use Rattle.run_refinement.specs.Turn.{Turning, numbers_then}
+use Rattle.run_refinement.specs.Turn.{numbers_then}
+use Rattle.run_refinement.specs.Turning.{Turning}
 use Rattle.run_refinement.proofs.ActsKeep.{not_both, same_or}
 use Rattle.run_refinement.proofs.StateTurn.{ActsOf, else_own, own_open, nursery_same}
 use Rattle.run_refinement.proofs.LabelsApart.{own_round}
@@ -65,7 +66,7 @@ pub grown : {k : Table} {job : Job} {input : List ℕ} {t m s : ℕ} {old new : 
     (T : Turning k job input t m s old new c.numbers before after stop c.interleaving) → (id : ℕ) → HasBlock id (blocks_of before.frames.items) →
     (n : Members) → nursery_at old.world.book id ≡ Some n → (x : Members) × (nursery_at new.world.book id ≡ Some x)
     × Grown n x (c.numbers s id) (T.took.numbers_after id)
-grown {new = new} c T id has n e = finds new.world.book id _ (T.took.grow id has n e)
+grown {new = new} c T id has n e = finds new.world.book id _ (T.took.nurseries.grow id has n e)
 
 -- ---- the home of another task
 
@@ -75,10 +76,10 @@ pub mover_owned : {k : Table} {job : Job} {input : List ℕ} {t m s : ℕ} {old 
     (T : Turning k job input t m s old new c.numbers before after stop c.interleaving) → (u : ℕ) (home : Home) →
     (h : LivesIn old c.interleaving.at c.numbers u home) → h.parent ≡ s →
     HasBlock home.nursery (blocks_of before.frames.items) × HasNurseryOf home.nursery (blocks_of after.frames.items) (waits_of after.task_state)
-mover_owned {old = old} {before = before} c T u home h e = (block, T.took.kept home.nursery block)
+mover_owned {old = old} {before = before} c T u home h e = (block, T.took.nurseries.kept home.nursery block)
   where
     starter : h.starter ≡ before
-    starter = one_of h.starter before (sym h.lives ∙ (ap old.task e ∙ T.task))
+    starter = one_of h.starter before (sym h.lives ∙ (ap old.task e ∙ T.code.task))
 
     block : HasBlock home.nursery (blocks_of before.frames.items)
     block = home_block c T home (subst (λ (x : Task). HasNurseryOf home.nursery (blocks_of x.frames.items) (waits_of x.task_state)) starter
@@ -94,9 +95,9 @@ mover_home {k} {job} {input} {t} {m} {s} {old} {new} {before} {after} c T u home
     record {
       parent = s;
       starter = after;
-      lives = T.task_after;
+      lives = T.code.task_after;
       earlier = subst (λ (p : ℕ). p < u) e h.earlier;
-      owned = T.took.kept home.nursery block;
+      owned = T.took.nurseries.kept home.nursery block;
       runs = subst (λ (o : Option Members). IsSomeAnd o (λ x. (x.scope ≡ home.scope) × (slice_get x.children home.place ≡ Some None)))
           (sym g.1) (g.2.scope ∙ n.2.0, child);
       number = h.number;
@@ -140,7 +141,7 @@ else_home {k} {job} {input} {t} {m} {s} {old} {new} {before} {after} c T u home 
     record {
       parent = h.parent;
       starter = h.starter;
-      lives = T.other_after h.parent low differs ∙ h.lives;
+      lives = T.code.other_after h.parent low differs ∙ h.lives;
       earlier = h.earlier;
       owned = h.owned;
       runs = same_nursery (λ x. (x.scope ≡ home.scope) × (slice_get x.children home.place ≡ Some None)) old.world.book new.world.book
@@ -207,12 +208,12 @@ mover_open {new = new} {after = after} c T u home h e =
     let n = finds new.world.book home.nursery _ now.runs in
     let x : HasScope new.world.book after.own.items home.nursery =
     scope_of_nursery (label_at new.world) new.world.book (blocks_of after.frames.items) after.own.items (waits_of after.task_state) home.nursery
-    T.fits_after.opened
+    T.code.fits_after.runs.opened
     (mover_owned c T u home h e).1 in
     let same : x.scope.id ≡ home.scope = sym x.same ∙ (ap (λ (y : Members). y.scope) (one_of x.nursery n.0 (sym x.at ∙ n.1)) ∙ n.2.0) in
     subst (IsOpen new.world.scopes) same
-    (open_round new.world.scopes T.sound_after.chain (scope_of after) x.scope.id
-    (own_round (outer_of new.world.scopes (scope_of after)) after.own.items _ x.scope x.place T.fits_after.first x.got))
+    (open_round new.world.scopes T.code.sound_after.chain (scope_of after) x.scope.id
+    (own_round (outer_of new.world.scopes (scope_of after)) after.own.items _ x.scope x.place T.code.fits_after.runs.first x.got))
 
 -- so the scope of each home stays open
 pub home_open : {k : Table} {job : Job} {input : List ℕ} {t m s : ℕ} {old new : RunState} {before after : Task} {stop : Stop} →

@@ -28,7 +28,7 @@ use Rattle.task_machine.specs.Tasks.{home_of, home_scope, scope_of}
 use Rattle.task_machine.specs.Worlds.{label_at}
 use Rattle.interleavings.specs.Interleaving.{Started, live}
 use Rattle.run_refinement.specs.RunState.{RunState, LivesIn, HasHome, IsMember, Follows, Refines}
-use Rattle.run_refinement.specs.Turn.{Turning}
+use Rattle.run_refinement.specs.Turning.{Turning}
 use Rattle.run_refinement.proofs.ActsKeep.{not_both, same_or}
 use Rattle.run_refinement.proofs.StateTurn.{ActsOf, else_own, own_open}
 use Rattle.run_refinement.proofs.NurseryPlaces.{is_stop, Housed, housed_onto, Found, found, stack_here, same_places}
@@ -84,7 +84,7 @@ pub home_is : {k : Table} {job : Job} {input : List ℕ} {t m s : ℕ} {old new 
     HasNurseryOf id (blocks_of after.frames.items) (waits_of after.task_state) →
     slice_get (T.took.numbers_after id) place ≡ Some h.number → id ≡ home.nursery
 home_is {k} {job} {input} {t} {m} {s} {old} {new} {before} {after} c T u task is home at_home h e id place has got =
-    by_case (T.took.covered id place h.number has got)
+    by_case (T.took.nurseries.covered id place h.number has got)
   where
     below : h.number < (c.interleaving.at s).count
     below = subst (λ (p : ℕ). h.number < (c.interleaving.at p).count) e h.below
@@ -95,7 +95,7 @@ home_is {k} {job} {input} {t} {m} {s} {old} {new} {before} {after} c T u task is
     by_case : (HasBlock id (blocks_of before.frames.items) × (slice_get (c.numbers s id) place ≡ Some h.number))
         ⊎ BeginsAt id place h.number T.took.tasks T.move.begun → id ≡ home.nursery
     by_case (inl x) =
-        let n = finds old.world.book id _ ((c.follows s before T.task).nurseries id (inl x.0)) in
+        let n = finds old.world.book id _ ((c.follows s before T.code.task).nurseries id (inl x.0)) in
         let member : IsMember old c.interleaving.at t id place u (slice_get n.0.children place) =
         subst (λ (p : ℕ). IsMember old c.interleaving.at t id place p (slice_get n.0.children place)) serial (n.2.members place h.number x.1).1 in
         let same : Some (id, place) ≡ Some (home.nursery, home.place) =
@@ -129,7 +129,7 @@ mover_places {k} {job} {input} {t} {m} {s} {old} {new} {before} {after} {stop} c
     q = c.interleaving.at s
 
     follows : Follows old f input t c.interleaving.at c.numbers None s before
-    follows = c.follows s before T.task
+    follows = c.follows s before T.code.task
 
     among : IsAmong h.number (c.numbers s home.nursery)
     among = among_place h.number (c.numbers s home.nursery) home.place
@@ -140,12 +140,12 @@ mover_places {k} {job} {input} {t} {m} {s} {old} {new} {before} {after} {stop} c
     housed =
         housed_onto (label_at old.world) old.world.book f (c.numbers s) before.frames.items before.own.items (waits_of before.task_state)
         q.rest.stopped _ []
-        (outer_of old.world.scopes (scope_of before)) q.places T.fits.opened
-        (is_stop (c.numbers s) old.world.book before.task_state q.rest.stopped follows.task_state) follows.stands.places T.fits.first
+        (outer_of old.world.scopes (scope_of before)) q.places T.fits.runs.opened
+        (is_stop (c.numbers s) old.world.book before.task_state q.rest.stopped follows.task_state) follows.stands.places T.fits.runs.first
         home.nursery h.number (mover_owned c T u home h e).0 among
 
     was : (st : Stack) × (stack_of old.world.scopes housed.scope.id ≡ Some st) × AreAt (label_at old.world) f st housed.home
-    was = stack_here (label_at old.world) f old.world.scopes (scope_of before) housed.scope.id housed.home T.sound.chain housed.at
+    was = stack_here (label_at old.world) f old.world.scopes (scope_of before) housed.scope.id housed.home T.code.sound.chain housed.at
 
     -- it is the scope of that nursery
     first : housed.scope.id ≡ home.scope
@@ -180,13 +180,13 @@ mover_places {k} {job} {input} {t} {m} {s} {old} {new} {before} {after} {stop} c
     there =
         found (label_at new.world) new.world.book (froms_after f T.move.made) T.took.numbers_after after.frames.items after.own.items
         (waits_of after.task_state) T.stopped _
-        (outer_of new.world.scopes (scope_of after)) T.move.places T.fits_after.opened
-        (is_stop T.took.numbers_after new.world.book after.task_state T.stopped task_state.0) T.took.places T.fits_after.first
+        (outer_of new.world.scopes (scope_of after)) T.move.places T.code.fits_after.runs.opened
+        (is_stop T.took.numbers_after new.world.book after.task_state T.stopped task_state.0) T.took.places T.code.fits_after.runs.first
         h.number ps stays
 
     now : (st : Stack) × (stack_of new.world.scopes there.scope.id ≡ Some st) × AreAt (label_at new.world) (froms_after f T.move.made) st ps
     now = stack_here (label_at new.world) (froms_after f T.move.made) new.world.scopes (scope_of after) there.scope.id ps
-        T.sound_after.chain there.at
+        T.code.sound_after.chain there.at
 
     last : there.scope.id ≡ home.scope
     last =

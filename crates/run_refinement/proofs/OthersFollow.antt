@@ -8,6 +8,7 @@ use Rattle.nursery_book.specs.Book.{nursery_at, HasNursery}
 use Rattle.job_tree.specs.Tree.{Tree as Job}
 use Rattle.job_meaning.specs.Log.{Table}
 use Rattle.job_meaning.specs.Rest as rest
+use Rattle.task_machine.specs.States.{state_of}
 use Rattle.task_machine.specs.declared.entry.ScopeFrom.{ScopeFrom}
 use Rattle.turn_semantics.specs.Turned.{Known}
 use Rattle.task_machine.specs.declared.stop.Stop.{Stop}
@@ -22,7 +23,8 @@ use Rattle.task_machine.specs.Worlds.{label_at}
 use Rattle.interleavings.specs.Interleaving.{Started, live}
 use Rattle.interleavings.specs.Rows.{entered_made}
 use Rattle.run_refinement.specs.RunState.{RunState, Tracks, CanGoOn, IsMember, HasMembers, Follows, Refines}
-use Rattle.run_refinement.specs.Turn.{IsEntered, numbers_then, Turning, leaving_by}
+use Rattle.run_refinement.specs.Turn.{IsEntered, numbers_then, leaving_by}
+use Rattle.run_refinement.specs.Turning.{Turning}
 use Rattle.run_refinement.proofs.ActsKeep.{not_both, same_or}
 use Rattle.run_refinement.proofs.RunStates.{Stood, follows_by, gone_below}
 use Rattle.run_refinement.proofs.StateTurn.{ActsOf, else_own, own_open, nursery_same}
@@ -44,9 +46,9 @@ module _ (k : Table) (job : Job) (input : List ℕ) (t m s : ℕ) (old new : Run
   running_stays : (id place serial : ℕ) → IsMember old c.interleaving.at t id place serial (Some None) → (serial ≡ s) ⊎ (serial ≢ s) →
       IsMember new T.is.at t id place serial (Some None)
   running_stays id place serial h (inl e) =
-      let mine : h.0 ≡ before = one_of h.0 before (sym h.1 ∙ (ap old.task e ∙ T.task)) in
-      (after, ap new.task e ∙ T.task_after, ap (λ (z : Task). home_of z) T.stays ∙ (sym (ap (λ (z : Task). home_of z) mine) ∙ h.2))
-  running_stays id place serial h (inr differs) = (h.0, T.other_after serial (below_of c serial h.0 h.1) differs ∙ h.1, h.2)
+      let mine : h.0 ≡ before = one_of h.0 before (sym h.1 ∙ (ap old.task e ∙ T.code.task)) in
+      (after, ap new.task e ∙ T.code.task_after, ap (λ (z : Task). home_of z) T.code.stays ∙ (sym (ap (λ (z : Task). home_of z) mine) ∙ h.2))
+  running_stays id place serial h (inr differs) = (h.0, T.code.other_after serial (below_of c serial h.0 h.1) differs ∙ h.1, h.2)
 
   -- what is a member stays one
   member_stays : (id place serial : ℕ) (e : Option End) → IsMember old c.interleaving.at t id place serial e →
@@ -55,14 +57,14 @@ module _ (k : Table) (job : Job) (input : List ℕ) (t m s : ℕ) (old new : Run
   member_stays id place serial (Some None) h = running_stays id place serial h (same_or serial s)
   member_stays id place serial (Some (Some exc)) h = (
     h.0,
-    T.gone_after serial ∙ h.1,
+    T.code.gone_after serial ∙ h.1,
     h.2,
     ap (λ (q : Started). q.rest.stopped)
         (T.of_other serial (gone_below k job input t m None old c serial h.0 h.1) differs) ∙ h.3,
   )
     where
       lives : live (c.interleaving.at s).rest.stopped ≡ true
-      lives = (c.follows s before T.task).lives (λ e. not_both refl e)
+      lives = (c.follows s before T.code.task).lives (λ e. not_both refl e)
 
       differs : serial ≢ s
       differs e =
@@ -122,7 +124,7 @@ module _ (k : Table) (job : Job) (input : List ℕ) (t m s : ℕ) (old new : Run
               was.goes.opened;
         }
 
-    stands : Stands task.frames.items task new.world T.is.froms (c.numbers u) (Some (c.interleaving.at u).rest.stopped) (c.interleaving.at u).places
+    stands : Stands (state_of task new.world) T.is.froms (c.numbers u) (Some (c.interleaving.at u).rest.stopped) (c.interleaving.at u).places
     stands =
         record {
           places =

@@ -10,7 +10,7 @@ use Rattle.job_meaning.specs.Meaning.{root_label, root_here, meaning_table, mean
 use Rattle.job_meaning.specs.Shown.{Shown, as_shown, shown_at}
 use Rattle.job_meaning.specs.Rest.{Event, noted, signs, enters, starts, Stopped, to_begin, asking, asleep, awaiting, at_end}
 use Rattle.turn_semantics.specs.Midway.{Begun}
-use Rattle.task_machine.specs.Standing.{shown_made}
+use Rattle.task_machine.specs.Noted.{shown_made}
 use Rattle.interleavings.specs.Interleaving.{Started, In}
 use Rattle.interleavings.specs.Going.{root_task, task_after_turn, children_from}
 use Rattle.interleavings.specs.Rows.{Row, entries_made, entered_made, children_made, StartsRows, HasRow, records_by, froms_in, DepthFirst}

@@ -22,7 +22,7 @@ use Rattle.interleavings.specs.Woken.{MayWake, WaitIsOver}
 use Rattle.interleavings.proofs.Contract.{near_places}
 use Rattle.interleavings.proofs.Running.{runs_keep_invariant}
 use Rattle.run_refinement.specs.RunState.{Interleaving, RunState}
-use Rattle.run_refinement.specs.Turn.{Turning}
+use Rattle.run_refinement.specs.Turning.{Turning}
 use Rattle.run_refinement.proofs.Goes.{ready_by}
 
 -- one that has ended has no weight, and so no turn

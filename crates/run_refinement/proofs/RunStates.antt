@@ -7,6 +7,7 @@ use Rattle.nursery_book.specs.Nursery.{Nursery}
 use Rattle.nursery_book.specs.Book.{nursery_at, HasNursery}
 use Rattle.job_tree.specs.Tree.{Tree as Job}
 use Rattle.job_meaning.specs.Log.{Table}
+use Rattle.task_machine.specs.States.{state_of}
 use Rattle.task_machine.specs.declared.task.Home.{Home}
 use Rattle.task_machine.specs.declared.task.Own.{Own}
 use Rattle.task_machine.specs.declared.task.Task.{Task}
@@ -38,7 +39,7 @@ pub record Stood (state : RunState) (f : Table) (input : List ℕ) (t : ℕ) (at
     pub input_is : q.here.input ≡ input
     pub lives : (leaving ≡ Some s → ⊥) → live q.rest.stopped ≡ true
     pub frames : frames_of n task.frames.items ≡ q.rest.frames
-    pub stands : Stands task.frames.items task state.world f n (Some q.rest.stopped) q.places
+    pub stands : Stands (state_of task state.world) f n (Some q.rest.stopped) q.places
     pub task_state : IsTaskState n state.world.book task.task_state q.rest.stopped
     pub in_range : IsInRangeTaskState task.task_state
     pub goes : CanGoOn task state.world

@@ -20,7 +20,8 @@ use Rattle.task_machine.proofs.Stacked.{one_of}
 use Rattle.interleavings.specs.Interleaving.{Started}
 use Rattle.run_refinement.specs.RunState.{RunState, Follows, Refines}
 use Rattle.run_refinement.specs.Sights.{Shows}
-use Rattle.run_refinement.specs.Turn.{Turning, IsEntered, numbers_then, leaving_by}
+use Rattle.run_refinement.specs.Turn.{IsEntered, numbers_then, leaving_by}
+use Rattle.run_refinement.specs.Turning.{Turning}
 use Rattle.run_refinement.proofs.ActsKeep.{not_both}
 use Rattle.run_refinement.proofs.ActsSights.{shows_acts}
 use Rattle.run_refinement.proofs.StateTurn.{ActsOf, acted}
@@ -68,7 +69,7 @@ shows_still {k} {job} {input} {t} {m} {s} {old} {new} {before} {after} {stop} se
 
     was : (l : Label) × (label_at old.world key ≡ Some l) × (first_label q.places ≡ Some l)
     was =
-        scope_label (label_at old.world) c.interleaving.froms old.world.scopes (scope_of task) key q.places T.sound.own is h.stack h.opened
+        scope_label (label_at old.world) c.interleaving.froms old.world.scopes (scope_of task) key q.places T.code.sound.own is h.stack h.opened
         (c.follows u task lives).stands.places
 
     after_stack : (st : Stack) × (stack_of new.world.scopes key ≡ Some st)
@@ -76,7 +77,7 @@ shows_still {k} {job} {input} {t} {m} {s} {old} {new} {before} {after} {stop} se
 
     then : (l : Label) × (label_at new.world key ≡ Some l) × (first_label (T.is.at u).places ≡ Some l)
     then =
-        scope_label (label_at new.world) T.is.froms new.world.scopes (scope_of task) key (T.is.at u).places T.sound_after.own is
+        scope_label (label_at new.world) T.is.froms new.world.scopes (scope_of task) key (T.is.at u).places T.code.sound_after.own is
         after_stack.0 after_stack.1 now.stands.places
 
     same : then.0 ≡ was.0

@@ -18,6 +18,7 @@ use Rattle.nursery_book.specs.Nursery.{End, Nursery}
 use Rattle.nursery_book.specs.Book.{nursery_at}
 use Rattle.nursery_book.specs.declared.book.NurseryBook.{NurseryBook}
 use Rattle.turn_semantics.specs.Placed.{IsAmong}
+use Rattle.task_machine.specs.States.{state_of}
 use Rattle.task_machine.specs.declared.task.Home.{Home}
 use Rattle.task_machine.specs.declared.task.Own.{Own}
 use Rattle.task_machine.specs.declared.task.Task.{Task}
@@ -389,22 +390,15 @@ module _ (k : Table) (job : Job) (input : List ℕ) (t m : ℕ) (leaving : Optio
           (sym e ∙ ap (stack_of state.world.scopes) (sym by.1.is) ∙ w.at)) (key_among o.id st within)
 
   -- each task has all that a turn asks of it
-  pub state_fits : (s : ℕ) (task : Task) → state.task s ≡ Some task → Fits task.frames.items task state.world (waits_of task.task_state)
+  pub state_fits : (s : ℕ) (task : Task) → state.task s ≡ Some task → Fits (state_of task state.world) (waits_of task.task_state)
   state_fits s task e =
       let f = c.follows s task e in
-      let g = f.goes in
       record {
-        in_range = g.in_range;
-        starts = g.starts;
+        runs = f.goes;
         small =
             (let same : buffer_of task.part ≡ input = ap (λ (h : Here). h.input) f.here ∙ f.input_is in
             let few = bytes_few (buffer_of task.part) (range_of task.part).from (range_of task.part).to in
             let long : length (buffer_of task.part) ≡ length input = ap (λ (b : List ℕ). length b) same in
             let most = c.small in omega (arith, few, long, most));
-        home = g.home;
-        scope = g.scope;
-        first = g.first;
-        froms = g.froms;
-        opened = g.opened;
         others = others_run s task e;
       }

@@ -17,7 +17,8 @@ use Rattle.task_machine.specs.Fitting.{blocks_of, AreOthers, waits_of}
 use Rattle.task_machine.specs.Standing.{HasNurseryOf}
 use Rattle.task_machine.specs.Worlds.{label_at}
 use Rattle.run_refinement.specs.RunState.{RunState, OpenedBy, Refines}
-use Rattle.run_refinement.specs.Turn.{IsEntered, Turning}
+use Rattle.run_refinement.specs.Turn.{IsEntered}
+use Rattle.run_refinement.specs.Turning.{Turning}
 use Rattle.run_refinement.proofs.ActsKeep.{is_open}
 use Rattle.run_refinement.proofs.LabelsApart.{labels_apart, labels_known}
 use Rattle.run_refinement.proofs.OtherScopes.{Acted, AreElse}
@@ -41,8 +42,8 @@ pub acted : {k : Table} {job : Job} {input : List ℕ} {t m s : ℕ} {old new : 
 acted c T settled names nurseries =
     record {
       acts = T.took.acts;
-      sound = T.sound;
-      sound_after = T.sound_after;
+      sound = T.code.sound;
+      sound_after = T.code.sound_after;
       apart = record { labels = labels_apart c settled names nurseries };
       has = labels_known c;
       new = T.fresh;
@@ -61,7 +62,7 @@ else_own {s = s} {old = old} {before = before} c T u task differs is o i got = b
         AreOthers o.id before.own.items
     by_own (inl a) = a
     by_own (inr x) =
-        let mine : OpenedBy old o.id s = record { task = before; lives = T.task; place = x.0; scope = x.1; own = x.2; is = x.3 } in
+        let mine : OpenedBy old o.id s = record { task = before; lives = T.code.task; place = x.0; scope = x.1; own = x.2; is = x.3 } in
         let theirs : OpenedBy old o.id u = record { task = task; lives = is; place = i; scope = o; own = got; is = refl } in
         absurd (differs (sym (c.apart o.id s u mine theirs)))
 
@@ -80,5 +81,5 @@ pub nursery_same : {k : Table} {job : Job} {input : List ℕ} {t m s : ℕ} {old
 nursery_same {old = old} {new = new} {before = before} c T u task differs is id has =
     nurseries_stay (label_at old.world) old.world.book new.world.book (blocks_of before.frames.items) (blocks_of task.frames.items)
     before.own.items task.own.items (waits_of before.task_state)
-    (waits_of task.task_state) old.world.scopes T.fits.opened T.took.others (c.follows u task is).goes.opened (else_own c T u task differs is)
+    (waits_of task.task_state) old.world.scopes T.fits.runs.opened T.took.nurseries.others (c.follows u task is).goes.opened (else_own c T u task differs is)
     (own_open c u task is) id has

@@ -36,7 +36,8 @@ use Rattle.task_machine.proofs.Stacked.{seen_at}
 use Rattle.interleavings.specs.Interleaving.{Started}
 use Rattle.interleavings.specs.Woken.{MayWake}
 use Rattle.run_refinement.specs.RunState.{RunState, Follows, Refines}
-use Rattle.run_refinement.specs.Turn.{numbers_then, Turning, leaving_by}
+use Rattle.run_refinement.specs.Turn.{numbers_then, leaving_by}
+use Rattle.run_refinement.specs.Turning.{Turning}
 use Rattle.run_refinement.specs.Step.{TakesTurn, StopSays, EndsAs, StoppedIn}
 use Rattle.run_refinement.proofs.StateFits.{state_fits}
 use Rattle.run_refinement.proofs.StateTurn.{acted}
@@ -160,12 +161,8 @@ module _ (k : Table) (job : Job) (input : List ℕ) (t m s : ℕ) (old new : Run
     -- what the code says of it is all that is known of a turn
     turn : Turning k job input t m s old new c.numbers before after stop c.interleaving
     turn =
-        turning k job input t m s old new before after wake stop settled names starting c x.task x.stays x.world x.sound x.sound_after
-        x.none_left
-        (state_fits k job input t m None old c x.sound s before x.task) x.fits_after x.in_range x.goes.fits x.turn may x.task_after
-        x.child_after
-        x.other_after x.gone_after x.start_after
-        x.start_child x.more_children x.children_after x.no_children x.turns
+        turning k job input t m s old new before after wake stop settled names starting c x
+        (state_fits k job input t m None old c x.sound s before x.task) may
 
     -- and it began the tasks that wait in the world
     pub turning_of : (T : Turning k job input t m s old new c.numbers before after stop c.interleaving)
@@ -200,7 +197,7 @@ module _ (k : Table) (job : Job) (input : List ℕ) (t m s : ℕ) (old new : Run
       says =
           says_now T.took.numbers_after new.world.book before.part stop after.task_state t (froms_after c.interleaving.froms T.move.made) T.move.places
           T.stopped told new.world after refl
-          (ap (λ (z : Task). z.part) T.stays) (ap (λ (w : World). w.tick) T.world ∙ c.tick) T.took.places T.in_range refl
+          (ap (λ (z : Task). z.part) T.code.stays) (ap (λ (w : World). w.tick) T.code.world ∙ c.tick) T.took.places T.code.in_range refl
 
     -- After a task of the program took a turn, the tasks are one run with those that it started, in which that
     -- task stopped so.

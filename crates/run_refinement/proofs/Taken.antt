@@ -1,5 +1,5 @@
 -- A turn of the code, with all that is known of it.
-use Rattle.std.proofs.Common.{◌≡◌, ◌≢◌, ℕ, suc, ◌+◌, ◌<◌, Option, Some, None, List, [], ◌∷◌, ◌++◌, length, refl, ap, ◌∙◌, subst, arith}
+use Rattle.std.proofs.Common.{◌≡◌, ℕ, suc, ◌<◌, Option, Some, None, List, [], ◌∷◌, ◌++◌, length, refl, ap, ◌∙◌, subst, arith}
 use Rattle.std.specs.List.{slice_get}
 use Rattle.job_tree.specs.Tree.{Tree as Job}
 use Rattle.job_tree.specs.Names.{GivesNamesOnce}
@@ -17,20 +17,22 @@ use Rattle.turn_semantics.specs.Names.{NewIn}
 use Rattle.turn_semantics.specs.Turned.{TurnsOver}
 use Rattle.turn_semantics.proofs.Waking.{turned_from}
 use Rattle.turn_semantics.proofs.Names.{turn_stays_new}
+use Rattle.task_machine.specs.States.{State, state_of, here_at}
 use Rattle.task_machine.specs.declared.stop.Stop.{Stop}
 use Rattle.task_machine.specs.declared.stop.Wake.{Wake}
 use Rattle.task_machine.specs.declared.task.Task.{Task}
-use Rattle.task_machine.specs.declared.world.World.{World}
 use Rattle.task_machine.specs.Fitting.{Block, blocks_of, Fits, waits_of}
 use Rattle.task_machine.specs.Frames.{frames_of}
-use Rattle.task_machine.specs.Standing.{here_of, AreBegun, TookTo, TookTurn, TurnsAs}
+use Rattle.task_machine.specs.Standing.{AreBegun, TookTo, TookTurn}
 use Rattle.task_machine.specs.Stops.{Numbers, IsTaskState}
-use Rattle.task_machine.specs.Waking.{WakesFrom, wake_in, IsInRangeTaskState}
+use Rattle.task_machine.specs.Waking.{wake_in}
 use Rattle.task_machine.proofs.Stopping.{settled_from, stop_of}
 use Rattle.interleavings.specs.Interleaving.{Started}
 use Rattle.interleavings.specs.Woken.{MayWake}
 use Rattle.run_refinement.specs.RunState.{Interleaving, RunState, Follows, Refines}
-use Rattle.run_refinement.specs.Turn.{IsSound, serials_from, Turning}
+use Rattle.run_refinement.specs.Step.{TakesTurn}
+use Rattle.run_refinement.specs.Turn.{serials_from}
+use Rattle.run_refinement.specs.Turning.{Turning}
 use Rattle.run_refinement.proofs.Inputs.{on_at, turn_on_input}
 use Rattle.run_refinement.proofs.Goes.{may_can, WentOn, went_on}
 use Rattle.run_refinement.proofs.Fresh.{fresh_after}
@@ -55,60 +57,29 @@ tasks_long {new = new} {after = after} T =
 
 -- ---- a turn of the definitions, at the tick, the point and the frames of a task
 
-took_at : (before after : Task) (old new : World) (stop : Stop) (froms : Table) (numbers : Numbers) (n : ℕ) (w : wakes.Wake)
-    (stopped : rest.Stopped) (ps : List Place) (count t : ℕ)
-    (here : Here) (fs : List rest.Frame) → old.tick ≡ t → here_of before ≡ here → frames_of numbers before.frames.items ≡ fs →
-    TookTo before after old new stop froms numbers (turn_from n froms old.tick (here_of before) w stopped
-    (frames_of numbers before.frames.items) ps count) →
-    TookTo before after old new stop froms numbers (turn_from n froms t here w stopped fs ps count)
-took_at before after old new stop froms numbers n w stopped ps count t here fs tick at held h =
-    subst (λ (gs : List rest.Frame). TookTo before after old new stop froms numbers (turn_from n froms t here w stopped gs ps count)) held
-    (subst (λ (x : Here). TookTo before after old new stop froms numbers
-    (turn_from n froms t x w stopped (frames_of numbers before.frames.items) ps count)) at
-    (subst (λ (x : ℕ). TookTo before after old new stop froms numbers
-    (turn_from n froms x (here_of before) w stopped (frames_of numbers before.frames.items) ps count)) tick h))
+took_at : (s u : State) (stop : Stop) (froms : Table) (numbers : Numbers) (n : ℕ) (w : wakes.Wake) (stopped : rest.Stopped)
+    (ps : List Place) (count t : ℕ) (here : Here) (fs : List rest.Frame) → s.tick ≡ t → here_at s ≡ here → frames_of numbers s.frames ≡ fs →
+    TookTo s u stop froms numbers (turn_from n froms s.tick (here_at s) w stopped (frames_of numbers s.frames) ps count) →
+    TookTo s u stop froms numbers (turn_from n froms t here w stopped fs ps count)
+took_at s u stop froms numbers n w stopped ps count t here fs tick at held h =
+    subst (λ (gs : List rest.Frame). TookTo s u stop froms numbers (turn_from n froms t here w stopped gs ps count)) held
+    (subst (λ (x : Here). TookTo s u stop froms numbers (turn_from n froms t x w stopped (frames_of numbers s.frames) ps count)) at
+    (subst (λ (x : ℕ). TookTo s u stop froms numbers (turn_from n froms x (here_at s) w stopped (frames_of numbers s.frames) ps count)) tick h))
 
--- What the code says of a turn, and of the tasks of the program after it, is all that is known of a
--- turn.
+-- What the code says of a turn is one turn of the definitions.
 pub turning : (k : Table) (job : Job) (input : List ℕ) (t m s : ℕ) (old new : RunState) (before after : Task) (wake : Wake) (stop : Stop) →
-    IsSettled k job input → GivesNamesOnce job →
-    StartsInNurseries job → (c : Refines k job input t m None old) → old.task s ≡ Some before →
-    after ≡ record before { frames = after.frames; own = after.own; task_state = after.task_state; entries = after.entries; froms = after.froms } →
-    new.world ≡ record old.world {
-      scopes = new.world.scopes;
-      labels = new.world.labels;
-      book = new.world.book;
-      started =
-          new.world.started;
-    } → IsSound old.world.scopes →
-    IsSound new.world.scopes → old.world.started.items ≡ [] → Fits before.frames.items before old.world (waits_of before.task_state) →
-    Fits after.frames.items after new.world (waits_of after.task_state) → IsInRangeTaskState after.task_state →
-    WakesFrom before.task_state before.part old.world.book wake →
-    TurnsAs before after old.world new.world wake stop →
-    MayWake c.interleaving.froms c.interleaving.tasks t (c.interleaving.at s) (wake_in old.world.book before.task_state wake) (c.interleaving.at s).rest.stopped →
-    new.task s ≡ Some after →
-    ((i : ℕ) → new.task (m + i) ≡ slice_get new.world.started.items i) → ((p : ℕ) → p < m → p ≢ s → new.task p ≡ old.task p) →
-    ((p : ℕ) → new.gone p ≡ old.gone p) →
-    ((p : ℕ) → p < m → new.start p ≡ old.start p) → ((i : ℕ) → i < length new.world.started.items → new.start (m + i) ≡ t) →
-    new.children s ≡ old.children s ++ serials_from m (length new.world.started.items) →
-    ((p : ℕ) → p < m → p ≢ s → new.children p ≡ old.children p) →
-    ((i : ℕ) → i < length new.world.started.items → new.children (m + i) ≡ []) → new.turns ≡ old.turns + 1 →
+    IsSettled k job input → GivesNamesOnce job → StartsInNurseries job → (c : Refines k job input t m None old) →
+    TakesTurn t m s old new before after wake stop → Fits (state_of before old.world) (waits_of before.task_state) →
+    MayWake c.interleaving.froms c.interleaving.tasks t (c.interleaving.at s) (wake_in old.world.book before.task_state wake)
+    (c.interleaving.at s).rest.stopped →
     Turning k job input t m s old new c.numbers before after stop c.interleaving
-turning k job input t m s old new before after wake stop settled names starting c lives stays world sound sound_after none fits fits_after
-    in_range woken turns may task_after born others gone start
-    start_child more kept childless turns_more =
+turning k job input t m s old new before after wake stop settled names starting c code fits may =
     record {
-      task = lives;
+      woken_by = wake;
+      code = code;
       below = less;
-      stays = stays;
-      world = world;
-      sound = sound;
-      sound_after = sound_after;
-      none_left = none;
       fits = fits;
-      fits_after = fits_after;
-      in_range = in_range;
-      over = λ id e. settled_from before.task_state before.part old.world.book wake id woken e;
+      over = λ id e. settled_from before.task_state before.part old.world.book wake id code.goes.fits e;
       wake = w;
       move = o;
       stopped = at_stop.0;
@@ -126,26 +97,20 @@ turning k job input t m s old new before after wake stop settled names starting 
       of_task = went.of_task;
       of_child = went.of_child;
       of_other = went.of_other;
-      turns_after = turns_more;
-      task_after = task_after;
-      child_after = λ i. born i ∙ ap (λ (ts : List Task). slice_get ts i) started;
-      other_after = others;
-      gone_after = gone;
-      start_after = start;
-      start_child = λ i lt. start_child i (is_below i lt);
-      more_children = more ∙ ap (λ (n : ℕ). old.children s ++ serials_from m n) (ap (λ (ts : List Task). length ts) started ∙ many);
-      children_after = kept;
-      no_children = λ i lt. childless i (is_below i lt);
+      child_after = λ i. code.child_after i ∙ ap (λ (ts : List Task). slice_get ts i) started;
+      start_child = λ i lt. code.start_child i (is_below i lt);
+      more_children = code.more_children ∙ ap (λ (n : ℕ). old.children s ++ serials_from m n) (ap (λ (ts : List Task). length ts) started ∙ many);
+      no_children = λ i lt. code.no_children i (is_below i lt);
     }
   where
     q : Started
     q = c.interleaving.at s
 
     f : Follows old c.interleaving.froms input t c.interleaving.at c.numbers None s before
-    f = c.follows s before lives
+    f = c.follows s before code.task
 
     less : s < m
-    less = below_of c s before lives
+    less = below_of c s before code.task
 
     w : wakes.Wake
     w = wake_in old.world.book before.task_state wake
@@ -153,15 +118,15 @@ turning k job input t m s old new before after wake stop settled names starting 
     can : CanWake w q.rest.stopped
     can = may_can c.interleaving.froms c.interleaving.tasks t q w q.rest.stopped may
 
-    turn : TookTurn before after old.world new.world wake stop c.interleaving.froms (c.numbers s) q.rest.stopped q.places q.count
-    turn = turns c.interleaving.froms (c.numbers s) q.places q.count q.rest.stopped f.task_state f.stands
+    turn : TookTurn (state_of before old.world) (state_of after new.world) wake stop c.interleaving.froms (c.numbers s) q.rest.stopped q.places q.count
+    turn = code.turn c.interleaving.froms (c.numbers s) q.places q.count q.rest.stopped f.task_state f.stands
 
     o : Move
     o = turn_from turn.steps c.interleaving.froms t q.here w q.rest.stopped q.rest.frames q.places q.count
 
-    took : TookTo before after old.world new.world stop c.interleaving.froms (c.numbers s) o
+    took : TookTo (state_of before old.world) (state_of after new.world) stop c.interleaving.froms (c.numbers s) o
     took =
-        took_at before after old.world new.world stop c.interleaving.froms (c.numbers s) turn.steps w q.rest.stopped q.places q.count t q.here
+        took_at (state_of before old.world) (state_of after new.world) stop c.interleaving.froms (c.numbers s) turn.steps w q.rest.stopped q.places q.count t q.here
         q.rest.frames c.tick f.here f.frames turn.took
 
     at_stop : (x : rest.Stopped) × (o.stopped ≡ Some x) × IsTaskState took.numbers_after new.world.book after.task_state x
@@ -176,7 +141,7 @@ turning k job input t m s old new before after wake stop settled names starting 
     went = went_on k job input t m s c.interleaving w o at_stop.0 less may promise at_stop.1
 
     started : new.world.started.items ≡ took.tasks
-    started = took.started ∙ ap (λ (ts : List Task). ts ++ took.tasks) none
+    started = took.started ∙ ap (λ (ts : List Task). ts ++ took.tasks) code.none_left
 
     many : length took.tasks ≡ length o.begun
     many = begun_long took.numbers_after new.world.book _ _ took.tasks o.begun took.begun

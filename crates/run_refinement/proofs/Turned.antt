@@ -28,7 +28,8 @@ use Rattle.interleavings.specs.Rows.{entered_made}
 use Rattle.interleavings.proofs.Running.{runs_keep_invariant}
 use Rattle.interleavings.proofs.Turning.{old_child, later_child}
 use Rattle.run_refinement.specs.RunState.{RunState, Gone, Follows, HasEnded, AreStarted, OpenedBy, Refines}
-use Rattle.run_refinement.specs.Turn.{IsEntered, numbers_then, Turning, leaving_by}
+use Rattle.run_refinement.specs.Turn.{IsEntered, numbers_then, leaving_by}
+use Rattle.run_refinement.specs.Turning.{Turning}
 use Rattle.run_refinement.proofs.ActsKeep.{not_both, same_or}
 use Rattle.run_refinement.proofs.ActsFroms.{unmoved}
 use Rattle.run_refinement.proofs.ActsOthers.{labelled_acts}
@@ -152,7 +153,7 @@ module _ (k : Table) (job : Job) (input : List ℕ) (t m s : ℕ) (old new : Run
 
   ended_other : (p : ℕ) → p < m → p ≢ s → old.task p ≡ None → (g : Gone) × (new.gone p ≡ Some g) × HasEnded T.is.froms input t (T.is.at p) g
   ended_other p below differs e =
-      (g.0, T.gone_after p ∙ g.1, subst (λ (x : Started). HasEnded T.is.froms input t x g.0) (sym (T.of_other p below differs)) still)
+      (g.0, T.code.gone_after p ∙ g.1, subst (λ (x : Started). HasEnded T.is.froms input t x g.0) (sym (T.of_other p below differs)) still)
     where
       g : (g : Gone) × (old.gone p ≡ Some g) × HasEnded c.interleaving.froms input t (c.interleaving.at p) g
       g = c.ended p below e
@@ -176,8 +177,8 @@ module _ (k : Table) (job : Job) (input : List ℕ) (t m s : ℕ) (old new : Run
   ended_after p less e = by_whose (whose p)
     where
       by_whose : Whose p → (g : Gone) × (new.gone p ≡ Some g) × HasEnded T.is.froms input t (T.is.at p) g
-      by_whose (inl is) = absurd (not_both e (ap new.task is ∙ T.task_after))
-      by_whose (inr (inl o)) = ended_other p o.0 o.1 (sym (T.other_after p o.0 o.1) ∙ e)
+      by_whose (inl is) = absurd (not_both e (ap new.task is ∙ T.code.task_after))
+      by_whose (inr (inl o)) = ended_other p o.0 o.1 (sym (T.code.other_after p o.0 o.1) ∙ e)
       by_whose (inr (inr i)) =
           let count : length T.took.tasks ≡ length T.move.begun = tasks_long T in
           let is : m + i.0 ≡ p = i.1 in
@@ -189,7 +190,7 @@ module _ (k : Table) (job : Job) (input : List ℕ) (t m s : ℕ) (old new : Run
   -- the task that opened a scope that is none of this task's is another
   differs_by : (key p : ℕ) → AreOthers key before.own.items → OpenedBy old key p → p ≢ s
   differs_by key p others o e =
-      let is : o.task ≡ before = one_of o.task before (sym o.lives ∙ (ap old.task e ∙ T.task)) in
+      let is : o.task ≡ before = one_of o.task before (sym o.lives ∙ (ap old.task e ∙ T.code.task)) in
       all_got (λ (x : Own). x.id ≢ key) before.own.items o.place o.scope others
       (sym (ap (λ (z : Task). slice_get z.own.items o.place) is) ∙ o.own) o.is
 
@@ -197,7 +198,7 @@ module _ (k : Table) (job : Job) (input : List ℕ) (t m s : ℕ) (old new : Run
   opened_on key p differs o =
       record {
         task = o.task;
-        lives = T.other_after p (below_of c p o.task o.lives) differs ∙ o.lives;
+        lives = T.code.other_after p (below_of c p o.task o.lives) differs ∙ o.lives;
         place = o.place;
         scope = o.scope;
         own = o.own;
@@ -208,7 +209,7 @@ module _ (k : Table) (job : Job) (input : List ℕ) (t m s : ℕ) (old new : Run
   opened_back key p below differs o =
       record {
         task = o.task;
-        lives = sym (T.other_after p below differs) ∙ o.lives;
+        lives = sym (T.code.other_after p below differs) ∙ o.lives;
         place = o.place;
         scope = o.scope;
         own = o.own;
@@ -225,7 +226,7 @@ module _ (k : Table) (job : Job) (input : List ℕ) (t m s : ℕ) (old new : Run
           let was : IsElse key (scoping_of before old.world) = else_acts T.took.acts (opens, others) in
           let x = c.owned key was.0 in
           (x.0, opened_on key x.0 (differs_by key x.0 was.1 x.1) x.1)
-      by_own (inr h) = (s, record { task = after; lives = T.task_after; place = h.0; scope = h.1; own = h.2; is = h.3 })
+      by_own (inr h) = (s, record { task = after; lives = T.code.task_after; place = h.0; scope = h.1; own = h.2; is = h.3 })
 
   -- no scope is the task's and that of another
   not_both_own : (key u : ℕ) → u < m → u ≢ s → OpenedBy new key s → OpenedBy new key u → ⊥
@@ -246,10 +247,10 @@ module _ (k : Table) (job : Job) (input : List ℕ) (t m s : ℕ) (old new : Run
       st = open_stack old.world.scopes key opens
 
       stay : Stays key st.0 (scoping_of before old.world) (scoping_of after new.world)
-      stay = stays T.took.acts (sound_of (scoping_of before old.world) T.sound) st.1 others
+      stay = stays T.took.acts (sound_of (scoping_of before old.world) T.code.sound) st.1 others
 
       is : mine.task ≡ after
-      is = one_of mine.task after (sym mine.lives ∙ T.task_after)
+      is = one_of mine.task after (sym mine.lives ∙ T.code.task_after)
 
   -- a new task opened none yet
   child_owns_none : (key i : ℕ) → OpenedBy new key (m + i) → ⊥
@@ -292,7 +293,7 @@ module _ (k : Table) (job : Job) (input : List ℕ) (t m s : ℕ) (old new : Run
       IsSameChild old.start new.start c.interleaving.at T.is.at (c.interleaving.at p).child (c.interleaving.at p).child i
   same_child p below i among =
       let lower : (c.interleaving.at p).child i < m = child_below p below i among in
-      (same_label ((c.interleaving.at p).child i) lower, T.start_after ((c.interleaving.at p).child i) lower)
+      (same_label ((c.interleaving.at p).child i) lower, T.code.start_after ((c.interleaving.at p).child i) lower)
 
   started_mover : AreStarted new.start T.is.at (T.is.at s).child (T.is.at s).made
   started_mover =
@@ -345,14 +346,14 @@ module _ (k : Table) (job : Job) (input : List ℕ) (t m s : ℕ) (old new : Run
         by_whose (inl is) =
             subst (λ (u : ℕ). Follows new T.is.froms input t T.is.at numbers (leaving_by stop s) u task) (sym is)
             (subst (λ (x : Task). Follows new T.is.froms input t T.is.at numbers (leaving_by stop s) s x)
-            (one_of after task (sym T.task_after ∙ (ap new.task (sym is) ∙ e)))
+            (one_of after task (sym T.code.task_after ∙ (ap new.task (sym is) ∙ e)))
             (mover_follows k job input t m s old new before after stop c T (λ u le. ap entered_made (c.interleaving.none u le))
             (labels_apart c settled names starting) (labels_known c)))
-        by_whose (inr (inl o)) = others p o.0 o.1 task (sym (T.other_after p o.0 o.1) ∙ e)
+        by_whose (inr (inl o)) = others p o.0 o.1 task (sym (T.code.other_after p o.0 o.1) ∙ e)
         by_whose (inr (inr i)) =
             subst (λ (u : ℕ). Follows new T.is.froms input t T.is.at numbers (leaving_by stop s) u task) i.1
             (child_follows k job input t m s old new before after stop c T
-            (λ j b begun. T.inputs j b begun ∙ (c.follows s before T.task).input_is) i.0 task
+            (λ j b begun. T.inputs j b begun ∙ (c.follows s before T.code.task).input_is) i.0 task
             (sym (T.child_after i.0) ∙ (ap new.task i.1 ∙ e)) (leaving_by stop s))
 
     state_after : (x : Refines k job input t (m + length T.move.begun) (leaving_by stop s) new) × (x.interleaving.at ≡ T.is.at)
@@ -360,12 +361,12 @@ module _ (k : Table) (job : Job) (input : List ℕ) (t m s : ℕ) (old new : Run
       record {
         interleaving = T.is;
         numbers = numbers;
-        counted = T.counts ∙ (ap (λ (n : ℕ). n + 1) c.counted ∙ sym T.turns_after);
-        tick = ap (λ (w : World). w.tick) T.world ∙ c.tick;
+        counted = T.counts ∙ (ap (λ (n : ℕ). n + 1) c.counted ∙ sym T.code.turns);
+        tick = ap (λ (w : World). w.tick) T.code.world ∙ c.tick;
         small = c.small;
         some = (let first : 0 < m = c.some in omega (arith, first));
-        begun = T.start_after 0 c.some ∙ c.begun;
-        unborn = λ p le. (none_born p le, T.gone_after p ∙ (c.unborn p (omega (arith, le))).1);
+        begun = T.code.start_after 0 c.some ∙ c.begun;
+        unborn = λ p le. (none_born p le, T.code.gone_after p ∙ (c.unborn p (omega (arith, le))).1);
         ended = ended_after;
         follows = follows_after;
         owned = owned_after;

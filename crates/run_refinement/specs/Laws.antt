@@ -9,6 +9,7 @@ use Rattle.job_meaning.specs.Follow.{IsSettled}
 use Rattle.job_meaning.specs.Log.{Table}
 use Rattle.job_meaning.specs.Meaning.{meaning_end, meaning_table}
 use Rattle.job_meaning.specs.declared.limits.TheConstants.{MAX_INPUT}
+use Rattle.task_machine.specs.States.{state_of}
 use Rattle.task_machine.specs.declared.stop.Stop.{Stop}
 use Rattle.task_machine.specs.declared.stop.Wake.{Wake}
 use Rattle.task_machine.specs.declared.task.Task.{Task}
@@ -35,7 +36,7 @@ abbrev pub TasksFit : Type 0
 TasksFit =
     (k : Table) (job : Job) (input : List ℕ) (t m : ℕ) (leaving : Option ℕ) (state : RunState) → Refines k job input t m leaving state →
     IsSound state.world.scopes →
-    (s : ℕ) (task : Task) → state.task s ≡ Some task → Fits task.frames.items task state.world (waits_of task.task_state)
+    (s : ℕ) (task : Task) → state.task s ≡ Some task → Fits (state_of task state.world) (waits_of task.task_state)
 
 -- What holds after each turn of a task.
 abbrev pub AfterTurns : (Table → Job → List ℕ → ℕ → ℕ → ℕ → RunState → Task → Stop → Type 0) → Type 0

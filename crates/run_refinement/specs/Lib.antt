@@ -5,6 +5,7 @@ pub mod Begun
 pub mod Over
 pub mod Ready
 pub mod Step
+pub mod Turning
 pub mod Moved
 pub mod Laws
 pub mod Sights

@@ -1,7 +1,5 @@
 -- The tasks of the program as the code holds them, and their relation to a run of the definitions.
 use Rattle.std.specs.Prelude.{◌≡◌, ◌≢◌, true, ℕ, ◌<◌, ◌≤◌, Option, Some, None, List, [], ◌∷◌, All, map, length, slice_get}
-use Rattle.std.specs.Option.{ForSome}
-use Rattle.std.specs.List.{last_or}
 use Rattle.exc_groups.specs.Exceptions.{Label, Exc}
 use Rattle.cancel_scopes.specs.Tree.{Stack, stack_of, IsOpen, own_from}
 use Rattle.nursery_book.specs.Nursery.{End, Nursery}
@@ -11,19 +9,19 @@ use Rattle.job_meaning.specs.Log.{Table}
 use Rattle.job_meaning.specs.Meaning.{froms_by}
 use Rattle.job_meaning.specs.Rest as rest
 use Rattle.job_meaning.specs.declared.limits.TheConstants.{MAX_INPUT}
+use Rattle.task_machine.specs.States.{state_of}
 use Rattle.task_machine.specs.declared.entry.Entry.{Entry}
 use Rattle.task_machine.specs.declared.entry.ScopeFrom.{ScopeFrom}
-use Rattle.task_machine.specs.Noted.{entry_of, from_of, IsSlice}
+use Rattle.task_machine.specs.Noted.{entry_of, from_of, IsSlice, shown_made}
 use Rattle.turn_semantics.specs.Turned.{Known}
 use Rattle.task_machine.specs.declared.task.Home.{Home}
 use Rattle.task_machine.specs.declared.task.Own.{Own}
 use Rattle.task_machine.specs.declared.task.Task.{Task}
 use Rattle.task_machine.specs.declared.world.World.{World}
 use Rattle.task_machine.specs.Acts.{Scoping, scoping_of}
-use Rattle.task_machine.specs.Fitting.{blocks_of, AreInRangeFrames, StartsFit, Opened, AreOthers, waits_of}
+use Rattle.task_machine.specs.Fitting.{blocks_of, CanRun, AreOthers, waits_of}
 use Rattle.task_machine.specs.Frames.{frames_of}
-use Rattle.task_machine.specs.Left.{OwnFirst}
-use Rattle.task_machine.specs.Standing.{here_of, shown_made, HasNurseryOf, Stands}
+use Rattle.task_machine.specs.Standing.{here_of, HasNurseryOf, Stands}
 use Rattle.task_machine.specs.Stops.{Numbers, IsTaskState}
 use Rattle.task_machine.specs.Tasks.{home_of, home_scope}
 use Rattle.task_machine.specs.Waking.{IsInRangeTaskState}
@@ -103,14 +101,10 @@ pub record Tracks (known : Label → Type 0) (f : Table) (s : Scoping) (entered 
 
 -- Between its turns a task can run what it has left, and its scopes and nurseries are open: all that a turn requires of it,
 -- except for the scopes of other tasks (`Fits`).
-pub record CanGoOn (task : Task) (world : World) : Type 0 where
-  pub in_range : AreInRangeFrames (frames_of (λ id. []) task.frames.items)
-  pub starts : StartsFit (frames_of (λ id. []) task.frames.items)
-  pub home : ForSome (home_scope task) (IsOpen world.scopes)
-  pub scope : ForSome (last_or (home_scope task) (map (λ (o : Own). o.id) task.own.items)) (IsOpen world.scopes)
-  pub first : OwnFirst world.scopes (home_scope task) task.own.items
-  pub froms : All (λ (o : Own). o.at < length task.froms.items) task.own.items
-  pub opened : Opened (label_at world) world.book (blocks_of task.frames.items) task.own.items (waits_of task.task_state)
+abbrev pub CanGoOn : Task → World → Type 0
+CanGoOn task world =
+    CanRun task.frames.items (home_scope task) task.own.items (length task.froms.items) world.scopes (label_at world) world.book
+    (waits_of task.task_state)
 
 -- The home of a task that was started by another, which has not ended: one of the other's nurseries, in which this task runs at
 -- its place, as the child with this serial number.
@@ -154,7 +148,7 @@ pub record Follows (state : RunState) (f : Table) (input : List ℕ) (t : ℕ) (
     pub input_is : (at s).here.input ≡ input
     pub lives : (leaving ≡ Some s → ⊥) → live (at s).rest.stopped ≡ true
     pub frames : frames_of (numbers s) task.frames.items ≡ (at s).rest.frames
-    pub stands : Stands task.frames.items task state.world f (numbers s) (Some (at s).rest.stopped) (at s).places
+    pub stands : Stands (state_of task state.world) f (numbers s) (Some (at s).rest.stopped) (at s).places
     pub task_state : IsTaskState (numbers s) state.world.book task.task_state (at s).rest.stopped
     pub in_range : IsInRangeTaskState task.task_state
     pub goes : CanGoOn task state.world

@@ -10,6 +10,7 @@ use Rattle.job_tree.specs.Tree.{Tree as Job}
 use Rattle.job_meaning.specs.Log.{Table}
 use Rattle.job_meaning.specs.Rest as rest
 use Rattle.interleavings.specs.Interleaving.{Started}
+use Rattle.task_machine.specs.States.{state_of}
 use Rattle.task_machine.specs.declared.stop.TaskState.TheVariants.{Asked, Asleep, Awaits}
 use Rattle.task_machine.specs.declared.stop.Purpose.{Purpose}
 use Rattle.task_machine.specs.declared.stop.Stop.{Stop}
@@ -44,9 +45,9 @@ pub record TakesTurn (t m s : ℕ) (old new : RunState) (before after : Task) (w
   pub sound : IsSound old.world.scopes
   pub sound_after : IsSound new.world.scopes
   pub none_left : old.world.started.items ≡ []
-  pub fits_after : Fits after.frames.items after new.world (waits_of after.task_state)
+  pub fits_after : Fits (state_of after new.world) (waits_of after.task_state)
   pub in_range : IsInRangeTaskState after.task_state
-  pub turn : TurnsAs before after old.world new.world wake stop
+  pub turn : TurnsAs (state_of before old.world) (state_of after new.world) wake stop
   -- the state
   pub turns : new.turns ≡ old.turns + 1
   pub task_after : new.task s ≡ Some after

@@ -1,8 +1,6 @@
 -- A step of the code that is one of the steps of a block, as the definitions' step: one lemma for each kind.
-use Rattle.std.proofs.Common.{◌≡◌, ℕ, zero, suc, ◌+◌, ◌-◌, Bool, Option, Some, None, List, [], ◌∷◌, ◌++◌, length, refl, ap, sym, ◌∙◌, subst, append_assoc, arith, Bor}
-use Rattle.std.specs.List.{slice_get}
-use Rattle.cancel_scopes.specs.Tree.{Tree}
-use Rattle.exc_groups.specs.Exceptions.{Label, raised}
+use Rattle.std.proofs.Common.{◌≡◌, ℕ, Bool, Option, Some, None, List, [], ◌∷◌, ◌++◌, refl, ap, sym, ◌∙◌, subst, append_assoc, Bor}
+use Rattle.exc_groups.specs.Exceptions.{Label}
 use Rattle.job_tree.specs.Tree as tree
 use Rattle.job_tree.specs.InRange.{AreInRange}
 use Rattle.job_tree.specs.Blocks.{steps_of, step_of as step_in, handled_of, cleaned_of}
@@ -11,19 +9,17 @@ use Rattle.job_tree.specs.declared.step.Step.{Step}
 use Rattle.job_tree.specs.declared.step.Step.TheVariants as code
 use Rattle.job_tree.specs.declared.step.Handler.{Handler}
 use Rattle.job_meaning.specs.Log.{Table}
-use Rattle.job_meaning.specs.Walk.{Here, far, due}
+use Rattle.job_meaning.specs.Walk.{Here, due}
 use Rattle.job_meaning.specs.Rest as rest
 use Rattle.job_meaning.specs.Rest.{inside, path_in, asking}
-use Rattle.job_meaning.specs.Asking as ask
 use Rattle.nursery_book.specs.declared.book.NurseryBook.{NurseryBook}
 use Rattle.turn_semantics.specs.Midway.{Place, Move}
 use Rattle.turn_semantics.specs.Names.{names_at, AreNew, IsNew, NewIn}
-use Rattle.turn_semantics.specs.Steps.{onward, blocks_on, makes, sleeps, label_among, signs_to, begins_passes, step_on, step_frames}
+use Rattle.turn_semantics.specs.Steps.{onward, makes, sleeps, label_among, signs_to, begins_passes, step_on, step_frames}
 use Rattle.task_machine.specs.declared.frame.Frame.{Frame}
 use Rattle.task_machine.specs.declared.frame.Frame.TheVariants.{Steps, Scope, Nursery}
 use Rattle.task_machine.specs.declared.stop.Moved.{Moved}
 use Rattle.task_machine.specs.declared.stop.Moved.TheVariants.{On}
-use Rattle.task_machine.specs.declared.stop.TaskState.{TaskState}
 use Rattle.task_machine.specs.Acts.{Enters, scoping_in}
 use Rattle.task_machine.specs.Entered.{EntersAt, EntersBlock, EntersNursery, CancelsAt}
 use Rattle.task_machine.specs.Fitting.{blocks_of}

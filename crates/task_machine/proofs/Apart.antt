@@ -91,7 +91,7 @@ apart_inner labels book (a_nursery key ∷ bs) (o ∷ own) id h (inr has) = apar
 pub apart_awaited : (fs : List Frame) (part : Part) (home : Option ℕ) (own : List Own) (n : ℕ) (tree : Tree) (labels : Labels)
     (book : NurseryBook) (id : ℕ) →
     FitsIn fs part home own n tree labels book (Some id) → HasBlock id (blocks_of fs) → ⊥
-apart_awaited fs part home own n tree labels book id h has = apart_waits labels book (blocks_of fs) own id h.opened has
+apart_awaited fs part home own n tree labels book id h has = apart_waits labels book (blocks_of fs) own id h.runs.opened has
 
 -- for frames in which a nursery's body is the innermost block, with frames inside it that are no
 -- blocks
@@ -100,7 +100,7 @@ pub apart_body : (fs gs : List Frame) (part : Part) (home : Option ℕ) (own : L
     FitsIn gs part home own n tree labels book None → blocks_of gs ≡ blocks_of (fs ++ Nursery id ∷ []) → HasBlock id (blocks_of fs) → ⊥
 apart_body fs gs part home own n tree labels book id h same has =
     apart_inner labels book (blocks_of fs) own id (subst (λ (bs : List Block). Opened labels book bs own None)
-    (same ∙ blocks_append fs (Nursery id ∷ [])) h.opened) has
+    (same ∙ blocks_append fs (Nursery id ∷ [])) h.runs.opened) has
 
 -- and for a task whose steps are those of such a body
 pub apart_steps : (fs outer gs : List Frame) (steps : Bor (List Step)) (part : Part) (home : Option ℕ) (own : List Own) (n : ℕ)

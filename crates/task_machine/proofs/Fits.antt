@@ -49,14 +49,16 @@ pub fits_frames : (fs gs : List Frame) (part : Part) (home : Option ℕ) (own : 
     FitsIn gs part home own n tree labels book None
 fits_frames fs gs part home own n tree labels book same in_range starts h =
     record {
-      in_range = in_range;
-      starts = starts;
+      runs = record {
+        in_range = in_range;
+        starts = starts;
+        home = h.runs.home;
+        scope = h.runs.scope;
+        first = h.runs.first;
+        froms = h.runs.froms;
+        opened = subst (λ (bs : List Block). Opened labels book bs own None) (sym same) h.runs.opened;
+      };
       small = h.small;
-      home = h.home;
-      scope = h.scope;
-      first = h.first;
-      froms = h.froms;
-      opened = subst (λ (bs : List Block). Opened labels book bs own None) (sym same) h.opened;
       others = subst (λ (bs : List Block). OthersRun tree book bs own None) (sym same) h.others;
     }
 
@@ -73,7 +75,7 @@ ready_scope fs fail part home own n tree labels book chain owns apart h =
           λ id e.
           subst (IsInnermost tree) (one_of l.last.id id (sym scope_is ∙ e))
           (innermost_of tree book chain owns apart home (blocks_of fs ++ a_scope ∷ []) l.before l.last None
-          (top_of tree chain owns home own l.before l.last l.is (h.scope l.last.id scope_is) h.first scope_is)
+          (top_of tree chain owns home own l.before l.last l.is (h.runs.scope l.last.id scope_is) h.runs.first scope_is)
           (subst (λ (os : List Own). OthersRun tree book (blocks_of fs ++ a_scope ∷ []) os None) l.is
           (subst (λ (bs : List Block). OthersRun tree book bs own None) blocks h.others))
           (λ r. runs_behind book (blocks_of fs) (length l.before) None
@@ -86,7 +88,7 @@ ready_scope fs fail part home own n tree labels book chain owns apart h =
     blocks = blocks_append fs (Scope fail ∷ [])
 
     opened : Opened labels book (blocks_of fs ++ a_scope ∷ []) own None
-    opened = subst (λ (bs : List Block). Opened labels book bs own None) blocks h.opened
+    opened = subst (λ (bs : List Block). Opened labels book bs own None) blocks h.runs.opened
 
     some : 0 < length own
     some = opened_some labels book (blocks_of fs) own a_scope opened

@@ -99,16 +99,18 @@ pub fits_signed : (fs : List Frame) (part : Part) (home : Option ℕ) (own : Lis
     FitsIn fs part home own n old labels book waits → FitsIn fs part home own n new labels book waits
 fits_signed fs part home own n old new labels book waits same h =
     record {
-      in_range = h.in_range;
-      starts = h.starts;
+      runs = record {
+        in_range = h.runs.in_range;
+        starts = h.runs.starts;
+        home = λ k e. same_open (stack_of new k) (stack_of old k) (same k) (h.runs.home k e);
+        scope = λ k e. same_open (stack_of new k) (stack_of old k) (same k) (h.runs.scope k e);
+        first =
+            keys_round old new (last_or home (ids own)) same ∙ h.runs.first
+            ∙ ap (λ (ks : List ℕ). keys_in own ++ ks) (sym (keys_round old new home same));
+        froms = h.runs.froms;
+        opened = h.runs.opened;
+      };
       small = h.small;
-      home = λ k e. same_open (stack_of new k) (stack_of old k) (same k) (h.home k e);
-      scope = λ k e. same_open (stack_of new k) (stack_of old k) (same k) (h.scope k e);
-      first =
-          keys_round old new (last_or home (ids own)) same ∙ h.first
-          ∙ ap (λ (ks : List ℕ). keys_in own ++ ks) (sym (keys_round old new home same));
-      froms = h.froms;
-      opened = h.opened;
       others = others_same old new book (blocks_of fs) own waits same h.others;
     }
 
@@ -162,20 +164,22 @@ pub fits_entered : (fs gs : List Frame) (b : Block) (part : Part) (home : Option
 fits_entered fs gs b part home own o n old new labels more book after name level chain closed stack named keep u at stay block blocks in_range
     starts h =
     record {
-      in_range = in_range;
-      starts = starts;
+      runs = record {
+        in_range = in_range;
+        starts = starts;
+        home = λ k e. subst IsSome (sym (kept_open old new o.id k closed keep (h.runs.home k e))) (h.runs.home k e);
+        scope = λ k e. subst (IsOpen new) (one_of o.id k (sym last ∙ e)) (subst IsSome (sym stack) refl);
+        first = first;
+        froms =
+            All-append (λ (x : Own). x.at < suc n) own (o ∷ []) (all_below n own h.runs.froms)
+            (All-cons (λ (x : Own). x.at < suc n) o [] (omega (arith, at)) (All-nil (λ (x : Own). x.at < suc n)));
+        opened =
+            subst (λ (bs : List Block). Opened more after bs (own ++ o ∷ []) None) (sym blocks)
+            (opened_in more after (blocks_of fs) own b o
+            (opened_stays labels more book after o.id (blocks_of fs) own
+            (record { named = u.others; nurseries = λ id m e differs. stay id m e }) apart h.runs.opened) block apart);
+      };
       small = h.small;
-      home = λ k e. subst IsSome (sym (kept_open old new o.id k closed keep (h.home k e))) (h.home k e);
-      scope = λ k e. subst (IsOpen new) (one_of o.id k (sym last ∙ e)) (subst IsSome (sym stack) refl);
-      first = first;
-      froms =
-          All-append (λ (x : Own). x.at < suc n) own (o ∷ []) (all_below n own h.froms)
-          (All-cons (λ (x : Own). x.at < suc n) o [] (omega (arith, at)) (All-nil (λ (x : Own). x.at < suc n)));
-      opened =
-          subst (λ (bs : List Block). Opened more after bs (own ++ o ∷ []) None) (sym blocks)
-          (opened_in more after (blocks_of fs) own b o
-          (opened_stays labels more book after o.id (blocks_of fs) own
-          (record { named = u.others; nurseries = λ id m e differs. stay id m e }) apart h.opened) block apart);
       others =
           subst (λ (bs : List Block). OthersRun new after bs (own ++ o ∷ []) None) (sym blocks)
           (others_entered old new book after chain (blocks_of fs) own b o closed keep run h.others);
@@ -185,14 +189,14 @@ fits_entered fs gs b part home own o n old new labels more book after name level
     last = last_pushed home own (own ++ o ∷ []) o refl
 
     apart : AreOthers o.id own
-    apart = fresh_others old chain home own o.id h.first closed
+    apart = fresh_others old chain home own o.id h.runs.first closed
 
     first : OwnFirst new home (own ++ o ∷ [])
     first =
         ap (λ (s : Option ℕ). keys_of (outer_of new s)) last ∙ ap (λ (p : Option Stack). keys_of (unwrap_or p [])) stack
-        ∙ ap (λ (k : ℕ). k ∷ keys_of (outer_of old (last_or home (ids own)))) named ∙ ap (λ (ks : List ℕ). o.id ∷ ks) h.first
+        ∙ ap (λ (k : ℕ). k ∷ keys_of (outer_of old (last_or home (ids own)))) named ∙ ap (λ (ks : List ℕ). o.id ∷ ks) h.runs.first
         ∙ ap (λ (ks : List ℕ). ks ++ keys_of (outer_of old home)) (sym (keys_pushed own o))
-        ∙ ap (λ (st : Stack). keys_in (own ++ o ∷ []) ++ keys_of st) (sym (kept_outer old new o.id home closed keep h.home))
+        ∙ ap (λ (st : Stack). keys_in (own ++ o ∷ []) ++ keys_of st) (sym (kept_outer old new o.id home closed keep h.runs.home))
 
     run : (id : ℕ) → HasRunning book (Some id) → HasRunning after (Some id)
     run id r = by_nursery (nursery_at book id) refl r
@@ -243,15 +247,17 @@ pub fits_left : (fs : List Frame) (fail : Bool) (part : Part) (home : Option ℕ
     FitsIn (fs ++ Scope fail ∷ []) part home (os ++ o ∷ []) n old labels book None → FitsIn fs part home os n new more book None
 fits_left fs fail part home os o n old new labels more book chain owns apart top closed keep u first h =
     record {
-      in_range = subst AreInRangeFrames (frames_push (λ id. []) fs (Scope fail)) h.in_range;
-      starts = subst StartsFit (frames_push (λ id. []) fs (Scope fail)) h.starts;
+      runs = record {
+        in_range = subst AreInRangeFrames (frames_push (λ id. []) fs (Scope fail)) h.runs.in_range;
+        starts = subst StartsFit (frames_push (λ id. []) fs (Scope fail)) h.runs.starts;
+        home = home_open old new chain owns apart home os o top keep h.runs.home;
+        scope = round_open old new chain owns apart home os o h.runs.home top keep;
+        first = first;
+        froms = first_below n os o h.runs.froms;
+        opened = opened_stays labels more book book o.id (blocks_of fs) os (record { named = u.others; nurseries = λ id m e differs. e })
+            inner.others inner.outer;
+      };
       small = h.small;
-      home = home_open old new chain owns apart home os o top keep h.home;
-      scope = round_open old new chain owns apart home os o h.home top keep;
-      first = first;
-      froms = first_below n os o h.froms;
-      opened = opened_stays labels more book book o.id (blocks_of fs) os (record { named = u.others; nurseries = λ id m e differs. e })
-          inner.others inner.outer;
       others = others_left old new book book (blocks_of fs) os o closed keep refl
           (subst (λ (bs : List Block). OthersRun old book bs (os ++ o ∷ []) None) blocks h.others);
     }
@@ -261,7 +267,7 @@ fits_left fs fail part home os o n old new labels more book chain owns apart top
 
     inner : Innermost labels book (blocks_of fs) os a_scope o
     inner = opened_out labels book (blocks_of fs) os a_scope o (subst (λ (bs : List Block). Opened labels book bs (os ++ o ∷ []) None)
-        blocks h.opened)
+        blocks h.runs.opened)
 
 -- ---- a nursery whose body ended
 
@@ -293,7 +299,7 @@ pub inside_of : (fs : List Frame) (id : ℕ) (part : Part) (home : Option ℕ) (
 inside_of fs id part home own n tree labels book h = by_nursery (nursery_at book id) refl inner.block
   where
     opened : Opened labels book (blocks_of fs ++ a_nursery id ∷ []) own None
-    opened = subst (λ (bs : List Block). Opened labels book bs own None) (blocks_append fs (Nursery id ∷ [])) h.opened
+    opened = subst (λ (bs : List Block). Opened labels book bs own None) (blocks_append fs (Nursery id ∷ [])) h.runs.opened
 
     l : LastOf own
     l = last_of own (opened_some labels book (blocks_of fs) own (a_nursery id) opened)
@@ -314,20 +320,22 @@ pub fits_awaits : (fs : List Frame) (id : ℕ) (part : Part) (home : Option ℕ)
     FitsIn fs part home own n tree labels after (Some id)
 fits_awaits fs id part home own n tree labels book after exc changes h =
     record {
-      in_range = subst AreInRangeFrames (frames_push (λ key. []) fs (Nursery id)) h.in_range;
-      starts = subst StartsFit (frames_push (λ key. []) fs (Nursery id)) h.starts;
+      runs = record {
+        in_range = subst AreInRangeFrames (frames_push (λ key. []) fs (Nursery id)) h.runs.in_range;
+        starts = subst StartsFit (frames_push (λ key. []) fs (Nursery id)) h.runs.starts;
+        home = h.runs.home;
+        scope = h.runs.scope;
+        first = h.runs.first;
+        froms = h.runs.froms;
+        opened =
+            subst (λ (os : List Own). Opened labels after (blocks_of fs) os (Some id)) (sym i.last.is)
+            (opened_waits labels after (blocks_of fs) i.last.before id i.last.last
+            (opened_stays labels labels book after i.last.last.id (blocks_of fs) i.last.before
+            (stays_but labels book after id i.last.last i.members i.at i.mine.scope u.others) i.apart i.outer) i.apart
+            (subst (λ (m : Option Members). IsSomeAnd m (λ n. IsMine labels i.last.last n × IsSome n.body)) (sym u.changed)
+            (record { scope = i.mine.scope; label = i.mine.label }, refl)));
+      };
       small = h.small;
-      home = h.home;
-      scope = h.scope;
-      first = h.first;
-      froms = h.froms;
-      opened =
-          subst (λ (os : List Own). Opened labels after (blocks_of fs) os (Some id)) (sym i.last.is)
-          (opened_waits labels after (blocks_of fs) i.last.before id i.last.last
-          (opened_stays labels labels book after i.last.last.id (blocks_of fs) i.last.before
-          (stays_but labels book after id i.last.last i.members i.at i.mine.scope u.others) i.apart i.outer) i.apart
-          (subst (λ (m : Option Members). IsSomeAnd m (λ n. IsMine labels i.last.last n × IsSome n.body)) (sym u.changed)
-          (record { scope = i.mine.scope; label = i.mine.label }, refl)));
       others =
           λ key st e a at o got within.
           runs_in_later book after (blocks_of fs) at (Some id) run

@@ -3,19 +3,17 @@ use Rattle.std.proofs.Common.{◌≡◌, ◌≢◌, ◌⊎◌, inl, inr, ℕ, �
 use Rattle.std.proofs.lemmas.Bool.{eqb-true, eq-eqb}
 use Rattle.std.proofs.lemmas.List.{append-nil}
 use Rattle.std.proofs.lemmas.List.Elements.{All-nil}
-use Rattle.std.proofs.lemmas.Option.{same_Some, none-some}
+use Rattle.std.proofs.lemmas.Option.{same_Some}
 use Rattle.std.specs.Option.{IsSomeAnd}
-use Rattle.std.specs.List.{slice_get}
 use Rattle.exc_groups.specs.Exceptions.{Exc}
 use Rattle.nursery_book.specs.Nursery.{End, Nursery as Members, with_body}
 use Rattle.nursery_book.specs.Book.{nursery_at, HasNursery, Updates, Changes}
 use Rattle.nursery_book.specs.declared.book.NurseryBook.{NurseryBook}
 use Rattle.turn_semantics.specs.Midway.{Begun}
 use Rattle.task_machine.specs.declared.frame.Frame.{Frame}
-use Rattle.task_machine.specs.declared.frame.Frame.TheVariants.{Nursery}
 use Rattle.task_machine.specs.declared.task.Task.{Task}
 use Rattle.task_machine.specs.Fitting.{Block, a_scope, a_nursery, blocks_of}
-use Rattle.task_machine.specs.Standing.{HasBlock, HasNurseryOf, AreNumbered, AllNumbered, BeginsAt, Grown, Grow, IsOfOther, Owns, Covers, OthersStay, ChangesNurseries}
+use Rattle.task_machine.specs.Standing.{HasBlock, HasNurseryOf, AreNumbered, Grown, IsOfOther, Covers, ChangesNurseries}
 use Rattle.task_machine.specs.States.{State}
 use Rattle.task_machine.specs.Stops.{Numbers}
 use Rattle.task_machine.proofs.Acting.{block_of}

@@ -91,7 +91,7 @@ ready_settled fs id part home own n tree labels book chain owns apart settled h 
           λ key e.
           subst (IsInnermost tree) (one_of l.last.id key (sym scope_is ∙ e))
           (innermost_of tree book chain owns apart home (blocks_of fs) l.before l.last (Some id)
-          (top_of tree chain owns home own l.before l.last l.is (h.scope l.last.id scope_is) h.first scope_is)
+          (top_of tree chain owns home own l.before l.last l.is (h.runs.scope l.last.id scope_is) h.runs.first scope_is)
           (subst (λ (os : List Own). OthersRun tree book (blocks_of fs) os (Some id)) l.is h.others)
           (λ r. settled_quiet book id settled (runs_behind book (blocks_of fs) (length l.before) (Some id)
           (let e = opened_length labels book (blocks_of fs) l.before at.outer in omega (arith, e)) r)));
@@ -100,14 +100,14 @@ ready_settled fs id part home own n tree labels book chain owns apart settled h 
     }
   where
     some : 0 < length own
-    some = awaited_some labels book (blocks_of fs) own id h.opened
+    some = awaited_some labels book (blocks_of fs) own id h.runs.opened
 
     l : LastOf own
     l = last_of own some
 
     at : Awaited labels book (blocks_of fs) l.before l.last id
     at = awaited_of labels book (blocks_of fs) l.before l.last id
-        (subst (λ (os : List Own). Opened labels book (blocks_of fs) os (Some id)) l.is h.opened)
+        (subst (λ (os : List Own). Opened labels book (blocks_of fs) os (Some id)) l.is h.runs.opened)
 
     scope_is : last_or home (ids own) ≡ Some l.last.id
     scope_is = last_pushed home l.before own l.last l.is
@@ -134,14 +134,16 @@ pub fits_settled : (fs : List Frame) (id : ℕ) (part : Part) (home : Option ℕ
     FitsIn fs part home (os ++ o ∷ []) n old labels book (Some id) → FitsIn fs part home os n new more after None
 fits_settled fs id part home os o n old new labels more book after chain owns apart top closed keep u first settled ended h =
     record {
-      in_range = h.in_range;
-      starts = h.starts;
+      runs = record {
+        in_range = h.runs.in_range;
+        starts = h.runs.starts;
+        home = home_open old new chain owns apart home os o top keep h.runs.home;
+        scope = round_open old new chain owns apart home os o h.runs.home top keep;
+        first = first;
+        froms = first_below n os o h.runs.froms;
+        opened = by_nursery (nursery_at book id) refl at.nursery;
+      };
       small = h.small;
-      home = home_open old new chain owns apart home os o top keep h.home;
-      scope = round_open old new chain owns apart home os o h.home top keep;
-      first = first;
-      froms = first_below n os o h.froms;
-      opened = by_nursery (nursery_at book id) refl at.nursery;
       others =
           λ key st e a i x got within.
           runs_in_later book after (blocks_of fs) i None run
@@ -151,7 +153,7 @@ fits_settled fs id part home os o n old new labels more book after chain owns ap
     }
   where
     at : Awaited labels book (blocks_of fs) os o id
-    at = awaited_of labels book (blocks_of fs) os o id h.opened
+    at = awaited_of labels book (blocks_of fs) os o id h.runs.opened
 
     differs : (key : ℕ) (st : Stack) → stack_of new key ≡ Some st → key ≢ o.id
     differs key st e f = let g : None ≡ Some st = sym closed ∙ sym (ap (stack_of new) f) ∙ e in cc
@@ -209,14 +211,16 @@ pub fits_started : (fs : List Frame) (id : ℕ) (part : Part) (home : Option ℕ
     FitsIn fs part home own n tree labels after None
 fits_started fs id part home own n tree labels book after m more was u h =
     record {
-      in_range = h.in_range;
-      starts = h.starts;
+      runs = record {
+        in_range = h.runs.in_range;
+        starts = h.runs.starts;
+        home = h.runs.home;
+        scope = h.runs.scope;
+        first = h.runs.first;
+        froms = h.runs.froms;
+        opened = opened_more labels book after id m more (blocks_of fs) own was u h.runs.opened;
+      };
       small = h.small;
-      home = h.home;
-      scope = h.scope;
-      first = h.first;
-      froms = h.froms;
-      opened = opened_more labels book after id m more (blocks_of fs) own was u h.opened;
       others = λ key st e a i o got within. runs_in_later book after (blocks_of fs) i None run (h.others key st e a i o got within);
     }
   where

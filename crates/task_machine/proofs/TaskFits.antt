@@ -31,7 +31,7 @@ use Rattle.task_machine.specs.declared.stop.Wake.TheVariants.{Settled}
 use Rattle.task_machine.specs.declared.task.Home.{Home}
 use Rattle.task_machine.specs.declared.task.Own.{Own}
 use Rattle.task_machine.specs.Acts.{Enters, Leaves, scoping_in}
-use Rattle.task_machine.specs.Entered.{IsBlock, EntersBlock, EntersNursery}
+use Rattle.task_machine.specs.Entered.{EntersBlock, EntersNursery}
 use Rattle.task_machine.specs.Fitting.{Block, a_scope, a_nursery, blocks_of, IsMine, Opened, AreInRangeFrames, StartsFit, IsBlockOf, SameKeys, FitsIn, Fits, waits_of}
 use Rattle.task_machine.specs.Frames.{frame_of, frames_of}
 use Rattle.task_machine.specs.Labels.{Labels}
@@ -83,7 +83,7 @@ settled_fits s u book id since laws is wake h ended l first stays =
     (subst (λ (n : ℕ). FitsIn s.frames s.part (home_in s) u.own n u.tree u.labels book None) (sym (same_froms s u l))
     (fits_settled s.frames id s.part (home_in s) u.own l.scope (length s.froms) s.tree u.tree s.labels u.labels s.book book
     laws.chain laws.own laws.apart
-    (top_of s.tree laws.chain laws.own (home_in s) s.own u.own l.scope l.taken (waits.scope l.scope.id last) waits.first last) l.closed
+    (top_of s.tree laws.chain laws.own (home_in s) s.own u.own l.scope l.taken (waits.runs.scope l.scope.id last) waits.runs.first last) l.closed
     l.others l.unlabelled first (subst (λ (x : TaskState). WakesFrom x s.part s.book Settled) is wake) ended
     (subst (λ (own : List Own). FitsIn s.frames s.part (home_in s) own (length s.froms) s.tree s.labels s.book (Some id)) l.taken waits)))
   where
@@ -102,7 +102,7 @@ exited_fits fail s u laws h l first stays =
     (subst (λ (n : ℕ). FitsIn s.frames s.part (home_in s) u.own n u.tree u.labels s.book None) (sym (same_froms s u l))
     (fits_left s.frames fail s.part (home_in s) u.own l.scope (length s.froms) s.tree u.tree s.labels u.labels s.book laws.chain laws.own
     laws.apart
-    (top_of s.tree laws.chain laws.own (home_in s) s.own u.own l.scope l.taken (h.scope l.scope.id last) h.first last) l.closed l.others
+    (top_of s.tree laws.chain laws.own (home_in s) s.own u.own l.scope l.taken (h.runs.scope l.scope.id last) h.runs.first last) l.closed l.others
     l.unlabelled first
     (subst (λ (own : List Own). FitsIn (s.frames ++ Scope fail ∷ []) s.part (home_in s) own (length s.froms) s.tree s.labels s.book None)
     l.taken h)))
@@ -168,9 +168,9 @@ scope_fits fail body label s u laws h e inside in_range starts book part home =
     (subst IsSome (sym e.labelled.changed) refl)
     (entered_blocks s.frames u.frames (Scope fail) inside.top body inside.block inside.frames)
     (subst AreInRangeFrames (sym (entered_frames (λ id. []) s.frames u.frames (Scope fail) inside.top body inside.block inside.frames))
-    (in_range, h.in_range))
+    (in_range, h.runs.in_range))
     (subst StartsFit (sym (entered_frames (λ id. []) s.frames u.frames (Scope fail) inside.top body inside.block inside.frames))
-    (starts, h.starts)) part home
+    (starts, h.runs.starts)) part home
 
 -- what holds of a task is kept when it enters a nursery
 pub nursery_fits : (me : ℕ) (body : Steps) (label : Label) (s u : State) → Laws s.tree → Fits s None → {deadline : Tick} →
@@ -182,9 +182,9 @@ nursery_fits me body label s u laws h e n in_range starts part home =
     (record { scope = same; label = e.labelled.changed }, refl))
     (entered_blocks s.frames u.frames (Nursery n.id) n.frames.top body n.frames.block n.frames.frames)
     (subst AreInRangeFrames
-    (sym (entered_frames (λ id. []) s.frames u.frames (Nursery n.id) n.frames.top body n.frames.block n.frames.frames)) (in_range, h.in_range))
+    (sym (entered_frames (λ id. []) s.frames u.frames (Nursery n.id) n.frames.top body n.frames.block n.frames.frames)) (in_range, h.runs.in_range))
     (subst StartsFit (sym (entered_frames (λ id. []) s.frames u.frames (Nursery n.id) n.frames.top body n.frames.block n.frames.frames))
-    (starts, h.starts)) part home
+    (starts, h.runs.starts)) part home
   where
     differs : (id : ℕ) (m : Members) → nursery_at s.book id ≡ Some m → id ≢ n.id
     differs id m at f = none-some m (sym n.fresh ∙ sym (ap (nursery_at s.book) f) ∙ at)
@@ -217,12 +217,12 @@ frame_off s f none h in_range starts = frames_fit s (s.frames ++ f ∷ []) s h (
 -- what holds of the frames with one more
 pub in_range_with : (s : State) (f : Frame) → Fits (with_frames s (s.frames ++ f ∷ [])) None →
     AreInRangeFrames (frame_of (λ id. []) f ∷ frames_of (λ id. []) s.frames)
-in_range_with s f h = subst AreInRangeFrames (frames_push (λ id. []) s.frames f) h.in_range
+in_range_with s f h = subst AreInRangeFrames (frames_push (λ id. []) s.frames f) h.runs.in_range
 
 -- each `start` in the frames with one more is directly in a nursery
 pub starts_with : (s : State) (f : Frame) → Fits (with_frames s (s.frames ++ f ∷ [])) None →
     StartsFit (frame_of (λ id. []) f ∷ frames_of (λ id. []) s.frames)
-starts_with s f h = subst StartsFit (frames_push (λ id. []) s.frames f) h.starts
+starts_with s f h = subst StartsFit (frames_push (λ id. []) s.frames f) h.runs.starts
 
 turn_some : (ss : Steps) → 0 < turn_length ss
 turn_some tree.stop = omega arith
@@ -293,9 +293,9 @@ pub repeat_fits : (count : ℕ) (body : Steps) (s u : State) → Fits s None →
 repeat_fits count body s u fits few b starts blocks step stays =
     frames_fit s s.frames u fits blocks
     (subst AreInRangeFrames (ap (λ (o : Move). o.frames) step)
-    (passes_in_range count body (frames_of (λ id. []) s.frames) [] few b fits.in_range))
+    (passes_in_range count body (frames_of (λ id. []) s.frames) [] few b fits.runs.in_range))
     (subst StartsFit (ap (λ (o : Move). o.frames) step)
-    (passes_starts count body (frames_of (λ id. []) s.frames) [] starts fits.starts)) stays
+    (passes_starts count body (frames_of (λ id. []) s.frames) [] starts fits.runs.starts)) stays
 
 -- a `repeat` that has begun has fewer steps left than its step had
 pub repeat_length : (count : ℕ) (body : Steps) (fs gs : List Frame) →

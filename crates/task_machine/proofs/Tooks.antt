@@ -1,11 +1,10 @@
 -- Moves of the code, each by what its method promises, as moves of the definitions. The state is the one with which the method was
 -- called; the frames of the task before the move are given apart, since the innermost one was removed first.
-use Rattle.std.proofs.Common.{◌≡◌, ◌⊎◌, inl, inr, ℕ, zero, suc, Bool, true, false, Option, Some, None, List, [], ◌∷◌, ◌++◌, length, refl, ap, sym, ◌∙◌, subst}
+use Rattle.std.proofs.Common.{◌≡◌, ◌⊎◌, inl, inr, ℕ, zero, suc, Bool, true, false, Option, Some, None, List, [], ◌∷◌, ◌++◌, refl, ap, sym, ◌∙◌, subst}
 use Rattle.std.proofs.lemmas.List.{append-nil}
 use Rattle.std.proofs.lemmas.List.Elements.{All-nil}
 use Rattle.std.proofs.lemmas.Option.{same_Some}
 use Rattle.std.specs.Option.{IsSomeAnd, option_map}
-use Rattle.std.specs.List.{slice_get}
 use Rattle.buffer_parts.specs.Part.{buffer_of}
 use Rattle.cancel_scopes.specs.Sight.{catches}
 use Rattle.cancel_scopes.specs.Tree.{Tree}
@@ -16,7 +15,6 @@ use Rattle.nursery_book.specs.Nursery.{Nursery as Members, with_body}
 use Rattle.nursery_book.specs.Book.{nursery_at, Updates, Changes}
 use Rattle.nursery_book.specs.declared.book.NurseryBook.{NurseryBook}
 use Rattle.job_meaning.specs.Log.{Table}
-use Rattle.job_meaning.specs.Log as log
 use Rattle.job_meaning.specs.Walk.{Here, left_with}
 use Rattle.job_meaning.specs.Walk as meaning
 use Rattle.job_meaning.specs.Rest as rest

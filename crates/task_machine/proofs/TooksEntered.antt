@@ -32,7 +32,7 @@ use Rattle.task_machine.proofs.Acting.{block_of, entered_acts}
 use Rattle.task_machine.proofs.Blocks.{blocks_append}
 use Rattle.task_machine.proofs.FrameLemmas.{frames_push}
 use Rattle.task_machine.proofs.Nurseries.{has_more, has_either, not_grown, updated_has, is_at}
-use Rattle.task_machine.proofs.Tooks.{none_noted, IsQuiet, took_quiet}
+use Rattle.task_machine.proofs.Tooks.{none_noted, took_quiet}
 
 -- ---- a block's body inside its exit
 

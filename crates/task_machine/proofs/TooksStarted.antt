@@ -1,5 +1,5 @@
 -- A task that starts children in the nursery whose body it is in, as a move of the definitions.
-use Rattle.std.proofs.Common.{◌≡◌, ◌≢◌, ◌⊎◌, inl, inr, ◌==◌, ℕ, zero, suc, ◌+◌, ◌<◌, ◌≤◌, nat_lt, Bool, true, false, Option, Some, None, List, [], ◌∷◌, ◌++◌, length, length-append, refl, ap, sym, ◌∙◌, subst, arith}
+use Rattle.std.proofs.Common.{◌≡◌, ◌⊎◌, inl, inr, ◌==◌, ℕ, zero, suc, ◌+◌, ◌<◌, ◌≤◌, nat_lt, Bool, true, false, Option, Some, None, List, [], ◌∷◌, ◌++◌, length, length-append, refl, ap, sym, ◌∙◌, subst, arith}
 use Rattle.std.proofs.lemmas.Bool.{eqb-true, eq-eqb}
 use Rattle.std.proofs.lemmas.Bool.Decides.{nat_tests}
 use Rattle.std.proofs.lemmas.List.{append-nil}
@@ -37,7 +37,7 @@ use Rattle.task_machine.specs.Acts.{Acts, scoping_in}
 use Rattle.task_machine.specs.Fitting.{Block, a_nursery, blocks_of}
 use Rattle.task_machine.specs.Frames.{frames_of}
 use Rattle.task_machine.specs.Stacked.{AreAt}
-use Rattle.task_machine.specs.Standing.{HasBlock, HasNurseryOf, Stands, IsBegun, AreBegun, BeginsAt, Grown, ChangesNurseries, Took, with_frames}
+use Rattle.task_machine.specs.Standing.{HasBlock, HasNurseryOf, Stands, IsBegun, AreBegun, BeginsAt, Took, with_frames}
 use Rattle.task_machine.specs.Started.{IsChild, running_children, home_at, StartsOne, AreChildren, StartsOver}
 use Rattle.task_machine.specs.States.{State, here_at, path_at, stack_in}
 use Rattle.task_machine.specs.Stops.{Numbers}

@@ -19,7 +19,6 @@ use Rattle.nursery_book.specs.Nursery.{Nursery as Members}
 use Rattle.nursery_book.specs.Book.{nursery_at, Updates}
 use Rattle.nursery_book.specs.declared.book.NurseryBook.{NurseryBook}
 use Rattle.task_machine.specs.declared.entry.Entry.TheVariants as entries
-use Rattle.task_machine.specs.declared.entry.Entry.{Entry}
 use Rattle.task_machine.specs.Noted.{entry_of, IsSlice, shown_made}
 use Rattle.turn_semantics.specs.Midway.{Place}
 use Rattle.turn_semantics.specs.Placed.{PlacedStop}
@@ -38,7 +37,7 @@ use Rattle.task_machine.specs.States.{State, stack_in}
 use Rattle.task_machine.specs.Stops.{Numbers}
 use Rattle.task_machine.proofs.Acting.{lines_acts}
 use Rattle.task_machine.proofs.Nurseries.{nurseries_closed}
-use Rattle.task_machine.proofs.Tooks.{IsQuiet, took_quiet, took_leaves}
+use Rattle.task_machine.proofs.Tooks.{took_quiet, took_leaves}
 
 -- ---- a nursery that is settled
 

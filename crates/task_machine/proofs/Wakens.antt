@@ -19,8 +19,8 @@ use Rattle.nursery_book.specs.Book.{nursery_at, HasNursery, Updates}
 use Rattle.nursery_book.specs.declared.book.NurseryBook.{NurseryBook}
 use Rattle.task_machine.specs.declared.entry.Entry.TheVariants as entries
 use Rattle.turn_semantics.specs.Midway.{Place, Move}
-use Rattle.turn_semantics.specs.Steps.{onward, makes, sleeps}
-use Rattle.turn_semantics.specs.Wakes.{Wake, begins, sees, is_due, has_answer, settles, lines_made, goes_on_with, leaves_settled, wake_of}
+use Rattle.turn_semantics.specs.Steps.{onward, sleeps}
+use Rattle.turn_semantics.specs.Wakes.{Wake, begins, sees, is_due, has_answer, settles, goes_on_with, wake_of}
 use Rattle.task_machine.specs.declared.outcome.Kind.TheVariants as kind
 use Rattle.task_machine.specs.declared.stop.TaskState.{TaskState}
 use Rattle.task_machine.specs.declared.stop.TaskState.TheVariants.{Asked, Awaits}
@@ -35,7 +35,7 @@ use Rattle.task_machine.specs.Stacked.{AreAt}
 use Rattle.task_machine.specs.Standing.{Wakens, wake_at, HasBlock, Stands, IsOfOther, Took}
 use Rattle.task_machine.specs.States.{State, here_at, stack_in}
 use Rattle.task_machine.specs.Stops.{Numbers, kernel_in, purpose_in, IsTaskState, MovesAs}
-use Rattle.task_machine.proofs.Tooks.{LeavesAlone, took_task_states, took_sleep}
+use Rattle.task_machine.proofs.Tooks.{took_task_states, took_sleep}
 use Rattle.task_machine.proofs.TooksWoken.{took_settled, took_lines}
 
 -- ---- where a task stopped, by its blocked state

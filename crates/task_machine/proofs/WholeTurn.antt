@@ -25,7 +25,7 @@ use Rattle.task_machine.specs.declared.stop.Stop.{Stop}
 use Rattle.task_machine.specs.declared.stop.Wake.{Wake}
 use Rattle.task_machine.specs.declared.stop.Wake.TheVariants.{Begin, Due, Seen, Answer, Settled}
 use Rattle.task_machine.specs.Frames.{frames_of}
-use Rattle.task_machine.specs.Standing.{Stands, Took, StopsAfter, wake_at, TookTurn, midway_at}
+use Rattle.task_machine.specs.Standing.{Stands, Took, StopsAfter, wake_at, TookTurn}
 use Rattle.task_machine.specs.States.{State, here_at}
 use Rattle.task_machine.specs.Stops.{Numbers, IsTaskState, StopsAs}
 use Rattle.task_machine.specs.Waking.{WakesFrom, wake_in}

@@ -159,20 +159,28 @@ OthersRun tree book bs own waits =
 abbrev pub SameKeys : Tree → Tree → Type 0
 SameKeys old new = (key : ℕ) → option_map keys_of (stack_of new key) ≡ option_map keys_of (stack_of old key)
 
--- What holds between moves of a task that is on this part, has these frames, opened these scopes inside its home's, and entered
--- the given number, in a world with these scopes, labels and nurseries. It waits for a nursery, or not.
-pub record FitsIn
-    (frames : List Frame) (part : Part) (within : Option ℕ) (own : List Own) (entered : ℕ) (tree : Tree) (labels : Labels)
-    (book : NurseryBook) (waits : Option ℕ) : Type 0
+-- A task that has these frames, and opened these scopes inside its home's, can run what it has left, and its scopes and nurseries are
+-- open in a world with these scopes, labels and nurseries. It entered the given number of scopes, and waits for a nursery, or not.
+pub record CanRun
+    (frames : List Frame) (within : Option ℕ) (own : List Own) (entered : ℕ) (tree : Tree) (labels : Labels) (book : NurseryBook)
+    (waits : Option ℕ) : Type 0
   where
     pub in_range : AreInRangeFrames (frames_of (λ id. []) frames)
     pub starts : StartsFit (frames_of (λ id. []) frames)
-    pub small : length (bytes_of (buffer_of part) (range_of part)) ≤ MAX_INPUT
     pub home : ForSome within (IsOpen tree)
     pub scope : ForSome (last_or within (map (λ (o : Own). o.id) own)) (IsOpen tree)
     pub first : OwnFirst tree within own
     pub froms : All (λ (o : Own). o.at < entered) own
     pub opened : Opened labels book (blocks_of frames) own waits
+
+-- What holds of it between moves: this, a part that is not too long, and that scopes of other tasks are inside its own only while a
+-- child of it runs.
+pub record FitsIn
+    (frames : List Frame) (part : Part) (within : Option ℕ) (own : List Own) (entered : ℕ) (tree : Tree) (labels : Labels)
+    (book : NurseryBook) (waits : Option ℕ) : Type 0
+  where
+    pub runs : CanRun frames within own entered tree labels book waits
+    pub small : length (bytes_of (buffer_of part) (range_of part)) ≤ MAX_INPUT
     pub others : OthersRun tree book (blocks_of frames) own waits
 
 abbrev pub Fits : State → Option ℕ → Type 0

@@ -6,6 +6,7 @@ use Rattle.exc_groups.specs.Held.{exc_of}
 use Rattle.exc_groups.specs.declared.exc.Exc as held
 use Rattle.batch_commit.specs.declared.live.Live.{Live}
 use Rattle.batch_commit.specs.Live.{live_at}
+use Rattle.task_machine.specs.States.{state_of}
 use Rattle.task_machine.specs.declared.stop.Stop.{Stop}
 use Rattle.task_machine.specs.declared.stop.Wake.{Wake}
 use Rattle.task_machine.specs.declared.task.Task.{Task}
@@ -164,7 +165,7 @@ pub record Starts (old new : TaskTable) (parent : ℕ) (started : Task) (tick id
 
 -- a task may have a turn in this world
 pub record MayTurn (world : World) (task : Task) (from : Wake) : Type 0 where
-  pub fits : Fits task.frames.items task world (waits_of task.task_state)
+  pub fits : Fits (state_of task world) (waits_of task.task_state)
   pub in_range : IsInRangeTaskState task.task_state
   pub wake : WakesFrom task.task_state task.part world.book from
 
@@ -183,8 +184,8 @@ pub record HasTurn (old new : TaskTable) (was now : World) (id : ℕ) (wake : Wa
       after ≡ record before { frames = after.frames; own = after.own; task_state = after.task_state; entries = after.entries; froms = after.froms }
   pub world : now ≡ record was { scopes = now.scopes; labels = now.labels; book = now.book; started = now.started }
   pub in_range : IsInRangeTaskState after.task_state
-  pub fits : Fits after.frames.items after now (waits_of after.task_state)
-  pub turn : TurnsAs before after was now wake stop
+  pub fits : Fits (state_of after now) (waits_of after.task_state)
+  pub turn : TurnsAs (state_of before was) (state_of after now) wake stop
 
 -- The task with an id has ended in that tick, with this exception or none. Its row keeps what is left of it.
 pub record Ends (old new : TaskTable) (id tick : ℕ) (exc : Option held.Exc) : Type 0 where

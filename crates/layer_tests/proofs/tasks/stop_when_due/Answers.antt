@@ -1,4 +1,5 @@
 use Rattle.std.proofs.Common.{sym, subst}
+use Rattle.task_machine.specs.States.{state_of}
 use Rattle.task_machine.specs.declared.world.World.{World}
 use Rattle.task_machine.specs.declared.stop.Wake.TheVariants.{Due}
 use Rattle.task_machine.specs.Fitting.{Fits, waits_of}
@@ -7,7 +8,7 @@ use Rattle.layer_tests.proofs.tasks.stop_when_due.Goals as goal
 
 pub turn-requires-clause-fits : goal.turn-requires-clause-fits
 turn-requires-clause-fits c =
-    subst (λ (w : World). Fits c.args.task.now.frames.items c.args.task.now w (waits_of c.args.task.now.task_state)) (sym c.set_now.ensures) c.requires.fits
+    subst (λ (w : World). Fits (state_of c.args.task.now w) (waits_of c.args.task.now.task_state)) (sym c.set_now.ensures) c.requires.fits
 
 pub turn-requires-clause-wake : goal.turn-requires-clause-wake
 turn-requires-clause-wake c =

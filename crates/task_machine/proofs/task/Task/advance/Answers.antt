@@ -1,4 +1,4 @@
-use Rattle.std.proofs.Common.{◌≡◌, Option, List, [], ◌∷◌, ◌++◌, ap, sym, ◌∙◌, subst, refl, arith}
+use Rattle.std.proofs.Common.{Option, List, [], ◌∷◌, ◌++◌, ap, sym, ◌∙◌, subst, refl, arith}
 use Rattle.std.specs.Option.{option_map, option_copied}
 use Rattle.exc_groups.specs.declared.exc.Exc as held
 use Rattle.exc_groups.specs.Held.{exc_of}
@@ -6,13 +6,11 @@ use Rattle.job_tree.specs.Blocks.{handled_of, cleaned_of}
 use Rattle.job_meaning.specs.Walk.{outcome_after}
 use Rattle.turn_semantics.specs.Bound.{frames_length}
 use Rattle.turn_semantics.specs.Midway.{Move}
-use Rattle.task_machine.specs.declared.frame.Frame.TheVariants.{Steps, Scope, Nursery, Repeat, Try, Handler, Cleanup}
+use Rattle.task_machine.specs.declared.frame.Frame.TheVariants.{Scope, Nursery, Repeat, Try, Handler, Cleanup}
 use Rattle.task_machine.specs.declared.frame.Frame.{Frame}
 use Rattle.task_machine.specs.declared.stop.TaskState.{TaskState}
-use Rattle.task_machine.specs.declared.stop.TaskState.TheVariants.{Awaits, Over}
 use Rattle.task_machine.specs.declared.stop.Moved.{Moved}
 use Rattle.task_machine.specs.declared.task.Task.{Task}
-use Rattle.task_machine.specs.declared.world.World.{World}
 use Rattle.task_machine.specs.Fitting.{Fits, waits_of}
 use Rattle.task_machine.specs.Standing.{waits_by, StepsAs, with_frames}
 use Rattle.task_machine.specs.Frames.{unboxed_exc, frames_of}
@@ -21,9 +19,8 @@ use Rattle.task_machine.specs.Tasks.{home_scope}
 use Rattle.task_machine.specs.Worlds.{label_at}
 use Rattle.task_machine.proofs.Fits.{ready_scope}
 use Rattle.task_machine.proofs.StateLemmas.{state_eq}
-use Rattle.task_machine.proofs.TaskFits.{exited_fits, waits_fits, signed_fits, frame_off, in_range_with, starts_with, popped_fits, popped_length, popped_body, pass_shorter, passed_fits, try_shorter, tried_fits, handled_fits}
+use Rattle.task_machine.proofs.TaskFits.{exited_fits, waits_fits, frame_off, in_range_with, starts_with, popped_fits, popped_length, popped_body, pass_shorter, passed_fits, try_shorter, tried_fits, handled_fits}
 use Rattle.task_machine.proofs.Advances.{takes_end, takes_exit, takes_body, takes_pass, takes_try, takes_handler, takes_cleanup}
-use Rattle.task_machine.proofs.Waiters.{same_book, opened_none, opened_still, ended_waiters, keeps_task, keeps_woken}
 use Rattle.task_machine.proofs.task.Task.advance.Goals as goal
 
 pub exit-requires-clause-some : goal.exit-requires-clause-some
@@ -54,7 +51,7 @@ pub end_body-requires-clause-nursery : goal.end_body-requires-clause-nursery
 end_body-requires-clause-nursery c =
     let self = c.args.self.now in
     popped_body (label_at c.args.world.now) c.args.world.now.book c.pop.new.self.items c.in-Nursery.id self.own.items
-    (popped_fits (state_of (record c.args.self.now { frames = c.pop.new.self }) c.args.world.now) c.args.self.now.frames.items c.in-Some.frame (Nursery c.in-Nursery.id) c.in-Some.ensures.items c.in-Nursery.is c.requires.fits).opened
+    (popped_fits (state_of (record c.args.self.now { frames = c.pop.new.self }) c.args.world.now) c.args.self.now.frames.items c.in-Some.frame (Nursery c.in-Nursery.id) c.in-Some.ensures.items c.in-Nursery.is c.requires.fits).runs.opened
 
 pub returns-in_ok-exc-in-Scope-clause-fits : goal.returns-in_ok-exc-in-Scope-clause-fits
 returns-in_ok-exc-in-Scope-clause-fits c =

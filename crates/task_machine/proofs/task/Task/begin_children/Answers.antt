@@ -10,12 +10,12 @@ use Rattle.task_machine.proofs.task.Task.begin_children.Goals as goal
 
 pub start-requires : goal.start-requires
 start-requires c = body_runs (label_at c.args.world.now) c.args.world.now.book c.args.self.now.frames.items c.nursery-nursery.result
-    c.args.self.now.own.items c.nursery-nursery.ensures c.requires.fits.opened
+    c.args.self.now.own.items c.nursery-nursery.ensures c.requires.fits.runs.opened
 
 pub start_over-requires-clause-nursery : goal.start_over-requires-clause-nursery
 start_over-requires-clause-nursery c =
     body_runs (label_at c.args.world.now) c.args.world.now.book c.args.self.now.frames.items c.nursery-nursery.result
-    c.args.self.now.own.items c.nursery-nursery.ensures c.requires.fits.opened
+    c.args.self.now.own.items c.nursery-nursery.ensures c.requires.fits.runs.opened
 
 pub returns-in_ok-start-in-None-clause-fits : goal.returns-in_ok-start-in-None-clause-fits
 returns-in_ok-start-in-None-clause-fits c =

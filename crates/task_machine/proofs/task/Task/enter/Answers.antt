@@ -1,7 +1,6 @@
-use Rattle.std.proofs.Common.{ℕ, Option, Some, None, [], ◌∷◌, ◌++◌, refl, ap, ◌∙◌, subst}
+use Rattle.std.proofs.Common.{ℕ, Option, Some, None, [], ◌∷◌, ◌++◌, refl, ap, ◌∙◌}
 use Rattle.exc_groups.specs.Exceptions.{Label}
 use Rattle.cancel_scopes.specs.Tree.{outer_of}
-use Rattle.task_machine.specs.Labels.{Updates}
 use Rattle.task_machine.specs.Worlds.{label_at}
 use Rattle.task_machine.proofs.Enters.{enters_at}
 use Rattle.task_machine.proofs.OwnLemmas.{last_pushed}

@@ -1,4 +1,4 @@
-use Rattle.std.proofs.Common.{◌≡◌, None, [], ◌∷◌, ◌++◌, List, ap, sym, ◌∙◌, subst, refl, arith}
+use Rattle.std.proofs.Common.{None, [], ◌∷◌, ◌++◌, List, ap, sym, ◌∙◌, subst, refl, arith}
 use Rattle.std.proofs.lemmas.List.{nil_from_length}
 use Rattle.job_tree.specs.Blocks.{step_of, steps_of}
 use Rattle.job_tree.specs.InRange.{AreInRange}

@@ -1,4 +1,4 @@
-use Rattle.std.proofs.Common.{refl, ap}
+use Rattle.std.proofs.Common.{ap}
 use Rattle.job_meaning.specs.Asking as ask
 use Rattle.turn_semantics.specs.Wakes.{goes_on_with}
 use Rattle.task_machine.specs.declared.stop.Purpose.{Purpose}

@@ -1,4 +1,4 @@
-use Rattle.std.proofs.Common.{ℕ, ◌-◌, Some, None, List, ◌∷◌, ap, ◌∙◌, refl, sym, subst}
+use Rattle.std.proofs.Common.{ℕ, ◌-◌, Some, None, List, ◌∷◌, ap, ◌∙◌, refl, sym}
 use Rattle.exc_groups.specs.Exceptions.{raised}
 use Rattle.job_tree.specs.declared.step.Step.TheVariants as code
 use Rattle.job_meaning.specs.Asking as ask
@@ -8,10 +8,10 @@ use Rattle.job_meaning.specs.Walk.{far}
 use Rattle.turn_semantics.specs.Steps.{onward, blocks_on, sleeps}
 use Rattle.task_machine.specs.declared.task.Task.{Task}
 use Rattle.task_machine.specs.declared.world.World.{World}
-use Rattle.task_machine.specs.States.{State, state_of}
+use Rattle.task_machine.specs.States.{state_of}
 use Rattle.task_machine.proofs.AdvancesSteps.{takes_sleeps, takes_alone, takes_cancel}
 use Rattle.task_machine.proofs.TaskFits.{signed_fits}
-use Rattle.task_machine.proofs.Waiters.{same_book, opened_none, opened_still}
+use Rattle.task_machine.proofs.Waiters.{opened_still}
 use Rattle.task_machine.proofs.task.Task.run.Goals as goal
 
 pub returns-in-Sleep-clause-step : goal.returns-in-Sleep-clause-step

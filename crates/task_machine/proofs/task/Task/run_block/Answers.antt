@@ -1,4 +1,4 @@
-use Rattle.std.proofs.Common.{◌≡◌, ℕ, None, [], refl, ap, ◌∙◌, sym, subst, arith}
+use Rattle.std.proofs.Common.{[], refl, ap, ◌∙◌, sym, subst, arith}
 use Rattle.job_tree.specs.Blocks.{step_of}
 use Rattle.job_tree.specs.InRange.{IsInRangeStep}
 use Rattle.job_tree.specs.Starting.{StartsAt}
@@ -14,9 +14,8 @@ use Rattle.task_machine.specs.Frames.{frames_of}
 use Rattle.task_machine.specs.States.{state_of}
 use Rattle.task_machine.proofs.AdvancesSteps.{takes_scope, takes_nursery, takes_repeat, takes_attempt}
 use Rattle.task_machine.proofs.Children.{takes_children}
-use Rattle.task_machine.proofs.StateLemmas.{state_eq}
 use Rattle.task_machine.proofs.TaskFits.{scope_fits, nursery_fits, block_length, repeat_fits, repeat_length}
-use Rattle.task_machine.proofs.Waiters.{same_book, opened_none, opened_still, opened_one, started_waiters, keeps_entered}
+use Rattle.task_machine.proofs.Waiters.{same_book, opened_none, opened_one, started_waiters, keeps_entered}
 use Rattle.task_machine.proofs.task.Task.run_block.Goals as goal
 
 pub returns-in_ok-enter_scope-in-Scope-clause-fits : goal.returns-in_ok-enter_scope-in-Scope-clause-fits

@@ -64,7 +64,7 @@ returns-clause-wakes c =
     c.in-Awaits.nursery waits) c.in_ok-exc.ensures.closed (state_eq _ _ _ _ exited.stays exited.world) exited.at exited.left
     (λ n at other.
     has_scope (label_at world) world.book (blocks_of self.frames.items) self.own.items (Some c.in-Awaits.nursery) c.in-Awaits.nursery n
-    waits.opened (inr refl) at other.1))
+    waits.runs.opened (inr refl) at other.1))
   where
     waits : Fits (state_of c.args.self.now c.args.world.now) (Some c.in-Awaits.nursery)
     waits = subst (λ (h : TaskState). Fits (state_of c.args.self.now c.args.world.now) (waits_of h)) c.in-Awaits.is c.requires.fits

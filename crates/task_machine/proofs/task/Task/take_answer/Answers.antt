@@ -1,4 +1,4 @@
-use Rattle.std.proofs.Common.{None, List, ◌++◌, map, refl, ap, sym, ◌∙◌, subst}
+use Rattle.std.proofs.Common.{None, List, ◌++◌, map, ap, sym, ◌∙◌, subst}
 use Rattle.buffer_parts.specs.Part.{span_of}
 use Rattle.buffer_parts.specs.declared.line.Line.{Line}
 use Rattle.task_machine.specs.declared.entry.Entry.TheVariants as entries

@@ -1,13 +1,12 @@
-use Rattle.std.proofs.Common.{◌≡◌, ap, refl, ◌∙◌, subst}
+use Rattle.std.proofs.Common.{ap, subst}
 use Rattle.task_machine.specs.declared.stop.Moved.{Moved}
 use Rattle.task_machine.specs.declared.task.Task.{Task}
 use Rattle.task_machine.specs.declared.world.World.{World}
 use Rattle.task_machine.specs.Standing.{Took, wake_at}
 use Rattle.task_machine.specs.States.{state_of}
-use Rattle.task_machine.specs.Waiters.{KeepsRest}
 use Rattle.task_machine.specs.Waking.{wake_in}
 use Rattle.task_machine.proofs.WholeTurn.{can_wake, turns_at_once, turns_later}
-use Rattle.task_machine.proofs.Waiters.{opened_none, keeps_then, keeps_woken}
+use Rattle.task_machine.proofs.Waiters.{keeps_then, keeps_woken}
 use Rattle.task_machine.proofs.task.Task.turn.Goals as goal
 
 pub returns-in_ok-stop-in-On-clause-turn : goal.returns-in_ok-stop-in-On-clause-turn
