@@ -77,7 +77,7 @@ impl<'a> ReadyBatch<'a> {
     pub fn turn_over(&mut self)
         requires { self.old.current ≡ [] }
         ensures current { self.new.current ≡ map without_answer self.old.next }
-        ensures without_answer { NonePlaced self.new.current }
+        ensures unplaced { NonePlaced self.new.current }
         ensures next { self.new.next ≡ [] }
     {
         self.current.clear();
@@ -104,8 +104,8 @@ impl<'a> ReadyBatch<'a> {
     /// batch. Takes no memory.
     pub fn place(&mut self, answers: Vec<Answer<'a>>)
         requires as_many { length answers.items ≡ length (requests_of self.old.current) }
-        requires without_answer { NonePlaced self.old.current }
-        ensures answers_placed { self.new.current ≡ answers_placed self.old.current answers.entry.items }
+        requires unplaced { NonePlaced self.old.current }
+        ensures placed { self.new.current ≡ answers_placed self.old.current answers.entry.items }
         ensures all { AllPlaced self.new.current }
         ensures next { self.new.next ≡ self.old.next }
     {
@@ -120,7 +120,7 @@ impl<'a> ReadyBatch<'a> {
         ensures none { IsNone result ↔ (self.old.current ≡ []) }
         ensures idle { IfNone result ((self.new ≡ self.old) × (picker.new ≡ picker.old)) }
         ensures hands_out { IfSome result (λ r. HandsOut P.picks self.old self.new picker.old picker.new r.0 r.1) }
-        ensures answers_placed { AllPlaced self.new.current }
+        ensures placed { AllPlaced self.new.current }
     {
         let left = self.left();
         if left == 0 {

@@ -54,7 +54,7 @@ impl NurseryBook {
         label: Label,
     ) -> Result<NurseryId, AllocError>
         ensures fresh { IfOk result (λ id. nursery_at self.old id ≡ None) }
-        ensures new_nursery { IfOk result (λ id. Updates self.old self.new id (Some (new_nursery scope waiter label))) }
+        ensures opened { IfOk result (λ id. Updates self.old self.new id (Some (new_nursery scope waiter label))) }
         ensures err { OnErr result (SameNurseries self.old self.new) }
     {
         let key = self.nurseries.insert(Members {
