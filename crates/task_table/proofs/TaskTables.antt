@@ -9,7 +9,7 @@ use Rattle.std.proofs.lemmas.Option.{same_Some, slice_get_within}
 use Rattle.exc_groups.specs.Held.{exc_of}
 use Rattle.exc_groups.specs.declared.exc.Exc as held
 use Rattle.batch_commit.specs.declared.live.Live.{Live}
-use Rattle.batch_commit.specs.Live.{live_at, Updates}
+use Rattle.batch_commit.specs.Live.{live_at, UpdatesLive}
 use Rattle.batch_commit.specs.Lending.{with_live}
 use Rattle.task_machine.specs.declared.task.Task.{Task}
 use Rattle.task_machine.specs.Frames.{unboxed_exc}
@@ -98,7 +98,7 @@ module _ {X : Type 0} {A : Type 0} where
 -- ---- a task by its row
 
 -- what lives once a value that lives was written
-pub written : (live : Live Running) (id : ℕ) (x y : Running) → live_at live id ≡ Some x → Updates live (with_live live id y) id (Some y)
+pub written : (live : Live Running) (id : ℕ) (x y : Running) → live_at live id ≡ Some x → UpdatesLive live (with_live live id y) id (Some y)
 written live id x y is = record {
   changed = or_here live.slots.slots id x y is;
   others = λ other ne. or_other live.slots.slots id other y ne;
@@ -159,7 +159,7 @@ pub record Begins (row : Row) (up id tick : ℕ) : Type 0 where
 -- what the code does to start a task
 pub record Adds (old new : TaskTable) (p : ℕ) (child : Task) (tick id : ℕ) : Type 0 where
   pub fresh : running_at old id ≡ None
-  pub live : Updates old.live new.live id (Some (record { task = child; row = many old }))
+  pub live : UpdatesLive old.live new.live id (Some (record { task = child; row = many old }))
   pub before : Row
   pub grown : Row
   pub row : Row
@@ -314,7 +314,7 @@ abbrev pub rewritten : TaskTable → ℕ → Running → TaskTable
 rewritten r id y = record r { live = with_live r.live id y }
 
 module _ (old new : TaskTable) (id : ℕ) (x y : Running) (ok : IsTaskTable old) (lived : running_at old id ≡ Some x)
-    (live : Updates old.live new.live id (Some y)) (row : y.row ≡ x.row) (rows : new.rows.items ≡ old.rows.items) where
+    (live : UpdatesLive old.live new.live id (Some y)) (row : y.row ≡ x.row) (rows : new.rows.items ≡ old.rows.items) where
   same_rows : (j : ℕ) → row_at new j ≡ row_at old j
   same_rows j = ap (λ (v : List Row). slice_get v j) rows
 
@@ -371,7 +371,7 @@ module _ (old new : TaskTable) (id : ℕ) (x y : Running) (ok : IsTaskTable old)
 -- what the code does to end a task
 pub record Closes (old new : TaskTable) (id tick : ℕ) (exc : Option held.Exc) (x : Running) : Type 0 where
   pub lived : running_at old id ≡ Some x
-  pub live : Updates old.live new.live id None
+  pub live : UpdatesLive old.live new.live id None
   pub before : Row
   pub ended : Ended
   pub is : row_at old x.row ≡ Some before
@@ -480,7 +480,7 @@ module _ (old new : TaskTable) (id tick : ℕ) (exc : Option held.Exc) (x : Runn
 pub record First (r : TaskTable) (root : Task) (id : ℕ) : Type 0 where
   pub none : Live Running
   pub nothing : (key : ℕ) → live_at none key ≡ None
-  pub live : Updates none r.live id (Some (record { task = root; row = 0 }))
+  pub live : UpdatesLive none r.live id (Some (record { task = root; row = 0 }))
   pub begun : Row
   pub begins : Begins begun 0 id 0
   pub rows : r.rows.items ≡ begun ∷ []

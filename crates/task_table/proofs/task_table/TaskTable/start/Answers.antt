@@ -1,6 +1,6 @@
 use Rattle.std.proofs.Common.{◌≡◌, arith, Some, [], ◌∷◌, ◌++◌, refl, ap, ◌∙◌, subst}
 use Rattle.std.proofs.lemmas.Option.{slice_get_read}
-use Rattle.batch_commit.specs.Live.{Updates}
+use Rattle.batch_commit.specs.Live.{UpdatesLive}
 use Rattle.task_table.specs.TaskTable.{many}
 use Rattle.task_table.proofs.TaskTables.{starts, agrees_started}
 use Rattle.task_table.proofs.task_table.TaskTable.start.Goals as goal
@@ -10,7 +10,7 @@ returns-clause-started c =
     let next : c.len-row.result ≡ many c.args.self.now = omega (arith, c.args.self.now.rows.ok.0, c.len-row.ensures) in
     starts _ _ _ _ _ _ c.requires.agree (record {
       fresh = c.in_ok-id.ensures.fresh;
-      live = subst (λ n. Updates c.args.self.now.live c.put.new.self c.in_ok-id.id (Some (record { task = c.args.task; row = n }))) next
+      live = subst (λ n. UpdatesLive c.args.self.now.live c.put.new.self c.in_ok-id.id (Some (record { task = c.args.task; row = n }))) next
           c.in_ok-id.ensures.put;
       before = c.index_mut.result.now;
       grown = record c.index_mut.result.now { children = c.push.new.self };
@@ -40,7 +40,7 @@ returns-clause-agree c =
     let next : c.len-row.result ≡ many c.args.self.now = omega (arith, c.args.self.now.rows.ok.0, c.len-row.ensures) in
     agrees_started c.args.self.now _ c.args.parent c.args.task c.args.tick c.in_ok-id.id c.requires.agree (record {
       fresh = c.in_ok-id.ensures.fresh;
-      live = subst (λ n. Updates c.args.self.now.live c.put.new.self c.in_ok-id.id (Some (record { task = c.args.task; row = n }))) next
+      live = subst (λ n. UpdatesLive c.args.self.now.live c.put.new.self c.in_ok-id.id (Some (record { task = c.args.task; row = n }))) next
           c.in_ok-id.ensures.put;
       before = c.index_mut.result.now;
       grown = record c.index_mut.result.now { children = c.push.new.self };

@@ -1,6 +1,6 @@
 use Rattle.std.proofs.Common.{◌≡◌, Some, refl, sym}
 use Rattle.batch_commit.specs.Lending.{with_live}
-use Rattle.batch_commit.specs.Live.{Updates}
+use Rattle.batch_commit.specs.Live.{UpdatesLive}
 use Rattle.task_table.specs.declared.task_table.Running.{Running}
 use Rattle.task_table.specs.TaskTable.{running_at}
 use Rattle.task_table.proofs.TaskTables.{rewritten, written, turned_same, turned_task, agrees_turned}
@@ -14,7 +14,7 @@ returns-clause-turn c =
     let x : Running = c.in-Some.running.now in
     let y : Running = record { task = c.turn.new.self; row = x.row } in
     let lived : running_at c.args.self.now c.args.id ≡ Some x = sym c.in-Some.ensures.value in
-    let live : Updates c.args.self.now.live (with_live c.args.self.now.live c.args.id y) c.args.id (Some y) =
+    let live : UpdatesLive c.args.self.now.live (with_live c.args.self.now.live c.args.id y) c.args.id (Some y) =
     written c.args.self.now.live c.args.id x y lived in
     record {
       row = x.row;
