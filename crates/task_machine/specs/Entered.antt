@@ -2,7 +2,7 @@
 use Rattle.std.specs.Prelude.{◌≡◌, ℕ, Bool, Option, Some, None, List, [], ◌∷◌, ◌++◌, length}
 use Rattle.job_tree.specs.Tree.{Steps}
 use Rattle.job_tree.specs.Blocks.{steps_of}
-use Rattle.nursery_book.specs.Nursery.{froms_after_entry as opens}
+use Rattle.nursery_book.specs.Nursery.{new_nursery as opens}
 use Rattle.nursery_book.specs.Book.{nursery_at}
 use Rattle.nursery_book.specs.Book as book
 use Rattle.exc_groups.specs.Exceptions.{Label}

@@ -7,7 +7,7 @@ use Rattle.turn_semantics.specs.Midway.{Place}
 use Rattle.turn_semantics.specs.Steps.{froms_after_entry}
 use Rattle.task_machine.specs.Stacked.{AreAt}
 use Rattle.task_machine.specs.Worlds.{label_at}
-use Rattle.nursery_book.specs.Nursery.{froms_after_entry as opens}
+use Rattle.nursery_book.specs.Nursery.{new_nursery as opens}
 use Rattle.nursery_book.specs.Book.{nursery_at, Updates}
 use Rattle.nursery_book.specs.declared.book.NurseryBook.{NurseryBook}
 use Rattle.task_machine.specs.declared.frame.Frame.{Frame}
