@@ -8,7 +8,7 @@ use Rattle.line_kernels.specs.declared.answers.Answer.{Answer}
 use Rattle.batch_commit.specs.declared.entry.Entry.{Entry}
 use Rattle.batch_commit.specs.Halves.{numbers}
 use Rattle.batch_commit.specs.Places.{PlacesLeft}
-use Rattle.batch_commit.specs.Slots.{held, places_from}
+use Rattle.batch_commit.specs.Slots.{values_in, places_from}
 use Rattle.batch_commit.specs.Entries.{Added, without_answer, added_of}
 use Rattle.batch_commit.specs.Placing.{slots_placed}
 use Rattle.batch_commit.specs.Batch.{unplaced_slots, added_in, IsReady}
@@ -17,7 +17,7 @@ use Rattle.batch_commit.proofs.EntryLemmas.{places_from-placed}
 
 -- as many places are left as entries
 pub left_count : (current next : List (Option Entry)) (places : PlacesLeft) → IsReady current next places →
-    length places.left ≡ length (held current)
+    length places.left ≡ length (values_in current)
 left_count current next places is = ap length is.left ∙ length-places_from 0 current
 
 -- the length of a list is zero just where the list is empty
@@ -29,7 +29,7 @@ nothing_left xs n e = (
 
 -- an entry is added
 pub added_in-push : (next : List (Option Entry)) (a : Added) → added_in (next ++ Some (without_answer a) ∷ []) ≡ added_in next ++ a ∷ []
-added_in-push next a = ap (map added_of) (held-append next (without_answer a)) ∙ map_push (held next)
+added_in-push next a = ap (map added_of) (held-append next (without_answer a)) ∙ map_push (values_in next)
   where
     map_push : (es : List Entry) → map added_of (es ++ without_answer a ∷ []) ≡ map added_of es ++ a ∷ []
     map_push [] = refl
@@ -63,8 +63,8 @@ ready_turn current next places places' is left =
 
 -- what the next batch holds is what was added to it, with no answer placed
 pub held_turn : (current next : List (Option Entry)) (places : PlacesLeft) → IsReady current next places →
-    held next ≡ map without_answer (added_in next)
-held_turn current next places is = ap held is.fresh ∙ held-full without_answer (added_in next)
+    values_in next ≡ map without_answer (added_in next)
+held_turn current next places is = ap values_in is.fresh ∙ held-full without_answer (added_in next)
 
 -- answers are placed
 pub ready_placed : (current current' next : List (Option Entry)) (places : PlacesLeft) (answers : List Answer) →
@@ -76,8 +76,8 @@ ready_placed current current' next places answers is e =
 pub record TakenAt (current : List (Option Entry)) (places : PlacesLeft) (k place : ℕ) : Type 0 where
   pub within : place < length current
   pub some : IsSome (slice_index_or current place None)
-  pub at_k : (entry : Entry) → slice_index_or current place None ≡ Some entry → slice_get (held current) k ≡ Some entry
-  pub rest : held (slice_set current place None) ≡ remove (held current) k
+  pub at_k : (entry : Entry) → slice_index_or current place None ≡ Some entry → slice_get (values_in current) k ≡ Some entry
+  pub rest : values_in (slice_set current place None) ≡ remove (values_in current) k
   pub places_rest : remove places.left k ≡ places_from 0 (slice_set current place None)
 
 some_of : {X : Type 0} (o : Option X) (x : X) → o ≡ Some x → IsSome o
@@ -96,12 +96,12 @@ at_index current places k left t =
 
 -- the k-th entry has a place
 pub k_left : (current next : List (Option Entry)) (places : PlacesLeft) (seen : List Entry) (k : ℕ) → IsReady current next places →
-    held current ≡ seen → k < length seen → k < length places.left
+    values_in current ≡ seen → k < length seen → k < length places.left
 k_left current next places seen k is view lt = rw (left_count current next places is ∙ ap length view) lt
 
 -- the k-th of the places left is that of the k-th entry left, which is taken out of its slot there
 pub taken_at : (current next : List (Option Entry)) (places : PlacesLeft) (seen : List Entry) (k place : ℕ) → IsReady current next places →
-    held current ≡ seen → k < length seen → place ≡ slice_index_or places.left k 0 → TakenAt current places k place
+    values_in current ≡ seen → k < length seen → place ≡ slice_index_or places.left k 0 → TakenAt current places k place
 taken_at current next places seen k place is view lt e =
     let lt' : k < length (places_from 0 current) = rw (length-places_from 0 current ∙ ap length view) lt in
     let t = taken 0 k current lt' in

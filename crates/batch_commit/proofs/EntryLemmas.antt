@@ -5,12 +5,12 @@ use Rattle.std.proofs.lemmas.List.Elements.{All-nil, All-cons, All-append, All-t
 use Rattle.line_kernels.specs.declared.request.Request.{Request}
 use Rattle.line_kernels.specs.declared.answers.Answer.{Answer}
 use Rattle.batch_commit.specs.declared.entry.Entry.{Entry}
-use Rattle.batch_commit.specs.Slots.{held, places_from}
+use Rattle.batch_commit.specs.Slots.{values_in, places_from}
 use Rattle.batch_commit.specs.Entries.{Added, without_answer, added_of, request_in, requests_of, with_placed, answers_placed, answer_placed, answers_after, HasAnswer, AllPlaced, NonePlaced}
 use Rattle.batch_commit.specs.Placing.{slots_placed}
 
 -- what slots hold once answers are placed are the entries that they held, with the answers placed
-pub held-placed : (slots : List (Option Entry)) (answers : List Answer) → held (slots_placed slots answers) ≡ answers_placed (held slots) answers
+pub held-placed : (slots : List (Option Entry)) (answers : List Answer) → values_in (slots_placed slots answers) ≡ answers_placed (values_in slots) answers
 held-placed [] answers = refl
 held-placed (None ∷ slots) answers = held-placed slots answers
 held-placed (Some e ∷ slots) answers = ap (λ es. with_placed answers e ∷ es) (held-placed slots (answers_after (request_in e.call) answers))

@@ -3,3 +3,4 @@ pub mod PlaceLemmas
 pub mod SlotLemmas
 pub mod EntryLemmas
 pub mod BatchLemmas
+pub mod LiveLemmas

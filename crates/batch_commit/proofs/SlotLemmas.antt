@@ -3,11 +3,11 @@ use Rattle.std.proofs.Common.{◌≡◌, ℕ, zero, suc, ◌+◌, ◌-◌, ◌<�
 use Rattle.std.specs.Prelude.{slice_index_or, slice_get, slice_set}
 use Rattle.std.specs.List.{remove}
 use Rattle.batch_commit.specs.Halves.{numbers}
-use Rattle.batch_commit.specs.Slots.{held, places_from}
+use Rattle.batch_commit.specs.Slots.{values_in, places_from}
 
 module _ {T : Type 0} where
   -- slots have as many places that are not empty as values that they hold
-  pub length-places_from : (place : ℕ) (slots : List (Option T)) → length (places_from place slots) ≡ length (held slots)
+  pub length-places_from : (place : ℕ) (slots : List (Option T)) → length (places_from place slots) ≡ length (values_in slots)
   length-places_from place [] = refl
   length-places_from place (None ∷ slots) = length-places_from (place + 1) slots
   length-places_from place (Some value ∷ slots) = ap suc (length-places_from (place + 1) slots)
@@ -19,8 +19,8 @@ module _ {T : Type 0} where
     pub within : index < length slots
     pub value : T
     pub at_index : slice_index_or slots index None ≡ Some value
-    pub at_k : slice_get (held slots) k ≡ Some value
-    pub rest : held (slice_set slots index None) ≡ remove (held slots) k
+    pub at_k : slice_get (values_in slots) k ≡ Some value
+    pub rest : values_in (slice_set slots index None) ≡ remove (values_in slots) k
     pub places : places_from place (slice_set slots index None) ≡ remove (places_from place slots) k
 
   -- whichever of the full slots is emptied, its value and its place are gone, and the others stay in their order
@@ -64,13 +64,13 @@ module _ {T : Type 0} where
       }
 
   -- a full slot at the end has its value after those of the others
-  pub held-append : (slots : List (Option T)) (value : T) → held (slots ++ Some value ∷ []) ≡ held slots ++ value ∷ []
+  pub held-append : (slots : List (Option T)) (value : T) → values_in (slots ++ Some value ∷ []) ≡ values_in slots ++ value ∷ []
   held-append [] value = refl
   held-append (None ∷ slots) value = held-append slots value
   held-append (Some v ∷ slots) value = ap (λ vs. v ∷ vs) (held-append slots value)
 
   -- slots that are all full
-  pub held-full : {A : Type 0} (f : A → T) (xs : List A) → held (map (λ a. Some (f a)) xs) ≡ map f xs
+  pub held-full : {A : Type 0} (f : A → T) (xs : List A) → values_in (map (λ a. Some (f a)) xs) ≡ map f xs
   held-full f [] = refl
   held-full f (x ∷ xs) = ap (λ vs. f x ∷ vs) (held-full f xs)
 

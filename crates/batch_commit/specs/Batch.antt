@@ -3,7 +3,7 @@ use Rattle.std.specs.Prelude.{◌≡◌, ℕ, ◌+◌, ◌≤◌, Option, Some, 
 use Rattle.std.specs.List.{remove}
 use Rattle.task_machine.specs.declared.stop.Wake.{Wake}
 use Rattle.batch_commit.specs.declared.entry.Entry.{Entry}
-use Rattle.batch_commit.specs.Slots.{held, places_from}
+use Rattle.batch_commit.specs.Slots.{values_in, places_from}
 use Rattle.batch_commit.specs.Places.{PlacesLeft}
 use Rattle.batch_commit.specs.Entries.{Added, added_of, without_answer, wake_of}
 
@@ -18,7 +18,7 @@ unplaced_slots added = map (λ a. Some (without_answer a)) added
 
 -- what was added, as slots hold it
 abbrev pub added_in : List (Option Entry) → List Added
-added_in slots = map added_of (held slots)
+added_in slots = map added_of (values_in slots)
 
 -- the places of the current batch are those left, no answer is placed in the next one, and there is space for its places
 pub record IsReady (current next : List (Option Entry)) (places : PlacesLeft) : Type 0 where

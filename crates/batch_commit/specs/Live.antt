@@ -13,6 +13,6 @@ module _ {T : Type 0} where
   SameLive old new = (key : ℕ) → live_at new key ≡ live_at old key
 
   -- the key has this value now, or none, and every other key keeps its value
-  pub record Updates (old new : Live T) (key : ℕ) (value : Option T) : Type 0 where
+  pub record UpdatesLive (old new : Live T) (key : ℕ) (value : Option T) : Type 0 where
     pub changed : live_at new key ≡ value
     pub others : (other : ℕ) → other ≢ key → live_at new other ≡ live_at old other

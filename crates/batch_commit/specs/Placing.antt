@@ -16,11 +16,11 @@ slot_placed None answers = None
 slot_placed (Some e) answers = Some (with_placed answers e)
 
 -- the answers that are left for the slots after it
-abbrev pub left_after : Option Entry → List Answer → List Answer
-left_after None answers = answers
-left_after (Some e) answers = answers_after (request_in e.call) answers
+abbrev pub answers_after_slot : Option Entry → List Answer → List Answer
+answers_after_slot None answers = answers
+answers_after_slot (Some e) answers = answers_after (request_in e.call) answers
 
 -- slots after answers are placed
 abbrev pub slots_placed : List (Option Entry) → List Answer → List (Option Entry)
 slots_placed [] answers = []
-slots_placed (slot ∷ slots) answers = slot_placed slot answers ∷ slots_placed slots (left_after slot answers)
+slots_placed (slot ∷ slots) answers = slot_placed slot answers ∷ slots_placed slots (answers_after_slot slot answers)

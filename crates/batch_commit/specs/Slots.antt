@@ -4,8 +4,8 @@ use Rattle.std.specs.List.{filter_map}
 
 module _ {T : Type 0} where
   -- the values in slots, in order
-  abbrev pub held : List (Option T) → List T
-  held slots = filter_map (λ slot. slot) slots
+  abbrev pub values_in : List (Option T) → List T
+  values_in slots = filter_map (λ slot. slot) slots
 
   -- the indices of the slots that are not empty, where the first slot has this index
   abbrev pub places_from : ℕ → List (Option T) → List ℕ

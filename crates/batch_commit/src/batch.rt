@@ -6,7 +6,7 @@ ghost use Rattle.batch_commit.specs.Batch.{HandsOut};
 use crate::entry::{Call, Entry, wake_for};
 use crate::pick::Pick;
 use crate::places::Places;
-use crate::slots::{asked, place_all, take_at};
+use crate::slots::{place_all, requests_in, take_at};
 use autojump_clock::TaskId;
 use line_kernels::{Answer, Request};
 use std::alloc::{AllocError, Global};
@@ -34,10 +34,10 @@ impl<'a> Model for ReadyBatch<'a> {
 
     ghost Value = { Batches };
 
-    ghost use Rattle.batch_commit.specs.Slots.{held};
+    ghost use Rattle.batch_commit.specs.Slots.{values_in};
     ghost use Rattle.batch_commit.specs.Batch.{added_in, IsReady};
 
-    ghost view = { λ b. record { current = held b.current.items; next = added_in b.next.items } };
+    ghost view = { λ b. record { current = values_in b.current.items; next = added_in b.next.items } };
 
     ghost invariant = { λ b. IsReady b.current.items b.next.items b.places };
 }
@@ -77,7 +77,7 @@ impl<'a> ReadyBatch<'a> {
     pub fn turn_over(&mut self)
         requires { self.old.current ≡ [] }
         ensures current { self.new.current ≡ map without_answer self.old.next }
-        ensures without_answer { NonePlaced self.new.current }
+        ensures unplaced { NonePlaced self.new.current }
         ensures next { self.new.next ≡ [] }
     {
         self.current.clear();
@@ -89,14 +89,14 @@ impl<'a> ReadyBatch<'a> {
     pub fn is_empty(&self) -> bool
         ensures { IsTrue result ↔ (self.now.current ≡ []) }
     {
-        self.left() == 0
+        self.count_left() == 0
     }
 
     /// Returns the requests of the current batch, in the order of its tasks. The only error is that memory was refused.
     pub fn requests(&self) -> Result<Vec<Request<'a>>, AllocError>
         ensures { IfOk result (λ requests. requests.items ≡ requests_of self.now.current) }
     {
-        asked(self.alloc, self.current.as_slice())
+        requests_in(self.alloc, self.current.as_slice())
     }
 
     /// Places the answers to the requests of the current batch, each for the task that made its request. The caller must
@@ -104,8 +104,8 @@ impl<'a> ReadyBatch<'a> {
     /// batch. Takes no memory.
     pub fn place(&mut self, answers: Vec<Answer<'a>>)
         requires as_many { length answers.items ≡ length (requests_of self.old.current) }
-        requires without_answer { NonePlaced self.old.current }
-        ensures answers_placed { self.new.current ≡ answers_placed self.old.current answers.entry.items }
+        requires unplaced { NonePlaced self.old.current }
+        ensures placed { self.new.current ≡ answers_placed self.old.current answers.entry.items }
         ensures all { AllPlaced self.new.current }
         ensures next { self.new.next ≡ self.old.next }
     {
@@ -120,9 +120,9 @@ impl<'a> ReadyBatch<'a> {
         ensures none { IsNone result ↔ (self.old.current ≡ []) }
         ensures idle { IfNone result ((self.new ≡ self.old) × (picker.new ≡ picker.old)) }
         ensures hands_out { IfSome result (λ r. HandsOut P.picks self.old self.new picker.old picker.new r.0 r.1) }
-        ensures answers_placed { AllPlaced self.new.current }
+        ensures placed { AllPlaced self.new.current }
     {
-        let left = self.left();
+        let left = self.count_left();
         if left == 0 {
             return None;
         }
@@ -130,8 +130,8 @@ impl<'a> ReadyBatch<'a> {
         Some((entry.task, wake_for(entry.call, entry.answer)))
     }
 
-    // The number of tasks of the current batch that are left.
-    fn left(&self) -> usize
+    // How many tasks of the current batch are left.
+    fn count_left(&self) -> usize
         ensures { result ≡ length self.now.current }
     {
         self.places.len()

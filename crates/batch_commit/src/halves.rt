@@ -1,13 +1,13 @@
 //! Counts of the places that are left, by halves of halves.
 ghost use Rattle.std.specs.Prelude.{◌≡◌, ◌<◌, ◌≤◌, ◌+◌, ◌^◌, ◌⊎◌, ℕ, length, take};
-ghost use Rattle.batch_commit.specs.Halves.{inner, left_in, numbers, IsTree, Drawn};
+ghost use Rattle.batch_commit.specs.Halves.{inner_nodes, places_by_counts, numbers, IsTree, Drawn};
 
 // Takes the k-th place left of 2 to the depth from a base on.
 pub(crate) fn draw(lefts: &mut [usize], depth: usize, base: usize, count: usize, k: usize) -> usize
-    requires shape { length lefts.old ≡ inner depth }
+    requires shape { length lefts.old ≡ inner_nodes depth }
     requires tree { IsTree depth lefts.old count }
     requires k { k < count }
-    requires room { base + inner depth < 2 ^ 64 }
+    requires room { base + inner_nodes depth < 2 ^ 64 }
     ensures { Drawn depth base lefts.old count k lefts.new result }
 {
     if depth == 0 {
@@ -35,11 +35,11 @@ pub(crate) fn draw(lefts: &mut [usize], depth: usize, base: usize, count: usize,
 
 // Makes the first `count` places those that are left.
 pub(crate) fn fill(lefts: &mut [usize], depth: usize, count: usize)
-    requires shape { length lefts.old ≡ inner depth }
-    requires count { count ≤ inner depth + 1 }
-    requires room { inner depth < 2 ^ 64 }
+    requires shape { length lefts.old ≡ inner_nodes depth }
+    requires count { count ≤ inner_nodes depth + 1 }
+    requires room { inner_nodes depth < 2 ^ 64 }
     ensures tree { IsTree depth lefts.new count }
-    ensures all { (base : ℕ) → left_in depth base lefts.new count ≡ numbers base count }
+    ensures all { (base : ℕ) → places_by_counts depth base lefts.new count ≡ numbers base count }
 {
     if depth == 0 {
         return;
@@ -64,7 +64,7 @@ pub(crate) fn draw_front(
     count: usize,
     k: usize,
 ) -> usize
-    requires span { span ≡ inner depth }
+    requires span { span ≡ inner_nodes depth }
     requires fits { span ≤ length counts.old }
     requires tree { IsTree depth (take span counts.old) count }
     requires k { k < count }
@@ -77,11 +77,11 @@ pub(crate) fn draw_front(
 
 // Makes the first `count` places those that are left, with the counts at the front.
 pub(crate) fn fill_front(counts: &mut [usize], span: usize, depth: usize, count: usize)
-    requires span { span ≡ inner depth }
+    requires span { span ≡ inner_nodes depth }
     requires fits { span ≤ length counts.old }
     requires count { count ≤ span + 1 }
     ensures tree { IsTree depth (take span counts.new) count }
-    ensures all { (base : ℕ) → left_in depth base (take span counts.new) count ≡ numbers base count }
+    ensures all { (base : ℕ) → places_by_counts depth base (take span counts.new) count ≡ numbers base count }
 {
     let (lefts, _) = counts.split_at_mut(span);
     fill(lefts, depth, count);
@@ -100,7 +100,7 @@ fn in_first_of(count: usize, half: usize) -> usize
 // How deep the halves are for `count` places, and how many counts there are then.
 pub(crate) fn shape_for(count: usize) -> (usize, usize)
     requires { count < 2 ^ 63 }
-    ensures counts { result.1 ≡ inner result.0 }
+    ensures counts { result.1 ≡ inner_nodes result.0 }
     ensures enough { count ≤ result.1 + 1 }
     ensures not_many { result.1 ≤ count + count }
 {

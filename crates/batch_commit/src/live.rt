@@ -13,7 +13,7 @@ pub struct Live<T> {
 }
 
 impl<T> Live<T> {
-    ghost use Rattle.batch_commit.specs.Live.{live_at, SameLive, Updates};
+    ghost use Rattle.batch_commit.specs.Live.{live_at, SameLive, UpdatesLive};
     ghost use Rattle.batch_commit.specs.Lending.{lends_live};
 
     /// Returns an empty map. Takes no memory.
@@ -31,7 +31,7 @@ impl<T> Live<T> {
     where
         T: Drop,
         ensures fresh { IfOk result (λ id. live_at self.old id ≡ None) }
-        ensures put { IfOk result (λ id. Updates self.old self.new id (Some value)) }
+        ensures put { IfOk result (λ id. UpdatesLive self.old self.new id (Some value)) }
         ensures err { OnErr result (SameLive self.old self.new) }
     {
         let key = self.slots.insert(value)?;
@@ -58,7 +58,7 @@ impl<T> Live<T> {
     /// Takes no memory.
     pub fn take(&mut self, id: TaskId) -> Option<T>
         ensures value { result ≡ live_at self.old id }
-        ensures emptied { Updates self.old self.new id None }
+        ensures emptied { UpdatesLive self.old self.new id None }
     {
         self.slots.try_remove(id.key())
     }

@@ -1,9 +1,9 @@
 //! Slots of entries, of which some are empty.
 ghost use Rattle.std.specs.Prelude.{◌≡◌, ◌<◌, Some, None, IfOk, length, slice_index_or, slice_set, IsSome};
 ghost use Rattle.std.specs.Vec.Iter.{into_iter_items, into_iter_len};
-ghost use Rattle.batch_commit.specs.Slots.{held};
+ghost use Rattle.batch_commit.specs.Slots.{values_in};
 ghost use Rattle.batch_commit.specs.Entries.{requests_of};
-ghost use Rattle.batch_commit.specs.Placing.{request_at, slot_placed, left_after, slots_placed};
+ghost use Rattle.batch_commit.specs.Placing.{request_at, slot_placed, answers_after_slot, slots_placed};
 
 use crate::entry::{Entry, request_in};
 use line_kernels::{Answer, Request};
@@ -34,11 +34,11 @@ fn request_of<'a>(slot: &Option<Entry<'a>>) -> Option<Request<'a>>
 }
 
 // The requests that entries make, in order.
-pub(crate) fn asked<'a>(
+pub(crate) fn requests_in<'a>(
     alloc: Global,
     slots: &[Option<Entry<'a>>],
 ) -> Result<Vec<Request<'a>>, AllocError>
-    ensures { IfOk result (λ requests. requests.items ≡ requests_of (held slots.now)) }
+    ensures { IfOk result (λ requests. requests.items ≡ requests_of (values_in slots.now)) }
 {
     let mut requests = Vec::new(alloc);
     'slots: for slot in slots {
@@ -53,7 +53,7 @@ pub(crate) fn asked<'a>(
 fn place_at<'a>(slot: &mut Option<Entry<'a>>, answers: &mut IntoIter<Answer<'a>>)
     requires { into_iter_len answers.old ≡ length (into_iter_items answers.old) }
     ensures slot { slot.new ≡ slot_placed slot.old (into_iter_items answers.old) }
-    ensures left { into_iter_items answers.new ≡ left_after slot.old (into_iter_items answers.old) }
+    ensures left { into_iter_items answers.new ≡ answers_after_slot slot.old (into_iter_items answers.old) }
     ensures len { into_iter_len answers.new ≡ length (into_iter_items answers.new) }
 {
     let Some(entry) = slot else {

@@ -19,7 +19,7 @@ use Rattle.task_table.specs.TaskTable.{running_at}
 use Rattle.task_table.specs.Rows.{times}
 use Rattle.job_runner.specs.Shelves.{AreShelved, GoesBy, IsCalled, IsGoing, IsRight, IsSameJob, IsUnderway, NoneChanged, running_times, times_shelved}
 use Rattle.job_runner.specs.Steps.{SeesOnly}
-use Rattle.task_table.proofs.Apart.{one_if}
+use Rattle.task_table.proofs.Times.{one_if}
 use Rattle.job_runner.proofs.Places.{at_place, times_cons}
 use Rattle.job_runner.proofs.Shelving.{times_now, times_next, one_else, one_same, none_away}
 use Rattle.job_runner.proofs.Stopped.{some_is, some_has}

@@ -33,13 +33,13 @@ use Rattle.run_refinement.proofs.Told.{same_owner}
 use Rattle.task_table.specs.declared.task_table.TaskTable.{TaskTable}
 use Rattle.task_table.specs.declared.task_table.Running.{Running}
 use Rattle.job_runner.specs.declared.runner.Runner.{Runner}
-use Rattle.task_table.specs.TaskTable.{running_at, task_of, gone_of, parent_of, many, IsTaskTable, Ends}
+use Rattle.task_table.specs.TaskTable.{running_at, task_of, gone_of, parent_of, task_count, IsTaskTable, Ends}
 use Rattle.task_table.specs.Rows.{times}
 use Rattle.job_runner.specs.Shelves.{GoesBy, IsCalled, Dozes, sleep_slot_of, AreKnown, times_shelved, running_times, state_in, IsRefined, IsGoing}
 use Rattle.autojump_clock.specs.Clock.{due_of}
 use Rattle.std.proofs.lemmas.Option.{none-some}
 use Rattle.job_runner.specs.Steps.{IsStopping}
-use Rattle.task_table.proofs.Apart.{one_if}
+use Rattle.task_table.proofs.Times.{one_if}
 use Rattle.job_runner.proofs.Shelving.{one_same, none_away}
 use Rattle.job_runner.proofs.Stopped.{some_is, some_has, no_timer}
 use Rattle.job_runner.proofs.Lived.{LivesBy, lives_by, task_at}
@@ -103,7 +103,7 @@ module _ (r : Runner) (task_table : TaskTable) (id row : ℕ) (exc : Option held
   table_settled = table_is_settled r.job.now r.input.now h.sound.names
 
   -- the run up to then is one of the definitions, in which the end of this task is not recorded yet
-  pub state_before : Refines (meaning_table r.job.now r.input.now) r.job.now r.input.now r.world.tick (many r.task_table) (Some row) (state_in r)
+  pub state_before : Refines (meaning_table r.job.now r.input.now) r.job.now r.input.now r.world.tick (task_count r.task_table) (Some row) (state_in r)
   state_before = (h.interleaving (meaning_table r.job.now r.input.now) table_settled).is
 
   -- the task with the nursery that is its home has not ended, has an earlier row, and its end is not
@@ -130,7 +130,7 @@ module _ (r : Runner) (task_table : TaskTable) (id row : ℕ) (exc : Option held
 
       same : its.parent ≡ parent_of r.task_table row
       same =
-          same_owner (meaning_table r.job.now r.input.now) r.job.now r.input.now r.world.tick (many r.task_table) (Some row) (state_in r)
+          same_owner (meaning_table r.job.now r.input.now) r.job.now r.input.now r.world.tick (task_count r.task_table) (Some row) (state_in r)
           state_before its.parent (parent_of r.task_table row) its.starter
           keeps.task home.nursery its.lives keeps.lives its.owned keeps.owned
 
@@ -143,16 +143,16 @@ module _ (r : Runner) (task_table : TaskTable) (id row : ℕ) (exc : Option held
       (subst (λ (i : ℕ). HasNursery r.world.book i (λ n. slice_get n.children y.0.place ≡ Some None)) y.2 (waiter_of y.0 y.1).runs)
 
   -- its row is still one of the table's
-  pub tell_row : row < many task_table
+  pub tell_row : row < task_count task_table
   tell_row = subst (λ (m : ℕ). row < m) (sym e.same.many) (lives_by r.task_table h.shelved.agree row e.task was_there).below
 
   -- and so is the row of the task that started it, where it has a home
   pub tell_parent : (nursery place : ℕ) → option_map {U = ℕ × ℕ} (λ (x : Home). (x.nursery, x.place)) e.task.home ≡ Some (nursery, place) →
-      parent_of task_table row < many task_table
+      parent_of task_table row < task_count task_table
   tell_parent nursery place f =
       let y = home_is e.task.home nursery place f in
       subst (λ (m : ℕ). parent_of task_table row < m) (sym e.same.many)
-      (subst (λ (p : ℕ). p < many r.task_table) (sym (e.same.parent row)) (waiter_of y.0 y.1).lives.below)
+      (subst (λ (p : ℕ). p < task_count r.task_table) (sym (e.same.parent row)) (waiter_of y.0 y.1).lives.below)
 
 -- ---- all others
 
@@ -186,14 +186,14 @@ module _ (r : Runner) (task_table : TaskTable) (book : NurseryBook) (b : Batches
   pub interleaving_after : IsRefined (ended_runner r task_table book b)
   interleaving_after k settled =
       subst (λ (m : ℕ). Refines k r.job.now r.input.now r.world.tick m None (state_in (ended_runner r task_table book b))) (sym e.same.many)
-      (state_left k r.job.now r.input.now r.world.tick (many r.task_table) row (state_in r) (state_in (ended_runner r task_table book b)) e.task
+      (state_left k r.job.now r.input.now r.world.tick (task_count r.task_table) row (state_in r) (state_in (ended_runner r task_table book b)) e.task
       (option_map exc_of exc) (h.interleaving k settled).is
       (left_by k settled))
 
   homes_after : AreHomesOf (state_in (ended_runner r task_table book b)) (parent_of task_table)
   homes_after p x home lives at =
       subst (λ (n : ℕ). Keeps (state_in (ended_runner r task_table book b)) n home.nursery) (sym (e.same.parent p))
-      (homes_left (meaning_table r.job.now r.input.now) r.job.now r.input.now r.world.tick (many r.task_table) row (state_in r)
+      (homes_left (meaning_table r.job.now r.input.now) r.job.now r.input.now r.world.tick (task_count r.task_table) row (state_in r)
       (state_in (ended_runner r task_table book b)) e.task (option_map exc_of exc)
       (h.interleaving (meaning_table r.job.now r.input.now) (table_settled r task_table id row exc h e)).is
       (left_by (meaning_table r.job.now r.input.now) (table_settled r task_table id row exc h e)) (parent_of r.task_table) h.shelved.homes p x
@@ -201,7 +201,7 @@ module _ (r : Runner) (task_table : TaskTable) (book : NurseryBook) (b : Batches
 
   goes_after : (x : Task) (call : Call) → GoesBy r.world x call → GoesBy (record r.world { book = book }) x call
   goes_after x call goes answer wake right is =
-      goes_left (meaning_table r.job.now r.input.now) r.job.now r.input.now r.world.tick (many r.task_table) row (state_in r)
+      goes_left (meaning_table r.job.now r.input.now) r.job.now r.input.now r.world.tick (task_count r.task_table) row (state_in r)
       (state_in (ended_runner r task_table book b)) e.task (option_map exc_of exc)
       (h.interleaving (meaning_table r.job.now r.input.now) (table_settled r task_table id row exc h e)).is
       (left_by (meaning_table r.job.now r.input.now) (table_settled r task_table id row exc h e)) x wake (goes answer wake right is)

@@ -13,11 +13,11 @@ use Rattle.line_kernels.specs.declared.answers.Answer.{Answer}
 use Rattle.interleavings.specs.Interleaving.{In}
 use Rattle.run_refinement.specs.Laws.{AreDistinct}
 use Rattle.run_refinement.proofs.FewTasks.{state_few}
-use Rattle.task_table.specs.TaskTable.{running_at, task_of, many, IsTaskTable}
+use Rattle.task_table.specs.TaskTable.{running_at, task_of, task_count, IsTaskTable}
 use Rattle.task_table.specs.Rows.{times}
 use Rattle.task_table.specs.declared.task_table.TaskTable.{TaskTable}
 use Rattle.task_table.specs.declared.task_table.Running.{Running}
-use Rattle.task_table.proofs.Apart.{one_if}
+use Rattle.task_table.proofs.Times.{one_if}
 use Rattle.job_runner.specs.declared.runner.Runner.{Runner}
 use Rattle.job_runner.specs.Shelves.{AreShelved, GoesBy, IsCalled, IsUnderway, state_in, running_times, times_shelved}
 use Rattle.job_runner.proofs.Lived.{one_id, task_at}
@@ -114,7 +114,7 @@ pub few_requests : (r : Runner) → IsUnderway r → length (requests_of r.batch
 few_requests r h =
     let distinct = rows_differ r.task_table shelved.agree r.batch.current all once in
     let state = h.going.interleaving k (table_is_settled r.job.now r.input.now h.going.sound.names) in
-    let few = state_few k r.job.now r.input.now r.world.tick (many r.task_table) (state_in r) state (rows_in r.task_table r.batch.current) distinct
+    let few = state_few k r.job.now r.input.now r.world.tick (task_count r.task_table) (state_in r) state (rows_in r.task_table r.batch.current) distinct
     (rows_live r.task_table shelved.agree r.batch.current all) in
     let long = rows_long r.task_table r.batch.current in
     let fewer = requests_fewer r.batch.current in

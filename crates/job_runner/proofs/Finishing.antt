@@ -27,11 +27,11 @@ use Rattle.job_runner.specs.declared.finished.Run.{Run}
 use Rattle.task_table.specs.declared.task_table.TaskTable.{TaskTable}
 use Rattle.task_table.specs.declared.task_table.Running.{Running}
 use Rattle.task_table.specs.declared.rows.Ended.{Ended}
-use Rattle.task_table.specs.declared.rows.Row.{Row}
+use Rattle.task_table.specs.declared.rows.TaskRow.{TaskRow}
 use Rattle.job_runner.specs.declared.runner.Phase.TheVariants as phases
 use Rattle.job_runner.specs.declared.runner.Runner.{Runner}
 use Rattle.job_runner.specs.Phases.{phase_by, phase_of}
-use Rattle.task_table.specs.TaskTable.{children_by, state_of, gone_by, gone_from, gone_of, many, row_at, running_at, start_by, task_by, task_in, task_of, task_unless}
+use Rattle.task_table.specs.TaskTable.{children_by, state_of, gone_by, gone_from, gone_of, task_count, row_at, running_at, start_by, task_by, task_in, task_of, task_unless}
 use Rattle.task_table.specs.Rows.{AreShown, EndIsShown, IsShown, ShowRecords}
 use Rattle.job_runner.specs.Runs.{IsRun, FollowsEach, froms_in, name_of, records_in}
 use Rattle.job_runner.specs.Shelves.{state_in, IsUnderway}
@@ -49,7 +49,7 @@ end_some : (end : Option Ended) (g : Gone) → option_map gone_from end ≡ Some
 end_some None g e x = absurd (none-some g e)
 end_some (Some end) g e x = refl
 
-no_task : (live : Live Running) (row : Option Row) (g : Gone) → gone_by row ≡ Some g → task_by live row ≡ None
+no_task : (live : Live Running) (row : Option TaskRow) (g : Gone) → gone_by row ≡ Some g → task_by live row ≡ None
 no_task live None g e = absurd (none-some g e)
 no_task live (Some row) g e = end_some row.end g e (live_at live row.task)
 
@@ -77,7 +77,7 @@ end_shown input row (Some end) gone e label tick exc entries slices froms =
       froms = ap (λ (g : Gone). map from_of g.froms) is ∙ froms;
     }
 
-row_shown : (input : List ℕ) (task_table : TaskTable) (world : World) (turns s : ℕ) (row : interleaving.Row) (held : Row) → row_at task_table s ≡ Some held →
+row_shown : (input : List ℕ) (task_table : TaskTable) (world : World) (turns s : ℕ) (row : interleaving.Row) (held : TaskRow) → row_at task_table s ≡ Some held →
     ShowsRow input (state_of task_table world turns) s row →
     IsShown input row held
 row_shown input task_table world turns s row held e h =
@@ -100,7 +100,7 @@ module _ (r : Runner) (w : IsUnderway r) (over : phase_of r ≡ phases.Over) whe
   abbrev k : Table
   k = meaning_table r.job.now r.input.now
 
-  state : Refines k r.job.now r.input.now r.world.tick (many r.task_table) None (state_in r)
+  state : Refines k r.job.now r.input.now r.world.tick (task_count r.task_table) None (state_in r)
   state = w.going.interleaving k (table_is_settled r.job.now r.input.now w.going.sound.names)
 
   root : (g : Gone) × (gone_of r.task_table 0 ≡ Some g)
@@ -108,22 +108,22 @@ module _ (r : Runner) (w : IsUnderway r) (over : phase_of r ≡ phases.Over) whe
 
   -- no task lives
   none_left : (p : ℕ) → task_of r.task_table p ≡ None
-  none_left p = root_last k r.job.now r.input.now r.world.tick (many r.task_table) (state_in r) state
+  none_left p = root_last k r.job.now r.input.now r.world.tick (task_count r.task_table) (state_in r) state
       (no_task r.task_table.live (row_at r.task_table 0) root.0 root.1) p
 
   -- so each row has its end
-  pub all_ended : (rows : List Row) → rows ≡ r.task_table.rows.items → All (λ (x : Row). IsSome x.end) rows
-  all_ended rows same = subst (All (λ (x : Row). IsSome x.end)) (sym same)
-      (all_by_place (λ (x : Row). IsSome x.end) r.task_table.rows.items (λ p row e. by_end p row e row.end refl))
+  pub all_ended : (rows : List TaskRow) → rows ≡ r.task_table.rows.items → All (λ (x : TaskRow). IsSome x.end) rows
+  all_ended rows same = subst (All (λ (x : TaskRow). IsSome x.end)) (sym same)
+      (all_by_place (λ (x : TaskRow). IsSome x.end) r.task_table.rows.items (λ p row e. by_end p row e row.end refl))
     where
-      by_end : (p : ℕ) (row : Row) → row_at r.task_table p ≡ Some row → (end : Option Ended) → row.end ≡ end → IsSome row.end
+      by_end : (p : ℕ) (row : TaskRow) → row_at r.task_table p ≡ Some row → (end : Option Ended) → row.end ≡ end → IsSome row.end
       by_end p row e None f =
           let l = w.going.shelved.agree.lives p row e f in
           none_lives row.end (running_at r.task_table row.task) l.running l.is (sym (ap (task_by r.task_table.live) e) ∙ none_left p)
       by_end p row e (Some end) f = ap is_some f
 
-  is_over : IsOver r.job.now r.input.now (many r.task_table) (state_in r)
-  is_over = state_over r.job.now r.input.now w.going.sound.names w.going.sound.starts r.world.tick (many r.task_table) (state_in r) state none_left
+  is_over : IsOver r.job.now r.input.now (task_count r.task_table) (state_in r)
+  is_over = state_over r.job.now r.input.now w.going.sound.names w.going.sound.starts r.world.tick (task_count r.task_table) (state_in r) state none_left
 
   are_shown : AreShown r.input.now is_over.rows r.task_table.rows.items
   are_shown s held e =
@@ -131,7 +131,7 @@ module _ (r : Runner) (w : IsUnderway r) (over : phase_of r ≡ phases.Over) whe
       (is_over.shows s (slice_get_within r.task_table.rows.items s held e))
 
   -- the records and froms of rows
-  module _ (rows : List Row) (same : rows ≡ r.task_table.rows.items) (records : List Record) (froms : List ScopeFrom)
+  module _ (rows : List TaskRow) (same : rows ≡ r.task_table.rows.items) (records : List Record) (froms : List ScopeFrom)
       (tells : (input : List ℕ) (rs : ℕ → interleaving.Row) → AreShown input rs rows → ShowRecords input rs records froms) where
     told : ShowRecords r.input.now is_over.rows records froms
     told = tells r.input.now is_over.rows (subst (AreShown r.input.now is_over.rows) (sym same) are_shown)

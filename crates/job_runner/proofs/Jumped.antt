@@ -37,10 +37,10 @@ use Rattle.task_table.specs.declared.task_table.Running.{Running}
 use Rattle.job_runner.specs.declared.runner.Runner.{Runner}
 use Rattle.job_runner.specs.Jumps.{sight_by, sight_in, Wakes, IsNextTick, Slept, IsAnyNow, IsWaking}
 use Rattle.sleepers.specs.Sleeping.{IsFirst}
-use Rattle.task_table.specs.TaskTable.{running_at, task_of, gone_of, id_of, many, state_of, IsTaskTable}
+use Rattle.task_table.specs.TaskTable.{running_at, task_of, gone_of, id_of, task_count, state_of, IsTaskTable}
 use Rattle.task_table.specs.Rows.{times}
 use Rattle.job_runner.specs.Shelves.{IsCalled, Dozes, sleep_slot_of, timer_times, settled_times, task_state_times, running_times, times_shelved, state_in, IsGoing, IsUnderway}
-use Rattle.task_table.proofs.Apart.{one_if}
+use Rattle.task_table.proofs.Times.{one_if}
 use Rattle.job_runner.proofs.Known.{seen_by, sees_from}
 use Rattle.job_runner.proofs.Stopped.{some_is, some_has}
 use Rattle.job_runner.proofs.Lived.{lives_by, task_at}
@@ -60,7 +60,7 @@ lives_at r agree p task e = let l = lives_by r agree p task e in
 
 -- ---- a run of which nobody is ready
 
-state_now : (r : Runner) → IsGoing None r → Refines (meaning_table r.job.now r.input.now) r.job.now r.input.now r.world.tick (many r.task_table)
+state_now : (r : Runner) → IsGoing None r → Refines (meaning_table r.job.now r.input.now) r.job.now r.input.now r.world.tick (task_count r.task_table)
     None (state_in r)
 state_now r g = g.interleaving (meaning_table r.job.now r.input.now) (table_is_settled r.job.now r.input.now g.sound.names)
 
@@ -80,7 +80,7 @@ same_sleep a b c d e = (cc, cc)
 
 -- A run whose batch is over, and a bound up to which no sleeper is due or sees a cancellation.
 module _ (r : Runner) (w : IsUnderway r) (none : r.batch.current ≡ []) where
-  state : Refines (meaning_table r.job.now r.input.now) r.job.now r.input.now r.world.tick (many r.task_table) None (state_in r)
+  state : Refines (meaning_table r.job.now r.input.now) r.job.now r.input.now r.world.tick (task_count r.task_table) None (state_in r)
   state = state_now r w.going
 
   -- a task that has not ended has a timer as often as its blocked state says
@@ -197,7 +197,7 @@ module _ (r : Runner) (w : IsUnderway r) (none : r.batch.current ≡ []) where
   -- a task that has not ended is one of the program's, of which one sleeps
   pub has_timer : (s : ℕ) (task : Task) → task_of r.task_table s ≡ Some task → HasTimer r.clock
   has_timer s task e =
-      let h = state_sleeps (meaning_table r.job.now r.input.now) r.job.now r.input.now r.world.tick (many r.task_table) (state_in r)
+      let h = state_sleeps (meaning_table r.job.now r.input.now) r.job.now r.input.now r.world.tick (task_count r.task_table) (state_in r)
       (table_is_settled r.job.now r.input.now w.going.sound.names) w.going.sound.names
       w.going.sound.starts state 0 (all_stay 0 none_before_zero) s task e in
       let a = sleeps_as h.task (lives_at r.task_table w.going.shelved.agree h.serial h.task h.lives) (ap (task_state_times r.world.book) h.asleep) in
@@ -299,18 +299,18 @@ module _ (r : Runner) (w : IsUnderway r) (none : r.batch.current ≡ []) where
 
       -- the same tasks are a run of the definitions in that tick
       pub interleaving_jumps : (k : Table) → IsSettled k r.job.now r.input.now →
-          Refines k r.job.now r.input.now t (many r.task_table) None (state_of r.task_table (record r.world { tick = t }) r.turns)
+          Refines k r.job.now r.input.now t (task_count r.task_table) None (state_of r.task_table (record r.world { tick = t }) r.turns)
       interleaving_jumps k settled =
           let c = w.going.interleaving k settled in
-          state_jumps k r.job.now r.input.now r.world.tick t (many r.task_table) (state_in r) (state_of r.task_table later_world r.turns)
+          state_jumps k r.job.now r.input.now r.world.tick t (task_count r.task_table) (state_in r) (state_of r.task_table later_world r.turns)
           (let lt = next_later in omega (arith, lt))
           (record { turns = refl; task = λ p. refl; gone = λ p. refl; start = λ p. refl; children = λ p. refl }) refl c
-          (state_blocked k r.job.now r.input.now r.world.tick (many r.task_table) (state_in r) c t (all_stay t none_before_next))
+          (state_blocked k r.job.now r.input.now r.world.tick (task_count r.task_table) (state_in r) c t (all_stay t none_before_next))
 
       -- and while one lives, the meaning does not end before it
       pub ends_later : (s : ℕ) (task : Task) → task_of r.task_table s ≡ Some task → t ≤ meaning_end r.job.now r.input.now
       ends_later s task e =
-          state_in_time r.job.now r.input.now t (many r.task_table) (state_of r.task_table later_world r.turns) w.going.sound.names
+          state_in_time r.job.now r.input.now t (task_count r.task_table) (state_of r.task_table later_world r.turns) w.going.sound.names
           w.going.sound.starts
           (interleaving_jumps (meaning_table r.job.now r.input.now) (table_is_settled r.job.now r.input.now w.going.sound.names)) s task e
 

@@ -8,8 +8,8 @@ use Rattle.task_machine.specs.declared.task.Task.{Task}
 use Rattle.task_table.specs.declared.task_table.TaskTable.{TaskTable}
 use Rattle.task_table.specs.declared.task_table.Running.{Running}
 use Rattle.task_table.specs.declared.rows.Ended.{Ended}
-use Rattle.task_table.specs.declared.rows.Row.{Row}
-use Rattle.task_table.specs.TaskTable.{row_at, running_at, task_in, task_unless, task_by, id_by, task_of, id_of, many, HasRow, Lives, IsTaskTable}
+use Rattle.task_table.specs.declared.rows.TaskRow.{TaskRow}
+use Rattle.task_table.specs.TaskTable.{row_at, running_at, task_in, task_unless, task_by, id_by, task_of, id_of, task_count, HasRow, Lives, IsTaskTable}
 
 -- ---- what lives, by its row
 
@@ -19,9 +19,9 @@ pub record LivesBy (r : TaskTable) (p : ℕ) (task : Task) : Type 0 where
   pub is : running_at r (id_of r p) ≡ Some running
   pub task_is : running.task ≡ task
   pub row_is : running.row ≡ p
-  pub below : p < many r
+  pub below : p < task_count r
 
-lives_under : (r : TaskTable) (p : ℕ) (row : Row) (task : Task) → IsTaskTable r → row_at r p ≡ Some row → (x : Option Ended) → row.end ≡ x →
+lives_under : (r : TaskTable) (p : ℕ) (row : TaskRow) (task : Task) → IsTaskTable r → row_at r p ≡ Some row → (x : Option Ended) → row.end ≡ x →
     task_by r.live (Some row) ≡ Some task → LivesBy r p task
 lives_under r p row task ok at (Some x) ends e =
     absurd (not_both {o = task_by r.live (Some row)} (ap (λ (o : Option Ended). task_unless o (running_at r row.task)) ends) e)
@@ -40,7 +40,7 @@ lives_under r p row task ok at None ends e =
 pub lives_by : (r : TaskTable) → IsTaskTable r → (p : ℕ) (task : Task) → task_of r p ≡ Some task → LivesBy r p task
 lives_by r ok p task e = by_row (row_at r p) refl e
   where
-    by_row : (o : Option Row) → row_at r p ≡ o → task_by r.live o ≡ Some task → LivesBy r p task
+    by_row : (o : Option TaskRow) → row_at r p ≡ o → task_by r.live o ≡ Some task → LivesBy r p task
     by_row None at f = absurd (let g : None ≡ Some task = f in cc)
     by_row (Some row) at f = lives_under r p row task ok at row.end refl f
 
@@ -54,7 +54,7 @@ task_at r agree id x lives =
     ∙ ap (λ (n : ℕ). task_in (running_at r n)) h.id_is ∙ ap task_in lives
 
 -- the task with an id has one of the table's rows
-pub row_below : (r : TaskTable) → IsTaskTable r → (id : ℕ) (x : Running) → running_at r id ≡ Some x → x.row < many r
+pub row_below : (r : TaskTable) → IsTaskTable r → (id : ℕ) (x : Running) → running_at r id ≡ Some x → x.row < task_count r
 row_below r agree id x lives = let h : HasRow r x.row id = agree.rows id x lives in slice_get_within r.rows.items x.row h.row h.is
 
 -- two ids of one row are the same
@@ -65,7 +65,7 @@ one_id r agree id other x y e f same =
     let g : HasRow r y.row other = agree.rows other y f in
     let both : Some g.row ≡ Some h.row = sym g.is ∙ (ap (row_at r) same ∙ h.is) in
     let one : g.row ≡ h.row = one_of g.row h.row both in
-    sym g.id_is ∙ (ap (λ (z : Row). z.task) one ∙ h.id_is)
+    sym g.id_is ∙ (ap (λ (z : TaskRow). z.task) one ∙ h.id_is)
 
 -- what lives under different ids has different rows
 pub rows_apart : (r : TaskTable) → IsTaskTable r → (id other : ℕ) (x y : Running) → running_at r id ≡ Some x → running_at r other ≡ Some y →

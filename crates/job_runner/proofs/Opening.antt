@@ -25,9 +25,9 @@ use Rattle.sleepers.specs.Sleeping.{scope_in}
 use Rattle.job_meaning.specs.declared.limits.TheConstants.{LAST_TICK}
 use Rattle.task_table.specs.declared.task_table.Running.{Running}
 use Rattle.job_runner.specs.declared.runner.Runner.{Runner}
-use Rattle.task_table.specs.TaskTable.{many, parent_of, running_at, task_of, HasRoot, IsTaskTable}
+use Rattle.task_table.specs.TaskTable.{task_count, parent_of, running_at, task_of, HasRoot, IsTaskTable}
 use Rattle.job_runner.specs.Shelves.{state_in, task_state_times, running_times, timer_times, times_shelved, IsRefined, sleep_slot_of, GoesBy, IsCalled, IsSound, IsUnderway, NoneChanged}
-use Rattle.task_table.proofs.Apart.{one_if}
+use Rattle.task_table.proofs.Times.{one_if}
 use Rattle.job_runner.proofs.Places.{times_cons}
 use Rattle.job_runner.proofs.Shelving.{none_away, times_next, times_now}
 use Rattle.job_runner.proofs.Stopped.{some_has}
@@ -53,7 +53,7 @@ module _ (r : Runner) (root : Task) (id : ℕ) (sound : IsSound r.job.now) (smal
 
   is_refined : IsRefined r
   is_refined k settled =
-      subst (λ (t : ℕ). Refines k r.job.now r.input.now t (many r.task_table) None (state_in r)) (sym world.tick)
+      subst (λ (t : ℕ). Refines k r.job.now r.input.now t (task_count r.task_table) None (state_in r)) (sym world.tick)
       (subst (λ (m : ℕ). Refines k r.job.now r.input.now 0 m None (state_in r)) (sym has.many) (begun k))
 
   homeless : AreHomesOf (state_in r) (parent_of r.task_table)

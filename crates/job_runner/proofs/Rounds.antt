@@ -10,7 +10,7 @@ use Rattle.run_refinement.proofs.Blocks.{state_turns}
 use Rattle.job_runner.specs.declared.runner.Phase.{Phase}
 use Rattle.job_runner.specs.declared.runner.Phase.TheVariants.{Ready, Blocked, Over}
 use Rattle.job_runner.specs.declared.runner.Runner.{Runner}
-use Rattle.task_table.specs.TaskTable.{many}
+use Rattle.task_table.specs.TaskTable.{task_count}
 use Rattle.job_runner.specs.Phases.{phase_by, phase_of}
 use Rattle.job_runner.specs.Rounds.{jumps_before, most_turns, rounds_left}
 use Rattle.job_runner.specs.Shelves.{IsSameJob, IsUnderway, state_in}
@@ -18,7 +18,7 @@ use Rattle.job_runner.specs.Shelves.{IsSameJob, IsUnderway, state_in}
 -- a run had no more turns than it has at most
 pub few_turns : (r : Runner) → IsUnderway r → r.turns ≤ most_turns r
 few_turns r u =
-    state_turns (meaning_table r.job.now r.input.now) r.job.now r.input.now r.world.tick (many r.task_table) None (state_in r)
+    state_turns (meaning_table r.job.now r.input.now) r.job.now r.input.now r.world.tick (task_count r.task_table) None (state_in r)
     (u.going.interleaving (meaning_table r.job.now r.input.now) (table_is_settled r.job.now r.input.now u.going.sound.names))
 
 -- a task is ready where the run is

@@ -14,7 +14,7 @@ use Rattle.job_runner.specs.declared.runner.Runner.{Runner}
 use Rattle.task_table.specs.Rows.{times}
 use Rattle.task_table.specs.TaskTable.{running_at}
 use Rattle.job_runner.specs.Shelves.{IsCalled, times_shelved, running_times, IsElse, AreShelved}
-use Rattle.task_table.proofs.Apart.{one_if}
+use Rattle.task_table.proofs.Times.{one_if}
 
 -- ---- how often an id occurs
 

@@ -15,9 +15,9 @@ use Rattle.run_refinement.specs.Turn.{serials_from}
 use Rattle.task_table.specs.declared.task_table.TaskTable.{TaskTable}
 use Rattle.job_runner.specs.declared.runner.Runner.{Runner}
 use Rattle.task_table.specs.Rows.{times}
-use Rattle.task_table.specs.TaskTable.{running_at, task_of, task_by, start_of, children_of, parent_of, many, IsTaskTable, Starts}
+use Rattle.task_table.specs.TaskTable.{running_at, task_of, task_by, start_of, children_of, parent_of, task_count, IsTaskTable, Starts}
 use Rattle.job_runner.specs.Steps.{StartsAll, TakesStarted, to_begin}
-use Rattle.task_table.proofs.Apart.{one_if}
+use Rattle.task_table.proofs.Times.{one_if}
 use Rattle.job_runner.proofs.Shelving.{times_push, one_same, one_else}
 
 -- ---- lists
@@ -82,7 +82,7 @@ serials_more m (suc n) =
 -- ---- tasks of a task table
 
 -- no task has a row past those of the table
-pub none_past : (r : TaskTable) (p : ℕ) → many r ≤ p → task_of r p ≡ None
+pub none_past : (r : TaskTable) (p : ℕ) → task_count r ≤ p → task_of r p ≡ None
 none_past r p le = ap (task_by r.live) (slice_get_past r.rows.items p le)
 
 -- no task at all
@@ -92,8 +92,8 @@ starts_none r parent tick = record {
   lives = λ i id task e. absurd (let f : None ≡ Some id = e in cc);
   once = λ id. omega arith;
   others = λ id h. refl;
-  more = (let e : many r ≡ many r + 0 = omega arith in e);
-  task = λ i. none_past r (many r + i) (omega arith);
+  more = (let e : task_count r ≡ task_count r + 0 = omega arith in e);
+  task = λ i. none_past r (task_count r + i) (omega arith);
   start = λ i lt. absurd (omega (arith, lt));
   childless = λ i lt. absurd (omega (arith, lt));
   parent_is = λ i lt. absurd (omega (arith, lt));
@@ -109,7 +109,7 @@ starts_none r parent tick = record {
 -- one more
 module _ (old mid new : TaskTable) (parent : ℕ) (tasks : List Task) (tick : ℕ) (ids : List ℕ) (task : Task) (id : ℕ)
     (a : StartsAll old mid parent tasks tick ids)
-    (s : Starts mid new parent task tick id) (there : parent < many old) where
+    (s : Starts mid new parent task tick id) (there : parent < task_count old) where
   longer : length (tasks ++ task ∷ []) ≡ length tasks + 1
   longer = length-append tasks (task ∷ [])
 
@@ -123,7 +123,7 @@ module _ (old mid new : TaskTable) (parent : ℕ) (tasks : List Task) (tick : �
           let le = slice_get_within ids g.0 id g.1 in
           let long = a.as_many in
           let t = by_task g.0 (omega (arith, le, long)) in
-          absurd (let e : None ≡ Some (record { task = t.0; row = many old + g.0 }) = sym s.fresh ∙ (a.lives g.0 id t.0 g.1 t.1).1 in cc)
+          absurd (let e : None ≡ Some (record { task = t.0; row = task_count old + g.0 }) = sym s.fresh ∙ (a.lives g.0 id t.0 g.1 t.1).1 in cc)
         where
           nth : (ts : List Task) (i : ℕ) → i < length ts → (t : Task) × (slice_get ts i ≡ Some t)
           nth [] i lt = absurd (omega (arith, lt))
@@ -141,12 +141,12 @@ module _ (old mid new : TaskTable) (parent : ℕ) (tasks : List Task) (tick : �
   fresh = sym (a.others id not_before) ∙ s.fresh
 
   lives_more : (i key : ℕ) (x : Task) → slice_get (ids ++ id ∷ []) i ≡ Some key → slice_get (tasks ++ task ∷ []) i ≡ Some x →
-      (running_at old key ≡ None) × (running_at new key ≡ Some (record { task = x; row = many old + i }))
+      (running_at old key ≡ None) × (running_at new key ≡ Some (record { task = x; row = task_count old + i }))
   lives_more i key x e f = at (by_place (length tasks) i (let lt = slice_get_within (tasks ++ task ∷ []) i x f in
       omega (arith, lt, longer)))
     where
       at : (i < length tasks) ⊎ (i ≡ length tasks) → (running_at old key ≡ None)
-          × (running_at new key ≡ Some (record { task = x; row = many old + i }))
+          × (running_at new key ≡ Some (record { task = x; row = task_count old + i }))
       at (inl lt) =
           let long = a.as_many in
           let e2 : slice_get ids i ≡ Some key = sym (got_more ids id i (omega (arith, lt, long))) ∙ e in
@@ -162,8 +162,8 @@ module _ (old mid new : TaskTable) (parent : ℕ) (tasks : List Task) (tick : �
           let same_id : id ≡ key = cc in
           let same_task : task ≡ x = cc in (
             ap (running_at old) (sym same_id) ∙ fresh,
-            ap (running_at new) (sym same_id) ∙ s.lives ∙ ap (λ (z : Task). Some (record { task = z; row = many mid })) same_task
-                ∙ ap (λ (n : ℕ). Some (record { task = x; row = n })) (a.more ∙ ap (λ (n : ℕ). many old + n) (sym is)),
+            ap (running_at new) (sym same_id) ∙ s.lives ∙ ap (λ (z : Task). Some (record { task = z; row = task_count mid })) same_task
+                ∙ ap (λ (n : ℕ). Some (record { task = x; row = n })) (a.more ∙ ap (λ (n : ℕ). task_count old + n) (sym is)),
           )
 
   once_more : (other : ℕ) → times other (ids ++ id ∷ []) ≤ 1
@@ -187,40 +187,40 @@ module _ (old mid new : TaskTable) (parent : ℕ) (tasks : List Task) (tick : �
       s.others other (λ (e : other ≡ id). (let one = one_same id other (sym e) in omega (arith, c, one, h)))
       ∙ a.others other (omega (arith, c, h))
 
-  task_more : (i : ℕ) → task_of new (many old + i) ≡ slice_get (tasks ++ task ∷ []) i
+  task_more : (i : ℕ) → task_of new (task_count old + i) ≡ slice_get (tasks ++ task ∷ []) i
   task_more i = at (cases_lt i (length tasks + 1))
     where
-      more : many mid ≡ many old + length tasks
+      more : task_count mid ≡ task_count old + length tasks
       more = a.more
 
-      there_now : many new ≡ many mid + 1
+      there_now : task_count new ≡ task_count mid + 1
       there_now = s.more
 
-      by : (i < length tasks) ⊎ (i ≡ length tasks) → task_of new (many old + i) ≡ slice_get (tasks ++ task ∷ []) i
-      by (inl lt) = s.same_task (many old + i) (omega (arith, lt, more)) ∙ a.task i ∙ sym (got_more tasks task i lt)
+      by : (i < length tasks) ⊎ (i ≡ length tasks) → task_of new (task_count old + i) ≡ slice_get (tasks ++ task ∷ []) i
+      by (inl lt) = s.same_task (task_count old + i) (omega (arith, lt, more)) ∙ a.task i ∙ sym (got_more tasks task i lt)
       by (inr is) =
-          ap (λ (n : ℕ). task_of new (many old + n)) is ∙ ap (task_of new) (sym more) ∙ s.task ∙ sym (got_end tasks task)
+          ap (λ (n : ℕ). task_of new (task_count old + n)) is ∙ ap (task_of new) (sym more) ∙ s.task ∙ sym (got_end tasks task)
           ∙ ap (slice_get (tasks ++ task ∷ [])) (sym is)
 
-      at : (i < length tasks + 1) ⊎ (length tasks + 1 ≤ i) → task_of new (many old + i) ≡ slice_get (tasks ++ task ∷ []) i
+      at : (i < length tasks + 1) ⊎ (length tasks + 1 ≤ i) → task_of new (task_count old + i) ≡ slice_get (tasks ++ task ∷ []) i
       at (inl lt) = by (by_place (length tasks) i lt)
       at (inr le) =
-          none_past new (many old + i) (omega (arith, le, more, there_now))
+          none_past new (task_count old + i) (omega (arith, le, more, there_now))
           ∙ sym (slice_get_past (tasks ++ task ∷ []) i (omega (arith, le, longer)))
 
-  at_more : {A : Type 0} (get : TaskTable → ℕ → A) (x : A) → ((p : ℕ) → p < many mid → p ≢ parent → get new p ≡ get mid p) →
-      get new (many mid) ≡ x →
-      ((i : ℕ) → i < length tasks → get mid (many old + i) ≡ x) → (i : ℕ) → i < length (tasks ++ task ∷ []) → get new (many old + i) ≡ x
+  at_more : {A : Type 0} (get : TaskTable → ℕ → A) (x : A) → ((p : ℕ) → p < task_count mid → p ≢ parent → get new p ≡ get mid p) →
+      get new (task_count mid) ≡ x →
+      ((i : ℕ) → i < length tasks → get mid (task_count old + i) ≡ x) → (i : ℕ) → i < length (tasks ++ task ∷ []) → get new (task_count old + i) ≡ x
   at_more get x same last before i lt = by (by_place (length tasks) i (omega (arith, lt, longer)))
     where
-      more : many mid ≡ many old + length tasks
+      more : task_count mid ≡ task_count old + length tasks
       more = a.more
 
-      by : (i < length tasks) ⊎ (i ≡ length tasks) → get new (many old + i) ≡ x
-      by (inl h) = same (many old + i) (omega (arith, h, more)) (λ e. omega (arith, e, there)) ∙ before i h
-      by (inr is) = ap (λ (n : ℕ). get new (many old + n)) is ∙ ap (get new) (sym more) ∙ last
+      by : (i < length tasks) ⊎ (i ≡ length tasks) → get new (task_count old + i) ≡ x
+      by (inl h) = same (task_count old + i) (omega (arith, h, more)) (λ e. omega (arith, e, there)) ∙ before i h
+      by (inr is) = ap (λ (n : ℕ). get new (task_count old + n)) is ∙ ap (get new) (sym more) ∙ last
 
-  less : (p : ℕ) → p < many old → p < many mid
+  less : (p : ℕ) → p < task_count old → p < task_count mid
   less p lt = let more = a.more in omega (arith, lt, more)
 
   -- a task that is started after others is one more of them: it has the row after theirs, and an id of its own
@@ -236,11 +236,11 @@ module _ (old mid new : TaskTable) (parent : ℕ) (tasks : List Task) (tick : �
     childless = at_more children_of [] s.same_children s.childless a.childless;
     parent_is = at_more parent_of parent (λ p lt differs. s.same_parent p lt) s.parent_is a.parent_is;
     child =
-        s.child ∙ ap (λ (xs : List ℕ). xs ++ many mid ∷ []) a.child ∙ append_assoc (children_of old parent)
-        (serials_from (many old) (length tasks)) (many mid ∷ [])
-        ∙ ap (λ (n : ℕ). children_of old parent ++ (serials_from (many old) (length tasks) ++ n ∷ [])) a.more
-        ∙ ap (λ (xs : List ℕ). children_of old parent ++ xs) (serials_more (many old) (length tasks)
-        ∙ ap (serials_from (many old)) (sym longer));
+        s.child ∙ ap (λ (xs : List ℕ). xs ++ task_count mid ∷ []) a.child ∙ append_assoc (children_of old parent)
+        (serials_from (task_count old) (length tasks)) (task_count mid ∷ [])
+        ∙ ap (λ (n : ℕ). children_of old parent ++ (serials_from (task_count old) (length tasks) ++ n ∷ [])) a.more
+        ∙ ap (λ (xs : List ℕ). children_of old parent ++ xs) (serials_more (task_count old) (length tasks)
+        ∙ ap (serials_from (task_count old)) (sym longer));
     same_task = λ p lt. s.same_task p (less p lt) ∙ a.same_task p lt;
     same_gone = λ p. s.same_gone p ∙ a.same_gone p;
     same_start = λ p lt. s.same_start p (less p lt) ∙ a.same_start p lt;
@@ -278,12 +278,12 @@ taking_none r parent agree = record {
 }
 
 -- the starter's row is still one of the table's, after tasks were taken
-pub row_there : (old now : Runner) (parent : ℕ) → Taking old now parent → parent < many old.task_table → parent < many now.task_table
+pub row_there : (old now : Runner) (parent : ℕ) → Taking old now parent → parent < task_count old.task_table → parent < task_count now.task_table
 row_there old now parent t lt = let more = t.starts.more in omega (arith, lt, more)
 
 -- one more task was taken from the world: it has the next row and its id, and is ready to begin
 pub taking_more : (old now : Runner) (w : World) (task_table : TaskTable) (b : Batches) (parent tick : ℕ) (task : Task) (id : ℕ) →
-    Taking old now parent → parent < many old.task_table →
+    Taking old now parent → parent < task_count old.task_table →
     now.world.started.items ≡ task ∷ w.started.items → w ≡ record now.world { started = w.started } → tick ≡ w.tick →
     Starts now.task_table task_table parent task tick id → IsTaskTable task_table →
     b.current ≡ now.batch.current → b.next ≡ now.batch.next ++ (id, Begin) ∷ [] →

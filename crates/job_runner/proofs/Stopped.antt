@@ -36,10 +36,10 @@ use Rattle.run_refinement.specs.Step.{Asks, FallsAsleep, AwaitsNow, StopSays}
 use Rattle.job_meaning.specs.declared.limits.TheConstants.{LAST_TICK}
 use Rattle.task_table.specs.declared.task_table.Running.{Running}
 use Rattle.job_runner.specs.declared.runner.Runner.{Runner}
-use Rattle.task_table.specs.TaskTable.{running_at, many}
+use Rattle.task_table.specs.TaskTable.{running_at, task_count}
 use Rattle.job_runner.specs.Shelves.{IsRight, GoesBy, Dozes, sleep_slot_of, AreKnown, timer_times, times_shelved, running_times, task_state_times, settled_times, state_in, IsGoing}
 use Rattle.job_runner.specs.Steps.{IsStopping}
-use Rattle.task_table.proofs.Apart.{one_if}
+use Rattle.task_table.proofs.Times.{one_if}
 use Rattle.job_runner.proofs.Lived.{task_at}
 use Rattle.job_runner.proofs.Shelving.{once_again, none_away, shelved_next, shelved_waiting}
 
@@ -154,7 +154,7 @@ pub stopping_scope : (id row due : ℕ) (r : Runner) → IsStopping id row (stop
 stopping_scope id row due r h scope held key e =
     let x = some_is (running_at r.task_table id) (λ (y : Running). (y.row ≡ row) × StopSays r.world y.task (stops.Sleep due)) h.lives in
     let k = meaning_table r.job.now r.input.now in
-    let c : Refines k r.job.now r.input.now r.world.tick (many r.task_table) None (state_in r) =
+    let c : Refines k r.job.now r.input.now r.world.tick (task_count r.task_table) None (state_in r) =
     (h.interleaving k (table_is_settled r.job.now r.input.now h.sound.names)).is in
     (c.follows x.0.row x.0.task (task_at r.task_table h.shelved.agree id x.0 x.1)).goes.scope key (sym (held x.0 x.1) ∙ e)
 

@@ -24,7 +24,7 @@ use Rattle.run_refinement.proofs.Jumped.{state_takes}
 use Rattle.sleepers.specs.Sleeping.{Sleeping, scope_in, sight_of, SameScopes, Sees}
 use Rattle.task_table.specs.declared.task_table.TaskTable.{TaskTable}
 use Rattle.task_table.specs.declared.task_table.Running.{Running}
-use Rattle.task_table.specs.TaskTable.{running_at, many}
+use Rattle.task_table.specs.TaskTable.{running_at, task_count}
 use Rattle.job_runner.specs.declared.runner.Runner.{Runner}
 use Rattle.job_runner.specs.Shelves.{GoesBy, IsCalled, Dozes, AreKnown, NoneChanged, state_in, IsRefined, IsGoing}
 use Rattle.job_runner.specs.Steps.{SeesOnly}
@@ -85,7 +85,7 @@ module _ (r : Runner) (going : IsGoing None r) (changed : List Bool) (sleepers :
 
   interleaving_told : IsRefined told
   interleaving_told k settled =
-      (state_takes k r.job.now r.input.now r.world.tick (many r.task_table) None (state_in r) (state_in told)
+      (state_takes k r.job.now r.input.now r.world.tick (task_count r.task_table) None (state_in r) (state_in told)
       (record { turns = refl; task = λ p. refl; gone = λ p. refl; start = λ p. refl; children = λ p. refl }) refl
       (going.interleaving k settled)).0
 

@@ -58,10 +58,10 @@ use Rattle.task_table.specs.declared.task_table.TaskTable.{TaskTable}
 use Rattle.task_table.specs.declared.task_table.Running.{Running}
 use Rattle.job_runner.specs.declared.runner.Runner.{Runner}
 use Rattle.task_table.specs.Rows.{times}
-use Rattle.task_table.specs.TaskTable.{running_at, task_of, gone_of, start_of, children_of, parent_of, many, state_of, HasRow, MayTurn, HasTurn}
+use Rattle.task_table.specs.TaskTable.{running_at, task_of, gone_of, start_of, children_of, parent_of, task_count, state_of, HasRow, MayTurn, HasTurn}
 use Rattle.job_runner.specs.Shelves.{GoesBy, IsCalled, Dozes, sleep_slot_of, AreKnown, times_shelved, settled_times, task_state_times, running_times, AreShelved, state_in, IsGoing}
 use Rattle.job_runner.specs.Steps.{StartsAll, to_begin, TakesStarted, IsStopping}
-use Rattle.task_table.proofs.Apart.{one_if}
+use Rattle.task_table.proofs.Times.{one_if}
 use Rattle.job_runner.proofs.Shelving.{times_now, times_next, one_same}
 use Rattle.job_runner.proofs.Starting.{got_once}
 use Rattle.job_runner.proofs.Known.{sleeps_in}
@@ -133,11 +133,11 @@ may_turn id r wake going goes sound x lives =
     let is : g.0 ≡ x = one_of g.0 x (sym g.1 ∙ lives) in
     let may : MayGo r.world x.task wake = subst (λ (y : Running). MayGo r.world y.task wake) is g.2 in
     let k = meaning_table r.job.now r.input.now in
-    let c : Refines k r.job.now r.input.now r.world.tick (many r.task_table) None (state_in r) =
+    let c : Refines k r.job.now r.input.now r.world.tick (task_count r.task_table) None (state_in r) =
     going.interleaving k (table_is_settled r.job.now r.input.now going.sound.names) in
     let at : task_of r.task_table x.row ≡ Some x.task = task_at r.task_table going.shelved.agree id x lives in
     record {
-      fits = state_fits k r.job.now r.input.now r.world.tick (many r.task_table) None (state_in r) c sound x.row x.task at;
+      fits = state_fits k r.job.now r.input.now r.world.tick (task_count r.task_table) None (state_in r) c sound x.row x.task at;
       in_range = (c.follows x.row x.task at).in_range;
       wake = may.fits;
     }
@@ -146,10 +146,10 @@ may_turn id r wake going goes sound x lives =
 pub turns_few : (away : Option ℕ) (r : Runner) → IsGoing away r → r.turns ≤ 2000001
 turns_few away r going =
     let k = meaning_table r.job.now r.input.now in
-    let c : Refines k r.job.now r.input.now r.world.tick (many r.task_table) None (state_in r) =
+    let c : Refines k r.job.now r.input.now r.world.tick (task_count r.task_table) None (state_in r) =
     going.interleaving k (table_is_settled r.job.now r.input.now going.sound.names) in
     let few : r.turns ≤ 2 * size_of r.job.now.steps + 1 =
-    state_turns k r.job.now r.input.now r.world.tick (many r.task_table) None (state_in r) c in
+    state_turns k r.job.now r.input.now r.world.tick (task_count r.task_table) None (state_in r) c in
     let size : size_of r.job.now.steps ≤ most_steps r.job.now.format = going.sound.in_range.size in
     let most : most_steps r.job.now.format ≤ 1000000 = few_steps r.job.now.format in
     omega (arith, few, size, most)
@@ -168,7 +168,7 @@ module _ (id : ℕ) (wake : Wake) (stop : Stop) (r new : Runner) (ro : TaskTable
     t = r.world.tick
 
     abbrev m : ℕ
-    m = many r.task_table
+    m = task_count r.task_table
 
     abbrev s : ℕ
     s = turn.row
@@ -187,7 +187,7 @@ module _ (id : ℕ) (wake : Wake) (stop : Stop) (r new : Runner) (ro : TaskTable
     tick : w.tick ≡ t
     tick = ap (λ (x : World). x.tick) turn.world
 
-    same_many : many ro ≡ m
+    same_many : task_count ro ≡ m
     same_many = turn.same.many
 
     started_at : StartsAll ro new.task_table s w.started.items w.tick takes.ids
@@ -196,11 +196,11 @@ module _ (id : ℕ) (wake : Wake) (stop : Stop) (r new : Runner) (ro : TaskTable
     row_at_all : HasRow r.task_table s id
     row_at_all = going.shelved.agree.rows id (record { task = turn.before; row = s }) turn.lived
 
-    row_there : s < many ro
+    row_there : s < task_count ro
     row_there = let lt : s < m = row_below r.task_table going.shelved.agree id (record { task = turn.before; row = s }) turn.lived in
         omega (arith, lt, same_many)
 
-    below : (p : ℕ) → p < m → p < many ro
+    below : (p : ℕ) → p < m → p < task_count ro
     below p lt = omega (arith, lt, same_many)
 
     may : MayGo r.world turn.before wake
@@ -235,7 +235,7 @@ module _ (id : ℕ) (wake : Wake) (stop : Stop) (r new : Runner) (ro : TaskTable
       start_after = λ p lt. started_at.same_start p (below p lt) ∙ turn.same.start p;
       start_child = λ i lt. ap (λ (n : ℕ). start_of new.task_table (n + i)) (sym same_many) ∙ started_at.start i lt ∙ tick;
       more_children =
-          started_at.child ∙ ap (λ (xs : List ℕ). xs ++ serials_from (many ro) (length w.started.items)) (turn.same.children s)
+          started_at.child ∙ ap (λ (xs : List ℕ). xs ++ serials_from (task_count ro) (length w.started.items)) (turn.same.children s)
           ∙ ap (λ (n : ℕ). children_of r.task_table s ++ serials_from n (length w.started.items)) same_many;
       children_after = λ p lt differs. started_at.same_children p (below p lt) differs ∙ turn.same.children p;
       no_children = λ i lt. ap (λ (n : ℕ). children_of new.task_table (n + i)) (sym same_many) ∙ started_at.childless i lt;
@@ -244,8 +244,8 @@ module _ (id : ℕ) (wake : Wake) (stop : Stop) (r new : Runner) (ro : TaskTable
     same_tasks : SameTasks that (state_in left)
     same_tasks = record { turns = refl; task = λ p. refl; gone = λ p. refl; start = λ p. refl; children = λ p. refl }
 
-    count : m + length w.started.items ≡ many new.task_table
-    count = let more : many new.task_table ≡ many ro + length w.started.items = started_at.more in omega (arith, more, same_many)
+    count : m + length w.started.items ≡ task_count new.task_table
+    count = let more : task_count new.task_table ≡ task_count ro + length w.started.items = started_at.more in omega (arith, more, same_many)
 
     -- for each settled table
     module _ (k : Table) (settled : IsSettled k r.job.now r.input.now) where
@@ -269,9 +269,9 @@ module _ (id : ℕ) (wake : Wake) (stop : Stop) (r new : Runner) (ro : TaskTable
           record { is = x.0; ended = subst (λ (at : ℕ → Started). EndsAs stop t (at s)) (sym x.1) stopped_there.ended }
 
       -- what the turn leaves is a run of the definitions by that table, in which this task stopped so
-      pub stopped_interleaving : StoppedIn k r.job.now r.input.now w.tick (many new.task_table) s stop (state_in left)
+      pub stopped_interleaving : StoppedIn k r.job.now r.input.now w.tick (task_count new.task_table) s stop (state_in left)
       stopped_interleaving =
-          subst (λ (v : ℕ). StoppedIn k r.job.now r.input.now v (many new.task_table) s stop (state_in left)) (sym tick)
+          subst (λ (v : ℕ). StoppedIn k r.job.now r.input.now v (task_count new.task_table) s stop (state_in left)) (sym tick)
           (subst (λ (n : ℕ). StoppedIn k r.job.now r.input.now t n s stop (state_in left)) count stopped_left)
 
     -- ---- the other tasks
@@ -437,7 +437,7 @@ module _ (id : ℕ) (wake : Wake) (stop : Stop) (r new : Runner) (ro : TaskTable
         b.2.task_state
 
     new_task : (i key : ℕ) → slice_get takes.ids i ≡ Some key → (task : Task)
-        × (running_at new.task_table key ≡ Some (record { task = task; row = many ro + i })) × (task.task_state ≡ ToBegin)
+        × (running_at new.task_table key ≡ Some (record { task = task; row = task_count ro + i })) × (task.task_state ≡ ToBegin)
     new_task i key e =
         let lt : i < length w.started.items = (let a = below_length takes.ids i key e in let b = started_at.as_many in omega (arith, a, b))
         in
@@ -458,7 +458,7 @@ module _ (id : ℕ) (wake : Wake) (stop : Stop) (r new : Runner) (ro : TaskTable
     called_new i key e =
         let x = new_task i key e in
         some_has (running_at new.task_table key) (λ (z : Running). GoesBy left.world z.task calls.Begin)
-        (record { task = x.0; row = many ro + i }) x.1 (begin_goes x.0 x.2)
+        (record { task = x.0; row = task_count ro + i }) x.1 (begin_goes x.0 x.2)
 
     -- how often each task is kept
     more_times : (other : ℕ) → times_shelved left.batch r.clock other ≡ times_shelved r.batch r.clock other + times other takes.ids
@@ -576,12 +576,12 @@ row_is id row r ro w wake stop at turn =
 -- the row of a task that had its turn is one of the table's
 pub row_within : (id row : ℕ) (r : Runner) (ro : TaskTable) (w : World) (wake : Wake) (stop : Stop) → IsGoing (Some id) r →
     IsSomeAnd (running_at r.task_table id) (λ (x : Running). x.row ≡ row) →
-    HasTurn r.task_table ro r.world w id wake stop → row < many ro
+    HasTurn r.task_table ro r.world w id wake stop → row < task_count ro
 row_within id row r ro w wake stop going at turn =
     let e = row_is id row r ro w wake stop at turn in
-    let lt : turn.row < many r.task_table =
+    let lt : turn.row < task_count r.task_table =
     row_below r.task_table going.shelved.agree id (record { task = turn.before; row = turn.row }) turn.lived in
-    let same : many ro ≡ many r.task_table = turn.same.many in
+    let same : task_count ro ≡ task_count r.task_table = turn.same.many in
     omega (arith, e, lt, same)
 
 -- after a turn whose started tasks were taken, its task is one that stopped so

@@ -31,10 +31,10 @@ use Rattle.run_refinement.proofs.Told.{same_owner}
 use Rattle.task_table.specs.declared.task_table.TaskTable.{TaskTable}
 use Rattle.task_table.specs.declared.task_table.Running.{Running}
 use Rattle.job_runner.specs.declared.runner.Runner.{Runner}
-use Rattle.task_table.specs.TaskTable.{running_at, parent_of, id_of, many, IsTaskTable, Ends}
+use Rattle.task_table.specs.TaskTable.{running_at, parent_of, id_of, task_count, IsTaskTable, Ends}
 use Rattle.job_runner.specs.Shelves.{GoesBy, IsCalled, times_shelved, running_times, task_state_times, settled_times, state_in, IsGoing}
 use Rattle.job_runner.specs.Steps.{IsStopping, TellsEnd, called_if}
-use Rattle.task_table.proofs.Apart.{one_if}
+use Rattle.task_table.proofs.Times.{one_if}
 use Rattle.job_runner.proofs.Ending.{HasWaiter, home_is, its_row, state_before, table_settled, waiter_of, ended_runner, interleaving_after, added_after, ended_going}
 use Rattle.job_runner.proofs.Shelving.{times_now, times_next, next_more}
 use Rattle.job_runner.proofs.Stopped.{some_has, settled_goes}
@@ -164,7 +164,7 @@ module _ (r : Runner) (task_table : TaskTable) (book : NurseryBook) (b : Batches
       id_of r.task_table (parent_of r.task_table row) ≡ other
   one_waits other x is waits =
       let same : x.row ≡ parent_of r.task_table row =
-      same_owner (meaning_table r.job.now r.input.now) r.job.now r.input.now r.world.tick (many r.task_table) (Some row) (state_in r)
+      same_owner (meaning_table r.job.now r.input.now) r.job.now r.input.now r.world.tick (task_count r.task_table) (Some row) (state_in r)
       (state_before r task_table id row exc h e) x.row
       (parent_of r.task_table row) x.task w.task home.nursery (task_at r.task_table h.shelved.agree other x is) w.is (inr waits) w.owned in
       ap (id_of r.task_table) (sym same) ∙ id_at r.task_table h.shelved.agree other x is
@@ -222,7 +222,7 @@ module _ (r : Runner) (task_table : TaskTable) (book : NurseryBook) (b : Batches
       -- the task with the nursery waits for it
       waits : waits_of w.task.task_state ≡ Some home.nursery
       waits =
-          settled_waits (meaning_table r.job.now r.input.now) r.job.now r.input.now r.world.tick (many task_table)
+          settled_waits (meaning_table r.job.now r.input.now) r.job.now r.input.now r.world.tick (task_count task_table)
           (state_in (ended_runner r task_table book b))
           (interleaving_after r task_table book b id row exc h e told (meaning_table r.job.now r.input.now) (table_settled r task_table id row exc h e))
           (parent_of r.task_table row) w.task home.nursery

@@ -31,7 +31,7 @@ use Rattle.task_table.specs.declared.task_table.TaskTable.{TaskTable}
 use Rattle.task_table.specs.declared.task_table.Running.{Running}
 use Rattle.task_table.specs.TaskTable.{running_at}
 use Rattle.task_table.specs.Rows.{times}
-use Rattle.task_table.proofs.Apart.{one_if}
+use Rattle.task_table.proofs.Times.{one_if}
 use Rattle.job_runner.specs.declared.runner.Runner.{Runner}
 use Rattle.job_runner.specs.Jumps.{sight_by, sight_in, Slept, IsAnyNow, IsWaking, NoneSees, WakesOnly}
 use Rattle.job_runner.specs.Shelves.{GoesBy, IsCalled, Dozes, sleep_slot_of, timer_times, times_shelved, running_times, task_state_times, settled_times, AreShelved}

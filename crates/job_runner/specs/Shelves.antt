@@ -36,7 +36,7 @@ use Rattle.task_table.specs.declared.task_table.TaskTable.{TaskTable}
 use Rattle.task_table.specs.declared.task_table.Running.{Running}
 use Rattle.job_runner.specs.declared.runner.Runner.{Runner}
 use Rattle.task_table.specs.Rows.{times}
-use Rattle.task_table.specs.TaskTable.{running_at, parent_of, many, state_of, IsTaskTable}
+use Rattle.task_table.specs.TaskTable.{running_at, parent_of, task_count, state_of, IsTaskTable}
 
 -- ---- why a task is ready
 
@@ -150,7 +150,7 @@ state_in r = state_of r.task_table r.world r.turns
 -- For each settled table they are a run of the definitions.
 abbrev pub IsRefined : Runner → Type 0
 IsRefined r = (k : Table) → IsSettled k r.job.now r.input.now →
-    Refines k r.job.now r.input.now r.world.tick (many r.task_table) None (state_in r)
+    Refines k r.job.now r.input.now r.world.tick (task_count r.task_table) None (state_in r)
 
 -- the job, the input and the limit stay
 pub record IsSameJob (old new : Runner) : Type 0 where

@@ -12,7 +12,7 @@ use Rattle.task_machine.specs.declared.task.Task.{Task}
 use Rattle.run_refinement.specs.Step.{StopSays, StoppedIn}
 use Rattle.run_refinement.specs.Turn.{serials_from}
 use Rattle.task_table.specs.Rows.{times}
-use Rattle.task_table.specs.TaskTable.{running_at, task_of, gone_of, start_of, children_of, parent_of, id_of, many, IsTaskTable}
+use Rattle.task_table.specs.TaskTable.{running_at, task_of, gone_of, start_of, children_of, parent_of, id_of, task_count, IsTaskTable}
 use Rattle.task_table.specs.declared.task_table.TaskTable.{TaskTable}
 use Rattle.task_table.specs.declared.task_table.Running.{Running}
 use Rattle.job_runner.specs.declared.runner.Runner.{Runner}
@@ -26,21 +26,21 @@ pub record StartsAll (old new : TaskTable) (parent : ℕ) (tasks : List Task) (t
   -- each has its id, which no task had before
   pub lives :
       (i id : ℕ) (task : Task) → slice_get ids i ≡ Some id → slice_get tasks i ≡ Some task →
-      (running_at old id ≡ None) × (running_at new id ≡ Some (record { task = task; row = many old + i }))
+      (running_at old id ≡ None) × (running_at new id ≡ Some (record { task = task; row = task_count old + i }))
   pub once : (id : ℕ) → times id ids ≤ 1
   pub others : (id : ℕ) → times id ids ≡ 0 → running_at new id ≡ running_at old id
-  pub more : many new ≡ many old + length tasks
-  pub task : (i : ℕ) → task_of new (many old + i) ≡ slice_get tasks i
-  pub start : (i : ℕ) → i < length tasks → start_of new (many old + i) ≡ tick
-  pub childless : (i : ℕ) → i < length tasks → children_of new (many old + i) ≡ []
-  pub parent_is : (i : ℕ) → i < length tasks → parent_of new (many old + i) ≡ parent
-  pub child : children_of new parent ≡ children_of old parent ++ serials_from (many old) (length tasks)
-  pub same_task : (p : ℕ) → p < many old → task_of new p ≡ task_of old p
+  pub more : task_count new ≡ task_count old + length tasks
+  pub task : (i : ℕ) → task_of new (task_count old + i) ≡ slice_get tasks i
+  pub start : (i : ℕ) → i < length tasks → start_of new (task_count old + i) ≡ tick
+  pub childless : (i : ℕ) → i < length tasks → children_of new (task_count old + i) ≡ []
+  pub parent_is : (i : ℕ) → i < length tasks → parent_of new (task_count old + i) ≡ parent
+  pub child : children_of new parent ≡ children_of old parent ++ serials_from (task_count old) (length tasks)
+  pub same_task : (p : ℕ) → p < task_count old → task_of new p ≡ task_of old p
   pub same_gone : (p : ℕ) → gone_of new p ≡ gone_of old p
-  pub same_start : (p : ℕ) → p < many old → start_of new p ≡ start_of old p
-  pub same_children : (p : ℕ) → p < many old → p ≢ parent → children_of new p ≡ children_of old p
-  pub same_parent : (p : ℕ) → p < many old → parent_of new p ≡ parent_of old p
-  pub same_id : (p : ℕ) → p < many old → id_of new p ≡ id_of old p
+  pub same_start : (p : ℕ) → p < task_count old → start_of new p ≡ start_of old p
+  pub same_children : (p : ℕ) → p < task_count old → p ≢ parent → children_of new p ≡ children_of old p
+  pub same_parent : (p : ℕ) → p < task_count old → parent_of new p ≡ parent_of old p
+  pub same_id : (p : ℕ) → p < task_count old → id_of new p ≡ id_of old p
 
 abbrev pub to_begin : List ℕ → List Added
 to_begin ids = map (λ (id : ℕ). (id, Begin)) ids
@@ -64,7 +64,7 @@ pub record IsStopping (id row : ℕ) (stop : Stop) (r : Runner) : Type 0 where
   pub shelved : AreShelved (Some id) r
   pub lives : IsSomeAnd (running_at r.task_table id) (λ (x : Running). (x.row ≡ row) × StopSays r.world x.task stop)
   pub interleaving : (k : Table) → IsSettled k r.job.now r.input.now →
-      StoppedIn k r.job.now r.input.now r.world.tick (many r.task_table) row stop (state_in r)
+      StoppedIn k r.job.now r.input.now r.world.tick (task_count r.task_table) row stop (state_in r)
 
 -- what does not change when the runner handles a stop
 pub record IsSameTurn (old new : Runner) : Type 0 where

@@ -4,7 +4,7 @@ ghost use Rattle.job_meaning.specs.declared.limits.TheConstants.{LAST_TICK, MAX_
 ghost use Rattle.job_meaning.specs.Meaning.{meaning_end};
 ghost use Rattle.run_refinement.specs.Ready.{MayGo};
 ghost use Rattle.scoped_workers.specs.Slots.{AreAnswers};
-ghost use Rattle.task_table.specs.TaskTable.{running_at, many, IsTaskTable};
+ghost use Rattle.task_table.specs.TaskTable.{running_at, task_count, IsTaskTable};
 ghost use Rattle.job_runner.specs.declared.runner.Phase.TheVariants.{Ready, Over};
 ghost use Rattle.job_runner.specs.Phases.{phase_of};
 ghost use Rattle.job_runner.specs.Runs.{IsRun, FollowsEach, turns_of};
@@ -195,7 +195,7 @@ impl<'a> Runner<'a> {
     // The tasks that the one of this row started are ready to begin.
     fn take_started(&mut self, row: usize) -> Result<(), AllocError>
         requires agree { IsTaskTable self.old.task_table }
-        requires row { row < many self.old.task_table }
+        requires row { row < task_count self.old.task_table }
         ensures { OnOk result (TakesStarted self.old self.new row) }
     {
         'started: while let Some(task) = self.world.take_started() {

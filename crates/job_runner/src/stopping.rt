@@ -3,7 +3,7 @@ ghost use Rattle.std.specs.Option.{option_map};
 ghost use Rattle.exc_groups.specs.Held.{exc_of};
 ghost use Rattle.nursery_book.specs.Book.{HasNursery};
 ghost use Rattle.task_machine.specs.declared.stop.Stop.TheVariants.{Ask, Sleep, Wait, Ended};
-ghost use Rattle.task_table.specs.TaskTable.{parent_of, id_of, many};
+ghost use Rattle.task_table.specs.TaskTable.{parent_of, id_of, task_count};
 ghost use Rattle.job_runner.specs.Shelves.{IsGoing};
 ghost use Rattle.job_runner.specs.Steps.{IsStopping, IsSameTurn, TellsEnd};
 ghost use Rattle.job_runner.specs.Turns.{ComesOf};
@@ -108,8 +108,8 @@ impl<'a> Runner<'a> {
         exc: Option<Exc>,
     ) -> Result<(), AllocError>
         requires runs { HasNursery self.old.world.book nursery (λ n. slice_get n.children place ≡ Some None) }
-        requires row { row < many self.old.task_table }
-        requires parent { parent_of self.old.task_table row < many self.old.task_table }
+        requires row { row < task_count self.old.task_table }
+        requires parent { parent_of self.old.task_table row < task_count self.old.task_table }
         ensures { OnOk result (TellsEnd self.old self.new nursery place (option_map exc_of exc)
             (id_of self.old.task_table (parent_of self.old.task_table row))) }
     {

@@ -2,9 +2,9 @@
 //! first.
 
 ghost use Rattle.std.specs.Prelude.{◌≡◌, ◌≢◌, ◌<◌, ◌++◌, [], ◌∷◌, All, IsSome, IfOk, OnOk};
-ghost use Rattle.task_table.specs.TaskTable.{many, parent_of, running_at, IsTaskTable};
+ghost use Rattle.task_table.specs.TaskTable.{task_count, parent_of, running_at, IsTaskTable};
 ghost use Rattle.task_table.specs.Rows.{ChildrenAreApart};
-ghost use Rattle.task_table.specs.declared.rows.Row.{Row};
+ghost use Rattle.task_table.specs.declared.rows.TaskRow.{TaskRow};
 
 use crate::fixtures::{job, push_bytes, push_number, root, same, word};
 use autojump_clock::TaskId;
@@ -14,7 +14,7 @@ use job_tree::Name;
 use std::alloc::{AllocError, Global};
 use std::test::Fail;
 use task_machine::ScopeFrom;
-use task_table::{Ended, Record, Row, TaskTable, records_of};
+use task_table::{Ended, Record, TaskRow, TaskTable, records_of};
 
 /// The row of a task that was started in one tick and ended without an exception in another.
 fn ended<'a>(
@@ -22,7 +22,7 @@ fn ended<'a>(
     name: Name,
     start: u64,
     children: &[usize],
-) -> Result<Row<'a>, AllocError>
+) -> Result<TaskRow<'a>, AllocError>
     requires { start < 10 }
     ensures children { IfOk result (λ row. row.children.items ≡ children.now) }
     ensures end { IfOk result (λ row. IsSome row.end) }
@@ -36,7 +36,7 @@ fn ended<'a>(
         entries: Vec::new(alloc),
         froms: Vec::new(alloc),
     };
-    Ok(Row {
+    Ok(TaskRow {
         parent: 0,
         task: TaskId::of(0),
         start,
@@ -48,13 +48,13 @@ fn ended<'a>(
 /// Adds a row, as `ended` makes it.
 fn push_ended<'a>(
     alloc: Global,
-    rows: &mut Vec<Row<'a>>,
+    rows: &mut Vec<TaskRow<'a>>,
     name: Name,
     start: u64,
     children: &[usize],
 ) -> Result<(), AllocError>
     requires { start < 10 }
-    ensures { OnOk result ((row : Row) × (rows.new.items ≡ rows.old.items ++ row ∷ []) × (row.children.items ≡ children.now)
+    ensures { OnOk result ((row : TaskRow) × (rows.new.items ≡ rows.old.items ++ row ∷ []) × (row.children.items ≡ children.now)
         × IsSome row.end) }
 {
     let row = ended(alloc, name, start, children)?;
@@ -63,7 +63,7 @@ fn push_ended<'a>(
 }
 
 /// Four rows, of which the first started the second and the third, and the second the fourth.
-fn four_rows<'a>(alloc: Global, name: Name) -> Result<Vec<Row<'a>>, AllocError>
+fn four_rows<'a>(alloc: Global, name: Name) -> Result<Vec<TaskRow<'a>>, AllocError>
     ensures ended { IfOk result (λ rows. All (λ r. IsSome r.end) rows.items) }
     ensures tree { IfOk result (λ rows. ChildrenAreApart rows.items) }
 {
@@ -109,7 +109,7 @@ fn rows_come_depth_first(rt: HostRuntime) -> Result<(), Fail> {
 /// A task table with a job's root, which has that id.
 fn rooted<'a>(alloc: Global, job: &'a Job) -> Result<(TaskTable<'a>, TaskId), Fail>
     ensures agree { IfOk result (λ r. IsTaskTable r.0) }
-    ensures one { IfOk result (λ r. many r.0 ≡ 1) }
+    ensures one { IfOk result (λ r. task_count r.0 ≡ 1) }
     ensures lives { IfOk result (λ r. IsSome (running_at r.0 r.1)) }
 {
     let task = root(alloc, job)?;
@@ -125,10 +125,10 @@ fn start_child<'a>(
     job: &'a Job,
 ) -> Result<TaskId, Fail>
     requires agree { IsTaskTable task_table.old }
-    requires one { many task_table.old ≡ 1 }
+    requires one { task_count task_table.old ≡ 1 }
     requires lives { IsSome (running_at task_table.old root_id) }
     ensures agree { OnOk result (IsTaskTable task_table.new) }
-    ensures two { OnOk result (many task_table.new ≡ 2) }
+    ensures two { OnOk result (task_count task_table.new ≡ 2) }
     ensures parent { OnOk result (parent_of task_table.new 1 ≡ 0) }
     ensures apart { IfOk result (λ id. id ≢ root_id) }
     ensures child { IfOk result (λ id. IsSome (running_at task_table.new id)) }
@@ -164,7 +164,7 @@ fn over_by_turns(
     child: TaskId,
 ) -> Result<(bool, bool), AllocError>
     requires agree { IsTaskTable task_table.old }
-    requires two { many task_table.old ≡ 2 }
+    requires two { task_count task_table.old ≡ 2 }
     requires apart { child ≢ root_id }
     requires child { IsSome (running_at task_table.old child) }
     requires lives { IsSome (running_at task_table.old root_id) }

@@ -10,7 +10,7 @@ use Rattle.task_machine.specs.declared.entry.ScopeFrom.{ScopeFrom}
 use Rattle.task_machine.specs.Noted.{entry_of, IsSlice, from_of}
 use Rattle.task_machine.specs.Frames.{unboxed_exc}
 use Rattle.task_table.specs.Records.{AreSlices, row_in, ending_in}
-use Rattle.task_table.specs.declared.rows.Row.{Row}
+use Rattle.task_table.specs.declared.rows.TaskRow.{TaskRow}
 use Rattle.task_table.specs.declared.rows.Ended.{Ended}
 
 -- ---- what rows show
@@ -29,14 +29,14 @@ EndIsShown input row None = Unit {0}
 EndIsShown input row (Some ended) = ShowsEnd input row ended
 
 -- a row of the code shows a row of the definitions; its end, if it has ended
-pub record IsShown (input : List ℕ) (row : interleaving.Row) (held : Row) : Type 0 where
+pub record IsShown (input : List ℕ) (row : interleaving.Row) (held : TaskRow) : Type 0 where
   pub start : held.start ≡ row.start
   pub children : held.children.items ≡ row.children
   pub end : EndIsShown input row held.end
 
 -- each row does, by its number
-abbrev pub AreShown : List ℕ → (ℕ → interleaving.Row) → List Row → Type 0
-AreShown input rs rows = (s : ℕ) (held : Row) → slice_get rows s ≡ Some held → IsShown input (rs s) held
+abbrev pub AreShown : List ℕ → (ℕ → interleaving.Row) → List TaskRow → Type 0
+AreShown input rs rows = (s : ℕ) (held : TaskRow) → slice_get rows s ≡ Some held → IsShown input (rs s) held
 
 -- ---- which row is a child of which
 
@@ -45,12 +45,12 @@ abbrev pub times : ℕ → List ℕ → ℕ
 times c numbers = count_by (λ n. n == c) numbers
 
 -- how often it occurs among the children of all rows
-abbrev pub times_child : ℕ → List Row → ℕ
+abbrev pub times_child : ℕ → List TaskRow → ℕ
 times_child c rows = sum_by (λ r. times c r.children.items) rows
 
 -- There is a row of the root, which is no task's child; each child has a row; and none is a child
 -- twice.
-pub record ChildrenAreApart (rows : List Row) : Type 0 where
+pub record ChildrenAreApart (rows : List TaskRow) : Type 0 where
   pub root : 0 < length rows
   pub within : All (λ r. All (λ c. (0 < c) × (c < length rows)) r.children.items) rows
   pub once : (c : ℕ) → times_child c rows ≤ 1
@@ -58,12 +58,12 @@ pub record ChildrenAreApart (rows : List Row) : Type 0 where
 -- ---- the records of rows
 
 -- records and froms show those of rows, depth first from the root's
-pub record ShowRecords (input : List ℕ) (rs : ℕ → interleaving.Row) (told : List Record) (told_froms : List ScopeFrom) : Type 0 where
+pub record ShowRecords (input : List ℕ) (rs : ℕ → interleaving.Row) (shown : List Record) (shown_froms : List ScopeFrom) : Type 0 where
   pub taken : List ℕ
   pub order : interleaving.DepthFirst rs (0 ∷ []) taken
-  pub records : map row_in told ≡ map (row_of input) (interleaving.records_by rs taken)
-  pub slices : AreSlices input told
-  pub froms : map from_of told_froms ≡ interleaving.froms_in rs taken
+  pub records : map row_in shown ≡ map (row_of input) (interleaving.records_by rs taken)
+  pub slices : AreSlices input shown
+  pub froms : map from_of shown_froms ≡ interleaving.froms_in rs taken
 
 -- the record of a task that was started in this tick and ended so
 pub record IsRecordOf (start : ℕ) (ended : Ended) (r : Record) : Type 0 where
@@ -73,9 +73,17 @@ pub record IsRecordOf (start : ℕ) (ended : Ended) (r : Record) : Type 0 where
   pub ending : ending_in r.outcome ≡ ending_of (option_map exc_of (unboxed_exc ended.exc))
   pub entries : r.entries.items ≡ ended.entries.items
 
+-- the row of a task that was just started, in that tick, by the task of row `up`
+pub record IsNewRow (up id tick : ℕ) (row : TaskRow) : Type 0 where
+  pub parent : row.parent ≡ up
+  pub task : row.task ≡ id
+  pub start : row.start ≡ tick
+  pub children : row.children.items ≡ []
+  pub end : row.end ≡ None
+
 -- the row that was there is replaced by one without children and without an end
-pub record IsTakenOut (old : List Row) (place : ℕ) (new : List Row) : Type 0 where
-  pub hollow : Row
+pub record IsTakenOut (old : List TaskRow) (place : ℕ) (new : List TaskRow) : Type 0 where
+  pub hollow : TaskRow
   pub childless : hollow.children.items ≡ []
   pub endless : hollow.end ≡ None
   pub set : new ≡ slice_set old place hollow

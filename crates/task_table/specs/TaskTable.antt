@@ -16,7 +16,7 @@ use Rattle.task_machine.specs.Frames.{unboxed_exc}
 use Rattle.task_machine.specs.Standing.{TurnsAs}
 use Rattle.task_machine.specs.Waking.{IsInRangeTaskState, WakesFrom}
 use Rattle.run_refinement.specs.RunState.{RunState, Gone}
-use Rattle.task_table.specs.declared.rows.Row.{Row}
+use Rattle.task_table.specs.declared.rows.TaskRow.{TaskRow}
 use Rattle.task_table.specs.declared.rows.Ended.{Ended}
 use Rattle.task_table.specs.declared.task_table.Running.{Running}
 use Rattle.task_table.specs.declared.task_table.TaskTable.{TaskTable}
@@ -28,12 +28,12 @@ use Rattle.task_table.specs.Rows.{ChildrenAreApart}
 abbrev pub running_at : TaskTable → ℕ → Option Running
 running_at r id = live_at r.live id
 
-abbrev pub row_at : TaskTable → ℕ → Option Row
+abbrev pub row_at : TaskTable → ℕ → Option TaskRow
 row_at r p = slice_get r.rows.items p
 
 -- how many tasks were started
-abbrev pub many : TaskTable → ℕ
-many r = length r.rows.items
+abbrev pub task_count : TaskTable → ℕ
+task_count r = length r.rows.items
 
 abbrev pub task_in : Option Running → Option Task
 task_in None = None
@@ -44,7 +44,7 @@ abbrev pub task_unless : Option Ended → Option Running → Option Task
 task_unless None x = task_in x
 task_unless (Some e) x = None
 
-abbrev pub task_by : Live Running → Option Row → Option Task
+abbrev pub task_by : Live Running → Option TaskRow → Option Task
 task_by live None = None
 task_by live (Some row) = task_unless row.end (live_at live row.task)
 
@@ -52,23 +52,23 @@ task_by live (Some row) = task_unless row.end (live_at live row.task)
 abbrev pub gone_from : Ended → Gone
 gone_from e = record { label = e.label; end = e.tick; exc = option_map exc_of (unboxed_exc e.exc); entries = e.entries.items; froms = e.froms.items }
 
-abbrev pub gone_by : Option Row → Option Gone
+abbrev pub gone_by : Option TaskRow → Option Gone
 gone_by None = None
 gone_by (Some row) = option_map gone_from row.end
 
-abbrev pub start_by : Option Row → ℕ
+abbrev pub start_by : Option TaskRow → ℕ
 start_by None = 0
 start_by (Some row) = row.start
 
-abbrev pub children_by : Option Row → List ℕ
+abbrev pub children_by : Option TaskRow → List ℕ
 children_by None = []
 children_by (Some row) = row.children.items
 
-abbrev pub parent_by : Option Row → ℕ
+abbrev pub parent_by : Option TaskRow → ℕ
 parent_by None = 0
 parent_by (Some row) = row.parent
 
-abbrev pub id_by : Option Row → ℕ
+abbrev pub id_by : Option TaskRow → ℕ
 id_by None = 0
 id_by (Some row) = row.task
 
@@ -103,13 +103,13 @@ state_of r world turns =
 
 -- a row of a task that has not ended, which has this id
 pub record HasRow (r : TaskTable) (p id : ℕ) : Type 0 where
-  pub row : Row
+  pub row : TaskRow
   pub is : row_at r p ≡ Some row
   pub endless : row.end ≡ None
   pub id_is : row.task ≡ id
 
 -- the task of the row has its id
-pub record Lives (r : TaskTable) (p : ℕ) (row : Row) : Type 0 where
+pub record Lives (r : TaskTable) (p : ℕ) (row : TaskRow) : Type 0 where
   pub running : Running
   pub is : running_at r row.task ≡ Some running
   pub row_is : running.row ≡ p
@@ -118,14 +118,14 @@ pub record Lives (r : TaskTable) (p : ℕ) (row : Row) : Type 0 where
 -- its id.
 pub record IsTaskTable (r : TaskTable) : Type 0 where
   pub rows : (id : ℕ) (x : Running) → running_at r id ≡ Some x → HasRow r x.row id
-  pub lives : (p : ℕ) (row : Row) → row_at r p ≡ Some row → row.end ≡ None → Lives r p row
+  pub lives : (p : ℕ) (row : TaskRow) → row_at r p ≡ Some row → row.end ≡ None → Lives r p row
   pub tree : ChildrenAreApart r.rows.items
 
 -- ---- changes
 
 -- nothing but this task and what is kept of it changed
 pub record SameBut (old new : TaskTable) (s : ℕ) : Type 0 where
-  pub many : many new ≡ many old
+  pub many : task_count new ≡ task_count old
   pub task : (p : ℕ) → p ≢ s → task_of new p ≡ task_of old p
   pub gone : (p : ℕ) → p ≢ s → gone_of new p ≡ gone_of old p
   pub start : (p : ℕ) → start_of new p ≡ start_of old p
@@ -135,7 +135,7 @@ pub record SameBut (old new : TaskTable) (s : ℕ) : Type 0 where
 
 -- the root alone, in the first row, in tick 0
 pub record HasRoot (r : TaskTable) (root : Task) (id : ℕ) : Type 0 where
-  pub many : many r ≡ 1
+  pub many : task_count r ≡ 1
   pub lives : running_at r id ≡ Some (record { task = root; row = 0 })
   pub others : (other : ℕ) → other ≢ id → running_at r other ≡ None
   pub task : task_of r 0 ≡ Some root
@@ -147,21 +147,21 @@ pub record HasRoot (r : TaskTable) (root : Task) (id : ℕ) : Type 0 where
 -- A task was started in that tick by the one of that row. It has the next row, and an id that no task had.
 pub record Starts (old new : TaskTable) (parent : ℕ) (started : Task) (tick id : ℕ) : Type 0 where
   pub fresh : running_at old id ≡ None
-  pub lives : running_at new id ≡ Some (record { task = started; row = many old })
+  pub lives : running_at new id ≡ Some (record { task = started; row = task_count old })
   pub others : (other : ℕ) → other ≢ id → running_at new other ≡ running_at old other
-  pub more : many new ≡ many old + 1
-  pub task : task_of new (many old) ≡ Some started
-  pub start : start_of new (many old) ≡ tick
-  pub childless : children_of new (many old) ≡ []
-  pub parent_is : parent_of new (many old) ≡ parent
-  pub id_is : id_of new (many old) ≡ id
-  pub child : children_of new parent ≡ children_of old parent ++ many old ∷ []
-  pub same_task : (p : ℕ) → p < many old → task_of new p ≡ task_of old p
+  pub more : task_count new ≡ task_count old + 1
+  pub task : task_of new (task_count old) ≡ Some started
+  pub start : start_of new (task_count old) ≡ tick
+  pub childless : children_of new (task_count old) ≡ []
+  pub parent_is : parent_of new (task_count old) ≡ parent
+  pub id_is : id_of new (task_count old) ≡ id
+  pub child : children_of new parent ≡ children_of old parent ++ task_count old ∷ []
+  pub same_task : (p : ℕ) → p < task_count old → task_of new p ≡ task_of old p
   pub same_gone : (p : ℕ) → gone_of new p ≡ gone_of old p
-  pub same_start : (p : ℕ) → p < many old → start_of new p ≡ start_of old p
-  pub same_children : (p : ℕ) → p < many old → p ≢ parent → children_of new p ≡ children_of old p
-  pub same_parent : (p : ℕ) → p < many old → parent_of new p ≡ parent_of old p
-  pub same_id : (p : ℕ) → p < many old → id_of new p ≡ id_of old p
+  pub same_start : (p : ℕ) → p < task_count old → start_of new p ≡ start_of old p
+  pub same_children : (p : ℕ) → p < task_count old → p ≢ parent → children_of new p ≡ children_of old p
+  pub same_parent : (p : ℕ) → p < task_count old → parent_of new p ≡ parent_of old p
+  pub same_id : (p : ℕ) → p < task_count old → id_of new p ≡ id_of old p
 
 -- a task may have a turn in this world
 pub record MayTurn (world : World) (task : Task) (from : Wake) : Type 0 where

@@ -9,5 +9,5 @@ mod rows;
 mod task_table;
 
 pub use record::{Outcome, Record};
-pub use rows::{Ended, Row, records_of};
+pub use rows::{Ended, TaskRow, records_of};
 pub use task_table::{Running, TaskTable};

@@ -16,7 +16,7 @@ use task_machine::{Entry, ScopeFrom, unbox_exc};
 
 /// What is kept of a task that was started.
 #[derive(Drop)]
-pub struct Row<'a> {
+pub struct TaskRow<'a> {
     /// The row of the task that started it; for the root its own.
     pub parent: usize,
     /// The id that the task has, or had.
@@ -50,12 +50,12 @@ pub struct Ended<'a> {
 /// ended, and that no row is a child twice. The only error is that memory was refused.
 pub fn records_of<'a>(
     alloc: Global,
-    rows: Vec<Row<'a>>,
+    rows: Vec<TaskRow<'a>>,
 ) -> Result<(Vec<Record<'a>>, Vec<ScopeFrom>), AllocError>
     requires ended { All (λ r. IsSome r.end) rows.items }
     requires tree { ChildrenAreApart rows.items }
-    ensures { IfOk result (λ told. (input : List ℕ) (rs : ℕ → interleaving.Row) → AreShown input rs rows.entry.items →
-        ShowRecords input rs told.0.items told.1.items) }
+    ensures { IfOk result (λ r. (input : List ℕ) (rs : ℕ → interleaving.Row) → AreShown input rs rows.entry.items →
+        ShowRecords input rs r.0.items r.1.items) }
 {
     let mut rows = rows;
     let left = rows.as_mut_slice();
@@ -64,7 +64,7 @@ pub fn records_of<'a>(
     let mut records = Vec::new(alloc);
     let mut froms = Vec::new(alloc);
     'rows: while let Some(place) = stack.pop() {
-        let Row {
+        let TaskRow {
             start,
             children,
             end,
@@ -74,7 +74,7 @@ pub fn records_of<'a>(
             unreachable!();
         };
         push_reversed(&mut stack, children)?;
-        let (record, mut below) = told_of(start, ended);
+        let (record, mut below) = record_and_froms(start, ended);
         records.push(record)?;
         froms.append(&mut below)?;
     }
@@ -82,12 +82,12 @@ pub fn records_of<'a>(
 }
 
 // Takes a row out, and replaces it by one that has no children and no end.
-fn take_row<'a>(alloc: Global, rows: &mut [Row<'a>], place: usize) -> Row<'a>
+fn take_row<'a>(alloc: Global, rows: &mut [TaskRow<'a>], place: usize) -> TaskRow<'a>
     requires { place < length rows.old }
     ensures taken { slice_get rows.old place ≡ Some result }
     ensures left { IsTakenOut rows.old place rows.new }
 {
-    let hollow = Row {
+    let hollow = TaskRow {
         parent: 0,
         task: TaskId::of(0),
         start: 0,
@@ -107,7 +107,7 @@ fn push_reversed(stack: &mut Vec<usize>, numbers: Vec<usize>) -> Result<(), Allo
 }
 
 // The record and the froms of a task that has ended.
-fn told_of<'a>(start: u64, ended: Ended<'a>) -> (Record<'a>, Vec<ScopeFrom>)
+fn record_and_froms<'a>(start: u64, ended: Ended<'a>) -> (Record<'a>, Vec<ScopeFrom>)
     ensures record { IsRecordOf start ended.entry result.0 }
     ensures froms { result.1.items ≡ ended.entry.froms.items }
 {

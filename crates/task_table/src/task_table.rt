@@ -1,10 +1,11 @@
 //! The tasks of a run: those that have not ended by their ids, and a row for each that was ever started.
-ghost use Rattle.std.specs.Prelude.{◌≡◌, ◌<◌, ◌≤◌, ◌^◌, ◌↔◌, [], None, Some, IsSome, IsTrue, IfOk, OnOk, OnErr, length};
+ghost use Rattle.std.specs.Prelude.{◌≡◌, ◌<◌, ◌≤◌, ◌^◌, ◌↔◌, IsSome, IsTrue, IfOk, OnOk, OnErr, length};
 ghost use Rattle.std.specs.Option.{ForSome};
 ghost use Rattle.task_machine.specs.Tasks.{scope_of, home_of};
-ghost use Rattle.task_table.specs.TaskTable.{running_at, many, row_at, gone_of, id_of, parent_of, IsTaskTable, HasRoot, Starts, MayTurn, HasTurn, Ends};
+ghost use Rattle.task_table.specs.Rows.{IsNewRow};
+ghost use Rattle.task_table.specs.TaskTable.{running_at, task_count, row_at, gone_of, id_of, parent_of, IsTaskTable, HasRoot, Starts, MayTurn, HasTurn, Ends};
 
-use crate::rows::{Ended, Row};
+use crate::rows::{Ended, TaskRow};
 use autojump_clock::TaskId;
 use batch_commit::Live;
 use cancel_scopes::ScopeId;
@@ -27,7 +28,7 @@ pub struct TaskTable<'a> {
     alloc: Global,
     live: Live<Running<'a>>,
     // In the order of the starts.
-    rows: Vec<Row<'a>>,
+    rows: Vec<TaskRow<'a>>,
 }
 
 impl<'a> TaskTable<'a> {
@@ -40,7 +41,7 @@ impl<'a> TaskTable<'a> {
         let mut live = Live::new(alloc);
         let id = live.put(Running { task, row: 0 })?;
         let mut rows = Vec::new(alloc);
-        rows.push(begun(alloc, 0, id, 0))?;
+        rows.push(new_row(alloc, 0, id, 0))?;
         Ok((TaskTable { alloc, live, rows }, id))
     }
 
@@ -48,14 +49,14 @@ impl<'a> TaskTable<'a> {
     /// its id. The only error is that memory was refused, after which the table can only be dropped.
     pub fn start(&mut self, parent: usize, task: Task<'a>, tick: u64) -> Result<TaskId, AllocError>
         requires agree { IsTaskTable self.old }
-        requires parent { parent < many self.old }
+        requires parent { parent < task_count self.old }
         ensures started { IfOk result (λ id. Starts self.old self.new parent task.entry tick id) }
         ensures agree { OnOk result (IsTaskTable self.new) }
     {
         let row = self.rows.len();
         let id = self.live.put(Running { task, row })?;
         self.rows[parent].children.push(row)?;
-        self.rows.push(begun(self.alloc, parent, id, tick))?;
+        self.rows.push(new_row(self.alloc, parent, id, tick))?;
         Ok(id)
     }
 
@@ -145,8 +146,8 @@ impl<'a> TaskTable<'a> {
     /// Returns the id of the task that started the task of this row (for the root its own). The caller must ensure that the
     /// row and its parent exist.
     pub fn parent(&self, row: usize) -> TaskId
-        requires row { row < many self.now }
-        requires parent { parent_of self.now row < many self.now }
+        requires row { row < task_count self.now }
+        requires parent { parent_of self.now row < task_count self.now }
         ensures { result ≡ id_of self.now (parent_of self.now row) }
     {
         let parent = self.rows[row].parent;
@@ -155,14 +156,14 @@ impl<'a> TaskTable<'a> {
 
     /// Returns whether the root has ended. The caller must ensure that the table has a task.
     pub fn is_over(&self) -> bool
-        requires { 0 < many self.now }
+        requires { 0 < task_count self.now }
         ensures { IsTrue result ↔ IsSome (gone_of self.now 0) }
     {
         self.rows[0].end.is_some()
     }
 
     /// Returns the rows, in the order of the starts.
-    pub fn into_rows(self) -> Vec<Row<'a>>
+    pub fn into_rows(self) -> Vec<TaskRow<'a>>
         ensures { result ≡ self.entry.rows }
     {
         let TaskTable { rows, .. } = self;
@@ -170,15 +171,11 @@ impl<'a> TaskTable<'a> {
     }
 }
 
-// The row of a task that was just started.
-fn begun<'a>(alloc: Global, parent: usize, task: TaskId, start: u64) -> Row<'a>
-    ensures parent { result.parent ≡ parent }
-    ensures task { result.task ≡ task }
-    ensures start { result.start ≡ start }
-    ensures children { result.children.items ≡ [] }
-    ensures end { result.end ≡ None }
+// The row of a task that was just started, in that tick, by the task of row `parent`.
+fn new_row<'a>(alloc: Global, parent: usize, task: TaskId, start: u64) -> TaskRow<'a>
+    ensures { IsNewRow parent task start result }
 {
-    Row {
+    TaskRow {
         parent,
         task,
         start,

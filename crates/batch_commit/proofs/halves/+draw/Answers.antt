@@ -40,7 +40,7 @@ returns-then-k-in_first t c =
     let e = above c.args.depth c.if-depth-eq0.false in
     let first = c.split_at_mut-first.ensures.front_len ∙ half_of c.args.depth (c.args.depth - 1) _ e c.requires.shape in
     let is = c.split_at_mut-first.ensures.value ∙ ap (λ xs. c.split_at_mut-first.result.0.now ++ xs) c.in-Some.ensures.cases.0 in
-    drawn_first c.args.depth (c.args.depth - 1) _ _ _ _ _ _ _ _ _ e is first (c.draw.auto.lefts ∙ first) c.requires.tree
+    drawn_first c.args.depth (c.args.depth - 1) _ _ _ _ _ e is first c.requires.tree _ _ _ _ (c.draw.auto.lefts ∙ first)
     c.if-k-in_first.true c.draw.ensures
 
 pub returns-else-k-in_first : goal.returns-else-k-in_first
@@ -49,5 +49,5 @@ returns-else-k-in_first t c =
     let half = half_of c.args.depth (c.args.depth - 1) _ e c.requires.shape in
     let first = c.split_at_mut-first.ensures.front_len ∙ half in
     let is = c.split_at_mut-first.ensures.value ∙ ap (λ xs. c.split_at_mut-first.result.0.now ++ xs) c.in-Some.ensures.cases.0 in
-    drawn_last c.args.depth (c.args.depth - 1) _ _ _ _ _ _ _ _ _ e is first c.requires.tree c.requires.k c.if-k-in_first.false
+    drawn_last c.args.depth (c.args.depth - 1) _ _ _ _ _ e is first c.requires.tree _ _ _ _ c.requires.k c.if-k-in_first.false
     (rw half at c.draw-else-k-in_first.ensures)

@@ -1,10 +1,10 @@
 use Rattle.std.proofs.Common.{◌≡◌, ◌≤◌, ◌+◌, ◌-◌}
-use Rattle.batch_commit.specs.Halves.{inner}
+use Rattle.batch_commit.specs.Halves.{inner_nodes}
 use Rattle.batch_commit.proofs.halves.shape_for.Given as goal
 
 abbrev pub invariant-depth : goal.invariant-depth
 invariant-depth l = record {
-  half : l.half ≡ inner l.depth;
+  half : l.half ≡ inner_nodes l.depth;
   depth : l.depth ≤ l.half;
   not_many : l.half ≤ l.count + l.count;
 }

@@ -2,9 +2,9 @@ use Rattle.std.proofs.Common.{◌≡◌, ◌<◌, ◌≤◌, ◌+◌, ℕ, true,
 use Rattle.std.specs.Prelude.{◌==◌, ◌⊎◌, ◌≢◌, All, IsSome}
 use Rattle.std.proofs.lemmas.Bool.Decides.{eqb_tells}
 use Rattle.std.proofs.lemmas.List.Elements.{All-nil, All-cons}
-use Rattle.task_table.specs.declared.rows.Row.{Row}
+use Rattle.task_table.specs.declared.rows.TaskRow.{TaskRow}
 use Rattle.task_table.specs.Rows.{times, times_child, ChildrenAreApart}
-use Rattle.task_table.proofs.Apart.{one_if}
+use Rattle.task_table.proofs.Times.{one_if}
 use Rattle.layer_tests.proofs.task_tables.four_rows.Goals as goal
 
 -- a number is one of at most two
@@ -19,7 +19,7 @@ one_of_two j k x other = at (eqb_tells j x) (eqb_tells k x)
     at (inr h) (inr i) = let none : one_if (j == x) ≡ 0 = ap one_if h.0 in let neither : one_if (k == x) ≡ 0 = ap one_if i.0 in omega arith
 
 -- a row of two children, one of which has a child
-four_apart : (a b c d : Row) → a.children.items ≡ 1 ∷ 2 ∷ [] → b.children.items ≡ 3 ∷ [] → c.children.items ≡ [] → d.children.items ≡ [] →
+four_apart : (a b c d : TaskRow) → a.children.items ≡ 1 ∷ 2 ∷ [] → b.children.items ≡ 3 ∷ [] → c.children.items ≡ [] → d.children.items ≡ [] →
     ChildrenAreApart (a ∷ b ∷ c ∷ d ∷ [])
 four_apart a b c d as_a as_b as_c as_d = record {
   root = omega arith;
@@ -44,15 +44,15 @@ four_apart a b c d as_a as_b as_c as_d = record {
     P : ℕ → Type 0
     P k = (0 < k) × (k < 4)
 
-    In : Row → Type 0
+    In : TaskRow → Type 0
     In r = All P r.children.items
 
 -- rows that were pushed one after another
-four_pushed : (before one two three after : List Row) (a b c d : Row) → before ≡ [] → one ≡ before ++ a ∷ [] → two ≡ one ++ b ∷ [] →
+four_pushed : (before one two three after : List TaskRow) (a b c d : TaskRow) → before ≡ [] → one ≡ before ++ a ∷ [] → two ≡ one ++ b ∷ [] →
     three ≡ two ++ c ∷ [] → after ≡ three ++ d ∷ [] → after ≡ a ∷ b ∷ c ∷ d ∷ []
 four_pushed _ _ _ _ _ a b c d none of_a of_b of_c of_d =
-    of_d ∙ ap (λ (x : List Row). x ++ d ∷ []) (of_c ∙ ap (λ (x : List Row). x ++ c ∷ []) (of_b ∙ ap (λ (x : List Row). x ++ b ∷ [])
-    (of_a ∙ ap (λ (x : List Row). x ++ a ∷ []) none)))
+    of_d ∙ ap (λ (x : List TaskRow). x ++ d ∷ []) (of_c ∙ ap (λ (x : List TaskRow). x ++ c ∷ []) (of_b ∙ ap (λ (x : List TaskRow). x ++ b ∷ [])
+    (of_a ∙ ap (λ (x : List TaskRow). x ++ a ∷ []) none)))
 
 pub returns-clause-ended : goal.returns-clause-ended
 returns-clause-ended c =
@@ -65,7 +65,7 @@ returns-clause-ended c =
     (All-cons Ends second.0 (third.0 ∷ fourth.0 ∷ []) second.3 (All-cons Ends third.0 (fourth.0 ∷ []) third.3
     (All-cons Ends fourth.0 [] fourth.3 (All-nil Ends)))))
   where
-    Ends : Row → Type 0
+    Ends : TaskRow → Type 0
     Ends r = IsSome r.end
 
 pub returns-clause-tree : goal.returns-clause-tree

@@ -1,8 +1,8 @@
 use Rattle.std.proofs.Common.{◌≡◌, ◌++◌, ◌∷◌, [], ℕ, List, ap, ◌∙◌, arith}
 use Rattle.std.proofs.lemmas.List.{nil_from_length}
 use Rattle.task_machine.specs.declared.entry.ScopeFrom.{ScopeFrom}
-use Rattle.task_table.proofs.Apart.{apart_first, apart_step, fewer_left, top_has_ended, top_within}
-use Rattle.task_table.proofs.Order.{told_first, told_step, told_last}
+use Rattle.task_table.proofs.Apart.{TakesTop, apart_first, apart_step, fewer_left, top_has_ended, top_within}
+use Rattle.task_table.proofs.Order.{listed_first, listed_step, listed_last}
 use Rattle.task_table.proofs.rows.records_of.Goals as goal
 
 pub rows-init : goal.rows-init
@@ -10,30 +10,45 @@ rows-init c =
     let stack : c.push.new.self.items ≡ 0 ∷ [] = c.in_ok-push.ensures.items ∙ ap (λ (x : List ℕ). x ++ 0 ∷ []) c.new-stack.ensures.items in
     rw c.as_mut_slice-left.ensures.value record {
       apart = apart_first c.args.rows.items c.push.new.self.items stack c.requires.ended c.requires.tree;
-      told = λ input rs are. told_first input rs c.args.rows.items _ _ _ stack c.new-records.ensures.items c.new-froms.ensures.items are;
+      listed = λ input rs are. listed_first input rs c.args.rows.items _ _ _ stack c.new-records.ensures.items c.new-froms.ensures.items are;
     }
 
 pub rows-smaller : goal.rows-smaller
-rows-smaller c = fewer_left c.in-Some.place c.rows.left c.take_row-start.new.rows c.take_row-start.result c.in-Some-end.ended
-    c.take_row-start.ensures.taken c.in-Some-end.is c.take_row-start.ensures.left
+rows-smaller c =
+    let top : TakesTop c.rows.left c.take_row-start.new.rows c.rows.stack.items c.push_reversed.new.stack.items = record {
+      place = c.in-Some.place;
+      popped = c.pop.new.self.items;
+      row = c.take_row-start.result;
+      top = c.in-Some.ensures.items;
+      was = c.take_row-start.ensures.taken;
+      out = c.take_row-start.ensures.left;
+      grows = c.in_ok-push_reversed.ensures;
+    } in
+    fewer_left top c.in-Some-end.ended c.in-Some-end.is
 
 pub rows-preserved : goal.rows-preserved
-rows-preserved c = record {
-  apart = apart_step _ c.in-Some.place c.rows.left c.take_row-start.new.rows c.rows.stack.items c.pop.new.self.items
-      c.push_reversed.new.stack.items c.take_row-start.result c.rows.invariant.apart c.in-Some.ensures.items c.take_row-start.ensures.taken
-      c.take_row-start.ensures.left c.in_ok-push_reversed.ensures;
-  told = λ input rs are. told_step input rs c.rows.left c.take_row-start.new.rows c.rows.stack.items c.pop.new.self.items
-      c.push_reversed.new.stack.items c.rows.records.items c.push-in-Some.new.self.items c.rows.froms.items c.append.new.self.items
-      c.in-Some.place c.take_row-start.result c.in-Some-end.ended c.told_of-record.result.0
-      (c.rows.invariant.told input rs are) c.in-Some.ensures.items c.take_row-start.ensures.taken c.in-Some-end.is
-      c.take_row-start.ensures.left c.told_of-record.ensures.record c.in_ok-push_reversed.ensures c.in_ok-push-2.ensures.items
-      (c.in_ok-append.ensures.items ∙ ap (λ (x : List ScopeFrom). c.rows.froms.items ++ x) c.told_of-record.ensures.froms);
-}
+rows-preserved c =
+    let top : TakesTop c.rows.left c.take_row-start.new.rows c.rows.stack.items c.push_reversed.new.stack.items = record {
+      place = c.in-Some.place;
+      popped = c.pop.new.self.items;
+      row = c.take_row-start.result;
+      top = c.in-Some.ensures.items;
+      was = c.take_row-start.ensures.taken;
+      out = c.take_row-start.ensures.left;
+      grows = c.in_ok-push_reversed.ensures;
+    } in
+    record {
+      apart = apart_step c.rows.invariant.apart top;
+      listed = λ input rs are.
+          listed_step (c.rows.invariant.listed input rs are) top c.in-Some-end.ended c.in-Some-end.is c.record_and_froms-record.result.0
+          c.record_and_froms-record.ensures.record c.in_ok-push-2.ensures.items
+          (c.in_ok-append.ensures.items ∙ ap (λ (x : List ScopeFrom). c.rows.froms.items ++ x) c.record_and_froms-record.ensures.froms);
+    }
 
 pub returns : goal.returns
-returns c = λ input rs are. told_last input rs c.rows.left c.rows.stack.items c.rows.records.items c.rows.froms.items
+returns c = λ input rs are. listed_last
     (nil_from_length c.rows.stack.items (omega (arith, c.rows.stack.ok.0, c.in_default.ensures.cases.0)))
-    (c.rows.invariant.told input rs are)
+    (c.rows.invariant.listed input rs are)
 
 pub take_row-start-requires : goal.take_row-start-requires
 take_row-start-requires c = top_within _ c.in-Some.place c.rows.left c.rows.stack.items c.pop.new.self.items c.rows.invariant.apart

@@ -1,7 +1,7 @@
 use Rattle.std.proofs.Common.{ap, subst, sym, ◌∙◌}
 use Rattle.std.proofs.lemmas.List.{with_items_is}
 use Rattle.batch_commit.specs.Batch.{Batches}
-use Rattle.batch_commit.specs.Slots.{held}
+use Rattle.batch_commit.specs.Slots.{values_in}
 use Rattle.batch_commit.specs.Entries.{answers_placed, AllPlaced}
 use Rattle.batch_commit.specs.Placing.{slots_placed}
 use Rattle.batch_commit.proofs.EntryLemmas.{held-placed, all_placed}
@@ -20,7 +20,7 @@ returns-clause-placed c =
     let b = c.self.inside in
     let items = with_items_is b.current c.place_all.new.slots (c.place_all.auto.slots ∙ c.as_mut_slice.ensures.len) in
     let slots = items ∙ c.place_all.ensures ∙ ap (λ xs. slots_placed xs c.args.answers.items) c.as_mut_slice.ensures.value in
-    ap held slots ∙ held-placed b.current.items c.args.answers.items
+    ap values_in slots ∙ held-placed b.current.items c.args.answers.items
     ∙ ap (λ (v : Batches). answers_placed v.current c.args.answers.items) c.self.view_is
 
 pub returns-clause-all : goal.returns-clause-all
@@ -28,6 +28,6 @@ returns-clause-all c =
     let b = c.self.inside in
     let items = with_items_is b.current c.place_all.new.slots (c.place_all.auto.slots ∙ c.as_mut_slice.ensures.len) in
     let slots = items ∙ c.place_all.ensures ∙ ap (λ xs. slots_placed xs c.args.answers.items) c.as_mut_slice.ensures.value in
-    let current = ap held slots ∙ held-placed b.current.items c.args.answers.items
+    let current = ap values_in slots ∙ held-placed b.current.items c.args.answers.items
     ∙ ap (λ (v : Batches). answers_placed v.current c.args.answers.items) c.self.view_is in
     subst AllPlaced (sym current) (all_placed c.args.self.now.current c.args.answers.items c.requires.as_many)

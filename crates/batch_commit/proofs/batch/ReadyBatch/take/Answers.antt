@@ -3,7 +3,7 @@ use Rattle.std.specs.Prelude.{slice_get, slice_set, None}
 use Rattle.std.specs.List.{remove}
 use Rattle.std.proofs.lemmas.List.{with_items_is}
 use Rattle.batch_commit.specs.Batch.{Batches}
-use Rattle.batch_commit.specs.Slots.{held}
+use Rattle.batch_commit.specs.Slots.{values_in}
 use Rattle.batch_commit.proofs.BatchLemmas.{k_left, taken_at, ready_taken}
 use Rattle.batch_commit.proofs.batch.ReadyBatch.take.Goals as goal
 
@@ -51,4 +51,4 @@ returns-clause-rest c =
     (ap (λ (v : Batches). v.current) c.self.view_is) c.requires c.take-place.ensures.place in
     let items = with_items_is b.current c.take_at.new.slots (c.take_at.auto.slots ∙ c.as_mut_slice.ensures.len) in
     let slots = items ∙ c.take_at.ensures.emptied ∙ ap (λ xs. slice_set xs c.take-place.result None) c.as_mut_slice.ensures.value in
-    ap held slots ∙ taken.rest ∙ ap (λ (v : Batches). remove v.current c.args.k) c.self.view_is
+    ap values_in slots ∙ taken.rest ∙ ap (λ (v : Batches). remove v.current c.args.k) c.self.view_is

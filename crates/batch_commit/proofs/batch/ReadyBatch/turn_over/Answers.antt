@@ -1,7 +1,7 @@
 use Rattle.std.proofs.Common.{ap, map, sym, subst, ◌∙◌}
 use Rattle.batch_commit.specs.Halves.{numbers}
 use Rattle.batch_commit.specs.Batch.{Batches}
-use Rattle.batch_commit.specs.Slots.{held}
+use Rattle.batch_commit.specs.Slots.{values_in}
 use Rattle.batch_commit.specs.Entries.{without_answer, NonePlaced}
 use Rattle.batch_commit.proofs.EntryLemmas.{none_placed}
 use Rattle.batch_commit.proofs.BatchLemmas.{ready_turn, held_turn}
@@ -20,12 +20,12 @@ invariant_of-self c =
 pub returns-clause-current : goal.returns-clause-current
 returns-clause-current c =
     let b = c.self.inside in
-    ap (λ v. held v.items) c.swap.ensures.x_after ∙ held_turn b.current.items b.next.items b.places c.self.invariant
+    ap (λ v. values_in v.items) c.swap.ensures.x_after ∙ held_turn b.current.items b.next.items b.places c.self.invariant
     ∙ ap (λ (v : Batches). map without_answer v.next) c.self.view_is
 
 pub returns-clause-unplaced : goal.returns-clause-unplaced
 returns-clause-unplaced c =
     let b = c.self.inside in
-    let current = ap (λ v. held v.items) c.swap.ensures.x_after ∙ held_turn b.current.items b.next.items b.places c.self.invariant
+    let current = ap (λ v. values_in v.items) c.swap.ensures.x_after ∙ held_turn b.current.items b.next.items b.places c.self.invariant
     ∙ ap (λ (v : Batches). map without_answer v.next) c.self.view_is in
     subst NonePlaced (sym current) (none_placed c.args.self.now.next)

@@ -1,38 +1,24 @@
 use Rattle.std.proofs.Common.{◌∷◌, ◌++◌, [], List, ap, ◌∙◌}
-use Rattle.task_table.specs.declared.rows.Row.{Row}
+use Rattle.task_table.specs.declared.rows.TaskRow.{TaskRow}
 use Rattle.task_table.proofs.TaskTables.{has_root, agrees_first}
 use Rattle.task_table.proofs.task_table.TaskTable.of_root.Goals as goal
 
 pub returns-clause-root : goal.returns-clause-root
-returns-clause-root c = has_root _ _ _ (record {
+returns-clause-root c = has_root (record {
   none = c.new-live.result;
   nothing = c.new-live.ensures;
   live = c.in_ok-id.ensures.put;
-  begun = c.begun.result;
-  begins = record {
-    parent = c.begun.ensures.parent;
-    task = c.begun.ensures.task;
-    start = c.begun.ensures.start;
-    end =
-        c.begun.ensures.end;
-    children = c.begun.ensures.children;
-  };
-  rows = c.in_ok-push.ensures.items ∙ ap (λ (xs : List Row). xs ++ c.begun.result ∷ []) c.new-rows.ensures.items;
+  row = c.new_row.result;
+  begins = c.new_row.ensures;
+  rows = c.in_ok-push.ensures.items ∙ ap (λ (xs : List TaskRow). xs ++ c.new_row.result ∷ []) c.new-rows.ensures.items;
 })
 
 pub returns-clause-agree : goal.returns-clause-agree
-returns-clause-agree c = agrees_first _ c.args.task c.in_ok-id.id (record {
+returns-clause-agree c = agrees_first {root = c.args.task} {id = c.in_ok-id.id} (record {
   none = c.new-live.result;
   nothing = c.new-live.ensures;
   live = c.in_ok-id.ensures.put;
-  begun = c.begun.result;
-  begins = record {
-    parent = c.begun.ensures.parent;
-    task = c.begun.ensures.task;
-    start = c.begun.ensures.start;
-    end =
-        c.begun.ensures.end;
-    children = c.begun.ensures.children;
-  };
-  rows = c.in_ok-push.ensures.items ∙ ap (λ (xs : List Row). xs ++ c.begun.result ∷ []) c.new-rows.ensures.items;
+  row = c.new_row.result;
+  begins = c.new_row.ensures;
+  rows = c.in_ok-push.ensures.items ∙ ap (λ (xs : List TaskRow). xs ++ c.new_row.result ∷ []) c.new-rows.ensures.items;
 })

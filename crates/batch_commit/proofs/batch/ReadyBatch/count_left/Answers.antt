@@ -1,7 +1,7 @@
 use Rattle.std.proofs.Common.{ap, length, ◌∙◌}
 use Rattle.batch_commit.specs.Batch.{Batches}
 use Rattle.batch_commit.proofs.BatchLemmas.{left_count}
-use Rattle.batch_commit.proofs.batch.ReadyBatch.left.Goals as goal
+use Rattle.batch_commit.proofs.batch.ReadyBatch.count_left.Goals as goal
 
 pub returns : goal.returns
 returns c =
