@@ -184,7 +184,7 @@ fn tell_start<'a>(
     }
 }
 
-/// Walks a task that is started in a tick on a part of the input, from its start to its end.
+// Walks a task that is started in a tick on a part of the input, from its start to its end.
 #[cycle(telling)]
 pub(crate) fn tell_child<'a>(
     label: Label,

@@ -29,7 +29,7 @@ fn newlines_in_run(bytes: &[u8], at: usize) -> u16
     lanes.cast::<u16>().strict_reduce_sum()
 }
 
-/// Returns for each of the 64 bytes from a place on 1 if it is a newline, and 0 otherwise.
+// Returns for each of the 64 bytes from a place on 1 if it is a newline, and 0 otherwise.
 #[inline(always)]
 fn newline_lanes(bytes: &[u8], at: usize) -> u8x64
     requires { at + 64 ≤ length bytes.now }
@@ -40,7 +40,7 @@ fn newline_lanes(bytes: &[u8], at: usize) -> u8x64
         .select(u8x64::splat(1), u8x64::splat(0))
 }
 
-/// Returns the number of newlines in the bytes that are left after the runs.
+// Returns the number of newlines in the bytes that are left after the runs.
 fn newlines_by_block(bytes: &[u8]) -> u64
     ensures { result ≡ count_by (λ b. b == 10) bytes.now }
 {
@@ -53,7 +53,7 @@ fn newlines_by_block(bytes: &[u8]) -> u64
     count + newlines_one_by_one(&bytes[at..])
 }
 
-/// Returns the number of newlines in the 64 bytes from a place on.
+// Returns the number of newlines in the 64 bytes from a place on.
 #[inline(always)]
 fn newlines_in_block(bytes: &[u8], at: usize) -> u32
     requires { at + 64 ≤ length bytes.now }
@@ -65,7 +65,7 @@ fn newlines_in_block(bytes: &[u8], at: usize) -> u32
         .count_ones()
 }
 
-/// Returns the number of newlines in fewer than 64 bytes.
+// Returns the number of newlines in fewer than 64 bytes.
 fn newlines_one_by_one(bytes: &[u8]) -> u64
     requires { length bytes.now < 64 }
     ensures { result ≡ count_by (λ b. b == 10) bytes.now }
