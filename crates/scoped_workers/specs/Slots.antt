@@ -26,7 +26,7 @@ abbrev pub AreComputed : List Request → List Slot → Type 0
 AreComputed requests row = (i : ℕ) (q : Request) (s : Slot) → i < length row →
     IsComputed (slice_index_or requests i q) (slice_index_or row i s)
 
--- there are as many answers as requests, and the answer at each place is that of the request there
+-- there are as many answers as requests, and the answer at each index is that of the request there
 pub record AreAnswers (requests : List Request) (answers : List Answer) : Type 0 where
   pub count : length answers ≡ length requests
   pub each : (i : ℕ) (q : Request) (a : Answer) → i < length requests → Answers (slice_index_or requests i q) (slice_index_or answers i a)

@@ -9,7 +9,7 @@ use std::thread;
 use std::thread::Threads;
 
 /// Returns the answers for these items, in their order, found by at most `workers` threads. The thread that works on an item calls the
-/// gate before and after it, with the place of the item. The caller must ensure that there is at least one worker and that the work's
+/// gate before and after it, with the index of the item. The caller must ensure that there is at least one worker and that the work's
 /// own requirement (`Work::may`) holds.
 ///
 /// Returns `AllocError` if memory is refused. If that happens at one item, the work on the other items is still done.
