@@ -1,24 +1,28 @@
 ghost use Rattle.std.specs.Prelude.{◌≡◌, ◌+◌, ◌≤◌, ◌<◌, ◌==◌, if◌then◌else◌, length, map, slice_range, count_by};
+ghost use Rattle.line_kernels.specs.declared.newlines.TheConstants.{RUN};
 
 use std::simd::prelude::*;
 
-/// Returns how many newlines there are in the bytes.
+// The number of bytes of a run: 255 blocks of 64 bytes, so that a lane of 8 bits counts the newlines of its place in each.
+pub(crate) const RUN: usize = 16_320;
+
+// Returns how many newlines there are in the bytes.
 pub(crate) fn newline_count(bytes: &[u8]) -> u64
     ensures { result ≡ count_by (λ b. b == 10) bytes.now }
 {
     let mut count = 0;
     let mut at = 0;
-    'runs: while 16320 <= bytes.len() - at {
+    'runs: while RUN <= bytes.len() - at {
         count += u64::from(newlines_in_run(bytes, at));
-        at += 16320;
+        at += RUN;
     }
     count + newlines_by_block(&bytes[at..])
 }
 
-/// Returns the number of newlines in the 255 blocks of 64 bytes from a place on. A lane counts to at most 255.
+// Returns the number of newlines in the run from a place on. A lane counts to at most 255.
 fn newlines_in_run(bytes: &[u8], at: usize) -> u16
-    requires { at + 16320 ≤ length bytes.now }
-    ensures { result ≡ count_by (λ b. b == 10) (slice_range bytes.now at (at + 16320)) }
+    requires { at + RUN ≤ length bytes.now }
+    ensures { result ≡ count_by (λ b. b == 10) (slice_range bytes.now at (at + RUN)) }
 {
     let mut lanes = u8x64::splat(0);
     let mut seen = 0;
