@@ -13,7 +13,7 @@ use Rattle.job_syntax.specs.declared.keyword.Keyword.{Keyword}
 use Rattle.job_syntax.specs.declared.keyword.Keyword.TheVariants as word
 use Rattle.job_syntax.specs.Keywords.{spelling, keyword_of}
 use Rattle.job_syntax.specs.Nonterminals.{◌>>=◌}
-use Rattle.job_syntax.specs.Depth.{most_deep}
+use Rattle.job_syntax.specs.Depth.{max_depth}
 
 -- a value and the tokens after it
 abbrev pub Read : Type 0 → Type 0
@@ -167,5 +167,5 @@ head_at shapes = keyword_at shapes >>= λ k. (if is_job k.0 then word_at k.1 els
 
 -- a whole job of a format, whose blocks are nested at most 32 deep
 abbrev pub job_at : Format → List Shape → Option Tree
-job_at format shapes = head_at shapes >>= λ name. blocks_at most_deep name.1 >>= λ steps.
+job_at format shapes = head_at shapes >>= λ name. blocks_at max_depth name.1 >>= λ steps.
     if length steps.1 == 0 then Some (record { format = format; name = name.0; steps = steps.0 }) else None

@@ -6,7 +6,7 @@ ghost use Rattle.job_syntax.specs.declared.keyword.Keyword.TheVariants as word;
 ghost use Rattle.job_tree.specs.declared.format.Format.{Format};
 ghost use Rattle.job_syntax.specs.Reading.{word_at, keyword_at, number_at, text_at, mark_at, behind_word, flag_at, deadline_at, over_at, body_at, handler_at, cleanup_at, scope_at, nursery_at, start_at, repeat_at, try_at, ended, plain_step, step_at, steps_with, blocks_at, head_at, job_at};
 
-use crate::depth::MAX_DEEP;
+use crate::depth::MAX_DEPTH;
 use crate::keyword::Keyword;
 use job_tokens::{Mark, Token};
 use job_tree::{Body, Deadline, Handler, Name, Step, Text};
@@ -22,7 +22,7 @@ pub fn job_at(alloc: Global, tokens: &[Token]) -> Result<Option<(Name, Body)>, A
     let Some((name, rest)) = head_at(tokens) else {
         return Ok(None);
     };
-    let Some((steps, rest)) = blocks_at(alloc, MAX_DEEP, rest)? else {
+    let Some((steps, rest)) = blocks_at(alloc, MAX_DEPTH, rest)? else {
         return Ok(None);
     };
     if !rest.is_empty() {
