@@ -35,7 +35,7 @@ impl<'a, 's> Here<'a, 's> {
     pub(crate) fn label_here(&self, name: Name) -> Result<Label, AllocError>
         ensures { IfOk result (λ label. label ≡ label_in name self.now) }
     {
-        self.place.named(self.alloc, name)
+        self.place.with_name(self.alloc, name)
     }
     // Returns the scope or nursery of that name that is entered here, with its label and the tick from which it is cancelled.
     #[inline(never)]
