@@ -32,12 +32,12 @@ pub record AreAnswers (requests : List Request) (answers : List Answer) : Type 0
   pub each : (i : ℕ) (q : Request) (a : Answer) → i < length requests → Answers (slice_index_or requests i q) (slice_index_or answers i a)
 
 -- an empty slot
-abbrev pub empty : Slot
-empty = record { content = Empty }
+abbrev pub empty_slot : Slot
+empty_slot = record { content = Empty }
 
 -- the slot of an answer
-abbrev pub done : Answer → Slot
-done answer = record { content = Done answer }
+abbrev pub slot_of : Answer → Slot
+slot_of answer = record { content = Done answer }
 
 -- something was put into the slot
 abbrev pub IsFilled : Slot → Type 0
