@@ -20,7 +20,7 @@ pub struct Cuts<'a> {
 impl<'a> Cuts<'a> {
     ghost use Rattle.buffer_parts.specs.Giving.{part_cut, cut_count, cuts_given, GivesCut};
 
-    /// Creates the iterator over `count` cuts of a part, of which none has been returned yet.
+    // Creates the iterator over `count` cuts of a part, of which none has been returned yet.
     pub(crate) fn of(part: Part<'a>, count: usize) -> Cuts<'a>
         requires some { 1 ≤ count }
         requires few { count ≤ 64 }
@@ -52,8 +52,8 @@ impl<'a> Cuts<'a> {
         cut
     }
 
-    /// Returns the place where the next cut ends. If the last cut ended at or after the next step, the next cut ends there
-    /// too, and is empty.
+    // Returns the place where the next cut ends. If the last cut ended at or after the next step, the next cut ends there
+    // too, and is empty.
     fn next_end(&self) -> usize
         requires { self.now.given < self.now.count }
         ensures { result ≡ cut_point (buffer_of self.now.part) (range_of self.now.part) self.now.count (self.now.given + 1) }

@@ -42,7 +42,7 @@ impl<'a> Lines<'a> {
     ghost use Rattle.buffer_parts.specs.Lines.{lines_of, bytes_of};
     ghost use Rattle.buffer_parts.specs.Part.{source_of, lines_left, range_left, SkipsTo, GoesToLine, GivesLonger};
 
-    /// Creates the iterator over the lines of a range of a buffer. `start` is the first place, and `end` is left out.
+    // Creates the iterator over the lines of a range of a buffer. `start` is the first place, and `end` is left out.
     pub(crate) fn over(buffer: &'a [u8], start: usize, end: usize) -> Lines<'a>
         requires ordered { start ≤ end }
         requires within { end ≤ length buffer.now }
@@ -93,7 +93,7 @@ impl<'a> Lines<'a> {
         None
     }
 
-    /// Skips the lines before the one that contains the byte at a place of `text`, or whose newline that byte is.
+    // Skips the lines before the one that contains the byte at a place of `text`, or whose newline that byte is.
     fn skip_to(&mut self, place: usize)
         requires { (range_left self.old).from + place < (range_left self.old).to }
         ensures { SkipsTo self.old place self.new }

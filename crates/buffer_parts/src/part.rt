@@ -136,7 +136,7 @@ impl<'a> Part<'a> {
         Lines::over(self.buffer, self.start, self.end)
     }
 
-    /// Returns the place where cut `i` of `k` starts and the cut before it ends.
+    // Returns the place where cut `i` of `k` starts and the cut before it ends.
     fn cut_point(self, k: usize, i: usize) -> usize
         requires some { 1 ≤ k }
         requires few { k ≤ 64 }
@@ -152,7 +152,7 @@ impl<'a> Part<'a> {
         self.next_start(self.start + steps(self.end - self.start, k, i))
     }
 
-    /// Returns the first line start of the part from a place on, or the part's end if there is none.
+    // Returns the first line start of the part from a place on, or the part's end if there is none.
     pub(crate) fn next_start(self, place: usize) -> usize
         requires { place ≤ self.end }
         ensures { result ≡ next_start (buffer_of self.entry) place ((range_of self.entry).to - place) }
@@ -167,7 +167,7 @@ impl<'a> Part<'a> {
     }
 }
 
-/// Returns the length of the first `i` of `k` equal steps through `length`, rounded down.
+// Returns the length of the first `i` of `k` equal steps through `length`, rounded down.
 pub(crate) fn steps(length: usize, k: usize, i: usize) -> usize
     requires some { 1 ≤ k }
     requires few { k ≤ 64 }

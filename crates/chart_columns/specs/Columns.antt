@@ -51,7 +51,7 @@ abbrev pub fits_from : ℕ → ℕ → List Column → Bool
 fits_from room t [] = nat_le (length (decimal t)) room
 fits_from room t (c ∷ cs) = nat_le (gap t c.tick) room && fits_from (room - gap t c.tick) c.tick cs
 
--- whether columns fit into the room, where each takes at least two places
+-- whether columns fit into the room, where each takes at least two characters
 abbrev pub fits : ℕ → List Column → Bool
 fits room [] = true
 fits room (c ∷ cs) = nat_le (2 * length (c ∷ cs)) room && fits_from room c.tick cs

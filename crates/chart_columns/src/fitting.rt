@@ -7,7 +7,7 @@ use crate::gaps::{digits, gap};
 use crate::sorting::{sort_by_count, sort_by_tick};
 use std::alloc::{AllocError, Global};
 
-/// Returns the columns that are shown in `room` places of text: all of them if they fit. Otherwise the columns with the least counts are
+/// Returns the columns that are shown in `room` characters: all of them if they fit. Otherwise the columns with the least counts are
 /// dropped, as many as must be. The first and the last column are always kept, even if they do not fit. Returns `AllocError` if memory
 /// is refused.
 pub fn shown(alloc: Global, room: usize, columns: &[Column]) -> Result<Vec<Column>, AllocError>

@@ -5,7 +5,7 @@ ghost use Rattle.chart_columns.specs.Held.{column_of};
 use crate::column::Column;
 use itoa::Buffer;
 
-/// Returns the room from a tick to the next one that is shown, in places of text: the number of its digits, one space, and the
+/// Returns the room from a tick to the next one that is shown, in characters: the number of its digits, one space, and the
 /// logarithm to base 2, rounded down, of the ticks between them.
 pub fn gap(tick: u64, next: u64) -> usize
     ensures { result ≡ gap tick next }
@@ -13,7 +13,7 @@ pub fn gap(tick: u64, next: u64) -> usize
     digits(tick) + 1 + log2(next.saturating_sub(tick))
 }
 
-/// Returns the room from a column to the first of those in `after`, in places of text, or 1 if `after` is empty.
+/// Returns the room from a column to the first of those in `after`, in characters, or 1 if `after` is empty.
 pub fn gap_to(column: &Column, after: &[Column]) -> usize
     ensures { result ≡ gap_to (column_of column.now) (map column_of after.now) }
 {

@@ -31,7 +31,7 @@ abbrev pub at_tick : ℕ → List Event → List Event
 at_tick t [] = []
 at_tick t (e ∷ es) = if e.tick == t then e ∷ at_tick t es else at_tick t es
 
--- a line from one place to another
+-- a line from one point to another
 abbrev pub segment : List ℕ → ℕ → ℕ → ℕ → ℕ → List Attribute
 segment class x1 y1 x2 y2 =
     attribute attrs.Class class

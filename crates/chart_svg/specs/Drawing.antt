@@ -49,7 +49,7 @@ fill id steps rest =
     ∷ [])
     (path id steps nothing) rest
 
--- the cross, with the place where it is used at its centre
+-- the cross, with the point where it is used at its centre
 abbrev pub cross_path : Content → Content
 cross_path rest =
     element tags.Path
@@ -107,7 +107,7 @@ abbrev pub title_bytes : List Bar → List ℕ
 title_bytes [] = []
 title_bytes (b ∷ bs) = name_of b
 
--- the place where the rows end, from the top
+-- the y coordinate at which the rows end
 abbrev pub bottom_of : List Bar → ℕ
 bottom_of bars = y_of (length (take MAX_ROWS bars))
 

@@ -89,7 +89,7 @@ start_x sheet bar = x_of sheet bar.first.tick
 abbrev pub end_x : Sheet → Bar → ℕ
 end_x sheet bar = x_at sheet (end_column sheet.columns bar.last)
 
--- the width from one place to another, which is at least 2 pixels
+-- the width from one x coordinate to another, which is at least 2 pixels
 abbrev pub width_to : ℕ → ℕ → ℕ
 width_to x end = max 2 (end - x)
 
@@ -104,7 +104,7 @@ rectangle i size class x end =
     ∷ attribute attrs.Rx (codes "3")
     ∷ []
 
--- a text at a place
+-- a text at a point
 abbrev pub words : List ℕ → ℕ → ℕ → List ℕ → Content → Content
 words class x y bytes rest =
     element tags.Text (attribute attrs.Class class ∷ attribute attrs.X (decimal x) ∷ attribute attrs.Y (decimal y) ∷ [])

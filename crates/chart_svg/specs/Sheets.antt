@@ -1,4 +1,4 @@
--- The places of things in a drawing, in pixels, and what the story says of them.
+-- The coordinates of things in a drawing, in pixels, and what the story says of them.
 use Rattle.std.specs.Prelude.{ℕ, ◌+◌, ◌*◌, List, [], ◌∷◌, min, nat_le, if◌then◌else◌}
 use Rattle.job_meaning.specs.Log.{Table}
 use Rattle.job_story.specs.Events.{Event}
@@ -16,20 +16,20 @@ pub record Sheet : Type 0 where
   pub table : Table
   pub events : List Event
 
--- the distance of a column from the first one, in places of text, which is at most `FARTHEST`
+-- the distance of a column from the first one, in characters, which is at most `FARTHEST`
 abbrev pub place : List Column → ℕ → ℕ
 place [] t = 0
 place (c ∷ cs) t = if nat_le t c.tick then 0 else min FARTHEST (gap_to c cs + place cs t)
 
--- the place of a column, from the left
+-- the x coordinate of a column
 abbrev pub x_at : Sheet → ℕ → ℕ
 x_at sheet t = LEFT + LETTER * (min MAX_NAME sheet.names + 2) + PLACE * place sheet.columns t
 
--- the place where something at a tick is shown, from the left
+-- the x coordinate at which something at a tick is shown
 abbrev pub x_of : Sheet → ℕ → ℕ
 x_of sheet t = x_at sheet (column_at sheet.columns t)
 
--- the place of a row, from the top, which is not lower than the end of the last row that is shown
+-- the y coordinate of a row, which is not lower than the end of the last row that is shown
 abbrev pub y_of : ℕ → ℕ
 y_of i = TOP + ROW * min MAX_ROWS i
 

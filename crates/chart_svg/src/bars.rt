@@ -36,7 +36,7 @@ const BLOCK: Size = Size {
     height: 8,
 };
 
-// Returns the height of a bar, and its place on its row.
+// Returns the height of a bar, and its position on its row.
 pub(crate) fn size_of(bar: &Bar<'_, '_>) -> Size
     ensures value { size_held result ≡ size_of (bar_of bar.now) }
     ensures down { result.down ≤ 24 }

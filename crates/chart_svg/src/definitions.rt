@@ -100,7 +100,7 @@ fn push_path(out: &mut Vec<u8>, class: &[u8], steps: &[u8]) -> Result<(), AllocE
     end(out, Tag::Path)
 }
 
-// Appends the cross, with the place where it is used at its centre.
+// Appends the cross, with the point where it is used at its centre.
 fn push_cross_path(out: &mut Vec<u8>) -> Result<(), AllocError>
     ensures { OnOk result ((rest : Content) → out.new.items ++ written rest ≡ out.old.items ++ written (cross_path rest)) }
 {

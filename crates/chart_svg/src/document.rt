@@ -217,7 +217,7 @@ fn height_of(bars: &[Bar<'_, '_>]) -> u64
     bottom_of(bars) + ROW * 4
 }
 
-// Returns the place where the rows end, in pixels from the top.
+// Returns the y coordinate at which the rows end, in pixels.
 fn bottom_of(bars: &[Bar<'_, '_>]) -> u64
     ensures value { result ≡ bottom_of (map bar_of bars.now) }
     ensures bound { result ≤ 48044 }

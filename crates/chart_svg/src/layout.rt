@@ -1,7 +1,7 @@
 /// The margin on the left, in pixels.
 pub const LEFT: u64 = 12;
 
-/// The place where the first row begins, in pixels from the top.
+/// The y coordinate at which the first row begins, in pixels.
 pub const TOP: u64 = 44;
 
 /// The height of a row, in pixels.
@@ -13,7 +13,7 @@ pub const LETTER: u64 = 8;
 /// The width of a place of text between columns, in pixels.
 pub const PLACE: u64 = 14;
 
-/// The maximum place, counted from the first column. Nothing is drawn further to the right.
+/// The maximum distance from the first column, in characters. Nothing is drawn further to the right.
 pub const FARTHEST: u64 = 1_000_000;
 
 /// The maximum room for the name of a row, in letters.

@@ -92,7 +92,7 @@ fn push_row_bar(
     end(out, Tag::Rect)
 }
 
-// Returns the place where a bar ends, in pixels from the left. A bar without an end ends at the last column.
+// Returns the x coordinate at which a bar ends, in pixels. A bar without an end ends at the last column.
 fn end_x(sheet: &Sheet<'_, '_, '_>, bar: &Bar<'_, '_>) -> u64
     ensures value { result ≡ end_x (sheet_held sheet.now) (bar_of bar.now) }
     ensures bound { result ≤ 100000000 }

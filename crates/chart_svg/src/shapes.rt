@@ -10,7 +10,7 @@ use crate::sheet::y_of;
 use std::alloc::AllocError;
 use svg_text::{Attr, Tag, attribute, begin, end, inside, number, text};
 
-// The height of a bar and its place on its row, in pixels, and the indent of its name, in letters.
+// The height of a bar and its position on its row, in pixels, and the indent of its name, in letters.
 #[derive(Clone, Copy)]
 pub(crate) struct Size {
     pub indent: u64,
@@ -18,7 +18,7 @@ pub(crate) struct Size {
     pub height: u64,
 }
 
-// Begins a rectangle on a row, from one place to another. Its content and its end tag come next.
+// Begins a rectangle on a row, from one x coordinate to another. Its content and its end tag come next.
 pub(crate) fn begin_rectangle(
     out: &mut Vec<u8>,
     row: usize,
@@ -34,7 +34,7 @@ pub(crate) fn begin_rectangle(
     begin_box(out, class, x, y, width_to(x, end), size.height)
 }
 
-// Begins a rectangle at a place, of this size.
+// Begins a rectangle at a point, of this size.
 fn begin_box(
     out: &mut Vec<u8>,
     class: &[u8],
@@ -57,14 +57,14 @@ fn begin_box(
     inside(out)
 }
 
-// Returns the width of a rectangle from one place to another, which is at least 2 pixels.
+// Returns the width of a rectangle from one x coordinate to another, which is at least 2 pixels.
 fn width_to(x: u64, end: u64) -> u64
     ensures { result ≡ width_to x end }
 {
     end.saturating_sub(x).max(2)
 }
 
-// Appends a text at a place.
+// Appends a text at a point.
 pub(crate) fn push_words(
     out: &mut Vec<u8>,
     class: &[u8],
@@ -80,7 +80,7 @@ pub(crate) fn push_words(
     end(out, Tag::Text)
 }
 
-// Begins a text at a place.
+// Begins a text at a point.
 fn begin_words(out: &mut Vec<u8>, class: &[u8], x: u64, y: u64) -> Result<(), AllocError>
     ensures { OnOk result (out.new.items ≡ out.old.items ++ start_tag tags.Text
         (attribute attrs.Class class.now ∷ attribute attrs.X (decimal x) ∷ attribute attrs.Y (decimal y) ∷ [])) }
@@ -92,7 +92,7 @@ fn begin_words(out: &mut Vec<u8>, class: &[u8], x: u64, y: u64) -> Result<(), Al
     inside(out)
 }
 
-// Begins a line from one place to another. Its content and its end tag come next.
+// Begins a line from one point to another. Its content and its end tag come next.
 pub(crate) fn begin_line(
     out: &mut Vec<u8>,
     class: &[u8],
@@ -112,7 +112,7 @@ pub(crate) fn begin_line(
     inside(out)
 }
 
-// Begins a cross at a place. Its content and its end tag come next.
+// Begins a cross at a point. Its content and its end tag come next.
 pub(crate) fn begin_cross(out: &mut Vec<u8>, x: u64, y: u64) -> Result<(), AllocError>
     ensures { OnOk result (out.new.items ≡ out.old.items ++ start_tag tags.Use (cross x y)) }
 {
@@ -123,7 +123,7 @@ pub(crate) fn begin_cross(out: &mut Vec<u8>, x: u64, y: u64) -> Result<(), Alloc
     inside(out)
 }
 
-// Begins a dot at a place. Its content and its end tag come next.
+// Begins a dot at a point. Its content and its end tag come next.
 pub(crate) fn begin_dot(out: &mut Vec<u8>, x: u64, y: u64) -> Result<(), AllocError>
     ensures { OnOk result (out.new.items ≡ out.old.items ++ start_tag tags.Circle (dot x y)) }
 {

@@ -23,7 +23,7 @@ pub(crate) struct Sheet<'s, 'k, 'e> {
 }
 
 impl<'s, 'k, 'e> Sheet<'s, 'k, 'e> {
-    // Returns the place of a column, in pixels from the left.
+    // Returns the x coordinate of a column, in pixels.
     pub(crate) fn x_at(&self, tick: u64) -> u64
         ensures value { result ≡ x_at (sheet_held self.now) tick }
         ensures bound { result ≤ 100000000 }
@@ -32,14 +32,14 @@ impl<'s, 'k, 'e> Sheet<'s, 'k, 'e> {
         LEFT + LETTER * (names + 2) + PLACE * place(self.columns, tick)
     }
 
-    // Returns the place where something at a tick is shown, in pixels from the left.
+    // Returns the x coordinate at which something at a tick is shown, in pixels.
     pub(crate) fn x_of(&self, tick: u64) -> u64
         ensures { result ≡ x_of (sheet_held self.now) tick }
     {
         self.x_at(column_at(self.columns, tick))
     }
 
-    // Returns the place where something that holds from a tick on begins to be shown, in pixels from the left.
+    // Returns the x coordinate at which something that holds from a tick on begins to be shown, in pixels.
     pub(crate) fn x_by(&self, tick: u64) -> u64
         ensures { result ≡ x_at (sheet_held self.now) (column_by (sheet_held self.now).columns tick) }
     {
@@ -47,7 +47,7 @@ impl<'s, 'k, 'e> Sheet<'s, 'k, 'e> {
     }
 }
 
-// Returns the distance of a column from the first of these, in places of text.
+// Returns the distance of a column from the first of these, in characters.
 fn place(columns: &[Column], tick: u64) -> u64
     ensures value { result ≡ place (map column_of columns.now) tick }
     ensures bound { result ≤ 1000000 }
@@ -62,7 +62,7 @@ fn place(columns: &[Column], tick: u64) -> u64
     gap.saturating_add(place(others, tick)).min(FARTHEST)
 }
 
-// Returns the place of a row, in pixels from the top.
+// Returns the y coordinate of a row, in pixels.
 pub(crate) fn y_of(row: usize) -> u64
     ensures value { result ≡ y_of row }
     ensures bound { result ≤ 48044 }

@@ -4,6 +4,7 @@ use Rattle.std.proofs.lemmas.Bool.{cases_lt}
 use mathlib.Core.Option.{none}
 use Rattle.atomic_table.specs.Table.{State, Me, keeps, step, stepped, Allows, Splits, Joins, Final, Seen}
 use Rattle.atomic_table.proofs.Lists.{set_else}
+use Rattle.claim_word.specs.declared.limits.TheConstants.{MAX_REQUESTS}
 use Rattle.claim_word.specs.declared.rule.Hand.{Hand}
 use Rattle.claim_word.specs.declared.rule.Counts.{Counts}
 use Rattle.claim_word.specs.Rule.{hand, Claimed, Kept, one_less, new_hand, both_hands, spent_hand, Draws}
@@ -20,7 +21,7 @@ placed counts s n id me w wide rule = (
 
 -- a claim may be made with a ticket that has not got `None`
 pub claims_allowed : (counts : Counts) (slots id : ℕ) (me : Me (Unit {0}) Hand) → me.0.parts ≡ 1 → me.0.nones ≡ 0 →
-    counts.requests ≤ 4000000 → counts.passes ≤ 64
+    counts.requests ≤ MAX_REQUESTS → counts.passes ≤ 64
     → Allows (Kept counts) slots id me 0 (λ n. (n + 1) % 18446744073709551616) (Draws (step slots 0 1 0 none) me)
 claims_allowed counts slots id me one untold few_requests few_passes s rule homes at small =
     let word = slice_index s.words 0 in

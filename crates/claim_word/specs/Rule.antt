@@ -1,6 +1,6 @@
 -- The rule of the shared word, which counts all claims so far, and of the hands, which are what is known of the tickets. A
 -- hand that was joined to another is spent: it stands for no ticket and has drawn nothing.
-use Rattle.std.specs.Prelude.{◌≡◌, ℕ, ◌+◌, ◌-◌, ◌<◌, ◌≤◌, List, [], ◌∷◌, ◌++◌, length, min, cond, nat_eq, slice_index, All}
+use Rattle.std.specs.Prelude.{◌≡◌, ℕ, ◌+◌, ◌-◌, ◌<◌, ◌≤◌, List, [], ◌∷◌, ◌++◌, length, min, ◌==◌, if◌then◌else◌, slice_index, All}
 use mathlib.Core.Option.{some}
 use lib.ListN.{get_elem?}
 use Rattle.atomic_table.specs.Table.{State, Me, Step}
@@ -13,7 +13,7 @@ hand most parts drawn nones = record { most = most; parts = parts; drawn = drawn
 -- how often x occurs in a list
 abbrev pub times : ℕ → List ℕ → ℕ
 times x [] = 0
-times x (y ∷ ys) = cond (nat_eq x y) 1 0 + times x ys
+times x (y ∷ ys) = (if x == y then 1 else 0) + times x ys
 
 -- the sum of f over all hands
 abbrev pub total : (Hand → ℕ) → List Hand → ℕ

@@ -1,4 +1,5 @@
 ghost use Rattle.std.specs.Prelude.{◌≡◌, ◌≢◌, ℕ, ◌+◌, ◌<◌, ◌≤◌, false, true, [], ◌∷◌, ◌++◌, All, Any, IfOk, IfSome, IsSome, IsNone, sum_by, count_by, nat_eq, vec_len};
+ghost use Rattle.claim_word.specs.declared.limits.TheConstants.{MAX_REQUESTS};
 
 use crate::rule::{Counts, Cut, Draw, Gather, Word};
 use crate::worker::Pass;
@@ -12,21 +13,21 @@ pub struct Claims {
     ghost one_word: { word.shared.table_id.words ≡ 1 },
     ghost no_slot: { word.shared.table_id.slots ≡ 0 },
     ghost known: { word.shared.key.requests ≡ requests },
-    ghost few: { (requests ≤ 4000000) × (word.shared.key.passes ≤ 64) },
+    ghost few: { (requests ≤ MAX_REQUESTS) × (word.shared.key.passes ≤ 64) },
 }
 
 impl Claims {
     ghost use Rattle.claim_word.specs.Claims.{requests_of, passes_of, IsPassOf, drawn_by, was_told};
 
     /// Creates claims for the numbers from 0 up to `requests`, which is left out, and the given number of tickets, which
-    /// have drawn nothing yet. The caller must ensure that there are at most 4,000,000 requests and from 1 to 64 tickets.
+    /// have drawn nothing yet. The caller must ensure that there are at most `MAX_REQUESTS` requests and from 1 to 64 tickets.
     /// Returns `AllocError` if memory is refused.
     pub fn new(
         alloc: Global,
         requests: usize,
         passes: usize,
     ) -> Result<(Claims, Vec<Pass>), AllocError>
-        requires few_requests { requests ≤ 4000000 }
+        requires few_requests { requests ≤ MAX_REQUESTS }
         requires some_pass { 1 ≤ passes }
         requires few_passes { passes ≤ 64 }
         ensures requests { IfOk result (λ made. requests_of made.0 ≡ requests) }

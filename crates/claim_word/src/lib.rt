@@ -7,8 +7,10 @@
 #![tactic(auto)]
 
 mod batch;
+mod limits;
 mod rule;
 mod worker;
 
 pub use batch::Claims;
+pub use limits::MAX_REQUESTS;
 pub use worker::Pass;

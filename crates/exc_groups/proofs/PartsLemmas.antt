@@ -3,7 +3,7 @@ use Rattle.std.proofs.Common.{◌≡◌, ℕ, zero, suc, ◌+◌, ◌<◌, ◌�
 use Rattle.std.specs.Prelude.{Bool, Option, Some, None, slice_index_or}
 use Rattle.std.specs.Option.{option_map}
 use Rattle.exc_groups.specs.Exceptions.{Excs, no_parts, part, Exc as Tree, Whose, group, group_of}
-use Rattle.exc_groups.specs.Split.{pruned, pruned_parts, with_part}
+use Rattle.exc_groups.specs.Split.{pruned_exc, pruned_parts, with_part}
 use Rattle.exc_groups.specs.declared.exc.Exc.{Exc}
 use Rattle.exc_groups.specs.Held.{exc_of, excs_of}
 use Rattle.exc_groups.specs.Weigh.{weight_of, weight_in}
@@ -40,8 +40,8 @@ pub pruned_parts-append : (test : Tree → Bool) (es fs : Excs) →
     pruned_parts test (appended es fs) ≡ appended (pruned_parts test es) (pruned_parts test fs)
 pruned_parts-append test no_parts fs = refl
 pruned_parts-append test (part e es) fs =
-    ap (with_part (pruned test e)) (pruned_parts-append test es fs)
-    ∙ sym (pruned_parts-with test (pruned test e) (pruned_parts test es) (pruned_parts test fs))
+    ap (with_part (pruned_exc test e)) (pruned_parts-append test es fs)
+    ∙ sym (pruned_parts-with test (pruned_exc test e) (pruned_parts test es) (pruned_parts test fs))
 
 weight_of-some : (es : Excs) → 1 ≤ weight_of es
 weight_of-some no_parts = omega arith
@@ -65,14 +65,14 @@ copied_more parts copies new i x copy h before same at e =
     ∙ sym (excs_of-take parts i x h)
 
 -- what is left of the parts so far, and of the next one
-pruned_next : (test : Tree → Bool) (parts : List Exc) (i : ℕ) (x : Exc) (o : Option Tree) → i < length parts → o ≡ pruned test (exc_of x) →
+pruned_next : (test : Tree → Bool) (parts : List Exc) (i : ℕ) (x : Exc) (o : Option Tree) → i < length parts → o ≡ pruned_exc test (exc_of x) →
     x ≡ slice_index_or parts i x → pruned_parts test (excs_of (take (i + 1) parts))
     ≡ appended (pruned_parts test (excs_of (take i parts))) (with_part o no_parts)
 pruned_next test parts i x o h is at =
     ap (pruned_parts test) (excs_of-take parts i x h)
     ∙ pruned_parts-append test (excs_of (take i parts)) (part (exc_of (slice_index_or parts i x)) no_parts)
     ∙ ap (λ y. appended (pruned_parts test (excs_of (take i parts))) (with_part y no_parts))
-    (ap (λ z. pruned test (exc_of z)) (sym at) ∙ sym is)
+    (ap (λ z. pruned_exc test (exc_of z)) (sym at) ∙ sym is)
 
 appended-none : (es : Excs) → appended es no_parts ≡ es
 appended-none no_parts = refl
@@ -80,7 +80,7 @@ appended-none (part e es) = ap (part e) (appended-none es)
 
 -- the next part has a leaf left
 pub pruned_some : (test : Tree → Bool) (parts left new : List Exc) (i : ℕ) (x y : Exc) (o : Option Exc) → i < length parts →
-    excs_of left ≡ pruned_parts test (excs_of (take i parts)) → option_map exc_of o ≡ pruned test (exc_of x) → o ≡ Some y →
+    excs_of left ≡ pruned_parts test (excs_of (take i parts)) → option_map exc_of o ≡ pruned_exc test (exc_of x) → o ≡ Some y →
     x ≡ slice_index_or parts i x → new ≡ left ++ y ∷ [] → excs_of new ≡ pruned_parts test (excs_of (take (i + 1) parts))
 pruned_some test parts left new i x y o h before is some at e =
     ap excs_of e
@@ -90,7 +90,7 @@ pruned_some test parts left new i x y o h before is some at e =
 
 -- the next part has no leaf left
 pub pruned_none : (test : Tree → Bool) (parts left new : List Exc) (i : ℕ) (x : Exc) (o : Option Exc) → i < length parts →
-    excs_of left ≡ pruned_parts test (excs_of (take i parts)) → option_map exc_of o ≡ pruned test (exc_of x) → o ≡ None →
+    excs_of left ≡ pruned_parts test (excs_of (take i parts)) → option_map exc_of o ≡ pruned_exc test (exc_of x) → o ≡ None →
     x ≡ slice_index_or parts i x → new ≡ left → excs_of new ≡ pruned_parts test (excs_of (take (i + 1) parts))
 pruned_none test parts left new i x o h before is none at e =
     ap excs_of e

@@ -25,23 +25,23 @@ mark_code =
 abbrev no_label : Label
 no_label = record { name = []; indices = [] }
 
-abbrev marked : ℕ → List ℕ → Label → ℕ → Mark
-marked kind name label tick = record { kind = kind; name = name; label = label; tick = tick }
+abbrev mark_of : ℕ → List ℕ → Label → ℕ → Mark
+mark_of kind name label tick = record { kind = kind; name = name; label = label; tick = tick }
 
 abbrev whose_mark : Whose → Mark
-whose_mark (by_nursery label) = marked 4 [] label 0
-whose_mark by_handler = marked 5 [] no_label 0
+whose_mark (by_nursery label) = mark_of 4 [] label 0
+whose_mark by_handler = mark_of 5 [] no_label 0
 
 -- the parts of a group as marks, each in front of the marks of its own parts
 abbrev mutual
   marks_of : Excs → List Mark → List Mark
-  marks_of no_parts rest = marked 0 [] no_label 0 ∷ rest
+  marks_of no_parts rest = mark_of 0 [] no_label 0 ∷ rest
   marks_of (part e es) rest = marks_in e (marks_of es rest)
 
   marks_in : Exc → List Mark → List Mark
-  marks_in cancelled rest = marked 1 [] no_label 0 ∷ rest
-  marks_in (raised name task tick) rest = marked 2 name task tick ∷ rest
-  marks_in (too_slow scope tick) rest = marked 3 [] scope tick ∷ rest
+  marks_in cancelled rest = mark_of 1 [] no_label 0 ∷ rest
+  marks_in (raised name task tick) rest = mark_of 2 name task tick ∷ rest
+  marks_in (too_slow scope tick) rest = mark_of 3 [] scope tick ∷ rest
   marks_in (group whose parts) rest = whose_mark whose ∷ marks_of parts rest
 
 -- an exception in front of the first parts that were read back

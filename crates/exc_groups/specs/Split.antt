@@ -31,20 +31,20 @@ leaf_if false e = None
 
 -- an exception reduced to the leaves that pass a test, or `None` where none does
 abbrev mutual
-  pub pruned : (Exc → Bool) → Exc → Option Exc
-  pruned test cancelled = leaf_if (test cancelled) cancelled
-  pruned test (raised name task tick) = leaf_if (test (raised name task tick)) (raised name task tick)
-  pruned test (too_slow scope tick) = leaf_if (test (too_slow scope tick)) (too_slow scope tick)
-  pruned test (group whose parts) = group_of whose (pruned_parts test parts)
+  pub pruned_exc : (Exc → Bool) → Exc → Option Exc
+  pruned_exc test cancelled = leaf_if (test cancelled) cancelled
+  pruned_exc test (raised name task tick) = leaf_if (test (raised name task tick)) (raised name task tick)
+  pruned_exc test (too_slow scope tick) = leaf_if (test (too_slow scope tick)) (too_slow scope tick)
+  pruned_exc test (group whose parts) = group_of whose (pruned_parts test parts)
 
   pub pruned_parts : (Exc → Bool) → Excs → Excs
   pruned_parts test no_parts = no_parts
-  pruned_parts test (part e es) = with_part (pruned test e) (pruned_parts test es)
+  pruned_parts test (part e es) = with_part (pruned_exc test e) (pruned_parts test es)
 
 -- the leaves that match
 abbrev pub keep : Wanted → Exc → Option Exc
-keep w e = pruned (matches w) e
+keep w e = pruned_exc (matches w) e
 
 -- the leaves that do not match
 abbrev pub drop : Wanted → Exc → Option Exc
-drop w e = pruned (λ leaf. not (matches w leaf)) e
+drop w e = pruned_exc (λ leaf. not (matches w leaf)) e

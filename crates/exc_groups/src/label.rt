@@ -60,11 +60,11 @@ impl Label {
     pub fn copy(&self, alloc: Global) -> Result<Label, AllocError>
         ensures { IfOk result (λ label. label ≡ self.now) }
     {
-        self.named(alloc, self.name)
+        self.with_name(alloc, self.name)
     }
 
     /// Returns the label with `name` and the same indices, or `AllocError` if memory is refused.
-    pub fn named(&self, alloc: Global, name: Name) -> Result<Label, AllocError>
+    pub fn with_name(&self, alloc: Global, name: Name) -> Result<Label, AllocError>
         ensures { IfOk result (λ label. label ≡ record { name = name; indices = self.now.indices }) }
     {
         let indices = SmallVec::from_slice(alloc, self.indices.as_slice())?;
@@ -72,7 +72,7 @@ impl Label {
     }
 
     /// Returns the label with one more index, which is the innermost, or `AllocError` if memory is refused.
-    pub fn indexed(self, index: u64) -> Result<Label, AllocError>
+    pub fn with_index(self, index: u64) -> Result<Label, AllocError>
         ensures { IfOk result (λ label. label ≡ record { name = self.name; indices = self.indices ++ index ∷ [] }) }
     {
         let mut indices = self.indices;

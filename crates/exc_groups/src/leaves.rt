@@ -1,7 +1,7 @@
 ghost use Rattle.std.specs.Prelude.{◌≡◌, Bool, true, IfOk, if◌then◌else◌};
 ghost use Rattle.std.specs.Option.{option_map};
 ghost use Rattle.exc_groups.specs.Exceptions.{group_of, holds_cancelled as holding, hold_cancelled};
-ghost use Rattle.exc_groups.specs.Split.{matches as matching, pruned, pruned_parts, keep, drop};
+ghost use Rattle.exc_groups.specs.Split.{matches as matching, pruned_exc, pruned_parts, keep, drop};
 ghost use Rattle.exc_groups.specs.Held.{exc_of, excs_of, whose_of};
 ghost use Rattle.exc_groups.specs.Matching.{wanted_of, side};
 
@@ -83,7 +83,7 @@ fn is_match(exc: &Exc, wanted: &Match) -> bool
 // Returns one side of a split: the leaves that match if `keeps`, and the other leaves otherwise.
 #[cycle(prune)]
 fn prune(alloc: Global, exc: &Exc, wanted: &Match, keeps: bool) -> Result<Option<Exc>, AllocError>
-    ensures { IfOk result (λ left. option_map exc_of left ≡ pruned (side keeps (wanted_of wanted.now)) (exc_of exc.now)) }
+    ensures { IfOk result (λ left. option_map exc_of left ≡ pruned_exc (side keeps (wanted_of wanted.now)) (exc_of exc.now)) }
 {
     if let Exc::Group { whose, parts } = exc {
         let left = prune_parts(alloc, parts.as_slice(), wanted, keeps)?;

@@ -3,7 +3,7 @@ use Rattle.std.specs.Prelude.{◌≡◌, ℕ, ◌+◌, ◌<◌, ◌==◌, if◌t
 use Rattle.std.specs.Io.KnownBytes.{Appends}
 use Rattle.job_tree.specs.Tree.{Tree}
 use Rattle.job_grammar.specs.Refusals.{Spells, IsRefused}
-use Rattle.job_layout.specs.Layout.{formatted}
+use Rattle.job_layout.specs.Layout.{formatted_text}
 use Rattle.job_layout.specs.Faults.{IsFormatted, IsTooLong}
 use Rattle.nursery_app.specs.Verdict.{refusal_line}
 use Rattle.nursery_app.specs.declared.verdict.ServeFault.{ServeFault}
@@ -54,7 +54,7 @@ compared text bytes = by_place (difference text bytes)
 
 -- for a text that spells a job: the comparison with the formatted text of the job
 abbrev pub IsComparison : List ℕ → FormatCheck → Type 0
-IsComparison text check = (job : Tree) × Spells text job × (check ≡ compared text (formatted job))
+IsComparison text check = (job : Tree) × Spells text job × (check ≡ compared text (formatted_text job))
 
 -- the result of the check of a text
 abbrev pub IsCheck : List ℕ → FormatCheck → Type 0

@@ -1,4 +1,5 @@
-ghost use Rattle.std.specs.Prelude.{◌≡◌, ◌+◌, ◌*◌, min};
+ghost use Rattle.std.specs.Prelude.{◌≡◌, ◌+◌, ◌*◌};
+ghost use Rattle.std.specs.Io.Iter.{u64_saturate};
 ghost use Rattle.job_tree.specs.Blocks.{step_of, steps_of, handled_of, cleaned_of};
 ghost use Rattle.job_tree.specs.Names.{copies_of, size_of, size_in, handled_size, cleaned_size};
 
@@ -8,7 +9,7 @@ use job_tree::{Body, Handler, Step};
 /// more. The copies of a `start .. over` and the passes of a `repeat` are counted. Does not allocate.
 #[cycle(size)]
 pub fn size_of(steps: &[Step]) -> u64
-    ensures { result ≡ min (size_of (steps_of steps.now)) 18446744073709551615 }
+    ensures { result ≡ u64_saturate (size_of (steps_of steps.now)) }
 {
     let mut size: u64 = 0;
     'steps: for step in steps {
@@ -21,7 +22,7 @@ pub fn size_of(steps: &[Step]) -> u64
 // Returns the number of step instances of one step.
 #[cycle(size)]
 fn size_in(step: &Step) -> u64
-    ensures { result ≡ min (size_in (step_of step.now)) 18446744073709551615 }
+    ensures { result ≡ u64_saturate (size_in (step_of step.now)) }
 {
     match step {
         Step::Scope { body, .. } => one_more(size_of(body.as_slice())),
@@ -46,7 +47,7 @@ fn size_in(step: &Step) -> u64
 
 #[cycle(size)]
 fn handled_size(handler: &Option<Handler>) -> u64
-    ensures { result ≡ min (handled_size (handled_of handler.now)) 18446744073709551615 }
+    ensures { result ≡ u64_saturate (handled_size (handled_of handler.now)) }
 {
     match handler {
         Some(handler) => size_of(handler.body.as_slice()),
@@ -56,7 +57,7 @@ fn handled_size(handler: &Option<Handler>) -> u64
 
 #[cycle(size)]
 fn cleaned_size(cleanup: &Option<Body>) -> u64
-    ensures { result ≡ min (cleaned_size (cleaned_of cleanup.now)) 18446744073709551615 }
+    ensures { result ≡ u64_saturate (cleaned_size (cleaned_of cleanup.now)) }
 {
     match cleanup {
         Some(body) => size_of(body.as_slice()),
@@ -65,14 +66,14 @@ fn cleaned_size(cleanup: &Option<Body>) -> u64
 }
 
 fn one_more(size: u64) -> u64
-    ensures { result ≡ min (1 + size) 18446744073709551615 }
+    ensures { result ≡ u64_saturate (1 + size) }
 {
     size.saturating_add(1)
 }
 
 // Returns the number of step instances of all copies or all passes.
 fn times(over: Option<u64>, size: u64) -> u64
-    ensures { result ≡ min (copies_of over * size) 18446744073709551615 }
+    ensures { result ≡ u64_saturate (copies_of over * size) }
 {
     match over {
         Some(copies) => copies.saturating_mul(size),

@@ -1,5 +1,6 @@
 -- A job text in finer ticks, and with one site moved by a hair.
-use Rattle.std.specs.Prelude.{ℕ, ◌+◌, ◌-◌, ◌*◌, ◌==◌, min, max, nat_le, if◌then◌else◌, List, [], ◌∷◌, ◌++◌, Option, Some, None}
+use Rattle.std.specs.Prelude.{ℕ, ◌+◌, ◌-◌, ◌*◌, ◌==◌, max, nat_le, if◌then◌else◌, List, [], ◌∷◌, ◌++◌, Option, Some, None}
+use Rattle.std.specs.Io.Iter.{u64_saturate}
 use Rattle.job_edits.specs.declared.change.Piece.TheVariants as piece
 use Rattle.job_edits.specs.declared.change.Change.{Change}
 use Rattle.job_edits.specs.declared.number.Number.{Number}
@@ -47,7 +48,7 @@ abbrev pub capped : ℕ → ℕ
 capped n = min n 18446744073709551615
 
 abbrev pub ticks_by : Finer → Number → ℕ
-ticks_by finer n = capped (n.value * finer.factor)
+ticks_by finer n = u64_saturate (n.value * finer.factor)
 
 -- A number of ticks is multiplied; a `pace` is repeated.
 abbrev pub finer_at : Finer → ℕ → Moment → List Change
@@ -55,7 +56,7 @@ finer_at finer from (Sleep n) = set_to n (ticks_by finer n) ∷ []
 finer_at finer from (After name n) = set_to n (ticks_by finer n) ∷ []
 finer_at finer from (At name n) = set_to n (ticks_by finer n) ∷ []
 finer_at finer from (Checkpoint to) = []
-finer_at finer from (Pace lines to) = inserted from (piece.OpenRepeat finer.factor) ∷ inserted (capped (to + 1)) piece.Close ∷ []
+finer_at finer from (Pace lines to) = insertion from (piece.OpenRepeat finer.factor) ∷ insertion (u64_saturate (to + 1)) piece.Close ∷ []
 finer_at finer from (Start name opening) = []
 
 abbrev pub finer_all : Finer → List Site → List Change
@@ -87,9 +88,9 @@ abbrev pub shifts_of : List Site → List Shift
 shifts_of [] = []
 shifts_of (s ∷ ss) = shifts_with s (hairs_of s.moment) ++ shifts_of ss
 
-abbrev pub moved : Finer → Number → Hair → ℕ
-moved finer n Earlier = ticks_by finer n - finer.hair
-moved finer n Later = capped (ticks_by finer n + finer.hair)
+abbrev pub moved_ticks : Finer → Number → Hair → ℕ
+moved_ticks finer n Earlier = ticks_by finer n - finer.hair
+moved_ticks finer n Later = u64_saturate (ticks_by finer n + finer.hair)
 
 -- A number of ticks is moved; in place of a `checkpoint` there is a sleep of a hair; a `pace` sleeps a hair after its
 -- end, and a task at its start.
@@ -99,8 +100,8 @@ shifted_at finer hair from (After name n) = set_to n (moved finer n hair) ∷ []
 shifted_at finer hair from (At name n) = set_to n (moved finer n hair) ∷ []
 shifted_at finer hair from (Checkpoint to) = record { from = from; to = to; piece = piece.Sleep finer.hair } ∷ []
 shifted_at finer hair from (Pace lines to) =
-    inserted from (piece.OpenRepeat finer.factor) ∷ inserted (capped (to + 1)) piece.Close ∷ inserted (capped (to + 1)) (piece.ThenSleep finer.hair) ∷ []
-shifted_at finer hair from (Start name opening) = inserted (capped (opening + 1)) (piece.ThenSleep finer.hair) ∷ []
+    insertion from (piece.OpenRepeat finer.factor) ∷ insertion (u64_saturate (to + 1)) piece.Close ∷ insertion (u64_saturate (to + 1)) (piece.ThenSleep finer.hair) ∷ []
+shifted_at finer hair from (Start name opening) = insertion (u64_saturate (opening + 1)) (piece.ThenSleep finer.hair) ∷ []
 
 -- a site, which may be the one that is moved by a hair
 abbrev pub shifted_or_finer : Finer → Shift → Site → List Change

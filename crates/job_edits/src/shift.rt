@@ -1,4 +1,5 @@
 ghost use Rattle.std.specs.Prelude.{◌≡◌, ◌+◌, ◌++◌, ◌∷◌, [], IfOk, OnOk};
+ghost use Rattle.std.specs.Io.Iter.{u64_saturate};
 ghost use Rattle.job_edits.specs.declared.change.Piece.TheVariants as piece;
 ghost use Rattle.job_edits.specs.Faults.{inserted};
 ghost use Rattle.job_edits.specs.Numbers.{set_to};
@@ -158,7 +159,7 @@ fn push_repeat(
     to: usize,
 ) -> Result<(), AllocError>
     ensures { OnOk result (changes.new.items
-        ≡ changes.old.items ++ (inserted from (piece.OpenRepeat finer.factor) ∷ inserted (capped (to + 1)) piece.Close ∷ [])) }
+        ≡ changes.old.items ++ (insertion from (piece.OpenRepeat finer.factor) ∷ insertion (u64_saturate (to + 1)) piece.Close ∷ [])) }
 {
     push(changes, from, from, Piece::OpenRepeat(finer.factor))?;
     push_after(changes, to, Piece::Close)
@@ -173,7 +174,7 @@ fn push_number(changes: &mut Vec<Change>, number: Number, value: u64) -> Result<
 
 // Appends the change that puts a piece after the byte at a place.
 fn push_after(changes: &mut Vec<Change>, at: usize, piece: Piece) -> Result<(), AllocError>
-    ensures { OnOk result (changes.new.items ≡ changes.old.items ++ inserted (capped (at + 1)) piece ∷ []) }
+    ensures { OnOk result (changes.new.items ≡ changes.old.items ++ insertion (u64_saturate (at + 1)) piece ∷ []) }
 {
     let after = at.saturating_add(1);
     push(changes, after, after, piece)

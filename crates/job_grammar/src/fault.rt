@@ -104,7 +104,7 @@ impl From<AllocError> for JobFault {
     }
 }
 
-/// Returns a refusal of this kind at the place that a check found, or `Ok` if it found none.
+// Returns a refusal of this kind at the place that a check found, or `Ok` if it found none.
 pub(crate) fn refuse_at(found: Option<usize>, kind: JobKind) -> Result<(), JobFault>
     ensures ok { OnOk result (found ≡ None) }
     ensures err { IfErr result (λ fault. (found ≡ Some fault.at) × (fault.kind ≡ kind)) }

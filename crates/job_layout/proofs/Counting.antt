@@ -6,7 +6,7 @@ use Rattle.job_layout.specs.declared.spaced.Gap.TheVariants as gaps
 use Rattle.job_layout.specs.declared.spaced.SpacedToken.{SpacedToken}
 use Rattle.job_layout.specs.Spaced.{indent, column_behind, column_after}
 use Rattle.job_layout.specs.Layout.{fits}
-use Rattle.job_layout.specs.Columns.{capped}
+use Rattle.std.specs.Io.Iter.{u64_saturate}
 
 pub indent_more : (n : ℕ) → 0 < n → indent n ≡ 32 ∷ 32 ∷ indent (n - 1)
 indent_more zero some = absurd (omega arith)
@@ -17,12 +17,12 @@ column_append c [] ys = refl
 column_append c (x ∷ xs) ys = column_append (column_behind c x.gap + length (token x.shape)) xs ys
 
 -- the column after the first of some tokens
-capped_first : (c d w : ℕ) (gap : Gap) → capped c ≡ capped d → capped (column_behind c gap + w) ≡ capped (column_behind d gap + w)
+capped_first : (c d w : ℕ) (gap : Gap) → u64_saturate c ≡ u64_saturate d → u64_saturate (column_behind c gap + w) ≡ u64_saturate (column_behind d gap + w)
 capped_first c d w gaps.Joined e = omega (arith, e)
 capped_first c d w gaps.Space e = omega (arith, e)
 capped_first c d w (gaps.Line level) e = refl
 
-pub capped_after : (c d : ℕ) (ts : List SpacedToken) → capped c ≡ capped d → capped (column_after c ts) ≡ capped (column_after d ts)
+pub capped_after : (c d : ℕ) (ts : List SpacedToken) → u64_saturate c ≡ u64_saturate d → u64_saturate (column_after c ts) ≡ u64_saturate (column_after d ts)
 capped_after c d [] e = e
 capped_after c d (t ∷ ts) e =
     capped_after (column_behind c t.gap + length (token t.shape)) (column_behind d t.gap + length (token t.shape)) ts
@@ -30,25 +30,25 @@ capped_after c d (t ∷ ts) e =
 
 -- one more token
 pub capped_next : (c end w : ℕ) (t : SpacedToken) (ts : List SpacedToken) → w ≡ length (token t.shape) →
-    end ≡ capped (capped (column_behind c t.gap) + w) → capped (column_after end ts) ≡ capped (column_after c (t ∷ ts))
+    end ≡ u64_saturate (u64_saturate (column_behind c t.gap) + w) → u64_saturate (column_after end ts) ≡ u64_saturate (column_after c (t ∷ ts))
 capped_next c end w t ts is e =
     capped_after end (column_behind c t.gap + length (token t.shape)) ts (omega (arith, is, e))
 
-pub capped_fits : (n : ℕ) → leb (capped n) 80 ≡ leb n 80
+pub capped_fits : (n : ℕ) → leb (u64_saturate n) 80 ≡ leb n 80
 capped_fits n = grind arith
 
 -- whether tokens fit, decided by the columns that are counted
-pub fits_by : (before ts : List SpacedToken) (column end : ℕ) → column ≡ capped (column_after 0 before) → end ≡ capped (column_after column ts) →
+pub fits_by : (before ts : List SpacedToken) (column end : ℕ) → column ≡ u64_saturate (column_after 0 before) → end ≡ u64_saturate (column_after column ts) →
     leb end 80 ≡ fits before ts
 fits_by before ts column end is at =
     ap (λ (n : ℕ). leb n 80) (at ∙ capped_after column (column_after 0 before) ts (omega (arith, is)))
     ∙ capped_fits (column_after (column_after 0 before) ts)
 
 -- the column that is kept, after one more token
-pub next_by : (before : List SpacedToken) (t : SpacedToken) (column end : ℕ) → column ≡ capped (column_after 0 before) →
-    end ≡ capped (capped (column_behind column t.gap) + length (token t.shape)) → end ≡ capped (column_after 0 (before ++ t ∷ []))
+pub next_by : (before : List SpacedToken) (t : SpacedToken) (column end : ℕ) → column ≡ u64_saturate (column_after 0 before) →
+    end ≡ u64_saturate (u64_saturate (column_behind column t.gap) + length (token t.shape)) → end ≡ u64_saturate (column_after 0 (before ++ t ∷ []))
 next_by before t column end is at =
-    let next : capped end ≡ capped (column_after column (t ∷ [])) = capped_next column end (length (token t.shape)) t [] refl at in
-    let same : capped (column_after column (t ∷ [])) ≡ capped (column_after (column_after 0 before) (t ∷ [])) =
+    let next : u64_saturate end ≡ u64_saturate (column_after column (t ∷ [])) = capped_next column end (length (token t.shape)) t [] refl at in
+    let same : u64_saturate (column_after column (t ∷ [])) ≡ u64_saturate (column_after (column_after 0 before) (t ∷ [])) =
     capped_after column (column_after 0 before) (t ∷ []) (omega (arith, is)) in
     omega (arith, at, next, same, column_append 0 before (t ∷ []))

@@ -18,7 +18,7 @@ use Rattle.job_grammar.specs.Jobs.{IsReadable}
 use Rattle.job_syntax.specs.Depth.{AreWithin}
 use Rattle.job_layout.specs.declared.spaced.SpacedToken.{SpacedToken}
 use Rattle.job_layout.specs.Spaced.{spaced_text}
-use Rattle.job_layout.specs.Layout.{job_tokens, formatted}
+use Rattle.job_layout.specs.Layout.{job_tokens, formatted_text}
 use Rattle.job_layout.proofs.Lexes.{shapes_in, AreApartBehind, spaced_lexes, all_append, spaced_small}
 use Rattle.job_layout.proofs.Laying.{job_lays}
 
@@ -40,7 +40,7 @@ laid_spells text job old ts is_of found same apart le =
     (all_append (spaced_text ts) (10 ∷ []) (spaced_small ts written) refl) lexed.0 lexed.1 (lexed.2 ∙ shapes) is_of.1 found
 
 -- the formatted text of a job that a text spells also spells it, if it is at most as long as a job text may be
-pub formatted_spells : (text : List ℕ) (job : Tree) → Spells text job → length (formatted job) ≤ most_bytes → Spells (formatted job) job
+pub formatted_spells : (text : List ℕ) (job : Tree) → Spells text job → length (formatted_text job) ≤ most_bytes → Spells (formatted_text job) job
 formatted_spells text job (old, is_of, none) le =
     let laid = job_lays job in
     let body = spaced_text (job_tokens job) ++ 10 ∷ [] in
@@ -48,15 +48,15 @@ formatted_spells text job (old, is_of, none) le =
     (omega (arith, le, length-append (first_line job.format) body, line_length job.format))
 
 -- another job that it spells is the same job
-pub formatted_again : (text : List ℕ) (job other : Tree) → Spells text job → length (formatted job) ≤ most_bytes → Spells (formatted job) other →
-    formatted other ≡ formatted job
-formatted_again text job other spells le again = ap formatted (one_spelled (formatted job) other job again (formatted_spells text job spells le))
+pub formatted_again : (text : List ℕ) (job other : Tree) → Spells text job → length (formatted_text job) ≤ most_bytes → Spells (formatted_text job) other →
+    formatted_text other ≡ formatted_text job
+formatted_again text job other spells le again = ap formatted_text (one_spelled (formatted_text job) other job again (formatted_spells text job spells le))
 
 -- the blocks of a job are nested at most 32 deep
 pub readable_within : (job : Tree) → IsReadable job → AreWithin 31 job.steps
 readable_within job (ts, is_of, none) = within (canon job) ts job is_of (none kind.Depth)
 
 -- bytes that are the formatted text of a job spell the job
-pub bytes_spell : (bytes : List ℕ) (job : Tree) → IsReadable job → bytes ≡ formatted job → length bytes ≤ most_bytes → Spells bytes job
+pub bytes_spell : (bytes : List ℕ) (job : Tree) → IsReadable job → bytes ≡ formatted_text job → length bytes ≤ most_bytes → Spells bytes job
 bytes_spell bytes job readable is le =
     subst (λ (text : List ℕ). Spells text job) (sym is) (formatted_spells (canon job) job readable (omega (arith, le, ap (length {A = ℕ}) is)))

@@ -7,13 +7,14 @@ use Rattle.job_tokens.specs.declared.token.Shape.{Shape}
 use Rattle.job_tokens.specs.declared.token.Shape.TheVariants as shape
 use Rattle.job_syntax.specs.declared.keyword.Keyword.TheVariants as word
 use Rattle.job_syntax.specs.declared.role.Role.TheVariants as role
-use Rattle.job_syntax.specs.Pieces.{Piece, shapes_in as pieces_shapes, keyword, named, opens, closes, ends, steps_pieces, handler_pieces, cleanup_pieces, job_pieces}
-use Rattle.job_layout.specs.Heads.{head_onto, tail_onto, head_of, is_plain}
-use Rattle.job_layout.proofs.Tails.{head_and_tail}
+use Rattle.job_syntax.specs.Pieces.{Piece, shapes_in as pieces_shapes, keyword, name_piece, opens, closes, ends, steps_pieces, handler_pieces, cleanup_pieces, job_pieces}
+use Rattle.job_grammar.specs.Heads.{head_onto, tail_onto}
+use Rattle.job_grammar.proofs.Tails.{head_and_tail}
+use Rattle.job_layout.specs.Heads.{head_of, is_plain}
 use Rattle.job_layout.specs.declared.spaced.Gap.TheVariants as gaps
 use Rattle.job_layout.specs.declared.spaced.SpacedToken.{SpacedToken}
-use Rattle.job_layout.specs.Spaced.{spaced, after_gap, mark_after}
-use Rattle.job_layout.specs.Layout.{opened, ended, plain_block, one_line, fits, fitting, line_or, with_block, step_line, with_steps, with_rest, with_handler, with_cleanup, job_tokens}
+use Rattle.job_layout.specs.Spaced.{spaced_tokens, after_gap, mark_after}
+use Rattle.job_layout.specs.Layout.{open_mark, semicolon_mark, plain_block, one_line, fits, fitting_line, line_or, with_block, step_line, with_steps, with_rest, with_handler, with_cleanup, job_tokens}
 use Rattle.job_layout.proofs.Lexes.{shapes_in, AreApart, AreApartBehind}
 
 abbrev Print : Type 0
@@ -58,11 +59,11 @@ lays_more old more all left prints apart = record {
 
 -- ---- heads
 
-spaced_shapes : (ss : List Shape) → shapes_in (spaced ss) ≡ ss
+spaced_shapes : (ss : List Shape) → shapes_in (spaced_tokens ss) ≡ ss
 spaced_shapes [] = refl
 spaced_shapes (s ∷ ss) = ap (λ (x : List Shape). s ∷ x) (spaced_shapes ss)
 
-spaced_apart : (ss : List Shape) → AreApart (spaced ss)
+spaced_apart : (ss : List Shape) → AreApart (spaced_tokens ss)
 spaced_apart [] = tt
 spaced_apart (s ∷ ss) = (tt, spaced_apart ss)
 
@@ -125,16 +126,16 @@ plain_prints s true is = (
   λ rest. ap (λ (ps : List Piece). pieces_shapes (opens ∷ ps))
       (head_and_tail s (closes ∷ rest) ∙ ap (head_onto s) (plain_tail s (closes ∷ rest) is))
       ∙ ap (λ (ss : List Shape). shape.Mark mark.Open ∷ ss) (head_front s (ends ∷ closes ∷ rest) ∙ around rest),
-  (tt, apart_append (spaced (head_of s)) (ended ∷ mark_after gaps.Space mark.Close ∷ []) (spaced_apart (head_of s)) (refl, (tt, tt))),
+  (tt, apart_append (spaced_tokens (head_of s)) (semicolon_mark ∷ mark_after gaps.Space mark.Close ∷ []) (spaced_apart (head_of s)) (refl, (tt, tt))),
 )
   where
     last : List SpacedToken
-    last = ended ∷ mark_after gaps.Space mark.Close ∷ []
+    last = semicolon_mark ∷ mark_after gaps.Space mark.Close ∷ []
 
-    around : (rest : List Piece) → head_of s ++ pieces_shapes (ends ∷ closes ∷ rest) ≡ shapes_in (spaced (head_of s) ++ last) ++ pieces_shapes rest
+    around : (rest : List Piece) → head_of s ++ pieces_shapes (ends ∷ closes ∷ rest) ≡ shapes_in (spaced_tokens (head_of s) ++ last) ++ pieces_shapes rest
     around rest = sym (append_assoc (head_of s) (shapes_in last) (pieces_shapes rest))
         ∙ ap (λ (ss : List Shape). (ss ++ shapes_in last) ++ pieces_shapes rest) (sym (spaced_shapes (head_of s)))
-        ∙ ap (λ (ss : List Shape). ss ++ pieces_shapes rest) (sym (shapes_append (spaced (head_of s)) last))
+        ∙ ap (λ (ss : List Shape). ss ++ pieces_shapes rest) (sym (shapes_append (spaced_tokens (head_of s)) last))
 
 line_prints : (body : Steps) → PrintsIfSome body (one_line body)
 line_prints stop = (λ rest. refl, (tt, (refl, tt)))
@@ -142,7 +143,7 @@ line_prints (step s stop) = plain_prints s (is_plain s) refl
 line_prints (step s (step t ss)) = tt
 
 fitting_prints : (body : Steps) (old : List SpacedToken) (line : Option (List SpacedToken)) → PrintsIfSome body line →
-    PrintsIfSome body (fitting old line)
+    PrintsIfSome body (fitting_line old line)
 fitting_prints body old None prints = tt
 fitting_prints body old (Some line) prints = by_test (fits old line)
   where
@@ -156,15 +157,15 @@ LaysSteps body steps = (before : List SpacedToken) → Lays before (steps_pieces
 
 block_lays : (level : ℕ) (body : Steps) (steps : List SpacedToken → List SpacedToken) (left : Print) → LaysSteps body steps →
     (old : List SpacedToken) → Lays old (λ rest. block_onto body (left rest)) (with_block level body steps old) left
-block_lays level body steps left lays old = by_line (fitting old (one_line body)) (fitting_prints body old (one_line body) (line_prints body))
+block_lays level body steps left lays old = by_line (fitting_line old (one_line body)) (fitting_prints body old (one_line body) (line_prints body))
   where
     by_line : (line : Option (List SpacedToken)) → PrintsIfSome body line →
         Lays old (λ rest. block_onto body (left rest)) (line_or level line steps old) left
     by_line (Some line) prints = lays_more old line (λ rest. block_onto body (left rest)) left (λ rest. prints.0 (left rest)) prints.1
     by_line None prints =
-        let inner = old ++ opened ∷ [] in
+        let inner = old ++ open_mark ∷ [] in
         lays_both old inner (line_or level None steps old) (λ rest. block_onto body (left rest)) (λ rest. steps_pieces body (left rest)) left
-        (lays_more old (opened ∷ []) (λ rest. block_onto body (left rest)) (λ rest. steps_pieces body (left rest)) (λ rest. refl) (tt, tt))
+        (lays_more old (open_mark ∷ []) (λ rest. block_onto body (left rest)) (λ rest. steps_pieces body (left rest)) (λ rest. refl) (tt, tt))
         (lays_both inner (steps inner) (line_or level None steps old) (λ rest. steps_pieces body (left rest)) (λ rest. closes ∷ left rest) left
         (record { same = λ rest. (lays inner).same (left rest); apart = (lays inner).apart })
         (lays_more (steps inner) (mark_after (gaps.Line level) mark.Close ∷ []) (λ rest. closes ∷ left rest) left (λ rest. refl) (tt, tt)))
@@ -206,13 +207,13 @@ mutual
       (lays_both tried handled (with_cleanup level cleanup handled) (λ rest. handler_pieces handler (cleanup_pieces cleanup (left rest)))
       (λ rest. cleanup_pieces cleanup (left rest)) left
       (handler_lays level handler (λ rest. cleanup_pieces cleanup (left rest)) tried) (cleanup_lays level cleanup left handled))
-  rest_lays level _ left before = lays_more before (ended ∷ []) (λ rest. ends ∷ left rest) left (λ rest. refl) (refl, tt)
+  rest_lays level _ left before = lays_more before (semicolon_mark ∷ []) (λ rest. ends ∷ left rest) left (λ rest. refl) (refl, tt)
 
   handler_lays : (level : ℕ) (handler : Handled) (left : Print) (before : List SpacedToken) →
       Lays before (λ rest. handler_pieces handler (left rest)) (with_handler level handler before) left
   handler_lays level unhandled left before = lays_none before left
   handler_lays level (except name body) left before =
-      let words = after_gap gaps.Space (pieces_shapes (keyword word.Except ∷ named role.Handled name ∷ [])) in
+      let words = after_gap gaps.Space (pieces_shapes (keyword word.Except ∷ name_piece role.Handled name ∷ [])) in
       lays_both before (before ++ words) (with_handler level (except name body) before) (λ rest. handler_pieces (except name body) (left rest))
       (λ rest. block_onto body (left rest)) left
       (lays_more before words (λ rest. handler_pieces (except name body) (left rest)) (λ rest. block_onto body (left rest)) (λ rest. refl) (tt, (tt, tt)))
@@ -233,6 +234,6 @@ mutual
 -- the tokens of a job are those that it prints, and each but the first is apart
 pub job_lays : (job : Tree) → (shapes_in (job_tokens job) ≡ pieces_shapes (job_pieces job)) × AreApartBehind (job_tokens job)
 job_lays job =
-    let words = after_gap gaps.Joined (pieces_shapes (keyword word.Job ∷ named role.Given job.name ∷ [])) in
+    let words = after_gap gaps.Joined (pieces_shapes (keyword word.Job ∷ name_piece role.Given job.name ∷ [])) in
     let laid = block_lays 0 job.steps (with_steps 1 job.steps) (λ rest. rest) (steps_lay 1 job.steps) words in
     (sym (laid.same [] ∙ append-nil (shapes_in (job_tokens job))), laid.apart (tt, tt))

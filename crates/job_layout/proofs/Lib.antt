@@ -1,6 +1,5 @@
 pub mod Rereading
 pub mod Lexes
-pub mod Tails
 pub mod Laying
 pub mod Passed
 pub mod Formatted

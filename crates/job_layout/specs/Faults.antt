@@ -7,7 +7,7 @@ use Rattle.job_grammar.specs.declared.fault.JobFault.{JobFault}
 use Rattle.job_grammar.specs.Refusals.{most_bytes, IsRefused, Spells}
 use Rattle.job_layout.specs.declared.fault.FormatFault.{FormatFault}
 use Rattle.job_layout.specs.declared.fault.FormatFault.TheVariants.{Refused, TooLong, NoMemory}
-use Rattle.job_layout.specs.Layout.{formatted}
+use Rattle.job_layout.specs.Layout.{formatted_text}
 
 -- a refusal of a text, or that memory was refused
 abbrev pub fault_by : JobKind → JobFault → FormatFault
@@ -21,12 +21,12 @@ fault_of fault = fault_by fault.kind fault
 pub record IsFormatted (text bytes : List ℕ) : Type 0 where
   pub job : Tree
   pub spelled : Spells text job
-  pub same : bytes ≡ formatted job
+  pub same : bytes ≡ formatted_text job
   pub again : Spells bytes job
 
 -- a formatted text of this number of bytes, which is more than a job text may have
 abbrev pub IsTooLong : Tree → ℕ → Type 0
-IsTooLong job bytes = (bytes ≡ length (formatted job)) × (most_bytes < length (formatted job))
+IsTooLong job bytes = (bytes ≡ length (formatted_text job)) × (most_bytes < length (formatted_text job))
 
 -- for a job: a formatted text that is too long, or that memory was refused
 abbrev pub IsFairFault : Tree → FormatFault → Type 0

@@ -1,43 +1,13 @@
--- The head of a step (its tokens before its semicolon or its first block), and what follows the head.
-use Rattle.std.specs.Prelude.{Bool, true, false, List, [], ◌∷◌}
-use Rattle.job_tree.specs.Tree.{Step, sleep, checkpoint, forever, pace, find, head, longest, need, raise, cancel, scope, nursery, start, repeat, attempt}
+-- The head of a step alone, and the steps of which the head is all but the semicolon.
+use Rattle.std.specs.Prelude.{Bool, true, false, List, []}
+use Rattle.job_tree.specs.Tree.{Step, scope, nursery, start, repeat, attempt}
 use Rattle.job_tokens.specs.declared.token.Shape.{Shape}
-use Rattle.job_syntax.specs.declared.keyword.Keyword.TheVariants as word
-use Rattle.job_syntax.specs.declared.role.Role.TheVariants as role
-use Rattle.job_syntax.specs.Pieces.{Piece, shapes_in, keyword, named, number, string, opens, ends, deadline_pieces, flag_pieces, over_pieces, steps_pieces, handler_pieces, cleanup_pieces}
+use Rattle.job_syntax.specs.Pieces.{shapes_in}
+use Rattle.job_grammar.specs.Heads.{head_onto}
 
--- the head, followed by other tokens
-abbrev pub head_onto : Step → List Piece → List Piece
-head_onto (sleep ticks) rest = keyword word.Sleep ∷ number ticks ∷ rest
-head_onto checkpoint rest = keyword word.Checkpoint ∷ rest
-head_onto forever rest = keyword word.Forever ∷ rest
-head_onto (pace per_tick) rest = keyword word.Pace ∷ number per_tick ∷ rest
-head_onto (find text) rest = keyword word.Find ∷ string text ∷ rest
-head_onto (head count) rest = keyword word.Head ∷ number count ∷ rest
-head_onto longest rest = keyword word.Longest ∷ rest
-head_onto (need text name) rest = keyword word.Need ∷ string text ∷ named role.Raised name ∷ rest
-head_onto (raise name) rest = keyword word.Raise ∷ named role.Raised name ∷ rest
-head_onto (cancel name) rest = keyword word.Cancel ∷ named role.Target name ∷ rest
-head_onto (scope name deadline shield fail body) rest =
-    keyword word.Scope ∷ named role.Given name ∷ deadline_pieces deadline (flag_pieces word.Shield shield (flag_pieces word.Fail fail rest))
-head_onto (nursery name deadline shield body) rest =
-    keyword word.Nursery ∷ named role.Given name ∷ deadline_pieces deadline (flag_pieces word.Shield shield rest)
-head_onto (start name over body) rest = keyword word.Start ∷ named role.Given name ∷ over_pieces over rest
-head_onto (repeat count body) rest = keyword word.Repeat ∷ number count ∷ rest
-head_onto (attempt body handler cleanup) rest = keyword word.Try ∷ rest
-
--- the head alone
+-- the tokens of a step before its semicolon or its first block
 abbrev pub head_of : Step → List Shape
 head_of s = shapes_in (head_onto s [])
-
--- what follows the head, followed by other tokens
-abbrev pub tail_onto : Step → List Piece → List Piece
-tail_onto (scope name deadline shield fail body) rest = opens ∷ steps_pieces body rest
-tail_onto (nursery name deadline shield body) rest = opens ∷ steps_pieces body rest
-tail_onto (start name over body) rest = opens ∷ steps_pieces body rest
-tail_onto (repeat count body) rest = opens ∷ steps_pieces body rest
-tail_onto (attempt body handler cleanup) rest = opens ∷ steps_pieces body (handler_pieces handler (cleanup_pieces cleanup rest))
-tail_onto _ rest = ends ∷ rest
 
 -- a step without a block
 abbrev pub is_plain : Step → Bool

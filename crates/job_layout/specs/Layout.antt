@@ -6,29 +6,29 @@ use Rattle.job_tokens.specs.declared.token.Mark.TheVariants as mark
 use Rattle.job_tokens.specs.declared.token.Shape.{Shape}
 use Rattle.job_syntax.specs.declared.keyword.Keyword.TheVariants as word
 use Rattle.job_syntax.specs.declared.role.Role.TheVariants as role
-use Rattle.job_syntax.specs.Pieces.{shapes_in, keyword, named}
+use Rattle.job_syntax.specs.Pieces.{shapes_in, keyword, name_piece}
 use Rattle.job_grammar.specs.Refusals.{first_line}
 use Rattle.job_layout.specs.Heads.{head_of, is_plain}
 use Rattle.job_layout.specs.declared.spaced.Gap.TheVariants as gaps
 use Rattle.job_layout.specs.declared.spaced.SpacedToken.{SpacedToken}
 use Rattle.job_layout.specs.declared.layout.TheConstants.{MAX_COLUMNS}
-use Rattle.job_layout.specs.Spaced.{spaced_text, column_after, mark_after, spaced, after_gap}
+use Rattle.job_layout.specs.Spaced.{spaced_text, column_after, mark_after, spaced_tokens, after_gap}
 
 -- ---- blocks on one line
 
-abbrev pub opened : SpacedToken
-opened = mark_after gaps.Space mark.Open
+abbrev pub open_mark : SpacedToken
+open_mark = mark_after gaps.Space mark.Open
 
-abbrev pub ended : SpacedToken
-ended = mark_after gaps.Joined mark.Semicolon
+abbrev pub semicolon_mark : SpacedToken
+semicolon_mark = mark_after gaps.Joined mark.Semicolon
 
 abbrev pub plain_block : Bool → List Shape → Option (List SpacedToken)
 plain_block false head = None
-plain_block true head = Some (opened ∷ (spaced head ++ ended ∷ mark_after gaps.Space mark.Close ∷ []))
+plain_block true head = Some (open_mark ∷ (spaced_tokens head ++ semicolon_mark ∷ mark_after gaps.Space mark.Close ∷ []))
 
 -- the tokens of a block on one line, if it may be on one line: `{}`, or `{ step; }`
 abbrev pub one_line : Steps → Option (List SpacedToken)
-one_line stop = Some (opened ∷ mark_after gaps.Joined mark.Close ∷ [])
+one_line stop = Some (open_mark ∷ mark_after gaps.Joined mark.Close ∷ [])
 one_line (step s stop) = plain_block (is_plain s) (head_of s)
 one_line (step s (step t ss)) = None
 
@@ -39,18 +39,18 @@ abbrev pub fits : List SpacedToken → List SpacedToken → Bool
 fits before ts = nat_le (column_after (column_after 0 before) ts) MAX_COLUMNS
 
 -- a line, if it fits
-abbrev pub fitting : List SpacedToken → Option (List SpacedToken) → Option (List SpacedToken)
-fitting before None = None
-fitting before (Some line) = if fits before line then Some line else None
+abbrev pub fitting_line : List SpacedToken → Option (List SpacedToken) → Option (List SpacedToken)
+fitting_line before None = None
+fitting_line before (Some line) = if fits before line then Some line else None
 
 -- the line, or otherwise the steps on lines of their own
 abbrev pub line_or : ℕ → Option (List SpacedToken) → (List SpacedToken → List SpacedToken) → List SpacedToken → List SpacedToken
 line_or level (Some line) steps before = before ++ line
-line_or level None steps before = steps (before ++ opened ∷ []) ++ mark_after (gaps.Line level) mark.Close ∷ []
+line_or level None steps before = steps (before ++ open_mark ∷ []) ++ mark_after (gaps.Line level) mark.Close ∷ []
 
 -- a block of a step at a level, after the tokens before it
 abbrev pub with_block : ℕ → Steps → (List SpacedToken → List SpacedToken) → List SpacedToken → List SpacedToken
-with_block level body steps before = line_or level (fitting before (one_line body)) steps before
+with_block level body steps before = line_or level (fitting_line before (one_line body)) steps before
 
 -- the line that a step begins
 abbrev pub step_line : ℕ → Step → List SpacedToken
@@ -70,12 +70,12 @@ abbrev mutual
   with_rest level (repeat count body) before = with_block level body (with_steps (level + 1) body) before
   with_rest level (attempt body handler cleanup) before =
       with_cleanup level cleanup (with_handler level handler (with_block level body (with_steps (level + 1) body) before))
-  with_rest level _ before = before ++ ended ∷ []
+  with_rest level _ before = before ++ semicolon_mark ∷ []
 
   pub with_handler : ℕ → Handled → List SpacedToken → List SpacedToken
   with_handler level unhandled before = before
   with_handler level (except name body) before = with_block level body (with_steps (level + 1) body)
-      (before ++ after_gap gaps.Space (shapes_in (keyword word.Except ∷ named role.Handled name ∷ [])))
+      (before ++ after_gap gaps.Space (shapes_in (keyword word.Except ∷ name_piece role.Handled name ∷ [])))
 
   pub with_cleanup : ℕ → Cleaned → List SpacedToken → List SpacedToken
   with_cleanup level uncleaned before = before
@@ -88,8 +88,8 @@ with_step level s before = with_rest level s (before ++ step_line level s)
 
 -- the tokens of a job, without its first line
 abbrev pub job_tokens : Tree → List SpacedToken
-job_tokens job = with_block 0 job.steps (with_steps 1 job.steps) (after_gap gaps.Joined (shapes_in (keyword word.Job ∷ named role.Given job.name ∷ [])))
+job_tokens job = with_block 0 job.steps (with_steps 1 job.steps) (after_gap gaps.Joined (shapes_in (keyword word.Job ∷ name_piece role.Given job.name ∷ [])))
 
 -- the formatted text of a job
-abbrev pub formatted : Tree → List ℕ
-formatted job = first_line job.format ++ (spaced_text (job_tokens job) ++ 10 ∷ [])
+abbrev pub formatted_text : Tree → List ℕ
+formatted_text job = first_line job.format ++ (spaced_text (job_tokens job) ++ 10 ∷ [])

@@ -43,10 +43,10 @@ abbrev pub mark_after : Gap → Mark → SpacedToken
 mark_after gap mark = with_gap gap (shapes.Mark mark)
 
 -- a space before each
-abbrev pub spaced : List Shape → List SpacedToken
-spaced ss = map (with_gap gaps.Space) ss
+abbrev pub spaced_tokens : List Shape → List SpacedToken
+spaced_tokens ss = map (with_gap gaps.Space) ss
 
 -- the given gap before the first, and a space before each other token
 abbrev pub after_gap : Gap → List Shape → List SpacedToken
 after_gap gap [] = []
-after_gap gap (s ∷ ss) = with_gap gap s ∷ spaced ss
+after_gap gap (s ∷ ss) = with_gap gap s ∷ spaced_tokens ss

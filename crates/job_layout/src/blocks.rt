@@ -3,14 +3,13 @@ ghost use Rattle.job_tree.specs.Blocks.{step_of, steps_of, handled_of, cleaned_o
 ghost use Rattle.job_syntax.specs.Depth.{AreWithin, IsWithin, IsHandlerWithin, IsCleanupWithin};
 ghost use Rattle.job_grammar.specs.Jobs.{IsReadable};
 ghost use Rattle.job_layout.specs.Spaced.{after_gap};
-ghost use Rattle.job_layout.specs.Layout.{one_line, fitting, with_steps, with_step, with_rest, with_block, with_handler, with_cleanup, job_tokens};
+ghost use Rattle.job_layout.specs.Layout.{one_line, fitting_line, with_steps, with_step, with_rest, with_block, with_handler, with_cleanup, job_tokens};
 ghost use Rattle.job_layout.specs.Columns.{IsNested};
 
-use crate::heads::{push_keyword, push_named};
 use crate::layout::Layout;
 use crate::lines::{after_gap, head_of, one_line};
 use crate::spaced::{Gap, SpacedToken};
-use job_grammar::{Body, Handler, Job, Step};
+use job_grammar::{Body, Handler, Job, Step, push_keyword, push_named};
 use job_syntax::Keyword;
 use job_tokens::{Mark, Shape};
 use std::alloc::{AllocError, Global};
@@ -149,7 +148,7 @@ fn push_block(
     ensures { OnOk result (layout.new
         ≡ with_block level (steps_of steps.now) (with_steps (level + 1) (steps_of steps.now)) layout.old) }
 {
-    match fitting(layout, alloc, steps)? {
+    match fitting_line(layout, alloc, steps)? {
         Some(line) => {
             layout.extend(alloc, line.as_slice())?;
             Ok(())
@@ -164,13 +163,13 @@ fn push_block(
 }
 
 // Returns the block on one line, if it may be on one line and fits on the current one.
-fn fitting(
+fn fitting_line(
     layout: &Layout,
     alloc: Global,
     steps: &[Step],
 ) -> Result<Option<Vec<SpacedToken>>, AllocError>
-    ensures { IfOk result (λ line. MatchOption line (fitting layout.now (one_line (steps_of steps.now)) ≡ None)
-        (λ found. fitting layout.now (one_line (steps_of steps.now)) ≡ Some found.items)) }
+    ensures { IfOk result (λ line. MatchOption line (fitting_line layout.now (one_line (steps_of steps.now)) ≡ None)
+        (λ found. fitting_line layout.now (one_line (steps_of steps.now)) ≡ Some found.items)) }
 {
     let Some(line) = one_line(alloc, steps)? else {
         return Ok(None);

@@ -1,7 +1,7 @@
 ghost use Rattle.std.specs.Prelude.{◌≡◌, ◌++◌, ◌∷◌, [], IfOk, IfErr};
 ghost use Rattle.job_grammar.specs.Refusals.{Spells, first_line};
 ghost use Rattle.job_layout.specs.Spaced.{spaced_text};
-ghost use Rattle.job_layout.specs.Layout.{formatted};
+ghost use Rattle.job_layout.specs.Layout.{formatted_text};
 ghost use Rattle.job_layout.specs.Faults.{IsFormatted, IsFairFault, IsTextFault};
 
 use crate::blocks::tokens_of;
@@ -28,7 +28,7 @@ pub fn format_text(alloc: Global, text: &[u8]) -> Result<Vec<u8>, FormatFault>
 ///
 /// The error is `TooLong` exactly if that text has more than 65,536 bytes, unless memory is refused. It is never `Refused`.
 pub fn format_job(alloc: Global, job: &Job) -> Result<Vec<u8>, FormatFault>
-    ensures formatted { IfOk result (λ text. text.items ≡ formatted job.now) }
+    ensures formatted { IfOk result (λ text. text.items ≡ formatted_text job.now) }
     ensures spelled { IfOk result (λ text. Spells text.items job.now) }
     ensures fault { IfErr result (IsFairFault job.now) }
 {

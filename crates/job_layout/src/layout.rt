@@ -2,7 +2,7 @@ ghost use Rattle.std.specs.Prelude.{◌≡◌, ◌++◌, ◌∷◌, [], ◌+◌,
 ghost use Rattle.job_tokens.specs.Canon.{token};
 ghost use Rattle.job_layout.specs.Spaced.{column_after, column_behind, with_gap};
 ghost use Rattle.job_layout.specs.Layout.{fits};
-ghost use Rattle.job_layout.specs.Columns.{capped};
+ghost use Rattle.std.specs.Io.Iter.{u64_saturate};
 
 use crate::spaced::{Gap, SpacedToken, width};
 use job_tokens::Shape;
@@ -24,13 +24,13 @@ impl Model for Layout {
     ghost use Rattle.std.specs.Prelude.{List, ◌≡◌};
     ghost use Rattle.job_layout.specs.declared.spaced.SpacedToken.{SpacedToken};
     ghost use Rattle.job_layout.specs.Spaced.{column_after};
-    ghost use Rattle.job_layout.specs.Columns.{capped};
+    ghost use Rattle.std.specs.Io.Iter.{u64_saturate};
 
     ghost Value = { List SpacedToken };
 
     ghost view = { λ l. l.tokens.items };
 
-    ghost invariant = { λ l. l.column ≡ capped (column_after 0 l.tokens.items) };
+    ghost invariant = { λ l. l.column ≡ u64_saturate (column_after 0 l.tokens.items) };
 }
 
 impl Layout {
@@ -83,7 +83,7 @@ impl Layout {
 
 // Returns the column at which the tokens end, if the token before them ends at `column`.
 fn column_after(alloc: Global, column: u64, tokens: &[SpacedToken]) -> Result<u64, AllocError>
-    ensures { IfOk result (λ end. end ≡ capped (column_after column tokens.now)) }
+    ensures { IfOk result (λ end. end ≡ u64_saturate (column_after column tokens.now)) }
 {
     let mut end = column;
     let mut rest = tokens;
@@ -96,7 +96,7 @@ fn column_after(alloc: Global, column: u64, tokens: &[SpacedToken]) -> Result<u6
 
 // Returns the column at which a token ends, if the token before it ends at `column`.
 fn end_of(alloc: Global, column: u64, next: &SpacedToken) -> Result<u64, AllocError>
-    ensures { IfOk result (λ end. end ≡ capped (capped (column_behind column next.now.gap) + length (token next.now.shape))) }
+    ensures { IfOk result (λ end. end ≡ u64_saturate (u64_saturate (column_behind column next.now.gap) + length (token next.now.shape))) }
 {
     let width = width(alloc, next.shape)? as u64;
     Ok(column_behind(column, next.gap).saturating_add(width))
@@ -104,7 +104,7 @@ fn end_of(alloc: Global, column: u64, next: &SpacedToken) -> Result<u64, AllocEr
 
 // Returns the column at which a token begins, if the token before it ends at `column`.
 fn column_behind(column: u64, gap: Gap) -> u64
-    ensures { result ≡ capped (column_behind column gap) }
+    ensures { result ≡ u64_saturate (column_behind column gap) }
 {
     match gap {
         Gap::Joined => column,

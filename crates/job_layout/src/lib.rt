@@ -8,7 +8,6 @@
 mod blocks;
 mod fault;
 mod formatting;
-mod heads;
 mod laws;
 mod layout;
 mod lines;

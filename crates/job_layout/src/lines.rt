@@ -1,14 +1,13 @@
 ghost use Rattle.std.specs.Prelude.{◌≡◌, ◌++◌, ◌∷◌, [], Some, None, IfOk, OnOk, MatchOption};
 ghost use Rattle.job_tree.specs.Blocks.{step_of, steps_of};
 ghost use Rattle.job_tokens.specs.declared.token.Mark.TheVariants as mark;
-ghost use Rattle.job_layout.specs.Heads.{head_of};
+ghost use Rattle.job_layout.specs.Heads.{head_of, is_plain};
 ghost use Rattle.job_layout.specs.declared.spaced.Gap.TheVariants as gaps;
-ghost use Rattle.job_layout.specs.Spaced.{spaced, after_gap, mark_after};
+ghost use Rattle.job_layout.specs.Spaced.{spaced_tokens, after_gap, mark_after};
 ghost use Rattle.job_layout.specs.Layout.{one_line};
 
-use crate::heads::{is_plain, push_head};
 use crate::spaced::{Gap, SpacedToken};
-use job_grammar::Step;
+use job_grammar::{Step, push_head};
 use job_tokens::{Mark, Shape};
 use std::alloc::{AllocError, Global};
 
@@ -34,6 +33,20 @@ pub(crate) fn one_line(
     Ok(Some(line))
 }
 
+// Returns whether the step has no block.
+fn is_plain(step: &Step) -> bool
+    ensures { result ≡ is_plain (step_of step.now) }
+{
+    match step {
+        Step::Scope { .. } => false,
+        Step::Nursery { .. } => false,
+        Step::Start { .. } => false,
+        Step::Repeat { .. } => false,
+        Step::Try { .. } => false,
+        _ => true,
+    }
+}
+
 fn empty_block(alloc: Global) -> Result<Vec<SpacedToken>, AllocError>
     ensures { IfOk result (λ line. line.items ≡ mark_after gaps.Space mark.Open ∷ mark_after gaps.Joined mark.Close ∷ []) }
 {
@@ -46,7 +59,7 @@ fn empty_block(alloc: Global) -> Result<Vec<SpacedToken>, AllocError>
 // Returns a block of one step that has no block of its own.
 fn block_of(alloc: Global, step: &Step) -> Result<Vec<SpacedToken>, AllocError>
     ensures { IfOk result (λ line. line.items ≡ mark_after gaps.Space mark.Open
-        ∷ (spaced (head_of (step_of step.now)) ++ mark_after gaps.Joined mark.Semicolon ∷ mark_after gaps.Space mark.Close ∷ [])) }
+        ∷ (spaced_tokens (head_of (step_of step.now)) ++ mark_after gaps.Joined mark.Semicolon ∷ mark_after gaps.Space mark.Close ∷ [])) }
 {
     let head = head_of(alloc, step)?;
     let mut line = Vec::new(alloc);
@@ -78,7 +91,7 @@ pub(crate) fn head_of(alloc: Global, step: &Step) -> Result<Vec<Shape>, AllocErr
 
 // Appends the tokens, with a space before each.
 pub(crate) fn push_spaced(line: &mut Vec<SpacedToken>, shapes: &[Shape]) -> Result<(), AllocError>
-    ensures { OnOk result (line.new.items ≡ line.old.items ++ spaced shapes.now) }
+    ensures { OnOk result (line.new.items ≡ line.old.items ++ spaced_tokens shapes.now) }
 {
     'shapes: for shape in shapes {
         line.push(SpacedToken {

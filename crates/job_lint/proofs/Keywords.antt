@@ -10,7 +10,7 @@ use Rattle.job_tokens.specs.Shapes.{shapes_of, word_in}
 use Rattle.job_syntax.specs.declared.keyword.Keyword.{Keyword}
 use Rattle.job_syntax.specs.declared.keyword.Keyword.TheVariants as word
 use Rattle.job_syntax.specs.declared.role.Role.TheVariants as role
-use Rattle.job_syntax.specs.Keywords.{spelling, keyword_of}
+use Rattle.job_syntax.specs.Keywords.{spelling_of, keyword_of}
 use Rattle.job_syntax.specs.Pieces.{Piece, shapes_in, roles_in, opens, deadline_pieces, flag_pieces, over_pieces, steps_pieces, step_pieces, handler_pieces, cleanup_pieces, job_pieces}
 use Rattle.job_checks.specs.Reserved.{allows, reserved_in}
 use Rattle.job_lint.specs.Openings.{is_opening, opens_as, opens_by, with_place, opening_places}
@@ -24,13 +24,13 @@ along [] = []
 along (p ∷ ps) = kept_by (word_in p.shape) (along ps)
 
 -- each keyword is read as itself
-read_as_itself : (k : Keyword) → keyword_of (spelling k) ≡ Some k
+read_as_itself : (k : Keyword) → keyword_of (spelling_of k) ≡ Some k
 unfolding keyword_of
 read_as_itself word.Job = refl
 read_as_itself _ = refl
 
 -- a keyword, followed by others
-opening : (k : Keyword) (others : List Keyword) → kept_as (keyword_of (spelling k)) others ≡ cond (is_opening k) (k ∷ others) others
+opening : (k : Keyword) (others : List Keyword) → kept_as (keyword_of (spelling_of k)) others ≡ cond (is_opening k) (k ∷ others) others
 opening k others = ap (λ (o : Option Keyword). kept_as o others) (read_as_itself k)
 
 -- a word that is free is not a keyword

@@ -10,7 +10,7 @@ use Rattle.job_grammar.specs.Refusals.{Spells, HasTokens, roles_of}
 use Rattle.job_grammar.specs.declared.fault.JobKind.TheVariants as kind
 use Rattle.job_grammar.proofs.Passing.{none_of}
 use Rattle.job_lint.specs.Openings.{opening_places, openings_of, numbered_in}
-use Rattle.job_lint.specs.Warnings.{outside, job_warnings}
+use Rattle.job_lint.specs.Warnings.{in_job, job_warnings}
 use Rattle.job_lint.specs.Fitting.{opening_keywords, keywords_of, AllStandAtKeywords}
 use Rattle.job_lint.proofs.Keywords.{as_many_places, same_keywords}
 use Rattle.job_lint.proofs.Standing.{as_many, all_stand}
@@ -44,4 +44,4 @@ keywords_have_places text job tokens spells lexed =
 pub warnings_stand : (text : List ℕ) (job : Tree) (tokens : List Token) → Spells text job → HasTokens text tokens None →
     AllStandAtKeywords (opening_places tokens) (opening_keywords tokens) (job_warnings (numbered_in (opening_places tokens)) job)
 warnings_stand text job tokens spells lexed =
-    all_stand (opening_places tokens) (opening_keywords tokens) outside job.steps (keywords_of_text text job tokens spells lexed)
+    all_stand (opening_places tokens) (opening_keywords tokens) in_job job.steps (keywords_of_text text job tokens spells lexed)

@@ -11,7 +11,7 @@ use Rattle.job_lint.specs.declared.around.Around.{Around}
 use Rattle.job_lint.specs.declared.warning.Warning.{Warning}
 use Rattle.job_lint.specs.Seeking.{is_never}
 use Rattle.job_lint.specs.Openings.{openings_of, openings_in, handled_openings, cleaned_openings, numbered_in}
-use Rattle.job_lint.specs.Warnings.{within, in_cleanup, warn_if, with_warning, never_ends_well, own_warning, endless_shield, idle_scope, can_raise, warnings_at, warnings_of, warnings_in, handled_warnings, cleaned_warnings}
+use Rattle.job_lint.specs.Warnings.{in_block, in_cleanup, warn_if, with_warning, never_ends_well, own_warning, endless_shield, idle_scope, can_raise, warnings_at, warnings_of, warnings_in, handled_warnings, cleaned_warnings}
 use Rattle.job_lint.specs.Fitting.{own_keyword, keywords_of, keywords_in, handled_keywords, cleaned_keywords, begins_step, StandsAtKeyword, AllStandAtKeywords}
 
 abbrev Keywords : Type 0
@@ -180,9 +180,9 @@ mutual
   stand_in places keywords around n (raise x) more others e all = all
   stand_in places keywords around n (cancel x) more others e all = all
   stand_in places keywords around n (scope x d shield f body) more others e all =
-      stand_of places keywords (within shield around) false n body more others e all
+      stand_of places keywords (in_block shield around) false n body more others e all
   stand_in places keywords around n (nursery x d shield body) more others e all =
-      stand_of places keywords (within shield around) false n body more others e all
+      stand_of places keywords (in_block shield around) false n body more others e all
   stand_in places keywords around n (start x o body) more others e all = stand_of places keywords around false n body more others e all
   stand_in places keywords around n (repeat c body) more others e all = stand_of places keywords around false n body more others e all
   stand_in places keywords around n (attempt body h c) more others e all =

@@ -13,16 +13,16 @@ use Rattle.job_lint.specs.Openings.{openings_of, openings_in, handled_openings}
 -- ---- what encloses a block
 
 -- the block of a job
-abbrev pub outside : Around
-outside = record { cleanup = false; exposed = false }
+abbrev pub in_job : Around
+in_job = record { cleanup = false; exposed = false }
 
 -- the block of a cleanup
 abbrev pub in_cleanup : Around
 in_cleanup = record { cleanup = true; exposed = true }
 
 -- the block of a scope or nursery, with or without a shield
-abbrev pub within : Bool → Around → Around
-within shield around = if shield then record { cleanup = around.cleanup; exposed = false } else around
+abbrev pub in_block : Bool → Around → Around
+in_block shield around = if shield then record { cleanup = around.cleanup; exposed = false } else around
 
 -- ---- at one keyword
 
@@ -112,9 +112,9 @@ abbrev mutual
   warnings_in place around number (raise name) others = others
   warnings_in place around number (cancel name) others = others
   warnings_in place around number (scope name deadline shield fail body) others =
-      warnings_of place (within shield around) false number body others
+      warnings_of place (in_block shield around) false number body others
   warnings_in place around number (nursery name deadline shield body) others =
-      warnings_of place (within shield around) false number body others
+      warnings_of place (in_block shield around) false number body others
   warnings_in place around number (start name over body) others = warnings_of place around false number body others
   warnings_in place around number (repeat count body) others = warnings_of place around false number body others
   warnings_in place around number (attempt body handler cleanup) others =
@@ -134,4 +134,4 @@ abbrev mutual
 
 -- the warnings of a job, given the place of each keyword
 abbrev pub job_warnings : (ℕ → ℕ) → Tree → List Warning
-job_warnings place job = warnings_of place outside false 0 job.steps []
+job_warnings place job = warnings_of place in_job false 0 job.steps []

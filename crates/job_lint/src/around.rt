@@ -1,5 +1,5 @@
 ghost use Rattle.std.specs.Prelude.{◌≡◌};
-ghost use Rattle.job_lint.specs.Warnings.{within, in_cleanup, outside};
+ghost use Rattle.job_lint.specs.Warnings.{in_block, in_cleanup, in_job};
 
 // What encloses a block.
 #[derive(Clone, Copy)]
@@ -12,8 +12,8 @@ pub(crate) struct Around {
 
 impl Around {
     // Returns what encloses the block of a scope or nursery, with or without a shield.
-    pub(crate) fn within(self, shield: bool) -> Around
-        ensures { result ≡ within shield self }
+    pub(crate) fn in_block(self, shield: bool) -> Around
+        ensures { result ≡ in_block shield self }
     {
         if shield {
             Around {
@@ -37,8 +37,8 @@ pub(crate) fn in_cleanup() -> Around
 }
 
 // Returns what encloses the block of a job.
-pub(crate) fn outside() -> Around
-    ensures { result ≡ outside }
+pub(crate) fn in_job() -> Around
+    ensures { result ≡ in_job }
 {
     Around {
         cleanup: false,

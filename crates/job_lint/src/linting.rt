@@ -4,7 +4,7 @@ ghost use Rattle.job_grammar.specs.declared.fault.JobKind.{JobKind};
 ghost use Rattle.job_grammar.specs.Refusals.{Spells, HasTokens, IsRefused, IsFair, AnswersUnlessMemory};
 ghost use Rattle.job_lint.specs.Linted.{AreWarnings, IsOkUnlessMemory};
 
-use crate::around::outside;
+use crate::around::in_job;
 use crate::laws::law_keywords_have_places;
 use crate::opening::opening_places;
 use crate::walk::walk_steps;
@@ -47,7 +47,7 @@ fn lints_of_job(alloc: Global, text: &[u8], job: &Job) -> Result<Vec<Warning>, A
     let tokens = tokens_of(alloc, text, job)?;
     let places = opening_places(alloc, tokens.as_slice())?;
     let mut found = Vec::new(alloc);
-    walk_steps(job.steps(), places.as_slice(), outside(), 0, &mut found)?;
+    walk_steps(job.steps(), places.as_slice(), in_job(), 0, &mut found)?;
     Ok(found)
 }
 

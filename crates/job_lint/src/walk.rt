@@ -51,12 +51,12 @@ fn walk_inside(
 {
     match step {
         Step::Scope { shield, body, .. } => {
-            let around = around.within(*shield);
+            let around = around.in_block(*shield);
             let next = walk_steps(body.as_slice(), places, around, number, found)?;
             Ok(next)
         }
         Step::Nursery { shield, body, .. } => {
-            let around = around.within(*shield);
+            let around = around.in_block(*shield);
             let next = walk_steps(body.as_slice(), places, around, number, found)?;
             Ok(next)
         }

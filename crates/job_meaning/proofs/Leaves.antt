@@ -2,7 +2,7 @@
 use Rattle.std.proofs.Common.{◌≡◌, ℕ, Bool, true, false, ◌||◌, ◌&&◌, not, Option, Some, None, List, refl, sym, ◌∙◌, IsTrue, arith}
 use Rattle.std.proofs.lemmas.Bool.{false≢true}
 use Rattle.exc_groups.specs.Exceptions.{Label, Whose, Exc, cancelled, raised, too_slow, group, Excs, no_parts, part, parts_of, group_of, holds_cancelled, hold_cancelled}
-use Rattle.exc_groups.specs.Split.{is_cancelled, matches, drop, pruned, pruned_parts, with_part, leaf_if}
+use Rattle.exc_groups.specs.Split.{is_cancelled, matches, drop, pruned_exc, pruned_parts, with_part, leaf_if}
 use Rattle.job_meaning.specs.Walk.{Kind, a_scope, a_nursery, left_with, slow_if, exc_after, with_exc}
 use Rattle.job_meaning.specs.Laws.{some_cancelled}
 
@@ -30,7 +30,7 @@ or_neither a b f g = grind arith
 
 mutual
   -- what is left of a split holds no more than what was split
-  pub pruned_holds : (e : Exc) (test : Exc → Bool) → IsTrue (some_cancelled (pruned test e)) → IsTrue (holds_cancelled e)
+  pub pruned_holds : (e : Exc) (test : Exc → Bool) → IsTrue (some_cancelled (pruned_exc test e)) → IsTrue (holds_cancelled e)
   pruned_holds cancelled test h = refl
   pruned_holds (raised name task tick) test h = by_test (test (raised name task tick)) h
     where
@@ -48,7 +48,7 @@ mutual
   pub pruned_parts_hold : (es : Excs) (test : Exc → Bool) → IsTrue (hold_cancelled (pruned_parts test es)) → IsTrue (hold_cancelled es)
   pruned_parts_hold no_parts test h = h
   pruned_parts_hold (part e es) test h =
-      or_both _ _ _ _ (pruned_holds e test) (pruned_parts_hold es test) (sym (with_part_holds (pruned test e) (pruned_parts test es)) ∙ h)
+      or_both _ _ _ _ (pruned_holds e test) (pruned_parts_hold es test) (sym (with_part_holds (pruned_exc test e) (pruned_parts test es)) ∙ h)
 
 mutual
   -- without its `Cancelled` leaves an exception holds none

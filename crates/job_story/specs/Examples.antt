@@ -50,7 +50,7 @@ pub a_sibling_fails :
     ∷ codes "  writer      raises DiskFull"
     ∷ codes "  writer      ends: raised DiskFull(writer@4); nursery workers is cancelled from 5"
     ∷ codes "tick 5"
-    ∷ codes "  reader      is cancelled while sleep_result since 0 by nursery workers (writer failed at 4)"
+    ∷ codes "  reader      is cancelled while sleeping since 0 by nursery workers (writer failed at 4)"
     ∷ codes "  reader      runs cleanup after Cancelled"
     ∷ codes "  reader      enters scope flush (deadline 10, shielded)"
     ∷ codes "  reader      sleeps until 8"

@@ -30,7 +30,7 @@ pub who_cancelled_late :
     ∷ codes "  stop  cancels nursery calls from 6"
     ∷ codes "  stop  ends: done"
     ∷ codes "tick 6"
-    ∷ codes "  late  is cancelled while sleep_result since 0 by nursery calls (cancelled by stop at 5)"
+    ∷ codes "  late  is cancelled while sleeping since 0 by nursery calls (cancelled by stop at 5)"
     ∷ codes "  late  ends: cancelled"
     ∷ [])
 unfolding told_for digits

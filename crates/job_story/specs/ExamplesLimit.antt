@@ -35,7 +35,7 @@ pub somebody_sleeps_forever :
     ∷ codes "  b  ends: done"
     ∷ codes "limit 100"
     ∷ codes "  m  waiting for nursery n since 0"
-    ∷ codes "  a  sleep_result forever since 0"
+    ∷ codes "  a  sleeping forever since 0"
     ∷ [])
 unfolding told_to digits
 somebody_sleeps_forever = refl

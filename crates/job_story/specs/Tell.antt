@@ -12,7 +12,7 @@ use Rattle.job_meaning.specs.Meaning.{root_label, root_here}
 use Rattle.job_meaning.specs.Walk.{far, Stack, Here, label_here, pace_ticks, label_on, due, Left, left_with, Kind, a_scope, a_nursery, exc_after, stack_inside, home_of, latest, with_exc, excs_of, in_pass, here_in, label_over, handler_exc, outcome_after}
 use Rattle.job_story.specs.Story.{Happening, enters, sleeps, is_cancelled, finds, misses, raises, cancels, handles, cleans, replaces, waits, leaves, Story, no_more, happened, started, then_story, Tale}
 
--- the place of a walk, and whether it is in a `finally` block of this task or of one that started it
+-- where a walk is, and whether it is in a `finally` block of this task or of one that started it
 pub record Scene : Type 0 where
   pub here : Here
   pub in_cleanup : Bool
@@ -183,7 +183,7 @@ tell_cleaned a go = cleaned_by a (go a.end)
 
 -- ---- the walk
 
--- the same walk at another place
+-- the same walk elsewhere
 abbrev pub at_place : Here → Scene → Scene
 at_place here scene = record scene { here = here }
 

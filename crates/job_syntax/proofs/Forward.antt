@@ -13,28 +13,28 @@ use Rattle.job_syntax.specs.declared.keyword.Keyword.{Keyword}
 use Rattle.job_syntax.specs.declared.keyword.Keyword.TheVariants as word
 use Rattle.job_syntax.specs.declared.nonterminal.Nonterminal.{Nonterminal}
 use Rattle.job_syntax.specs.declared.nonterminal.Nonterminal.TheVariants as nonterminal
-use Rattle.job_syntax.specs.Keywords.{spelling, among, keywords, keyword_of}
-use Rattle.job_syntax.specs.Nonterminals.{Rest, next, text_rest, step_rest, cleanup_rest, tail_rest, scope_rest, shield_rest, fail_rest, over_rest, nursery_rest, nursery_shield_rest, outer, tail, cleanup, ◌>>=◌}
+use Rattle.job_syntax.specs.Keywords.{spelling_of, keyword_among, keywords, keyword_of}
+use Rattle.job_syntax.specs.Nonterminals.{Rest, next, text_rest, step_rest, cleanup_rest, tail_rest, scope_rest, shield_rest, fail_rest, over_rest, nursery_rest, nursery_shield_rest, outer_block, tail, cleanup, ◌>>=◌}
 use Rattle.job_syntax.specs.declared.role.Role.{Role}
 use Rattle.job_syntax.specs.declared.role.Role.TheVariants as role
-use Rattle.job_syntax.specs.Pieces.{Piece, keyword, named, number, string, opens, ends, deadline_pieces, flag_pieces, over_pieces, step_pieces, steps_pieces, AreSteps, IsStep}
+use Rattle.job_syntax.specs.Pieces.{Piece, keyword, name_piece, number, string, opens, ends, deadline_pieces, flag_pieces, over_pieces, step_pieces, steps_pieces, AreSteps, IsStep}
 use Rattle.job_syntax.specs.Syntax.{IsBlock, IsTail, IsCleanupAndBlock, Stands, Fits, role_of}
 use Rattle.job_syntax.proofs.Grammar.{Left, plain_head}
 
 -- ---- the spelling of a keyword
 
-among-spelling : (ks : List Keyword) (w : List ℕ) (k : Keyword) → among ks w ≡ Some k → spelling k ≡ w
+among-spelling : (ks : List Keyword) (w : List ℕ) (k : Keyword) → keyword_among ks w ≡ Some k → spelling_of k ≡ w
 among-spelling [] w k e = absurd cc
-among-spelling (first ∷ ks) w k e = by_test (λ chosen. among-spelling ks w k chosen) (bytes_eq (spelling first) w) refl e
+among-spelling (first ∷ ks) w k e = by_test (λ chosen. among-spelling ks w k chosen) (bytes_eq (spelling_of first) w) refl e
   where
-    by_test : (among ks w ≡ Some k → spelling k ≡ w) → (b : Bool) → bytes_eq (spelling first) w ≡ b →
-        cond b (Some first) (among ks w) ≡ Some k → spelling k ≡ w
+    by_test : (keyword_among ks w ≡ Some k → spelling_of k ≡ w) → (b : Bool) → bytes_eq (spelling_of first) w ≡ b →
+        cond b (Some first) (keyword_among ks w) ≡ Some k → spelling_of k ≡ w
     by_test others true is_so chosen = let same : first ≡ k = cc in
-        subst (λ (x : Keyword). spelling x ≡ w) same ((bytes_eq-Decides (spelling first) w).0 is_so)
+        subst (λ (x : Keyword). spelling_of x ≡ w) same ((bytes_eq-Decides (spelling_of first) w).0 is_so)
     by_test others false is_so chosen = others chosen
 
 -- a word that is a keyword has the spelling of that keyword
-pub keyword_of-spelling : (w : List ℕ) (k : Keyword) → keyword_of w ≡ Some k → spelling k ≡ w
+pub keyword_of-spelling : (w : List ℕ) (k : Keyword) → keyword_of w ≡ Some k → spelling_of k ≡ w
 unfolding keyword_of
 keyword_of-spelling w k e = among-spelling keywords w k e
 
@@ -43,7 +43,7 @@ keyword_of-spelling w k e = among-spelling keywords w k e
 abbrev on : Piece → List Piece → List Piece
 on p ps = p ∷ ps
 
-block_of : (format : Format) (inside : Bool) (ps rest : List Piece) → Stands format (outer inside) ps rest → IsBlock format inside ps rest
+block_of : (format : Format) (inside : Bool) (ps rest : List Piece) → Stands format (outer_block inside) ps rest → IsBlock format inside ps rest
 block_of format false ps rest is = is
 block_of format true ps rest is = is
 
@@ -70,7 +70,7 @@ step_on format inside s ss ps rest steps is are e fits = (rest, (step s steps, (
 
 plain_step : (format : Format) (inside : Bool) (s : Step) (first : Piece) (ss : List Nonterminal) (ps : List Piece) → IsStep format inside s →
     ((rest : List Piece) → step_pieces s rest ≡ first ∷ ends ∷ rest)
-    → Fits format (nonterminal.Semicolon ∷ outer inside ∷ ss) ps → BlockFits format inside ss (first ∷ ps)
+    → Fits format (nonterminal.Semicolon ∷ outer_block inside ∷ ss) ps → BlockFits format inside ss (first ∷ ps)
 plain_step format inside s first ss ps is printed (r, e, (q, block, fits)) =
     let b = block_of format inside r q block in
     step_on format inside s ss (first ∷ ps) q b.0 is b.1 (ap (on first) (e ∙ ap (on ends) b.2) ∙ sym (printed (steps_pieces b.0 q))) fits
@@ -78,26 +78,26 @@ plain_step format inside s first ss ps is printed (r, e, (q, block, fits)) =
 number_step : (format : Format) (inside : Bool) (s : ℕ → Step) (first : Piece) (ss : List Nonterminal) (ps : List Piece) →
     ((n : ℕ) → IsStep format inside (s n)) →
     ((n : ℕ) (rest : List Piece) → step_pieces (s n) rest ≡ first ∷ number n ∷ ends ∷ rest)
-    → Fits format (nonterminal.Number ∷ nonterminal.Semicolon ∷ outer inside ∷ ss) ps → BlockFits format inside ss (first ∷ ps)
+    → Fits format (nonterminal.Number ∷ nonterminal.Semicolon ∷ outer_block inside ∷ ss) ps → BlockFits format inside ss (first ∷ ps)
 number_step format inside s first ss ps is printed (r, (n, e), (r', e', (q, block, fits))) =
     let b = block_of format inside r' q block in
     step_on format inside (s n) ss (first ∷ ps) q b.0 (is n) b.1 (ap (on first) (e ∙ ap (on (number n)) (e' ∙ ap (on ends) b.2))
     ∙ sym (printed n (steps_pieces b.0 q))) fits
 
 name_step : (format : Format) (inside : Bool) (s : List ℕ → Step) (role : Role) (name : Nonterminal)
-    (names : (ps rest : List Piece) → Stands format name ps rest → (n : List ℕ) × (ps ≡ named role n ∷ rest)) (first : Piece)
+    (names : (ps rest : List Piece) → Stands format name ps rest → (n : List ℕ) × (ps ≡ name_piece role n ∷ rest)) (first : Piece)
     (ss : List Nonterminal)
     (ps : List Piece) → ((n : List ℕ) → IsStep format inside (s n))
-    → ((n : List ℕ) (rest : List Piece) → step_pieces (s n) rest ≡ first ∷ named role n ∷ ends ∷ rest) →
-    Fits format (name ∷ nonterminal.Semicolon ∷ outer inside ∷ ss) ps → BlockFits format inside ss (first ∷ ps)
+    → ((n : List ℕ) (rest : List Piece) → step_pieces (s n) rest ≡ first ∷ name_piece role n ∷ ends ∷ rest) →
+    Fits format (name ∷ nonterminal.Semicolon ∷ outer_block inside ∷ ss) ps → BlockFits format inside ss (first ∷ ps)
 name_step format inside s role name names first ss ps is printed (r, stands, (r', e', (q, block, fits))) =
     let n = names ps r stands in
     let b = block_of format inside r' q block in
-    step_on format inside (s n.0) ss (first ∷ ps) q b.0 (is n.0) b.1 (ap (on first) (n.1 ∙ ap (on (named role n.0)) (e' ∙ ap (on ends) b.2))
+    step_on format inside (s n.0) ss (first ∷ ps) q b.0 (is n.0) b.1 (ap (on first) (n.1 ∙ ap (on (name_piece role n.0)) (e' ∙ ap (on ends) b.2))
     ∙ sym (printed n.0 (steps_pieces b.0 q))) fits
 
 find_step : (format : Format) (inside : Bool) (ss : List Nonterminal) (ps : List Piece) →
-    Fits format (nonterminal.Text ∷ nonterminal.Semicolon ∷ outer inside ∷ ss) ps →
+    Fits format (nonterminal.Text ∷ nonterminal.Semicolon ∷ outer_block inside ∷ ss) ps →
     BlockFits format inside ss (keyword word.Find ∷ ps)
 find_step format inside ss ps (r, (t, e), (r', e', (q, block, fits))) =
     let b = block_of format inside r' q block in
@@ -105,15 +105,15 @@ find_step format inside ss ps (r, (t, e), (r', e', (q, block, fits))) =
     (ap (on (keyword word.Find)) (e ∙ ap (on (string t)) (e' ∙ ap (on ends) b.2))) fits
 
 need_step : (format : Format) (inside : Bool) (ss : List Nonterminal) (ps : List Piece) →
-    Fits format (nonterminal.Text ∷ nonterminal.Raised ∷ nonterminal.Semicolon ∷ outer inside ∷ ss) ps →
+    Fits format (nonterminal.Text ∷ nonterminal.Raised ∷ nonterminal.Semicolon ∷ outer_block inside ∷ ss) ps →
     BlockFits format inside ss (keyword word.Need ∷ ps)
 need_step format inside ss ps (r, (t, e), (r', (n, e'), (r'', e'', (q, block, fits)))) =
     let b = block_of format inside r'' q block in
     step_on format inside (need t n) ss (keyword word.Need ∷ ps) q b.0 tt b.1
-    (ap (on (keyword word.Need)) (e ∙ ap (on (string t)) (e' ∙ ap (on (named role.Raised n)) (e'' ∙ ap (on ends) b.2)))) fits
+    (ap (on (keyword word.Need)) (e ∙ ap (on (string t)) (e' ∙ ap (on (name_piece role.Raised n)) (e'' ∙ ap (on ends) b.2)))) fits
 
 scope_step : (format : Format) (inside : Bool) (ss : List Nonterminal) (ps : List Piece) →
-    Fits format (nonterminal.Given ∷ nonterminal.Scope ∷ outer inside ∷ ss) ps →
+    Fits format (nonterminal.Given ∷ nonterminal.Scope ∷ outer_block inside ∷ ss) ps →
     BlockFits format inside ss (keyword word.Scope ∷ ps)
 scope_step format inside ss ps (r, (n, e), (r', (d, s, f, body, are, e'), (q, block, fits))) =
     let b = block_of format inside r' q block in
@@ -122,19 +122,19 @@ scope_step format inside ss ps (r, (n, e), (r', (d, s, f, body, are, e'), (q, bl
     ∙ ap (λ (x : List Piece). deadline_pieces d (flag_pieces word.Shield s (flag_pieces word.Fail f (opens ∷ steps_pieces body x))))
     b.2 in
     step_on format inside (scope n d s f body) ss (keyword word.Scope ∷ ps) q b.0 are b.1
-    (ap (on (keyword word.Scope)) (e ∙ ap (on (named role.Given n)) tail_is)) fits
+    (ap (on (keyword word.Scope)) (e ∙ ap (on (name_piece role.Given n)) tail_is)) fits
 
 nursery_step : (format : Format) (inside : Bool) (ss : List Nonterminal) (ps : List Piece) →
-    Fits format (nonterminal.Given ∷ nonterminal.Nursery ∷ outer inside ∷ ss) ps → BlockFits format inside ss (keyword word.Nursery ∷ ps)
+    Fits format (nonterminal.Given ∷ nonterminal.Nursery ∷ outer_block inside ∷ ss) ps → BlockFits format inside ss (keyword word.Nursery ∷ ps)
 nursery_step format inside ss ps (r, (n, e), (r', (d, s, body, may, are, e'), (q, block, fits))) =
     let b = block_of format inside r' q block in
     let tail_is : r ≡ deadline_pieces d (flag_pieces word.Shield s (opens ∷ steps_pieces body (steps_pieces b.0 q))) = e'
     ∙ ap (λ (x : List Piece). deadline_pieces d (flag_pieces word.Shield s (opens ∷ steps_pieces body x))) b.2 in
     step_on format inside (nursery n d s body) ss (keyword word.Nursery ∷ ps) q b.0 (may, are) b.1
-    (ap (on (keyword word.Nursery)) (e ∙ ap (on (named role.Given n)) tail_is)) fits
+    (ap (on (keyword word.Nursery)) (e ∙ ap (on (name_piece role.Given n)) tail_is)) fits
 
 repeat_step : (format : Format) (inside : Bool) (ss : List Nonterminal) (ps : List Piece) → format ≡ Two →
-    Fits format (nonterminal.Number ∷ nonterminal.Open ∷ nonterminal.Steps ∷ outer inside ∷ ss) ps →
+    Fits format (nonterminal.Number ∷ nonterminal.Open ∷ nonterminal.Steps ∷ outer_block inside ∷ ss) ps →
     BlockFits format inside ss (keyword word.Repeat ∷ ps)
 repeat_step format inside ss ps two (r, (n, e), (r', e', (r'', (body, are, e''), (q, block, fits)))) =
     let b = block_of format inside r'' q block in
@@ -145,7 +145,7 @@ start_step : (format : Format) (ss : List Nonterminal) (ps : List Piece) → Fit
     BlockFits format true ss (keyword word.Start ∷ ps)
 start_step format ss ps (r, (n, e), (r', (o, body, are, e'), (q, (steps, behind, e''), fits))) =
     step_on format true (start n o body) ss (keyword word.Start ∷ ps) q steps (refl, are) behind
-    (ap (on (keyword word.Start)) (e ∙ ap (on (named role.Given n))
+    (ap (on (keyword word.Start)) (e ∙ ap (on (name_piece role.Given n))
     (e' ∙ ap (λ (x : List Piece). over_pieces o (opens ∷ steps_pieces body x)) e''))) fits
 
 try_step : (format : Format) (inside : Bool) (ss : List Nonterminal) (ps : List Piece) →
@@ -194,7 +194,7 @@ unclean : (format : Format) (inside : Bool) (ss : List Nonterminal) (ps : List P
 unclean format inside ss ps (rest, (steps, are, e), fits) = (rest, (uncleaned, steps, tt, are, e), fits)
 
 clean_step : (format : Format) (inside : Bool) (ss : List Nonterminal) (ps : List Piece) →
-    Fits format (nonterminal.Open ∷ nonterminal.Steps ∷ outer inside ∷ ss) ps →
+    Fits format (nonterminal.Open ∷ nonterminal.Steps ∷ outer_block inside ∷ ss) ps →
     CleanupFits format inside ss (keyword word.Finally ∷ ps)
 clean_step format inside ss ps (r, e, (r', (body, are, e'), (q, block, fits))) =
     let b = block_of format inside r' q block in
@@ -250,13 +250,13 @@ handler_step format inside ss ps (r, (n, e), (r', e', (r'', (body, are, e''), (q
         c.2,
         c.3,
         ap (on (keyword word.Except))
-            (e ∙ ap (on (named role.Handled n)) (e' ∙ ap (on opens) (e'' ∙ ap (steps_pieces body) c.4))),
+            (e ∙ ap (on (name_piece role.Handled n)) (e' ∙ ap (on opens) (e'' ∙ ap (steps_pieces body) c.4))),
       ),
       fits,
     )
 
 finally_step : (format : Format) (inside : Bool) (ss : List Nonterminal) (ps : List Piece) →
-    Fits format (nonterminal.Open ∷ nonterminal.Steps ∷ outer inside ∷ ss) ps →
+    Fits format (nonterminal.Open ∷ nonterminal.Steps ∷ outer_block inside ∷ ss) ps →
     TailFits format inside ss (keyword word.Finally ∷ ps)
 finally_step format inside ss ps (r, e, (r', (body, are, e'), (q, block, fits))) =
     let b = block_of format inside r' q block in (
@@ -342,7 +342,7 @@ by_text : (format : Format) (k : Keyword) (ss : List Nonterminal) (ps : List Pie
 by_text format word.Job ss ps (r, (n, e), left) =
     let b = body_on format ss r left in
     let job : Tree = record { format = format; name = n; steps = b.1 } in
-    (b.0, (job, refl, b.2, ap (on (keyword word.Job)) (e ∙ ap (on (named role.Given n)) b.3)), b.4)
+    (b.0, (job, refl, b.2, ap (on (keyword word.Job)) (e ∙ ap (on (name_piece role.Given n)) b.3)), b.4)
 by_text format _ ss ps left = absurd left
 
 -- ---- all nonterminals

@@ -9,10 +9,10 @@ use Rattle.job_syntax.specs.declared.keyword.Keyword.{Keyword}
 use Rattle.job_syntax.specs.declared.keyword.Keyword.TheVariants as word
 use Rattle.job_syntax.specs.declared.nonterminal.Nonterminal.{Nonterminal}
 use Rattle.job_syntax.specs.declared.nonterminal.Nonterminal.TheVariants as nonterminal
-use Rattle.job_syntax.specs.Keywords.{spelling, keyword_of}
-use Rattle.job_syntax.specs.Nonterminals.{Rest, next, step_rest, cleanup_rest, outer, tail, cleanup, ◌>>=◌}
+use Rattle.job_syntax.specs.Keywords.{spelling_of, keyword_of}
+use Rattle.job_syntax.specs.Nonterminals.{Rest, next, step_rest, cleanup_rest, outer_block, tail, cleanup, ◌>>=◌}
 use Rattle.job_syntax.specs.declared.role.Role.TheVariants as role
-use Rattle.job_syntax.specs.Pieces.{Piece, keyword, named, number, string, opens, closes, ends, deadline_pieces, flag_pieces, over_pieces, steps_pieces, handler_pieces, cleanup_pieces, job_onto, IsNurseryHead, AreSteps, IsHandler, IsCleanup, HasTail}
+use Rattle.job_syntax.specs.Pieces.{Piece, keyword, name_piece, number, string, opens, closes, ends, deadline_pieces, flag_pieces, over_pieces, steps_pieces, handler_pieces, cleanup_pieces, job_onto, IsNurseryHead, AreSteps, IsHandler, IsCleanup, HasTail}
 use Rattle.job_syntax.specs.Syntax.{Stands, Fits, role_of}
 
 -- ---- completion
@@ -32,10 +32,10 @@ shortest format nonterminal.Fail rest = opens ∷ closes ∷ rest
 shortest format nonterminal.Nursery rest = opens ∷ closes ∷ rest
 shortest format nonterminal.NurseryShield rest = opens ∷ closes ∷ rest
 shortest format nonterminal.Over rest = opens ∷ closes ∷ rest
-shortest format nonterminal.Given rest = named role.Given [] ∷ rest
-shortest format nonterminal.Raised rest = named role.Raised [] ∷ rest
-shortest format nonterminal.Handled rest = named role.Handled [] ∷ rest
-shortest format nonterminal.Target rest = named role.Target [] ∷ rest
+shortest format nonterminal.Given rest = name_piece role.Given [] ∷ rest
+shortest format nonterminal.Raised rest = name_piece role.Raised [] ∷ rest
+shortest format nonterminal.Handled rest = name_piece role.Handled [] ∷ rest
+shortest format nonterminal.Target rest = name_piece role.Target [] ∷ rest
 shortest format nonterminal.Number rest = number 0 ∷ rest
 shortest format nonterminal.Text rest = string [] ∷ rest
 shortest format nonterminal.Open rest = opens ∷ rest
@@ -93,7 +93,7 @@ First format inside ss (p ∷ ps) = ((p ≡ closes) × Fits format ss ps) ⊎
     ((k : Keyword) × (p ≡ keyword k) × Left format (step_rest format inside k) ss ps)
 
 block_stands : (format : Format) (inside : Bool) (steps : Steps) (rest : List Piece) → AreSteps format inside steps →
-    Stands format (outer inside) (steps_pieces steps rest) rest
+    Stands format (outer_block inside) (steps_pieces steps rest) rest
 block_stands format false steps rest are = (steps, are, refl)
 block_stands format true steps rest are = (steps, are, refl)
 
@@ -112,7 +112,7 @@ cleanup_stands format true c steps rest clean are = (c, steps, clean, are, refl)
 start_left : (format : Format) (inside : Bool) (n : List ℕ) (o : Option ℕ) (body others : Steps) (ss : List Nonterminal) (rest : List Piece) →
     inside ≡ true →
     AreSteps format false body → AreSteps format inside others → Fits format ss rest
-    → Left format (step_rest format inside word.Start) ss (named role.Given n ∷ over_pieces o
+    → Left format (step_rest format inside word.Start) ss (name_piece role.Given n ∷ over_pieces o
     (opens ∷ steps_pieces body (steps_pieces others rest)))
 start_left format true n o body others ss rest e are behind fits = (
   over_pieces o (opens ∷ steps_pieces body (steps_pieces others rest)),
@@ -166,7 +166,7 @@ first_of_block format inside (step (need t n) others) ss rest are fits =
       word.Need,
       refl,
       (
-        named role.Raised n ∷ ends ∷ behind,
+        name_piece role.Raised n ∷ ends ∷ behind,
         (t, refl),
         (ends ∷ behind, (n, refl), (behind, refl, (rest, block_stands format inside others rest are.1, fits))),
       ),
@@ -220,14 +220,14 @@ first_of_block format inside (step (attempt body h c) others) ss rest are fits =
     )
 
 -- each keyword is read as itself
-keyword_of-spelled : (k : Keyword) → keyword_of (spelling k) ≡ Some k
+keyword_of-spelled : (k : Keyword) → keyword_of (spelling_of k) ≡ Some k
 unfolding keyword_of
 keyword_of-spelled word.Job = refl
 keyword_of-spelled _ = refl
 
 -- a keyword, followed by what it leaves
 by_keyword : (format : Format) (words : Keyword → Rest) (k : Keyword) (ss : List Nonterminal) (ps : List Piece) → Left format (words k) ss ps →
-    Left format (keyword_of (spelling k) >>= words) ss ps
+    Left format (keyword_of (spelling_of k) >>= words) ss ps
 by_keyword format words k ss ps left = subst (λ (o : Option Keyword). Left format (o >>= words) ss ps) (sym (keyword_of-spelled k)) left
 
 -- a word other than `finally` begins what a block begins with
@@ -238,7 +238,7 @@ finally_no_step format inside word.Finally ss ps left = absurd left
 finally_no_step format inside _ ss ps left = left
 
 goes_block : (format : Format) (inside : Bool) (ss : List Nonterminal) (ps : List Piece) → First format inside ss ps →
-    Goes format (outer inside) ss ps
+    Goes format (outer_block inside) ss ps
 goes_block format inside ss [] first = absurd first
 goes_block format false ss (p ∷ ps) (inl (e, fits)) = subst (λ (x : Piece). Goes format nonterminal.Steps ss (x ∷ ps)) (sym e) (fits, refl)
 goes_block format false ss (p ∷ ps) (inr (k, e, left)) =
@@ -263,7 +263,7 @@ goes_uncleaned format true ss (p ∷ ps) (inr (k, e, left)) = subst (λ (x : Pie
 block_fits : (format : Format) (inside : Bool) (body others : Steps) (ss : List Nonterminal) (rest : List Piece) → AreSteps format false body →
     AreSteps format inside others →
     Fits format ss rest
-    → Fits format (nonterminal.Open ∷ nonterminal.Steps ∷ outer inside ∷ ss) (opens ∷ steps_pieces body (steps_pieces others rest))
+    → Fits format (nonterminal.Open ∷ nonterminal.Steps ∷ outer_block inside ∷ ss) (opens ∷ steps_pieces body (steps_pieces others rest))
 block_fits format inside body others ss rest are behind fits = (
   steps_pieces body (steps_pieces others rest),
   refl,
@@ -287,7 +287,7 @@ handler_fits : (format : Format) (inside : Bool) (n : List ℕ) (body : Steps) (
     (rest : List Piece) →
     AreSteps format false body → IsCleanup format c → AreSteps format inside others → Fits format ss rest
     → Fits format (nonterminal.Handled ∷ nonterminal.Open ∷ nonterminal.Steps ∷ cleanup inside ∷ ss)
-    (named role.Handled n ∷ opens ∷ steps_pieces body (cleanup_pieces c (steps_pieces others rest)))
+    (name_piece role.Handled n ∷ opens ∷ steps_pieces body (cleanup_pieces c (steps_pieces others rest)))
 handler_fits format inside n body c others ss rest are clean behind fits =
     let after = cleanup_pieces c (steps_pieces others rest) in (
       opens ∷ steps_pieces body after,

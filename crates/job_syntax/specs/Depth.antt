@@ -39,8 +39,8 @@ abbrev mutual
   IsCleanupWithin depth (finally body) = (0 < depth) × AreWithin (depth - 1) body
 
 -- the maximum depth of nested blocks, including the job's own block
-abbrev pub most_deep : ℕ
-most_deep = 32
+abbrev pub max_depth : ℕ
+max_depth = 32
 
 -- how many blocks are open after a token, if `depth` are open before it
 abbrev pub depth_behind : ℕ → Option Mark → ℕ
@@ -52,5 +52,5 @@ depth_behind depth (Some mark.Semicolon) = depth
 -- the first `{` after which more blocks are open than the maximum, if `depth` are already open
 abbrev pub depth_fault : ℕ → List Token → Option ℕ
 depth_fault depth [] = None
-depth_fault depth (t ∷ ts) = if nat_le (depth_behind depth (mark_in t.shape)) most_deep then depth_fault
+depth_fault depth (t ∷ ts) = if nat_le (depth_behind depth (mark_in t.shape)) max_depth then depth_fault
     (depth_behind depth (mark_in t.shape)) ts else Some t.at

@@ -4,35 +4,35 @@ use Rattle.std.specs.Str.{bytes_eq}
 use Rattle.job_syntax.specs.declared.keyword.Keyword.{Keyword}
 use Rattle.job_syntax.specs.declared.keyword.Keyword.TheVariants.{Job, Sleep, Checkpoint, Forever, Pace, Find, Head, Longest, Need, Raise, Cancel, Scope, After, At, Shield, Fail, Nursery, Start, Over, Try, Except, Finally, Repeat}
 
-abbrev pub spelling : Keyword → List ℕ
-spelling Job = codes "job"
-spelling Sleep = codes "sleep"
-spelling Checkpoint = codes "checkpoint"
-spelling Forever = codes "forever"
-spelling Pace = codes "pace"
-spelling Find = codes "find"
-spelling Head = codes "head"
-spelling Longest = codes "longest"
-spelling Need = codes "need"
-spelling Raise = codes "raise"
-spelling Cancel = codes "cancel"
-spelling Scope = codes "scope"
-spelling After = codes "after"
-spelling At = codes "at"
-spelling Shield = codes "shield"
-spelling Fail = codes "fail"
-spelling Nursery = codes "nursery"
-spelling Start = codes "start"
-spelling Over = codes "over"
-spelling Try = codes "try"
-spelling Except = codes "except"
-spelling Finally = codes "finally"
-spelling Repeat = codes "repeat"
+abbrev pub spelling_of : Keyword → List ℕ
+spelling_of Job = codes "job"
+spelling_of Sleep = codes "sleep"
+spelling_of Checkpoint = codes "checkpoint"
+spelling_of Forever = codes "forever"
+spelling_of Pace = codes "pace"
+spelling_of Find = codes "find"
+spelling_of Head = codes "head"
+spelling_of Longest = codes "longest"
+spelling_of Need = codes "need"
+spelling_of Raise = codes "raise"
+spelling_of Cancel = codes "cancel"
+spelling_of Scope = codes "scope"
+spelling_of After = codes "after"
+spelling_of At = codes "at"
+spelling_of Shield = codes "shield"
+spelling_of Fail = codes "fail"
+spelling_of Nursery = codes "nursery"
+spelling_of Start = codes "start"
+spelling_of Over = codes "over"
+spelling_of Try = codes "try"
+spelling_of Except = codes "except"
+spelling_of Finally = codes "finally"
+spelling_of Repeat = codes "repeat"
 
 -- the first of these keywords that has this spelling
-abbrev pub among : List Keyword → List ℕ → Option Keyword
-among [] word = None
-among (k ∷ ks) word = if bytes_eq (spelling k) word then Some k else among ks word
+abbrev pub keyword_among : List Keyword → List ℕ → Option Keyword
+keyword_among [] word = None
+keyword_among (k ∷ ks) word = if bytes_eq (spelling_of k) word then Some k else keyword_among ks word
 
 -- all keywords
 abbrev pub keywords : List Keyword
@@ -41,4 +41,4 @@ keywords = Job ∷ Sleep ∷ Checkpoint ∷ Forever ∷ Pace ∷ Find ∷ Head �
 
 -- the keyword that a word is, or `None` if it is not a keyword
 unfoldable pub keyword_of : List ℕ → Option Keyword
-keyword_of word = among keywords word
+keyword_of word = keyword_among keywords word

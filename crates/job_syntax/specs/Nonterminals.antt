@@ -24,9 +24,9 @@ Rest = Option (List Nonterminal)
 
 -- the rest of the enclosing block, which may be the body of a nursery, and the same after the block of a `try` or
 -- after a handler
-abbrev pub outer : Bool → Nonterminal
-outer false = Steps
-outer true = Items
+abbrev pub outer_block : Bool → Nonterminal
+outer_block false = Steps
+outer_block true = Items
 
 abbrev pub tail : Bool → Nonterminal
 tail false = StepsTail
@@ -49,22 +49,22 @@ start_rest false = None
 -- after `repeat`, which begins a step only in format 2
 abbrev pub repeat_rest : Format → Bool → Rest
 repeat_rest One inside = None
-repeat_rest Two inside = Some (Number ∷ Open ∷ Steps ∷ outer inside ∷ [])
+repeat_rest Two inside = Some (Number ∷ Open ∷ Steps ∷ outer_block inside ∷ [])
 
 -- after the first word of a step
 abbrev pub step_rest : Format → Bool → Keyword → Rest
-step_rest format inside word.Sleep = Some (Number ∷ Semicolon ∷ outer inside ∷ [])
-step_rest format inside word.Checkpoint = Some (Semicolon ∷ outer inside ∷ [])
-step_rest format inside word.Forever = Some (Semicolon ∷ outer inside ∷ [])
-step_rest format inside word.Pace = Some (Number ∷ Semicolon ∷ outer inside ∷ [])
-step_rest format inside word.Find = Some (Text ∷ Semicolon ∷ outer inside ∷ [])
-step_rest format inside word.Head = Some (Number ∷ Semicolon ∷ outer inside ∷ [])
-step_rest format inside word.Longest = Some (Semicolon ∷ outer inside ∷ [])
-step_rest format inside word.Need = Some (Text ∷ Raised ∷ Semicolon ∷ outer inside ∷ [])
-step_rest format inside word.Raise = Some (Raised ∷ Semicolon ∷ outer inside ∷ [])
-step_rest format inside word.Cancel = Some (Target ∷ Semicolon ∷ outer inside ∷ [])
-step_rest format inside word.Scope = Some (Given ∷ Scope ∷ outer inside ∷ [])
-step_rest format inside word.Nursery = Some (Given ∷ Nursery ∷ outer inside ∷ [])
+step_rest format inside word.Sleep = Some (Number ∷ Semicolon ∷ outer_block inside ∷ [])
+step_rest format inside word.Checkpoint = Some (Semicolon ∷ outer_block inside ∷ [])
+step_rest format inside word.Forever = Some (Semicolon ∷ outer_block inside ∷ [])
+step_rest format inside word.Pace = Some (Number ∷ Semicolon ∷ outer_block inside ∷ [])
+step_rest format inside word.Find = Some (Text ∷ Semicolon ∷ outer_block inside ∷ [])
+step_rest format inside word.Head = Some (Number ∷ Semicolon ∷ outer_block inside ∷ [])
+step_rest format inside word.Longest = Some (Semicolon ∷ outer_block inside ∷ [])
+step_rest format inside word.Need = Some (Text ∷ Raised ∷ Semicolon ∷ outer_block inside ∷ [])
+step_rest format inside word.Raise = Some (Raised ∷ Semicolon ∷ outer_block inside ∷ [])
+step_rest format inside word.Cancel = Some (Target ∷ Semicolon ∷ outer_block inside ∷ [])
+step_rest format inside word.Scope = Some (Given ∷ Scope ∷ outer_block inside ∷ [])
+step_rest format inside word.Nursery = Some (Given ∷ Nursery ∷ outer_block inside ∷ [])
 step_rest format inside word.Start = start_rest inside
 step_rest format inside word.Repeat = repeat_rest format inside
 step_rest format inside word.Try = Some (Open ∷ Steps ∷ tail inside ∷ [])
@@ -72,13 +72,13 @@ step_rest format inside _ = None
 
 -- after the first word of what may follow a handler
 abbrev pub cleanup_rest : Format → Bool → Keyword → Rest
-cleanup_rest format inside word.Finally = Some (Open ∷ Steps ∷ outer inside ∷ [])
+cleanup_rest format inside word.Finally = Some (Open ∷ Steps ∷ outer_block inside ∷ [])
 cleanup_rest format inside k = step_rest format inside k
 
 -- after the word that follows the block of a `try`
 abbrev pub tail_rest : Bool → Keyword → Rest
 tail_rest inside word.Except = Some (Handled ∷ Open ∷ Steps ∷ cleanup inside ∷ [])
-tail_rest inside word.Finally = Some (Open ∷ Steps ∷ outer inside ∷ [])
+tail_rest inside word.Finally = Some (Open ∷ Steps ∷ outer_block inside ∷ [])
 tail_rest inside _ = None
 
 -- after a word in the head of a scope
@@ -128,8 +128,8 @@ abbrev pub by_mark : (Mark → Rest) → (Keyword → Rest) → Option Mark → 
 by_mark marks words (Some m) shape = marks m
 by_mark marks words None shape = word_in shape >>= λ w. keyword_of w >>= words
 
-abbrev pub either : (Mark → Rest) → (Keyword → Rest) → Shape → Rest
-either marks words shape = by_mark marks words (mark_in shape) shape
+abbrev pub by_mark_or_word : (Mark → Rest) → (Keyword → Rest) → Shape → Rest
+by_mark_or_word marks words shape = by_mark marks words (mark_in shape) shape
 
 abbrev pub any_name : Shape → Rest
 any_name shape = word_in shape >>= λ w. Some []
@@ -137,18 +137,18 @@ any_name shape = word_in shape >>= λ w. Some []
 -- after a token that is read for a nonterminal
 abbrev pub next : Format → Nonterminal → Shape → Rest
 next format Job shape = word_in shape >>= λ w. keyword_of w >>= text_rest
-next format Steps shape = either close_rest (step_rest format false) shape
-next format Items shape = either close_rest (step_rest format true) shape
+next format Steps shape = by_mark_or_word close_rest (step_rest format false) shape
+next format Items shape = by_mark_or_word close_rest (step_rest format true) shape
 next format StepsTail shape = word_in shape >>= λ w. keyword_of w >>= tail_rest false
 next format ItemsTail shape = word_in shape >>= λ w. keyword_of w >>= tail_rest true
-next format StepsCleanup shape = either close_rest (cleanup_rest format false) shape
-next format ItemsCleanup shape = either close_rest (cleanup_rest format true) shape
-next format Scope shape = either (open_rest (Some (Steps ∷ []))) scope_rest shape
-next format Shield shape = either (open_rest (Some (Steps ∷ []))) shield_rest shape
-next format Fail shape = either (open_rest (Some (Steps ∷ []))) fail_rest shape
-next format Nursery shape = either (open_rest (Some (Items ∷ []))) (nursery_rest format) shape
-next format NurseryShield shape = either (open_rest (Some (Items ∷ []))) (nursery_shield_rest format) shape
-next format Over shape = either (open_rest (Some (Steps ∷ []))) over_rest shape
+next format StepsCleanup shape = by_mark_or_word close_rest (cleanup_rest format false) shape
+next format ItemsCleanup shape = by_mark_or_word close_rest (cleanup_rest format true) shape
+next format Scope shape = by_mark_or_word (open_rest (Some (Steps ∷ []))) scope_rest shape
+next format Shield shape = by_mark_or_word (open_rest (Some (Steps ∷ []))) shield_rest shape
+next format Fail shape = by_mark_or_word (open_rest (Some (Steps ∷ []))) fail_rest shape
+next format Nursery shape = by_mark_or_word (open_rest (Some (Items ∷ []))) (nursery_rest format) shape
+next format NurseryShield shape = by_mark_or_word (open_rest (Some (Items ∷ []))) (nursery_shield_rest format) shape
+next format Over shape = by_mark_or_word (open_rest (Some (Steps ∷ []))) over_rest shape
 next format Given shape = any_name shape
 next format Raised shape = any_name shape
 next format Handled shape = any_name shape

@@ -12,7 +12,7 @@ use Rattle.job_tokens.specs.declared.token.Shape.{Shape}
 use Rattle.job_tokens.specs.declared.token.Shape.TheVariants as shape
 use Rattle.job_syntax.specs.declared.keyword.Keyword.{Keyword}
 use Rattle.job_syntax.specs.declared.keyword.Keyword.TheVariants as word
-use Rattle.job_syntax.specs.Keywords.{spelling}
+use Rattle.job_syntax.specs.Keywords.{spelling_of}
 use Rattle.job_syntax.specs.declared.role.Role.{Role}
 use Rattle.job_syntax.specs.declared.role.Role.TheVariants as role
 
@@ -30,10 +30,10 @@ abbrev pub roles_in : List Piece → List Role
 roles_in ps = map (λ p. p.role) ps
 
 abbrev pub keyword : Keyword → Piece
-keyword k = record { shape = shape.Word (spelling k); role = role.Plain }
+keyword k = record { shape = shape.Word (spelling_of k); role = role.Plain }
 
-abbrev pub named : Role → List ℕ → Piece
-named purpose bytes = record { shape = shape.Word bytes; role = purpose }
+abbrev pub name_piece : Role → List ℕ → Piece
+name_piece purpose bytes = record { shape = shape.Word bytes; role = purpose }
 
 abbrev pub number : ℕ → Piece
 number n = record { shape = shape.Number (Some n); role = role.Plain }
@@ -84,23 +84,23 @@ abbrev mutual
   step_pieces (find text) rest = keyword word.Find ∷ string text ∷ ends ∷ rest
   step_pieces (head count) rest = keyword word.Head ∷ number count ∷ ends ∷ rest
   step_pieces longest rest = keyword word.Longest ∷ ends ∷ rest
-  step_pieces (need text name) rest = keyword word.Need ∷ string text ∷ named role.Raised name ∷ ends ∷ rest
-  step_pieces (raise name) rest = keyword word.Raise ∷ named role.Raised name ∷ ends ∷ rest
-  step_pieces (cancel name) rest = keyword word.Cancel ∷ named role.Target name ∷ ends ∷ rest
+  step_pieces (need text name) rest = keyword word.Need ∷ string text ∷ name_piece role.Raised name ∷ ends ∷ rest
+  step_pieces (raise name) rest = keyword word.Raise ∷ name_piece role.Raised name ∷ ends ∷ rest
+  step_pieces (cancel name) rest = keyword word.Cancel ∷ name_piece role.Target name ∷ ends ∷ rest
   step_pieces (scope name deadline shield fail body) rest =
-      keyword word.Scope ∷ named role.Given name ∷ deadline_pieces deadline
+      keyword word.Scope ∷ name_piece role.Given name ∷ deadline_pieces deadline
       (flag_pieces word.Shield shield (flag_pieces word.Fail fail (opens ∷ steps_pieces body rest)))
   step_pieces (nursery name deadline shield body) rest =
-      keyword word.Nursery ∷ named role.Given name ∷ deadline_pieces deadline
+      keyword word.Nursery ∷ name_piece role.Given name ∷ deadline_pieces deadline
       (flag_pieces word.Shield shield (opens ∷ steps_pieces body rest))
-  step_pieces (start name over body) rest = keyword word.Start ∷ named role.Given name ∷ over_pieces over (opens ∷ steps_pieces body rest)
+  step_pieces (start name over body) rest = keyword word.Start ∷ name_piece role.Given name ∷ over_pieces over (opens ∷ steps_pieces body rest)
   step_pieces (repeat count body) rest = keyword word.Repeat ∷ number count ∷ opens ∷ steps_pieces body rest
   step_pieces (attempt body handler cleanup) rest =
       keyword word.Try ∷ opens ∷ steps_pieces body (handler_pieces handler (cleanup_pieces cleanup rest))
 
   pub handler_pieces : Handled → List Piece → List Piece
   handler_pieces unhandled rest = rest
-  handler_pieces (except name body) rest = keyword word.Except ∷ named role.Handled name ∷ opens ∷ steps_pieces body rest
+  handler_pieces (except name body) rest = keyword word.Except ∷ name_piece role.Handled name ∷ opens ∷ steps_pieces body rest
 
   pub cleanup_pieces : Cleaned → List Piece → List Piece
   cleanup_pieces uncleaned rest = rest
@@ -108,7 +108,7 @@ abbrev mutual
 
 -- a job, with other tokens after it and alone
 abbrev pub job_onto : Tree → List Piece → List Piece
-job_onto job rest = keyword word.Job ∷ named role.Given job.name ∷ opens ∷ steps_pieces job.steps rest
+job_onto job rest = keyword word.Job ∷ name_piece role.Given job.name ∷ opens ∷ steps_pieces job.steps rest
 
 abbrev pub job_pieces : Tree → List Piece
 job_pieces job = job_onto job []

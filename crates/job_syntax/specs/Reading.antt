@@ -11,9 +11,9 @@ use Rattle.job_tokens.specs.declared.token.Shape.{Shape}
 use Rattle.job_tokens.specs.Shapes.{word_in, number_in, text_in, mark_in}
 use Rattle.job_syntax.specs.declared.keyword.Keyword.{Keyword}
 use Rattle.job_syntax.specs.declared.keyword.Keyword.TheVariants as word
-use Rattle.job_syntax.specs.Keywords.{spelling, keyword_of}
+use Rattle.job_syntax.specs.Keywords.{spelling_of, keyword_of}
 use Rattle.job_syntax.specs.Nonterminals.{◌>>=◌}
-use Rattle.job_syntax.specs.Depth.{most_deep}
+use Rattle.job_syntax.specs.Depth.{max_depth}
 
 -- a value and the tokens after it
 abbrev pub Read : Type 0 → Type 0
@@ -48,7 +48,7 @@ mark_at m shapes = first_of mark_in shapes >>= λ found. if is_mark found.0 m th
 -- the tokens after a keyword, if it is the first token
 abbrev pub unless_other : Keyword → Read (List ℕ) → Option (List Shape)
 unless_other k None = None
-unless_other k (Some w) = if bytes_eq w.0 (spelling k) then Some w.1 else None
+unless_other k (Some w) = if bytes_eq w.0 (spelling_of k) then Some w.1 else None
 
 abbrev pub behind_word : Keyword → List Shape → Option (List Shape)
 behind_word k shapes = unless_other k (word_at shapes)
@@ -101,8 +101,8 @@ abbrev pub try_at : Blocks → List Shape → Read Step
 try_at blocks shapes =
     body_at blocks shapes >>= λ b. handler_at blocks b.1 >>= λ h. cleanup_at blocks h.1 >>= λ c. Some (attempt b.0 h.0 c.0, c.1)
 
-abbrev pub ended : Step → List Shape → Read Step
-ended s shapes = mark_at mark.Semicolon shapes >>= λ rest. Some (s, rest)
+abbrev pub step_to_semicolon : Step → List Shape → Read Step
+step_to_semicolon s shapes = mark_at mark.Semicolon shapes >>= λ rest. Some (s, rest)
 
 abbrev pub nursery_at : Blocks → List Shape → Read Step
 nursery_at blocks shapes =
@@ -117,16 +117,16 @@ repeat_at blocks shapes = number_at shapes >>= λ n. body_at blocks n.1 >>= λ b
 
 -- a step without a block, read after its keyword
 abbrev pub plain_step : Keyword → List Shape → Read Step
-plain_step word.Sleep shapes = number_at shapes >>= λ n. ended (sleep n.0) n.1
-plain_step word.Checkpoint shapes = ended checkpoint shapes
-plain_step word.Forever shapes = ended forever shapes
-plain_step word.Pace shapes = number_at shapes >>= λ n. ended (pace n.0) n.1
-plain_step word.Find shapes = text_at shapes >>= λ t. ended (find t.0) t.1
-plain_step word.Head shapes = number_at shapes >>= λ n. ended (head n.0) n.1
-plain_step word.Longest shapes = ended longest shapes
-plain_step word.Need shapes = text_at shapes >>= λ t. word_at t.1 >>= λ n. ended (need t.0 n.0) n.1
-plain_step word.Raise shapes = word_at shapes >>= λ n. ended (raise n.0) n.1
-plain_step word.Cancel shapes = word_at shapes >>= λ n. ended (cancel n.0) n.1
+plain_step word.Sleep shapes = number_at shapes >>= λ n. step_to_semicolon (sleep n.0) n.1
+plain_step word.Checkpoint shapes = step_to_semicolon checkpoint shapes
+plain_step word.Forever shapes = step_to_semicolon forever shapes
+plain_step word.Pace shapes = number_at shapes >>= λ n. step_to_semicolon (pace n.0) n.1
+plain_step word.Find shapes = text_at shapes >>= λ t. step_to_semicolon (find t.0) t.1
+plain_step word.Head shapes = number_at shapes >>= λ n. step_to_semicolon (head n.0) n.1
+plain_step word.Longest shapes = step_to_semicolon longest shapes
+plain_step word.Need shapes = text_at shapes >>= λ t. word_at t.1 >>= λ n. step_to_semicolon (need t.0 n.0) n.1
+plain_step word.Raise shapes = word_at shapes >>= λ n. step_to_semicolon (raise n.0) n.1
+plain_step word.Cancel shapes = word_at shapes >>= λ n. step_to_semicolon (cancel n.0) n.1
 plain_step _ shapes = None
 
 -- a step, read after its keyword
@@ -167,5 +167,5 @@ head_at shapes = keyword_at shapes >>= λ k. (if is_job k.0 then word_at k.1 els
 
 -- a whole job of a format, whose blocks are nested at most 32 deep
 abbrev pub job_at : Format → List Shape → Option Tree
-job_at format shapes = head_at shapes >>= λ name. blocks_at most_deep name.1 >>= λ steps.
+job_at format shapes = head_at shapes >>= λ name. blocks_at max_depth name.1 >>= λ steps.
     if length steps.1 == 0 then Some (record { format = format; name = name.0; steps = steps.0 }) else None

@@ -12,7 +12,7 @@ use Rattle.job_syntax.specs.declared.nonterminal.Nonterminal.{Nonterminal}
 use Rattle.job_syntax.specs.declared.nonterminal.Nonterminal.TheVariants as nonterminal
 use Rattle.job_syntax.specs.declared.role.Role.{Role}
 use Rattle.job_syntax.specs.declared.role.Role.TheVariants as role
-use Rattle.job_syntax.specs.Pieces.{Piece, shapes_in, named, number, string, opens, ends, deadline_pieces, flag_pieces, over_pieces, steps_pieces, handler_pieces, cleanup_pieces, job_onto, IsNurseryHead, AreSteps, IsHandler, IsCleanup, HasTail}
+use Rattle.job_syntax.specs.Pieces.{Piece, shapes_in, name_piece, number, string, opens, ends, deadline_pieces, flag_pieces, over_pieces, steps_pieces, handler_pieces, cleanup_pieces, job_onto, IsNurseryHead, AreSteps, IsHandler, IsCleanup, HasTail}
 use Rattle.job_syntax.specs.Nonterminals.{Rest, next}
 
 -- the rest of a block
@@ -34,7 +34,7 @@ IsCleanupAndBlock format inside ps rest =
     × (ps ≡ cleanup_pieces cleanup (steps_pieces steps rest))
 
 abbrev pub IsName : Role → List Piece → List Piece → Type 0
-IsName role ps rest = (bytes : List ℕ) × (ps ≡ named role bytes ∷ rest)
+IsName role ps rest = (bytes : List ℕ) × (ps ≡ name_piece role bytes ∷ rest)
 
 -- `ps` are the tokens of something that the nonterminal derives, followed by `rest`
 abbrev pub Stands : Format → Nonterminal → List Piece → List Piece → Type 0

@@ -5,7 +5,7 @@ ghost use Rattle.job_syntax.specs.Depth.{depth_fault, depth_behind};
 use job_tokens::{Mark, Shape, Token};
 
 /// The maximum depth of nested blocks. The block of the job itself has depth 1.
-pub const MAX_DEEP: usize = 32;
+pub const MAX_DEPTH: usize = 32;
 
 /// Returns the place of the first `{` at which more than 32 blocks are open, including its own, or `None` if there
 /// is none.
@@ -15,7 +15,7 @@ pub fn depth_fault(tokens: &[Token]) -> Option<usize>
     let mut depth = 0;
     for token in tokens {
         depth = depth_behind(depth, token.shape);
-        if depth > MAX_DEEP {
+        if depth > MAX_DEPTH {
             return Some(token.at);
         }
     }

@@ -1,5 +1,5 @@
 ghost use Rattle.std.specs.Prelude.{◌≡◌};
-ghost use Rattle.job_syntax.specs.Keywords.{spelling, among, keyword_of};
+ghost use Rattle.job_syntax.specs.Keywords.{spelling_of, keyword_among, keyword_of};
 
 use job_tree::Name;
 
@@ -85,7 +85,7 @@ pub const KEYWORDS: [Keyword; 23] = [
 impl Keyword {
     /// Returns the bytes of the keyword.
     pub fn bytes(self) -> &'static [u8]
-        ensures { result.now ≡ spelling self }
+        ensures { result.now ≡ spelling_of self }
     {
         match self {
             Keyword::Job => b"job",
@@ -119,13 +119,13 @@ impl Keyword {
     pub fn of(word: Name) -> Option<Keyword>
         ensures { result ≡ keyword_of word }
     {
-        spelled_so(&KEYWORDS, word.bytes())
+        keyword_among(&KEYWORDS, word.bytes())
     }
 }
 
 // Returns the first of these keywords that has this spelling.
-fn spelled_so(keywords: &[Keyword], word: &[u8]) -> Option<Keyword>
-    ensures { result ≡ among keywords.now word.now }
+fn keyword_among(keywords: &[Keyword], word: &[u8]) -> Option<Keyword>
+    ensures { result ≡ keyword_among keywords.now word.now }
 {
     for keyword in keywords {
         if keyword.bytes() == word {

@@ -15,7 +15,7 @@ mod role;
 mod tree;
 
 pub use checked::{GrammarCheck, check_grammar};
-pub use depth::{MAX_DEEP, depth_fault};
+pub use depth::{MAX_DEPTH, depth_fault};
 pub use keyword::Keyword;
 pub use nonterminal::Nonterminal;
 pub use range::number_fault;

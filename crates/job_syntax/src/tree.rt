@@ -4,9 +4,9 @@ ghost use Rattle.job_tokens.specs.Shapes.{shapes_of};
 ghost use Rattle.job_tokens.specs.Lexing.{Gives};
 ghost use Rattle.job_syntax.specs.declared.keyword.Keyword.TheVariants as word;
 ghost use Rattle.job_tree.specs.declared.format.Format.{Format};
-ghost use Rattle.job_syntax.specs.Reading.{word_at, keyword_at, number_at, text_at, mark_at, behind_word, flag_at, deadline_at, over_at, body_at, handler_at, cleanup_at, scope_at, nursery_at, start_at, repeat_at, try_at, ended, plain_step, step_at, steps_with, blocks_at, head_at, job_at};
+ghost use Rattle.job_syntax.specs.Reading.{word_at, keyword_at, number_at, text_at, mark_at, behind_word, flag_at, deadline_at, over_at, body_at, handler_at, cleanup_at, scope_at, nursery_at, start_at, repeat_at, try_at, step_to_semicolon, plain_step, step_at, steps_with, blocks_at, head_at, job_at};
 
-use crate::depth::MAX_DEEP;
+use crate::depth::MAX_DEPTH;
 use crate::keyword::Keyword;
 use job_tokens::{Mark, Token};
 use job_tree::{Body, Deadline, Handler, Name, Step, Text};
@@ -22,7 +22,7 @@ pub fn job_at(alloc: Global, tokens: &[Token]) -> Result<Option<(Name, Body)>, A
     let Some((name, rest)) = head_at(tokens) else {
         return Ok(None);
     };
-    let Some((steps, rest)) = blocks_at(alloc, MAX_DEEP, rest)? else {
+    let Some((steps, rest)) = blocks_at(alloc, MAX_DEPTH, rest)? else {
         return Ok(None);
     };
     if !rest.is_empty() {
@@ -383,37 +383,37 @@ fn plain_step(keyword: Keyword, tokens: &[Token]) -> Option<(Step, &[Token])>
     match keyword {
         Keyword::Sleep => {
             let (ticks, rest) = number_at(tokens)?;
-            ended(Step::Sleep(ticks), rest)
+            step_to_semicolon(Step::Sleep(ticks), rest)
         }
-        Keyword::Checkpoint => ended(Step::Checkpoint, tokens),
-        Keyword::Forever => ended(Step::Forever, tokens),
+        Keyword::Checkpoint => step_to_semicolon(Step::Checkpoint, tokens),
+        Keyword::Forever => step_to_semicolon(Step::Forever, tokens),
         Keyword::Pace => {
             let (per_tick, rest) = number_at(tokens)?;
-            ended(Step::Pace(per_tick), rest)
+            step_to_semicolon(Step::Pace(per_tick), rest)
         }
         Keyword::Find => {
             let Some((text, rest)) = text_at(tokens) else {
                 return None;
             };
-            ended(Step::Find(text), rest)
+            step_to_semicolon(Step::Find(text), rest)
         }
         Keyword::Head => {
             let (count, rest) = number_at(tokens)?;
-            ended(Step::Head(count), rest)
+            step_to_semicolon(Step::Head(count), rest)
         }
-        Keyword::Longest => ended(Step::Longest, tokens),
+        Keyword::Longest => step_to_semicolon(Step::Longest, tokens),
         Keyword::Need => need_at(tokens),
         Keyword::Raise => {
             let Some((name, rest)) = word_at(tokens) else {
                 return None;
             };
-            ended(Step::Raise(name), rest)
+            step_to_semicolon(Step::Raise(name), rest)
         }
         Keyword::Cancel => {
             let Some((name, rest)) = word_at(tokens) else {
                 return None;
             };
-            ended(Step::Cancel(name), rest)
+            step_to_semicolon(Step::Cancel(name), rest)
         }
         _ => None,
     }
@@ -428,12 +428,12 @@ fn need_at(tokens: &[Token]) -> Option<(Step, &[Token])>
     let Some((name, rest)) = word_at(rest) else {
         return None;
     };
-    ended(Step::Need { text, name }, rest)
+    step_to_semicolon(Step::Need { text, name }, rest)
 }
 
 // Returns the step, and the tokens after its `;`.
-fn ended(step: Step, tokens: &[Token]) -> Option<(Step, &[Token])>
-    ensures { Gives (λ x. (step_of x.0, shapes_of x.1.now)) result (ended (step_of step) (shapes_of tokens.now)) }
+fn step_to_semicolon(step: Step, tokens: &[Token]) -> Option<(Step, &[Token])>
+    ensures { Gives (λ x. (step_of x.0, shapes_of x.1.now)) result (step_to_semicolon (step_of step) (shapes_of tokens.now)) }
 {
     let rest = mark_at(tokens, Mark::Semicolon)?;
     Some((step, rest))

@@ -28,7 +28,7 @@ fn fails(kind: Kind) -> bool
     }
 }
 
-/// Leaves a scope or nursery: if it catches, every `Cancelled` leaf is removed from the exception, and the rest propagates.
+// Leaves a scope or nursery: if it catches, every `Cancelled` leaf is removed from the exception, and the rest propagates.
 pub(crate) fn left_with(alloc: Global, catches: bool, exc: Option<Exc>) -> Result<Left, AllocError>
     ensures { IfOk result (λ left. left_of left ≡ left_with catches (option_map exc_of exc)) }
 {
@@ -49,8 +49,8 @@ pub(crate) fn left_with(alloc: Global, catches: bool, exc: Option<Exc>) -> Resul
     Ok(Left { caught, exc: rest })
 }
 
-/// Returns the exception that leaves a scope or nursery. A `fail` scope that caught a cancellation and has nothing else left
-/// raises `TooSlow` in that tick.
+// Returns the exception that leaves a scope or nursery. A `fail` scope that caught a cancellation and has nothing else left
+// raises `TooSlow` in that tick.
 pub(crate) fn exc_after(
     alloc: Global,
     kind: Kind,
@@ -70,7 +70,7 @@ pub(crate) fn exc_after(
     }
 }
 
-/// Returns a copy of an exception, if there is one.
+// Returns a copy of an exception, if there is one.
 pub(crate) fn copy_of(alloc: Global, exc: &Option<Exc>) -> Result<Option<Exc>, AllocError>
     ensures { IfOk result (λ copy. option_map exc_of copy ≡ option_map exc_of exc.now) }
 {
@@ -80,7 +80,7 @@ pub(crate) fn copy_of(alloc: Global, exc: &Option<Exc>) -> Result<Option<Exc>, A
     }
 }
 
-/// Returns a copy of an exception, in a box.
+// Returns a copy of an exception, in a box.
 pub(crate) fn copy_in_box(alloc: Global, exc: &Exc) -> Result<Box<Exc>, AllocError>
     ensures { IfOk result (λ copy. exc_of copy.value ≡ exc_of exc.now) }
 {
@@ -89,7 +89,7 @@ pub(crate) fn copy_in_box(alloc: Global, exc: &Exc) -> Result<Box<Exc>, AllocErr
     Ok(copy)
 }
 
-/// Returns a copy of an exception in a box, if there is one.
+// Returns a copy of an exception in a box, if there is one.
 pub(crate) fn boxed_copy(alloc: Global, exc: &Option<Exc>) -> Result<Option<Box<Exc>>, AllocError>
     ensures { IfOk result (λ copy. boxed copy ≡ option_map exc_of exc.now) }
 {
@@ -99,7 +99,7 @@ pub(crate) fn boxed_copy(alloc: Global, exc: &Option<Exc>) -> Result<Option<Box<
     }
 }
 
-/// Returns a copy of a label, if there is one.
+// Returns a copy of a label, if there is one.
 #[inline(never)]
 pub(crate) fn copied(alloc: Global, label: Option<&Label>) -> Result<Option<Label>, AllocError>
     ensures { IfOk result (λ copy. copy ≡ option_copied label.entry) }
@@ -110,14 +110,14 @@ pub(crate) fn copied(alloc: Global, label: Option<&Label>) -> Result<Option<Labe
     }
 }
 
-/// Moves all of a list to the end of another.
+// Moves all of a list to the end of another.
 pub(crate) fn move_all<T: Drop>(to: &mut Vec<T>, mut from: Vec<T>) -> Result<(), AllocError>
     ensures { OnOk result (to.new.items ≡ to.old.items ++ from.items) }
 {
     to.append(&mut from)
 }
 
-/// Returns an exception, if there is one, followed by others.
+// Returns an exception, if there is one, followed by others.
 pub(crate) fn with_exc(
     alloc: Global,
     exc: Option<Exc>,
@@ -134,8 +134,8 @@ pub(crate) fn with_exc(
     Ok(all)
 }
 
-/// Returns the exception after a handler: what it raised itself and the rest that it did not handle, as a group if there are
-/// both.
+// Returns the exception after a handler: what it raised itself and the rest that it did not handle, as a group if there are
+// both.
 pub(crate) fn handler_exc(
     alloc: Global,
     raised: Option<Exc>,
@@ -158,7 +158,7 @@ pub(crate) fn handler_exc(
     }))
 }
 
-/// Returns the exception after a `finally` block: its own, or else the earlier one.
+// Returns the exception after a `finally` block: its own, or else the earlier one.
 pub(crate) fn outcome_after(earlier: Option<Exc>, exc: Option<Exc>) -> Option<Exc>
     ensures { option_map exc_of result ≡ outcome_after (option_map exc_of earlier) (option_map exc_of exc) }
 {

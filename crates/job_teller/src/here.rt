@@ -31,13 +31,13 @@ pub struct Here<'a, 's> {
 }
 
 impl<'a, 's> Here<'a, 's> {
-    /// Returns the label of a scope, nursery or task of that name that is entered or started here.
+    // Returns the label of a scope, nursery or task of that name that is entered or started here.
     pub(crate) fn label_here(&self, name: Name) -> Result<Label, AllocError>
         ensures { IfOk result (λ label. label ≡ label_in name self.now) }
     {
-        self.place.named(self.alloc, name)
+        self.place.with_name(self.alloc, name)
     }
-    /// Returns the scope or nursery of that name that is entered here, with its label and the tick from which it is cancelled.
+    // Returns the scope or nursery of that name that is entered here, with its label and the tick from which it is cancelled.
     #[inline(never)]
     pub(crate) fn block(
         &self,

@@ -24,7 +24,7 @@ use std::alloc::AllocError;
 /// The tick to which `forever` sleeps.
 const FAR: u64 = 1_099_511_627_776;
 
-/// Walks a step that contains no block of steps, from a tick on, and appends its events.
+// Walks a step that contains no block of steps, from a tick on, and appends its events.
 #[inline(never)]
 pub(crate) fn tell_leaf<'a>(
     step: &'a Step,
@@ -82,7 +82,7 @@ pub(crate) fn sleeping<'a>(
     Ok(Told::at(here.alloc, tick + ticks))
 }
 
-/// Walks a sleep of the number of lines of the task's part divided by `per_tick`, rounded up.
+// Walks a sleep of the number of lines of the task's part divided by `per_tick`, rounded up.
 pub(crate) fn pace<'a>(
     here: Here<'a, '_>,
     per_tick: u64,
@@ -149,7 +149,7 @@ pub(crate) fn found<'a>(
     Ok(told)
 }
 
-/// Walks a `head`: the first `count` lines of the task's part.
+// Walks a `head`: the first `count` lines of the task's part.
 pub(crate) fn head<'a>(
     here: Here<'a, '_>,
     count: u64,
@@ -166,7 +166,7 @@ pub(crate) fn head<'a>(
     Ok(told)
 }
 
-/// Walks a `longest`: the first of the longest lines of the task's part.
+// Walks a `longest`: the first of the longest lines of the task's part.
 pub(crate) fn longest<'a>(
     here: Here<'a, '_>,
     tick: u64,
@@ -182,7 +182,7 @@ pub(crate) fn longest<'a>(
     Ok(told)
 }
 
-/// Walks a `need`: the first line of the task's part that contains a string, or an exception of that name if there is none.
+// Walks a `need`: the first line of the task's part that contains a string, or an exception of that name if there is none.
 pub(crate) fn need<'a>(
     here: Here<'a, '_>,
     text: &'a Text,
@@ -227,7 +227,7 @@ pub(crate) fn raised<'a>(
     Ok(Told::failed(here.alloc, exc, tick))
 }
 
-/// Walks a `cancel` of the innermost scope or nursery of that name that encloses the task.
+// Walks a `cancel` of the innermost scope or nursery of that name that encloses the task.
 pub(crate) fn cancel<'a>(
     here: Here<'a, '_>,
     name: &Name,
@@ -242,7 +242,7 @@ pub(crate) fn cancel<'a>(
     Ok(Told::at(here.alloc, tick))
 }
 
-/// Returns the tick from which its deadline cancels a scope or nursery that is entered in a tick, or `None` for never.
+// Returns the tick from which its deadline cancels a scope or nursery that is entered in a tick, or `None` for never.
 pub(crate) fn due(deadline: Deadline, tick: u64) -> Option<u64>
     requires in_range { IsInRangeDeadline deadline }
     requires room { tick ≤ 4611686018427387904 }

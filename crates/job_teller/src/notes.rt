@@ -19,7 +19,7 @@ use exc_groups::{Exc, Label};
 use job_story::{Event, Happening, What};
 use std::alloc::{AllocError, Global};
 
-/// Appends one event of a task.
+// Appends one event of a task.
 #[inline(never)]
 pub(crate) fn add<'a>(
     alloc: Global,
@@ -35,7 +35,7 @@ pub(crate) fn add<'a>(
     Ok(())
 }
 
-/// Appends an event of the task that the walk is in.
+// Appends an event of the task that the walk is in.
 #[inline(never)]
 pub(crate) fn note<'a>(
     here: Here<'a, '_>,
@@ -49,7 +49,7 @@ pub(crate) fn note<'a>(
     Ok(())
 }
 
-/// Appends the event of a sleep, unless it takes no tick.
+// Appends the event of a sleep, unless it takes no tick.
 #[inline(never)]
 pub(crate) fn note_sleep<'a>(
     here: Here<'a, '_>,
@@ -67,8 +67,8 @@ pub(crate) fn note_sleep<'a>(
     Ok(())
 }
 
-/// Appends the event of a `Cancelled` that is raised in `tick`, because a cancellation from the tick `from` on is seen. `since`
-/// is the tick at which the task fell asleep, if it slept.
+// Appends the event of a `Cancelled` that is raised in `tick`, because a cancellation from the tick `from` on is seen. `since`
+// is the tick at which the task fell asleep, if it slept.
 #[inline(never)]
 pub(crate) fn note_cancelled<'a>(
     here: Here<'a, '_>,
@@ -90,7 +90,7 @@ pub(crate) fn note_cancelled<'a>(
     Ok(())
 }
 
-/// Appends the event of an exception of a `finally` block that replaces an earlier one, if there are both.
+// Appends the event of an exception of a `finally` block that replaces an earlier one, if there are both.
 #[inline(never)]
 pub(crate) fn note_replaced<'a>(
     here: Here<'a, '_>,
@@ -114,7 +114,7 @@ pub(crate) fn note_replaced<'a>(
     Ok(())
 }
 
-/// Ends a nursery whose body was walked: appends the event that the task waits for the children, and gathers their outcomes.
+// Ends a nursery whose body was walked: appends the event that the task waits for the children, and gathers their outcomes.
 #[inline(never)]
 pub(crate) fn wait<'a>(
     label: &Label,
@@ -132,7 +132,7 @@ pub(crate) fn wait<'a>(
     Ok(told)
 }
 
-/// Leaves a scope or nursery whose inside was walked, and appends that event.
+// Leaves a scope or nursery whose inside was walked, and appends that event.
 #[inline(never)]
 pub(crate) fn leave<'a>(
     block: &Block,

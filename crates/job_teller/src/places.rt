@@ -6,7 +6,7 @@ use buffer_parts::{Line, Part};
 use job_story::{Range, Span};
 use std::alloc::{AllocError, Global};
 
-/// Returns a part of the input as a range of places.
+// Returns a part of the input as a range of places.
 pub(crate) fn range(part: Part<'_>) -> Range
     ensures { range_in result ≡ range_of part.entry }
 {
@@ -17,7 +17,7 @@ pub(crate) fn range(part: Part<'_>) -> Range
     }
 }
 
-/// Returns lines of the input by their places, in the same order.
+// Returns lines of the input by their places, in the same order.
 pub(crate) fn spans(alloc: Global, lines: &[Line<'_>]) -> Result<Vec<Span>, AllocError>
     ensures { IfOk result (λ spans. map span_in spans.items ≡ map span_of lines.now) }
 {

@@ -30,8 +30,8 @@ pub enum Stack<'s> {
 }
 
 impl<'s> Stack<'s> {
-    /// Returns the effective deadline (`sight`): the earliest tick from which a cancellation is seen inside this stack, or `None`
-    /// for never. Levels outside the first shielded one do not count.
+    // Returns the effective deadline (`sight`): the earliest tick from which a cancellation is seen inside this stack, or `None`
+    // for never. Levels outside the first shielded one do not count.
     pub(crate) fn sight(&self) -> Option<u64>
         ensures { result ≡ sight (stack_of self.now) }
     {
@@ -42,7 +42,7 @@ impl<'s> Stack<'s> {
         }
     }
 
-    /// Returns the label of the innermost level, in which a task that starts here is started, or `None` for an empty stack.
+    // Returns the label of the innermost level, in which a task that starts here is started, or `None` for an empty stack.
     pub(crate) fn home(&self) -> Option<&Label>
         ensures { option_copied result ≡ home_of (stack_of self.now) }
     {
@@ -52,7 +52,7 @@ impl<'s> Stack<'s> {
         }
     }
 
-    /// Returns the label of the innermost level of that name, if there is one.
+    // Returns the label of the innermost level of that name, if there is one.
     pub(crate) fn label_on(&self, name: &Name) -> Option<&Label>
         ensures { option_copied result ≡ label_on name.now (stack_of self.now) }
     {
@@ -63,8 +63,8 @@ impl<'s> Stack<'s> {
         }
     }
 
-    /// Returns the label of the innermost level that is cancelled from exactly that tick, if there is one. Levels outside the
-    /// first shielded one do not count.
+    // Returns the label of the innermost level that is cancelled from exactly that tick, if there is one. Levels outside the
+    // first shielded one do not count.
     pub(crate) fn seer(&self, from: u64) -> Option<&Label>
         ensures { option_copied result ≡ seer (stack_of self.now) from }
     {
@@ -76,8 +76,8 @@ impl<'s> Stack<'s> {
         }
     }
 
-    /// Returns whether a scope or nursery directly inside this stack that is left in a tick catches `Cancelled`: it is itself
-    /// cancelled by then, and no cancellation of the stack is seen through it.
+    // Returns whether a scope or nursery directly inside this stack that is left in a tick catches `Cancelled`: it is itself
+    // cancelled by then, and no cancellation of the stack is seen through it.
     pub(crate) fn catches(&self, from: Option<u64>, shield: bool, tick: u64) -> bool
         ensures { result ≡ catches from shield (stack_of self.now) tick }
     {

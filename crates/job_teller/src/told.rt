@@ -25,35 +25,35 @@ pub struct Told {
 }
 
 impl Told {
-    /// Returns the tick in which it ended.
+    // Returns the tick in which it ended.
     pub(crate) fn end(&self) -> u64
         ensures { result ≡ self.now.end }
     {
         self.end
     }
 
-    /// Returns whether it ended with an exception.
+    // Returns whether it ended with an exception.
     pub(crate) fn has_failed(&self) -> bool
         ensures { result ≡ is_some self.now.exc }
     {
         self.exc.is_some()
     }
 
-    /// Returns a copy of its exception, if it ended with one.
+    // Returns a copy of its exception, if it ended with one.
     pub(crate) fn copy_exc(&self, alloc: Global) -> Result<Option<Exc>, AllocError>
         ensures { IfOk result (λ copy. option_map exc_of copy ≡ option_map exc_of self.now.exc) }
     {
         copy_of(alloc, &self.exc)
     }
 
-    /// Returns a copy of its exception in a box, if it ended with one.
+    // Returns a copy of its exception in a box, if it ended with one.
     pub(crate) fn box_exc(&self, alloc: Global) -> Result<Option<Box<Exc>>, AllocError>
         ensures { IfOk result (λ copy. boxed copy ≡ option_map exc_of self.now.exc) }
     {
         boxed_copy(alloc, &self.exc)
     }
 
-    /// Returns a stretch that ended in this tick without an exception, and started no child.
+    // Returns a stretch that ended in this tick without an exception, and started no child.
     pub(crate) fn at(alloc: Global, tick: u64) -> Told
         ensures { (story : Story) → IsTold result (told_at tick story) }
     {
@@ -77,8 +77,8 @@ impl Told {
         }
     }
 
-    /// Joins this stretch, which ended without an exception, and the next one: the result has the next one's end, and the
-    /// children of both.
+    // Joins this stretch, which ended without an exception, and the next one: the result has the next one's end, and the
+    // children of both.
     #[inline(never)]
     pub(crate) fn join(self, next: Told) -> Result<Told, AllocError>
         ensures { IfOk result (λ w. (a b : Tale) → IsTold self a → IsTold next b → IsTold w (and_tale a b)) }
@@ -103,7 +103,7 @@ impl Told {
         })
     }
 
-    /// Joins a `try` body and its handler. What the handler did not handle propagates, in a group with what it raised itself.
+    // Joins a `try` body and its handler. What the handler did not handle propagates, in a group with what it raised itself.
     #[inline(never)]
     pub(crate) fn handled(
         self,
@@ -119,7 +119,7 @@ impl Told {
         Ok(told)
     }
 
-    /// Joins a `try` and its `finally` block. An exception of that block replaces the earlier one.
+    // Joins a `try` and its `finally` block. An exception of that block replaces the earlier one.
     #[inline(never)]
     pub(crate) fn cleaned(self, alloc: Global, next: Told) -> Result<Told, AllocError>
         ensures { IfOk result (λ w. (a b : Tale) → IsTold self a → IsTold next b → IsTold w (cleaned_by a b)) }
@@ -130,8 +130,8 @@ impl Told {
         Ok(told)
     }
 
-    /// Ends a nursery whose body is this stretch: it ends with its last member, and the exceptions of the body and the children
-    /// are one group.
+    // Ends a nursery whose body is this stretch: it ends with its last member, and the exceptions of the body and the children
+    // are one group.
     #[inline(never)]
     pub(crate) fn gather(self, alloc: Global, label: &Label) -> Result<Told, AllocError>
         ensures { IfOk result (λ w. (a : Tale) → IsTold self a → IsTold w (tell_gathered label.now a)) }
@@ -151,8 +151,8 @@ impl Told {
         })
     }
 
-    /// Returns the walk of a started task as the task that started it sees it: that one continues in the tick of the start, with
-    /// one more child.
+    // Returns the walk of a started task as the task that started it sees it: that one continues in the tick of the start, with
+    // one more child.
     #[inline(never)]
     pub(crate) fn into_child(self, alloc: Global, tick: u64) -> Result<Told, AllocError>
         ensures { IfOk result (λ w. (label : TreeLabel) (home : Option TreeLabel) (scene : Scene) (a : Tale) → IsTold self a

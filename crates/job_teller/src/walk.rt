@@ -184,7 +184,7 @@ fn tell_start<'a>(
     }
 }
 
-/// Walks a task that is started in a tick on a part of the input, from its start to its end.
+// Walks a task that is started in a tick on a part of the input, from its start to its end.
 #[cycle(telling)]
 pub(crate) fn tell_child<'a>(
     label: Label,
@@ -292,7 +292,7 @@ fn tell_pass<'a>(
     requires room { HasRoom (size_of body.now) here tick }
     ensures { IfOk result (λ w. Tells here.entry.task.now events.old.items w events.new.items (pass body.now here.entry number tick)) }
 {
-    let place = here.place.copy(here.alloc)?.indexed(number)?;
+    let place = here.place.copy(here.alloc)?.with_index(number)?;
     let inside = Here {
         place: &place,
         ..here
@@ -398,5 +398,5 @@ fn tell_cleanup<'a>(
 fn label_over(here: Here<'_, '_>, name: Name, index: u64) -> Result<Label, AllocError>
     ensures { IfOk result (λ label. label ≡ record { name = name; indices = here.entry.place.now.indices ++ index ∷ [] }) }
 {
-    here.label_here(name)?.indexed(index)
+    here.label_here(name)?.with_index(index)
 }

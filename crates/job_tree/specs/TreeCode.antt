@@ -59,8 +59,8 @@ mark_code =
     })
     (λ _. refl)
 
-abbrev plain : ℕ → ℕ → List ℕ → List ℕ → Mark
-plain kind n a b = record { kind = kind; number = n; first = a; second = b; deadline = Never; flag = false; other = false; over = None }
+abbrev plain_mark : ℕ → ℕ → List ℕ → List ℕ → Mark
+plain_mark kind n a b = record { kind = kind; number = n; first = a; second = b; deadline = Never; flag = false; other = false; over = None }
 
 abbrev handler_name : Handled → List ℕ
 handler_name unhandled = []
@@ -77,20 +77,20 @@ has_cleanup (finally body) = true
 -- a block as marks; the mark of a step comes before the marks of its blocks
 abbrev mutual
   marks_of : Steps → List Mark → List Mark
-  marks_of stop rest = plain 0 0 [] [] ∷ rest
+  marks_of stop rest = plain_mark 0 0 [] [] ∷ rest
   marks_of (step s ss) rest = marks_in s (marks_of ss rest)
 
   marks_in : Step → List Mark → List Mark
-  marks_in (sleep n) rest = plain 1 n [] [] ∷ rest
-  marks_in checkpoint rest = plain 2 0 [] [] ∷ rest
-  marks_in forever rest = plain 3 0 [] [] ∷ rest
-  marks_in (pace k) rest = plain 4 k [] [] ∷ rest
-  marks_in (find text) rest = plain 5 0 text [] ∷ rest
-  marks_in (head n) rest = plain 6 n [] [] ∷ rest
-  marks_in longest rest = plain 7 0 [] [] ∷ rest
-  marks_in (need text name) rest = plain 8 0 text name ∷ rest
-  marks_in (raise name) rest = plain 9 0 name [] ∷ rest
-  marks_in (cancel name) rest = plain 10 0 name [] ∷ rest
+  marks_in (sleep n) rest = plain_mark 1 n [] [] ∷ rest
+  marks_in checkpoint rest = plain_mark 2 0 [] [] ∷ rest
+  marks_in forever rest = plain_mark 3 0 [] [] ∷ rest
+  marks_in (pace k) rest = plain_mark 4 k [] [] ∷ rest
+  marks_in (find text) rest = plain_mark 5 0 text [] ∷ rest
+  marks_in (head n) rest = plain_mark 6 n [] [] ∷ rest
+  marks_in longest rest = plain_mark 7 0 [] [] ∷ rest
+  marks_in (need text name) rest = plain_mark 8 0 text name ∷ rest
+  marks_in (raise name) rest = plain_mark 9 0 name [] ∷ rest
+  marks_in (cancel name) rest = plain_mark 10 0 name [] ∷ rest
   marks_in (scope name deadline shield fail body) rest =
       record { kind = 11; number = 0; first = name; second = []; deadline = deadline; flag = shield; other = fail; over = None }
       ∷ marks_of body rest
@@ -100,7 +100,7 @@ abbrev mutual
   marks_in (start name over body) rest =
       record { kind = 13; number = 0; first = name; second = []; deadline = Never; flag = false; other = false; over = over }
       ∷ marks_of body rest
-  marks_in (repeat count body) rest = plain 14 count [] [] ∷ marks_of body rest
+  marks_in (repeat count body) rest = plain_mark 14 count [] [] ∷ marks_of body rest
   marks_in (attempt body handler cleanup) rest =
       record {
         kind = 15;

@@ -8,7 +8,7 @@ ghost use Rattle.std.specs.Cmp.Rules.{hashing};
 ghost use Rattle.std.proofs.Common.{rules};
 ghost use Rattle.job_tree.specs.Words.{is_word, starts_word, is_word_byte};
 
-use crate::room::padded;
+use crate::room::pad;
 use crate::word::{is_letter, is_word_byte};
 use std::hash::{Hash, Hasher};
 use std::marker::Model;
@@ -46,7 +46,7 @@ impl Name {
             return None;
         }
         Some(Name {
-            room: padded(text),
+            room: pad(text),
             len: text.len() as u8,
         })
     }

@@ -1,7 +1,7 @@
 ghost use Rattle.std.specs.Prelude.{◌≡◌, ◌↔◌, IsTrue, IsSome, IfSome};
 ghost use Rattle.job_tree.specs.Words.{is_text};
 
-use crate::room::padded;
+use crate::room::pad;
 use std::marker::Model;
 
 /// A string of a job text, without its quotes and escapes: 1 to 64 bytes of any kind. In contracts, it is the list of
@@ -37,7 +37,7 @@ impl Text {
             return None;
         }
         Some(Text {
-            room: padded(bytes),
+            room: pad(bytes),
             len: bytes.len() as u8,
         })
     }

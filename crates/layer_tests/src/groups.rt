@@ -116,7 +116,7 @@ fn copies_are_equal(rt: HostRuntime) -> Result<(), Fail> {
 
 /// The label of that name with one index, about which nothing else is known here.
 fn indexed(alloc: Global, name: &[u8], index: u64) -> Result<Label, Fail> {
-    Ok(label(alloc, name)?.indexed(index)?)
+    Ok(label(alloc, name)?.with_index(index)?)
 }
 
 /// A copy of a label.
@@ -127,7 +127,7 @@ fn same_label(alloc: Global, label: &Label) -> Result<Label, AllocError> {
 
 /// The label of another name.
 fn renamed(alloc: Global, label: &Label, name: &[u8]) -> Result<Label, Fail> {
-    Ok(label.named(alloc, word(name)?)?)
+    Ok(label.with_name(alloc, word(name)?)?)
 }
 
 /// The texts of a label, of its copy, and of one of another name.

@@ -4,7 +4,7 @@ use Rattle.std.specs.List.{find}
 use Rattle.std.proofs.lemmas.Bool.{cases_Bool}
 use Rattle.std.proofs.lemmas.List.{map_push}
 use Rattle.buffer_parts.specs.Lines.{Span, text_of}
-use Rattle.buffer_parts.specs.Part.{span_of, line_text, IsLineOf}
+use Rattle.buffer_parts.specs.Part.{span_of}
 use Rattle.buffer_parts.specs.declared.line.Line.{Line}
 use Rattle.line_kernels.specs.Kernels.{contains}
 
@@ -25,11 +25,6 @@ pub shown_more : (lines : List Line) (line : Line) (rest : List Span) →
     map span_of lines ++ (span_of line ∷ rest) ≡ map span_of (lines ++ line ∷ []) ++ rest
 shown_more lines line rest = sym (ap (λ ls. ls ++ rest) (map_push span_of lines line)
     ∙ append_assoc (map span_of lines) (span_of line ∷ []) rest)
-
--- a line of the buffer is found where its own bytes contain the string
-pub stands_in-line : (buffer needle : List ℕ) (line : Line) (test : Bool) → IsLineOf buffer line → contains needle (line_text line) ≡ test →
-    stands_in buffer needle (span_of line) ≡ test
-stands_in-line buffer needle line test placed is = ap (contains needle) (sym placed.text) ∙ is
 
 -- a list with nothing after it is the list itself
 pub append-nil : {X : Type 0} (xs : List X) → xs ++ [] ≡ xs

@@ -7,6 +7,7 @@ use Rattle.std.proofs.lemmas.Simd.{sum-zip2, length-zip2, Each1-weaker, Each2-of
 use Rattle.std.proofs.lemmas.List.{length-map}
 use Rattle.std.proofs.lemmas.List.Sums.{sum_by-cons, sum_by-append}
 use Rattle.buffer_parts.proofs.RangeLemmas.{length-slice_range, slice_range-split}
+use Rattle.line_kernels.specs.declared.newlines.TheConstants.{RUN}
 use Rattle.line_kernels.proofs.CountLemmas.{newlines}
 
 abbrev pub hit : ℕ → ℕ
@@ -76,7 +77,7 @@ pub same : (xs : List ℕ) → map (λ x. x) xs ≡ xs
 same [] = refl
 same (x ∷ xs) = ap (λ ys. x ∷ ys) (same xs)
 
--- 64 lanes of at most 255 each add up to at most 16320
-pub lanes-sum-le : (n : ℕ) (xs : List ℕ) → n ≤ 255 → length xs ≡ 64 → Each1 (λ x. x ≤ n) xs → sum_l xs ≤ 16320
+-- 64 lanes of at most 255 each add up to at most the bytes of a run
+pub lanes-sum-le : (n : ℕ) (xs : List ℕ) → n ≤ 255 → length xs ≡ 64 → Each1 (λ x. x ≤ n) xs → sum_l xs ≤ RUN
 lanes-sum-le n xs few long low =
     omega (arith, sum_bound 255 xs (Each1-weaker (λ x. x ≤ n) (λ x. x ≤ 255) (λ a le. omega arith) xs low), long)

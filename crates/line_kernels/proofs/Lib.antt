@@ -4,3 +4,4 @@ pub mod FindLemmas
 pub mod LaneLemmas
 pub mod LongestLemmas
 pub mod SearchLemmas
+pub mod MatchLemmas

@@ -19,8 +19,8 @@ abbrev pub head_of : List ℕ → ℕ → Range → List Span
 head_of buffer count r = take count (lines_of buffer r)
 
 -- the longer of two lines, the first where they are equal
-abbrev pub longer : Span → Span → Span
-longer a b = if nat_lt a.len b.len then b else a
+abbrev pub longer_line : Span → Span → Span
+longer_line a b = if nat_lt a.len b.len then b else a
 
 -- the first of the longest lines, or no line where there is none
 abbrev pub longest_among : List Span → List Span
@@ -29,7 +29,7 @@ longest_among (l ∷ ls) = first_longest l ls
   where
     first_longest : Span → List Span → List Span
     first_longest l [] = l ∷ []
-    first_longest l (m ∷ ms) = first_longest (longer l m) ms
+    first_longest l (m ∷ ms) = first_longest (longer_line l m) ms
 
 abbrev pub longest_in : List ℕ → Range → List Span
 longest_in buffer r = longest_among (lines_of buffer r)

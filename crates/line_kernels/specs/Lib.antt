@@ -1,2 +1,3 @@
 pub mod Kernels
+pub mod Matches
 pub mod Answers

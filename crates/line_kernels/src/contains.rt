@@ -3,7 +3,7 @@ ghost use Rattle.line_kernels.specs.Kernels.{contains};
 
 use memchr::memmem;
 
-/// Returns whether a string occurs in the bytes. The empty string occurs in all bytes.
+// Returns whether a string occurs in the bytes. The empty string occurs in all bytes.
 pub(crate) fn contains(bytes: &[u8], needle: &[u8]) -> bool
     ensures { result ≡ contains needle.now bytes.now }
 {

@@ -3,14 +3,14 @@ ghost use Rattle.buffer_parts.specs.Part.{buffer_of, range_of};
 ghost use Rattle.line_kernels.specs.Kernels.{found_in};
 ghost use Rattle.line_kernels.specs.Answers.{AreLinesAt};
 
-use crate::contains::contains;
 use crate::lines::FoundLines;
+use crate::matching::{fits_in_line, next_by_line, next_by_search};
 use buffer_parts::Part;
-use memchr::{memchr, memmem};
+use memchr::memmem;
 use std::alloc::{AllocError, Global};
 
-/// Returns the lines that contain a string, in order.
-pub(crate) fn found<'a>(
+// Returns the lines that contain a string, in order.
+pub(crate) fn find_lines<'a>(
     alloc: Global,
     part: Part<'a>,
     needle: &[u8],
@@ -18,15 +18,14 @@ pub(crate) fn found<'a>(
     ensures { IfOk result (AreLinesAt (buffer_of part.entry)
         (found_in (buffer_of part.entry) needle.now (range_of part.entry))) }
 {
-    if needle.is_empty() || memchr(b'\n', needle).is_some() {
-        return found_by_line(alloc, part, needle);
+    if fits_in_line(needle) {
+        return find_by_search(alloc, part, needle);
     }
-    found_by_search(alloc, part, needle)
+    find_by_line(alloc, part, needle)
 }
 
-/// Returns the lines that contain a string, by a search in each line. The empty string occurs in every line, and a
-/// string with a newline in none, even if it occurs in the part.
-fn found_by_line<'a>(
+// Returns the lines that contain a string, by a search in each line.
+fn find_by_line<'a>(
     alloc: Global,
     part: Part<'a>,
     needle: &[u8],
@@ -34,17 +33,16 @@ fn found_by_line<'a>(
     ensures { IfOk result (AreLinesAt (buffer_of part.entry)
         (found_in (buffer_of part.entry) needle.now (range_of part.entry))) }
 {
+    let mut left = part.lines();
     let mut lines = Vec::new(alloc);
-    for line in part.lines() {
-        if contains(line.text(), needle) {
-            lines.push(line)?;
-        }
+    'lines: while let Some(line) = next_by_line(&mut left, needle) {
+        lines.push(line)?;
     }
     Ok(FoundLines::from_vec(lines))
 }
 
-/// Returns the lines that contain a string, by one search through the part.
-fn found_by_search<'a>(
+// Returns the lines that contain a string, by one search through the part.
+fn find_by_search<'a>(
     alloc: Global,
     part: Part<'a>,
     needle: &[u8],
@@ -57,8 +55,8 @@ fn found_by_search<'a>(
     let finder = memmem::Finder::new(needle);
     let mut left = part.lines();
     let mut lines = Vec::new(alloc);
-    'lines: while let Some(place) = finder.find(left.text()) {
-        lines.push(left.line_at(place))?;
+    'lines: while let Some(line) = next_by_search(&mut left, &finder) {
+        lines.push(line)?;
     }
     Ok(FoundLines::from_vec(lines))
 }

@@ -7,7 +7,7 @@ use crate::lines::FoundLines;
 use buffer_parts::Part;
 use std::alloc::{AllocError, Global};
 
-/// Returns the first `count` lines, or all if there are fewer.
+// Returns the first `count` lines, or all if there are fewer.
 pub(crate) fn first_lines<'a>(
     alloc: Global,
     part: Part<'a>,

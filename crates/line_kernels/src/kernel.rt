@@ -3,11 +3,11 @@ ghost use Rattle.line_kernels.specs.Answers.{IsAnswer};
 
 use crate::answers::Answer;
 use crate::count::line_count;
-use crate::find::found;
+use crate::find::find_lines;
 use crate::head::first_lines;
 use crate::lines::FoundLines;
 use crate::longest::longest_line;
-use crate::need::needed_line;
+use crate::need::find_needed_line;
 use buffer_parts::Part;
 use std::alloc::{AllocError, Global};
 
@@ -37,10 +37,10 @@ pub fn answer<'a>(
     ensures count_takes_no_memory { kernel.now ≡ Kernel.Count → IsOk result }
 {
     match *kernel {
-        Kernel::Find(needle) => Ok(Answer::Lines(found(alloc, part, needle)?)),
+        Kernel::Find(needle) => Ok(Answer::Lines(find_lines(alloc, part, needle)?)),
         Kernel::Head(count) => Ok(Answer::Lines(first_lines(alloc, part, count)?)),
         Kernel::Longest => Ok(Answer::Lines(FoundLines::from_option(alloc, longest_line(part))?)),
-        Kernel::Need(needle) => match needed_line(part, needle) {
+        Kernel::Need(needle) => match find_needed_line(part, needle) {
             Some(line) => Ok(Answer::Lines(FoundLines::from_option(alloc, Some(line))?)),
             None => Ok(Answer::Missing),
         },

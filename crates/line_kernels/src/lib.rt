@@ -12,6 +12,7 @@ mod head;
 mod kernel;
 mod lines;
 mod longest;
+mod matching;
 mod need;
 mod newlines;
 mod request;

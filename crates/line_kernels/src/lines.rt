@@ -39,7 +39,7 @@ impl<'a> FoundLines<'a> {
         self.lines.as_slice()
     }
 
-    /// Creates `FoundLines` with one line, or with none.
+    // Creates `FoundLines` with one line, or with none.
     pub(crate) fn from_option(
         alloc: Global,
         line: Option<Line<'a>>,

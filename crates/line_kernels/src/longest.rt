@@ -4,7 +4,7 @@ ghost use Rattle.line_kernels.specs.Kernels.{longest_in};
 
 use buffer_parts::{Line, Part};
 
-/// Returns the first of the longest lines, or `None` if the part has no line.
+// Returns the first of the longest lines, or `None` if the part has no line.
 pub(crate) fn longest_line<'a>(part: Part<'a>) -> Option<Line<'a>>
     ensures place { MatchOption result (longest_in (buffer_of part.entry) (range_of part.entry) ≡ [])
         (λ line. longest_in (buffer_of part.entry) (range_of part.entry) ≡ span_of line ∷ []) }

@@ -1,24 +1,28 @@
 ghost use Rattle.std.specs.Prelude.{◌≡◌, ◌+◌, ◌≤◌, ◌<◌, ◌==◌, if◌then◌else◌, length, map, slice_range, count_by};
+ghost use Rattle.line_kernels.specs.declared.newlines.TheConstants.{RUN};
 
 use std::simd::prelude::*;
 
-/// Returns how many newlines there are in the bytes.
+// The number of bytes of a run: 255 blocks of 64 bytes, so that a lane of 8 bits counts the newlines of its place in each.
+pub(crate) const RUN: usize = 16_320;
+
+// Returns how many newlines there are in the bytes.
 pub(crate) fn newline_count(bytes: &[u8]) -> u64
     ensures { result ≡ count_by (λ b. b == 10) bytes.now }
 {
     let mut count = 0;
     let mut at = 0;
-    'runs: while 16320 <= bytes.len() - at {
+    'runs: while RUN <= bytes.len() - at {
         count += u64::from(newlines_in_run(bytes, at));
-        at += 16320;
+        at += RUN;
     }
     count + newlines_by_block(&bytes[at..])
 }
 
-/// Returns the number of newlines in the 255 blocks of 64 bytes from a place on. A lane counts to at most 255.
+// Returns the number of newlines in the run from a place on. A lane counts to at most 255.
 fn newlines_in_run(bytes: &[u8], at: usize) -> u16
-    requires { at + 16320 ≤ length bytes.now }
-    ensures { result ≡ count_by (λ b. b == 10) (slice_range bytes.now at (at + 16320)) }
+    requires { at + RUN ≤ length bytes.now }
+    ensures { result ≡ count_by (λ b. b == 10) (slice_range bytes.now at (at + RUN)) }
 {
     let mut lanes = u8x64::splat(0);
     let mut seen = 0;
@@ -29,7 +33,7 @@ fn newlines_in_run(bytes: &[u8], at: usize) -> u16
     lanes.cast::<u16>().strict_reduce_sum()
 }
 
-/// Returns for each of the 64 bytes from a place on 1 if it is a newline, and 0 otherwise.
+// Returns for each of the 64 bytes from a place on 1 if it is a newline, and 0 otherwise.
 #[inline(always)]
 fn newline_lanes(bytes: &[u8], at: usize) -> u8x64
     requires { at + 64 ≤ length bytes.now }
@@ -40,7 +44,7 @@ fn newline_lanes(bytes: &[u8], at: usize) -> u8x64
         .select(u8x64::splat(1), u8x64::splat(0))
 }
 
-/// Returns the number of newlines in the bytes that are left after the runs.
+// Returns the number of newlines in the bytes that are left after the runs.
 fn newlines_by_block(bytes: &[u8]) -> u64
     ensures { result ≡ count_by (λ b. b == 10) bytes.now }
 {
@@ -53,7 +57,7 @@ fn newlines_by_block(bytes: &[u8]) -> u64
     count + newlines_one_by_one(&bytes[at..])
 }
 
-/// Returns the number of newlines in the 64 bytes from a place on.
+// Returns the number of newlines in the 64 bytes from a place on.
 #[inline(always)]
 fn newlines_in_block(bytes: &[u8], at: usize) -> u32
     requires { at + 64 ≤ length bytes.now }
@@ -65,7 +69,7 @@ fn newlines_in_block(bytes: &[u8], at: usize) -> u32
         .count_ones()
 }
 
-/// Returns the number of newlines in fewer than 64 bytes.
+// Returns the number of newlines in fewer than 64 bytes.
 fn newlines_one_by_one(bytes: &[u8]) -> u64
     requires { length bytes.now < 64 }
     ensures { result ≡ count_by (λ b. b == 10) bytes.now }

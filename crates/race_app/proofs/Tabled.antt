@@ -2,6 +2,7 @@
 use Rattle.std.proofs.Common.{◌≡◌, ℕ, ◌*◌, ◌<◌, ◌≤◌, Bool, true, false, Option, None, Some, List, [], map, sym, ap, subst, ◌∙◌, arith}
 use Rattle.std.specs.Prelude.{nat_le, length, if◌then◌else◌}
 use Rattle.std.proofs.lemmas.Bool.Decides.{nat_tests}
+use Rattle.std.specs.Io.Iter.{u64_saturate}
 use Rattle.job_tree.specs.Tree.{Tree}
 use Rattle.job_tokens.specs.declared.token.Token.{Token}
 use Rattle.job_grammar.specs.Refusals.{HasTokens}
@@ -40,13 +41,13 @@ ran_in_time job input limit rows same soon =
 pub are_lines : (text input : List ℕ) (limit l : ℕ) (job : Tree) (tokens : List Token) (f : Finer)
     (sites : List Site) (starts : List CopiedStart) (first : Ran) (lines : List told.Line) (hairs : ℕ) →
     meaning_end job input ≤ limit → HasTokens text tokens None → sites ≡ sites_in tokens → starts ≡ copied_in tokens →
-    Some f ≡ finer_for sites → l ≡ capped (limit * f.factor) → first ≡ ran_of limit job input →
+    Some f ≡ finer_for sites → l ≡ u64_saturate (limit * f.factor) → first ≡ ran_of limit job input →
     AreLines text input l f sites starts first lines → hairs ≡ length (shifts_of sites) → AreRaceLines text input limit job hairs lines
 are_lines text input limit l job tokens f sites starts first lines hairs soon has s c finer at same are h =
     let by_limit = subst (λ (n : ℕ). AreLines text input n f sites starts first lines) at are in
-    let by_sites = subst (λ (ss : List Site). AreLines text input (capped (limit * f.factor)) f ss starts first lines) s by_limit in
+    let by_sites = subst (λ (ss : List Site). AreLines text input (u64_saturate (limit * f.factor)) f ss starts first lines) s by_limit in
     let by_starts =
-    subst (λ (cs : List CopiedStart). AreLines text input (capped (limit * f.factor)) f (sites_in tokens) cs first lines) c by_sites in
+    subst (λ (cs : List CopiedStart). AreLines text input (u64_saturate (limit * f.factor)) f (sites_in tokens) cs first lines) c by_sites in
     record {
       in_time = soon;
       tokens = tokens;
@@ -54,7 +55,7 @@ are_lines text input limit l job tokens f sites starts first lines hairs soon ha
       f = f;
       finer_is = ap finer_for (sym s) ∙ sym finer;
       lines_are =
-          subst (λ (r : Ran). AreLines text input (capped (limit * f.factor)) f (sites_in tokens) (copied_in tokens) r lines) same by_starts;
+          subst (λ (r : Ran). AreLines text input (u64_saturate (limit * f.factor)) f (sites_in tokens) (copied_in tokens) r lines) same by_starts;
       hairs_are = h ∙ ap (λ (ss : List Site). length (shifts_of ss)) s;
     }
 

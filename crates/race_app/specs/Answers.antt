@@ -1,5 +1,6 @@
 -- The result of moving the places of a text that spells a job by a hair.
 use Rattle.std.specs.Prelude.{◌≡◌, ℕ, ◌*◌, ◌<◌, ◌≤◌, Some, None, List, length, map}
+use Rattle.std.specs.Io.Iter.{u64_saturate}
 use Rattle.job_tree.specs.Tree.{Tree}
 use Rattle.job_tokens.specs.declared.token.Token.{Token}
 use Rattle.job_grammar.specs.Refusals.{HasTokens}
@@ -23,7 +24,7 @@ pub record AreRaceLines (text input : List ℕ) (limit : ℕ) (job : Tree) (hair
   pub f : Finer
   pub finer_is : finer_for (sites_in tokens) ≡ Some f
   pub lines_are :
-      AreLines text input (capped (limit * f.factor)) f (sites_in tokens) (copied_in tokens) (ran_of limit job input) lines
+      AreLines text input (u64_saturate (limit * f.factor)) f (sites_in tokens) (copied_in tokens) (ran_of limit job input) lines
   pub hairs_are : hairs ≡ length (shifts_of (sites_in tokens))
 
 -- the job ends by the limit, and some number of its ticks is too large to be made finer

@@ -4,7 +4,7 @@ use Rattle.std.specs.List.{before_first}
 use Rattle.job_syntax.specs.declared.nonterminal.Nonterminal.{Nonterminal}
 use Rattle.job_grammar.specs.declared.fault.JobFault.{JobFault}
 use Rattle.nursery_app.specs.Places.{line_of, column_of}
-use Rattle.job_syntax.specs.Keywords.{spelling}
+use Rattle.job_syntax.specs.Keywords.{spelling_of}
 use Rattle.refusal_text.specs.declared.hinting.Hint.{Hint}
 use Rattle.refusal_text.specs.declared.hinting.Hint.TheVariants as hint
 use Rattle.refusal_text.specs.Expecting.{IsAsked}
@@ -69,7 +69,7 @@ size_line n = codes "the job has " ++ decimal n ++ codes " steps\n"
 -- the line of a hint
 abbrev pub hint_line : List ℕ → List ℕ → Hint → List ℕ
 hint_line job text (hint.Advice a) = advice_text a
-hint_line job text (hint.Meant keyword) = meant_line (spelling keyword)
+hint_line job text (hint.Meant keyword) = meant_line (spelling_of keyword)
 hint_line job text (hint.OpenSince at) = place_line (codes "the innermost block that is not closed begins at ") job text at
 hint_line job text (hint.GivenAt at) = place_line (codes "it was first given at ") job text at
 hint_line job text (hint.Size n) = size_line n

@@ -2,7 +2,7 @@ ghost use Rattle.std.specs.Prelude.{◌≡◌, ◌∷◌, ◌++◌, ◌<◌, ◌
 ghost use Rattle.std.specs.List.{before_first};
 ghost use Rattle.std.specs.String.{string_bytes};
 ghost use Rattle.refusal_text.specs.Explaining.{Tells, pointed_message, headed, shown_byte, is_newline, last_of, most_after, hint_of, hint_line, meant_line, place_line, size_line, quoted, more_quoted, names_line, names_of};
-ghost use Rattle.job_syntax.specs.Keywords.{spelling};
+ghost use Rattle.job_syntax.specs.Keywords.{spelling_of};
 ghost use Rattle.refusal_text.specs.Scopes.{names_held};
 ghost use Rattle.nursery_app.specs.Places.{line_of, column_of};
 
@@ -262,7 +262,7 @@ fn push_quoted(message: &mut String, name: Name) -> Result<(), AllocError>
 }
 
 fn push_meant(message: &mut String, keyword: Keyword) -> Result<(), AllocError>
-    ensures { OnOk result (string_bytes message.new ≡ string_bytes message.old ++ meant_line (spelling keyword)) }
+    ensures { OnOk result (string_bytes message.new ≡ string_bytes message.old ++ meant_line (spelling_of keyword)) }
 {
     message.push_str("did you mean `")?;
     push_shown(message, keyword.bytes())?;

@@ -8,7 +8,7 @@ use Rattle.line_kernels.specs.declared.request.Request.{Request}
 use Rattle.line_kernels.specs.declared.answers.Answer.{Answer}
 use Rattle.scoped_workers.specs.declared.slot.Slot.{Slot}
 use Rattle.scoped_workers.specs.declared.slot.Content.TheVariants.{Done}
-use Rattle.scoped_workers.specs.Slots.{Computes, IsComputed, AreComputed, IsFilled, AreAnswers, done}
+use Rattle.scoped_workers.specs.Slots.{Computes, IsComputed, AreComputed, IsFilled, AreAnswers, slot_of}
 
 -- the first slots hold the results of their requests
 abbrev pub ComputedBelow : ℕ → List Request → List Slot → Type 0
@@ -32,13 +32,13 @@ computed-one_more requests row k request slot inside within is below this i q s 
 
 -- one more answer is taken out
 pub taken-one_more : (answers more : List Answer) (rest left row : List Slot) (slot : Slot) (answer taken : Answer) →
-    map done answers ++ rest ≡ row → rest ≡ slot ∷ left → slot.content ≡ Done answer → taken ≡ answer → more ≡ answers ++ taken ∷ [] →
-    map done more ++ left ≡ row
+    map slot_of answers ++ rest ≡ row → rest ≡ slot ∷ left → slot.content ≡ Done answer → taken ≡ answer → more ≡ answers ++ taken ∷ [] →
+    map slot_of more ++ left ≡ row
 taken-one_more answers more rest left row slot answer taken before next holds is pushed =
-    let this : slot ≡ done taken = ap (λ content. record { content = content }) (holds ∙ ap Done (sym is)) in
-    ap (λ items. map done items ++ left) pushed ∙ ap (λ slots. slots ++ left) (map-append done answers (taken ∷ []))
-    ∙ append_assoc (map done answers) (done taken ∷ []) left
-    ∙ ap (λ s. map done answers ++ (s ∷ left)) (sym this) ∙ ap (λ slots. map done answers ++ slots) (sym next) ∙ before
+    let this : slot ≡ slot_of taken = ap (λ content. record { content = content }) (holds ∙ ap Done (sym is)) in
+    ap (λ items. map slot_of items ++ left) pushed ∙ ap (λ slots. slots ++ left) (map-append slot_of answers (taken ∷ []))
+    ∙ append_assoc (map slot_of answers) (slot_of taken ∷ []) left
+    ∙ ap (λ s. map slot_of answers ++ (s ∷ left)) (sym this) ∙ ap (λ slots. map slot_of answers ++ slots) (sym next) ∙ before
 
 -- the rest of a full row is full
 pub filled-rest : (rest left : List Slot) (slot : Slot) → rest ≡ slot ∷ left → All IsFilled rest → All IsFilled left
@@ -61,14 +61,14 @@ pub written-whole : {X : Type 0} (n : ℕ) (row rest : List X) → length row �
 written-whole n row rest whole = take-append-le n row rest (omega arith) ∙ take_all n row (omega arith)
 
 -- the answers of a row are those to the requests
-pub answers-computed : (requests : List Request) (answers : List Answer) (row : List Slot) → map done answers ≡ row →
+pub answers-computed : (requests : List Request) (answers : List Answer) (row : List Slot) → map slot_of answers ≡ row →
     length row ≡ length requests → AreComputed requests row → AreAnswers requests answers
 answers-computed requests answers row taken paired computed =
-    let count : length answers ≡ length requests = sym (length-map answers done) ∙ ap length taken ∙ paired in
+    let count : length answers ≡ length requests = sym (length-map answers slot_of) ∙ ap length taken ∙ paired in
     record {
       count = count;
       each = λ i q a less.
-          let slot : slice_index_or row i (done a) ≡ done (slice_index_or answers i a) =
-          sym (ap (λ slots. slice_index_or slots i (done a)) taken) ∙ get_or-map done answers i a in
-          subst (IsComputed (slice_index_or requests i q)) slot (computed i q (done a) (omega arith));
+          let slot : slice_index_or row i (slot_of a) ≡ slot_of (slice_index_or answers i a) =
+          sym (ap (λ slots. slice_index_or slots i (slot_of a)) taken) ∙ get_or-map slot_of answers i a in
+          subst (IsComputed (slice_index_or requests i q)) slot (computed i q (slot_of a) (omega arith));
     }

@@ -12,7 +12,7 @@ use Rattle.claim_word.specs.declared.worker.Pass.{Pass}
 use Rattle.claim_word.specs.Claims.{drawn_by, was_told}
 use Rattle.scoped_workers.specs.declared.slot.Slot.{Slot}
 use Rattle.scoped_workers.specs.declared.worker_state.Numbered.{Numbered}
-use Rattle.scoped_workers.specs.Slots.{Answers, IsComputed, AreComputed, done}
+use Rattle.scoped_workers.specs.Slots.{Answers, IsComputed, AreComputed, slot_of}
 use Rattle.scoped_workers.specs.WorkerStates.{number, IsRight, AreDrawn, AreGathered, HaveAnswers}
 
 -- one more than the maximum number
@@ -78,10 +78,10 @@ count-other i other xs ne = sum_by-cons (λ x. cond (nat_eq i x) 1 0) other xs
 -- one more answer is placed
 pub placed-one_more : (requests : List Request) (rest left : List Numbered) (numbered : Numbered) (row then : List Slot) →
     length row ≡ length requests → rest ≡ numbered ∷ left → IsRight requests numbered → ComputedBut requests rest row
-    → then ≡ slice_set row numbered.number (done numbered.answer) → ComputedBut requests left then
+    → then ≡ slice_set row numbered.number (slot_of numbered.answer) → ComputedBut requests left then
 placed-one_more requests rest left numbered row then paired next right but put i q s inside none =
     let at = numbered.number in
-    let slot = done numbered.answer in
+    let slot = slot_of numbered.answer in
     subst (λ (slots : List Slot). IsComputed (slice_index_or requests i q) (slice_index_or slots i s)) (sym put)
     (dite (ℕ_discrete i at)
     (λ (here : i ≡ at). subst (λ k. IsComputed (slice_index_or requests k q) (slice_index_or (slice_set row at slot) k s)) (sym here)

@@ -26,18 +26,18 @@ abbrev pub AreComputed : List Request → List Slot → Type 0
 AreComputed requests row = (i : ℕ) (q : Request) (s : Slot) → i < length row →
     IsComputed (slice_index_or requests i q) (slice_index_or row i s)
 
--- there are as many answers as requests, and the answer at each place is that of the request there
+-- there are as many answers as requests, and the answer at each index is that of the request there
 pub record AreAnswers (requests : List Request) (answers : List Answer) : Type 0 where
   pub count : length answers ≡ length requests
   pub each : (i : ℕ) (q : Request) (a : Answer) → i < length requests → Answers (slice_index_or requests i q) (slice_index_or answers i a)
 
 -- an empty slot
-abbrev pub empty : Slot
-empty = record { content = Empty }
+abbrev pub empty_slot : Slot
+empty_slot = record { content = Empty }
 
 -- the slot of an answer
-abbrev pub done : Answer → Slot
-done answer = record { content = Done answer }
+abbrev pub slot_of : Answer → Slot
+slot_of answer = record { content = Done answer }
 
 -- something was put into the slot
 abbrev pub IsFilled : Slot → Type 0

@@ -76,12 +76,12 @@ fn compute<'a>(alloc: Global, requests: &[Request<'a>], row: &mut [Slot<'a>])
     ensures computed { AreComputed requests.now row.new }
 {
     for i in 0..row.len() {
-        row[i] = computed(alloc, &requests[i]);
+        row[i] = compute_one(alloc, &requests[i]);
     }
 }
 
 // Computes a request, and returns its slot.
-fn computed<'a>(alloc: Global, request: &Request<'a>) -> Slot<'a>
+fn compute_one<'a>(alloc: Global, request: &Request<'a>) -> Slot<'a>
     ensures { IsComputed request.now result }
 {
     let content = match answer(alloc, &request.kernel, request.part) {

@@ -12,7 +12,7 @@ mod worker_state;
 mod working;
 
 pub use bench::Bench;
-pub use claim_word::{Claims, Pass};
+pub use claim_word::{Claims, MAX_REQUESTS, Pass};
 pub use gate::{Gate, NoGate};
 pub use line_kernels::Request;
 pub use slot::{Content, Slot};

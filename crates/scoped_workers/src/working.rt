@@ -1,6 +1,7 @@
 ghost use Rattle.std.specs.Prelude.{◌≡◌, ◌≤◌, ◌<◌, List, [], ◌∷◌, ◌++◌, true, false, length, vec_len, map, replicate, slice_set, All, IfOk};
+ghost use Rattle.claim_word.specs.declared.limits.TheConstants.{MAX_REQUESTS};
 ghost use Rattle.claim_word.specs.Claims.{IsPassOf, requests_of, drawn_by, was_told};
-ghost use Rattle.scoped_workers.specs.Slots.{AreAnswers, AreComputed, IsFilled, empty, done};
+ghost use Rattle.scoped_workers.specs.Slots.{AreAnswers, AreComputed, IsFilled, empty_slot, slot_of};
 ghost use Rattle.scoped_workers.specs.WorkerStates.{IsFresh, IsFinished, AreGathered, HaveAnswers};
 
 use crate::gate::Gate;
@@ -17,7 +18,7 @@ use std::thread::Threads;
 /// left. The worker that computes a request calls the gate before and after it.
 ///
 /// If a thread cannot be started, another one does its work. The caller must ensure that there are from 1 to 64 workers and
-/// at most 4,000,000 requests.
+/// at most `MAX_REQUESTS` requests.
 ///
 /// Returns `AllocError` if memory is refused for a request or for this call itself. All threads that were started are joined
 /// before it returns.
@@ -30,7 +31,7 @@ pub fn work<'a, R: Threads + Sync, G: Gate + Sync>(
 ) -> Result<Vec<Answer<'a>>, AllocError>
     requires some_workers { 1 ≤ workers }
     requires few_workers { workers ≤ 64 }
-    requires few_requests { length requests.now ≤ 4000000 }
+    requires few_requests { length requests.now ≤ MAX_REQUESTS }
     ensures { IfOk result (λ answers. AreAnswers requests.now answers.items) }
 {
     if requests.is_empty() {
@@ -53,7 +54,7 @@ fn draw_all<'a, R: Threads + Sync, G: Gate + Sync>(
 ) -> Result<Vec<Numbered<'a>>, AllocError>
     requires some_workers { 1 ≤ workers }
     requires few_workers { workers ≤ 64 }
-    requires few_requests { length requests.now ≤ 4000000 }
+    requires few_requests { length requests.now ≤ MAX_REQUESTS }
     ensures { IfOk result (λ answered. HaveAnswers requests.now answered.items) }
 {
     let (claims, passes) = Claims::new(alloc, requests.len(), workers)?;
@@ -213,7 +214,7 @@ fn place<'a>(requests: &[Request<'a>], answered: Vec<Numbered<'a>>, row: &mut [S
 // Puts one answer into a slot.
 fn put<'a>(row: &mut [Slot<'a>], number: usize, answer: Answer<'a>)
     requires { number < length row.old }
-    ensures { row.new ≡ slice_set row.old number (done answer.entry) }
+    ensures { row.new ≡ slice_set row.old number (slot_of answer.entry) }
 {
     row[number] = Slot {
         content: Content::Done(answer),
@@ -222,7 +223,7 @@ fn put<'a>(row: &mut [Slot<'a>], number: usize, answer: Answer<'a>)
 
 // Returns this many empty slots.
 fn empty_row<'a>(alloc: Global, count: usize) -> Result<Vec<Slot<'a>>, AllocError>
-    ensures { IfOk result (λ row. row.items ≡ replicate count empty) }
+    ensures { IfOk result (λ row. row.items ≡ replicate count empty_slot) }
 {
     let mut row = Vec::with_capacity(alloc, count)?;
     for _ in 0..count {
@@ -236,7 +237,7 @@ fn empty_row<'a>(alloc: Global, count: usize) -> Result<Vec<Slot<'a>>, AllocErro
 // Returns the answers in a row of slots of which none is empty, or `AllocError` if memory was refused for a slot.
 fn answers<'a>(alloc: Global, row: Vec<Slot<'a>>) -> Result<Vec<Answer<'a>>, AllocError>
     requires { All IsFilled row.items }
-    ensures { IfOk result (λ answers. map done answers.items ≡ row.entry.items) }
+    ensures { IfOk result (λ answers. map slot_of answers.items ≡ row.entry.items) }
 {
     let mut answers = Vec::with_capacity(alloc, row.len())?;
     for slot in row {

@@ -1,7 +1,7 @@
--- The answers for items, each at the place of its item.
+-- The answers for items, each at the index of its item.
 use Rattle.std.specs.Prelude.{◌<◌, ℕ, List, [], ◌∷◌, Option, IfSome, length, slice_index_or}
 
--- there are as many answers as items, and each is correct for the item at its place
+-- there are as many answers as items, and each is correct for the item at its index
 abbrev pub AreAnswers : {I A : Type 0} → (I → A → Type 0) → List I → List A → Type 0
 AreAnswers P [] [] = Unit {0}
 AreAnswers P [] (y ∷ ys) = ⊥

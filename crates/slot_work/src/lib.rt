@@ -1,7 +1,7 @@
-//! The same kind of work on each of a list of items, by several threads, with each answer at the place of its item.
+//! The same kind of work on each of a list of items, by several threads, with each answer at the index of its item.
 //!
 //! The layer promises that `answers_for` returns the answer of a `Work` for each item, in the order of the items, for every number of
-//! workers and every gate. The items are split among the threads, and each thread writes into places of its own. It uses the scoped
+//! workers and every gate. The items are split among the threads, and each thread writes into slots of its own. It uses the scoped
 //! threads of std and the gates of `scoped_workers`.
 #![tactic(auto)]
 

@@ -9,7 +9,7 @@ use std::thread;
 use std::thread::Threads;
 
 /// Returns the answers for these items, in their order, found by at most `workers` threads. The thread that works on an item calls the
-/// gate before and after it, with the place of the item. The caller must ensure that there is at least one worker and that the work's
+/// gate before and after it, with the index of the item. The caller must ensure that there is at least one worker and that the work's
 /// own requirement (`Work::may`) holds.
 ///
 /// Returns `AllocError` if memory is refused. If that happens at one item, the work on the other items is still done.
@@ -64,12 +64,12 @@ fn fill_all<R: Threads + Sync, W: Work + Sync, G: Gate + Sync>(
         &|place: usize, slot: &mut Option<W::Answer>|
             requires { IsSync R.row × (W.Work.may work.now) × (place < length items.now) }
             ensures { (d : _) → IsFilled (W.Work.answers work.entry.now) (slice_index_or items.entry.now place d) slot.new }
-        { *slot = found(rt, alloc, work, &items[place], gate, place) },
+        { *slot = answer_item(rt, alloc, work, &items[place], gate, place) },
     );
 }
 
-// Returns the answer for an item, or `None` if memory was refused for it. Calls the gate before and after, with the item's place.
-fn found<R: Threads + Sync, W: Work, G: Gate>(
+// Returns the answer for an item, or `None` if memory was refused for it. Calls the gate before and after, with the item's index.
+fn answer_item<R: Threads + Sync, W: Work, G: Gate>(
     rt: &R,
     alloc: Global,
     work: &W,

@@ -13,6 +13,7 @@ use crate::label::{push_label, push_number};
 use crate::ticks::next_from;
 use exc_groups::{Exc, Label};
 use job_story::{Event, Happening, Kind, What};
+use job_tree::Name;
 use std::alloc::AllocError;
 use story_causes::{Cause, Entering, is_cancellation};
 
@@ -56,35 +57,18 @@ fn push_happening(
             deadline,
             shield,
         } => push_enters(out, *kind, label, *deadline, *shield),
-        Happening::Sleeps { until } => {
-            out.extend_from_slice(b"sleeps ")?;
-            push_until(out, *until)
-        }
+        Happening::Sleeps { until } => push_sleeps(out, *until),
         Happening::IsCancelled {
             by,
             since,
             in_cleanup,
-        } => {
-            out.extend_from_slice(b"is cancelled")?;
-            push_cleanup(out, *in_cleanup)?;
-            push_since(out, *since)?;
-            push_by(out, known, by)
-        }
+        } => push_is_cancelled(out, known, by, *since, *in_cleanup),
         Happening::Finds { lines } => push_finds(out, lines.len()),
-        Happening::Misses { name } => {
-            out.extend_from_slice(b"misses ")?;
-            out.extend_from_slice(name.bytes())
-        }
-        Happening::Raises { name } => {
-            out.extend_from_slice(b"raises ")?;
-            out.extend_from_slice(name.bytes())
-        }
+        Happening::Misses { name } => push_verb(out, b"misses ", *name),
+        Happening::Raises { name } => push_verb(out, b"raises ", *name),
         Happening::Cancels { label } => push_cancels(out, known, label, tick),
         Happening::Handles { matched, rest } => push_handles(out, matched, rest),
-        Happening::Cleans { exc } => {
-            out.extend_from_slice(b"runs cleanup")?;
-            push_after(out, exc)
-        }
+        Happening::Cleans { exc } => push_cleans(out, exc),
         Happening::Replaces { lost, fresh } => push_replaces(out, lost, fresh),
         Happening::Waits { nursery, exc } => push_waits(out, known, nursery, exc, tick),
         Happening::Leaves {
@@ -93,11 +77,16 @@ fn push_happening(
             inside,
             caught,
             outside,
-        } => {
-            push_leaves(out, *kind, label)?;
-            push_leaving(out, inside, *caught, outside)
-        }
+        } => push_leaves(out, *kind, label, inside, *caught, outside),
     }
+}
+
+// Appends a verb, and a name after it.
+fn push_verb(out: &mut Vec<u8>, verb: &[u8], name: Name) -> Result<(), AllocError>
+    ensures { OnOk result (out.new.items ≡ out.old.items ++ (verb.now ++ name)) }
+{
+    out.extend_from_slice(verb)?;
+    out.extend_from_slice(name.bytes())
 }
 
 // Appends that a task enters a scope or nursery.
@@ -154,6 +143,15 @@ fn push_shield(out: &mut Vec<u8>, shield: bool) -> Result<(), AllocError>
     }
 }
 
+// Appends that a task sleeps, and until when.
+fn push_sleeps(out: &mut Vec<u8>, until: Option<u64>) -> Result<(), AllocError>
+    ensures { OnOk result (out.new.items ≡ out.old.items ++ (codes "sleeps " ++ until_text until)) }
+{
+    out.extend_from_slice(b"sleeps ")?;
+    push_until(out, until)?;
+    Ok(())
+}
+
 // Appends the tick until which a task sleeps, or that it sleeps forever.
 pub(crate) fn push_until(out: &mut Vec<u8>, until: Option<u64>) -> Result<(), AllocError>
     ensures { OnOk result (out.new.items ≡ out.old.items ++ until_text until) }
@@ -163,6 +161,24 @@ pub(crate) fn push_until(out: &mut Vec<u8>, until: Option<u64>) -> Result<(), Al
     };
     out.extend_from_slice(b"until ")?;
     push_number(out, tick)
+}
+
+// Appends that a task is cancelled, where, and by which scope or nursery.
+fn push_is_cancelled(
+    out: &mut Vec<u8>,
+    known: &Known<'_, '_>,
+    by: &Option<Label>,
+    since: Option<u64>,
+    in_cleanup: bool,
+) -> Result<(), AllocError>
+    ensures { OnOk result (out.new.items ≡ out.old.items ++ (codes "is cancelled" ++ cleanup_text in_cleanup ++ since_text since
+        ++ cancelled_text (froms_in known.now) (events_in known.now) by.now)) }
+{
+    out.extend_from_slice(b"is cancelled")?;
+    push_cleanup(out, in_cleanup)?;
+    push_since(out, since)?;
+    push_by(out, known, by)?;
+    Ok(())
 }
 
 // Appends whether a cancellation came in a `finally` block.
@@ -297,6 +313,16 @@ fn push_handles(out: &mut Vec<u8>, matched: &Exc, rest: &Option<Box<Exc>>) -> Re
     out.extend_from_slice(b" propagates")
 }
 
+// Appends that a task runs a cleanup, and after which exception.
+fn push_cleans(out: &mut Vec<u8>, exc: &Option<Box<Exc>>) -> Result<(), AllocError>
+    ensures { OnOk result (out.new.items
+        ≡ out.old.items ++ (codes "runs cleanup" ++ with_exc (codes " after ") (unboxed_exc exc.now) [])) }
+{
+    out.extend_from_slice(b"runs cleanup")?;
+    push_after(out, exc)?;
+    Ok(())
+}
+
 // Appends the exception after which something begins, if there is one.
 fn push_after(out: &mut Vec<u8>, exc: &Option<Box<Exc>>) -> Result<(), AllocError>
     ensures { OnOk result (out.new.items ≡ out.old.items ++ with_exc (codes " after ") (boxed exc.now) []) }
@@ -377,15 +403,25 @@ fn push_home_sign(
     push_sign(out, known, nursery, exc, tick)
 }
 
-// Appends what a task leaves.
-fn push_leaves(out: &mut Vec<u8>, kind: Kind, label: &Label) -> Result<(), AllocError>
+// Appends that a task leaves a scope or nursery, and how.
+fn push_leaves(
+    out: &mut Vec<u8>,
+    kind: Kind,
+    label: &Label,
+    inside: &Option<Box<Exc>>,
+    caught: bool,
+    outside: &Option<Box<Exc>>,
+) -> Result<(), AllocError>
     ensures { OnOk result (out.new.items
-        ≡ out.old.items ++ (codes "leaves " ++ kind_text (kind_of kind) ++ label_text label.now ++ codes ": ")) }
+        ≡ out.old.items ++ (codes "leaves " ++ kind_text (kind_of kind) ++ label_text label.now ++ codes ": "
+        ++ leaving_text (unboxed_exc inside.now) caught (unboxed_exc outside.now))) }
 {
     out.extend_from_slice(b"leaves ")?;
     push_kind(out, kind)?;
     push_label(out, label)?;
-    out.extend_from_slice(b": ")
+    out.extend_from_slice(b": ")?;
+    push_leaving(out, inside, caught, outside)?;
+    Ok(())
 }
 
 // Appends how a scope or nursery is left: that its inside completed, or its exception and whether it caught a cancellation.

@@ -67,9 +67,9 @@ pub enum Attr {
     Width,
     /// The height.
     Height,
-    /// The place where the element begins, from the left.
+    /// The x coordinate at which the element begins.
     X,
-    /// The place where the element begins, from the top.
+    /// The y coordinate at which the element begins.
     Y,
     /// The start of a line, from the left.
     X1,
@@ -91,9 +91,9 @@ pub enum Attr {
     D,
     /// The element that is copied.
     Href,
-    /// The place in a marker that lies on the end of the line, from the left.
+    /// The x coordinate in a marker of the point that lies on the end of the line.
     RefX,
-    /// The place in a marker that lies on the end of the line, from the top.
+    /// The y coordinate in a marker of the point that lies on the end of the line.
     RefY,
     /// The width of a marker.
     MarkerWidth,

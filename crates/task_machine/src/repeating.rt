@@ -72,7 +72,7 @@ impl<'a> Task<'a> {
     pub(crate) fn label_here(&self, name: Name) -> Result<Label, AllocError>
         ensures { IfOk result (λ label. label ≡ label_in self.now name) }
     {
-        let label = self.label.named(self.alloc, name)?;
+        let label = self.label.with_name(self.alloc, name)?;
         label_inside(label, self.frames.as_slice())
     }
 }
@@ -95,6 +95,6 @@ fn label_in_frame(label: Label, frame: &Frame) -> Result<Label, AllocError>
     let Frame::Repeat { pass, .. } = frame else {
         return Ok(label);
     };
-    let inner = label.indexed(*pass)?;
+    let inner = label.with_index(*pass)?;
     Ok(inner)
 }

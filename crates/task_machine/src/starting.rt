@@ -101,7 +101,7 @@ impl<'a> Task<'a> {
         let mut cuts = self.part.cuts(copies as usize);
         'copies: for i in 0..copies {
             let part = cuts.next_cut();
-            let label = self.label_here(name)?.indexed(i)?;
+            let label = self.label_here(name)?.with_index(i)?;
             self.start(nursery, label, part, body, world)?;
         }
         Ok(())

@@ -1,4 +1,4 @@
--- What contracts see of a queue: a map from keys to ticks, as a list with the tick of each key at the key's place.
+-- What contracts see of a queue: a map from keys to ticks, as a list with the tick of each key at the key's index.
 use Rattle.std.specs.Prelude.{◌≡◌, ◌≢◌, ℕ, ◌≤◌, List, Option, Some, None}
 use Rattle.std.specs.Prelude.{slice_index_or}
 

@@ -8,7 +8,7 @@ use std::marker::Model;
 /// A map with at most one tick for each key, which can be searched by key and by tick.
 #[derive(Drop)]
 pub struct TickQueue {
-    // The tick of each key, at the key's place. A key past the end has no tick.
+    // The tick of each key, at the key's index. A key past the end has no tick.
     ticks: Vec<Option<u64>>,
     // The same ticks with their keys, sorted by tick, and then by key.
     order: BTreeSet<(u64, usize)>,
@@ -86,7 +86,7 @@ impl TickQueue {
     }
 }
 
-// Extends the table so that the key has a place in it. No key's tick changes. Returns `AllocError` if memory is refused.
+// Extends the table so that the key has an entry in it. No key's tick changes. Returns `AllocError` if memory is refused.
 fn grow_to(ticks: &mut Vec<Option<u64>>, key: usize) -> Result<(), AllocError>
     ensures room { OnOk result (key < length ticks.new.items) }
     ensures same { IsSame ticks.old.items ticks.new.items }

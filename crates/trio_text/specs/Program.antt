@@ -8,5 +8,5 @@ abbrev pub header : List ℕ → List ℕ
 header name = codes "# The job " ++ name ++ HEADER.now
 
 -- the last lines, which run the function of the root task and print how each task ended
-abbrev pub ending : List ℕ → List ℕ
-ending name = (HARNESS.now ++ name_text name) ++ codes ")\n"
+abbrev pub footer : List ℕ → List ℕ
+footer name = (HARNESS.now ++ name_text name) ++ codes ")\n"

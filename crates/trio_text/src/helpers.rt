@@ -15,7 +15,7 @@ pub(crate) fn push_imports(out: &mut Vec<u8>, words: &Words) -> Result<(), Alloc
 
 // Appends a class for each exception.
 pub(crate) fn push_classes(out: &mut Vec<u8>, words: &Words) -> Result<(), AllocError> {
-    'names: for name in words.raised() {
+    'names: for name in words.raised_names() {
         out.extend_from_slice(b"\n\nclass ")?;
         push_class(out, words, *name)?;
         out.extend_from_slice(b"(Exception):\n    pass\n")?;

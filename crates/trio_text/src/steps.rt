@@ -83,18 +83,8 @@ fn push_step(
             body,
             handler,
             cleanup,
-        } => {
-            if place.is_deep_in_cleanups() {
-                push_try_apart(alloc, out, words, place, body, handler, cleanup)
-            } else {
-                push_try(alloc, out, words, place, body, handler, cleanup)
-            }
-        }
-        _ => {
-            begin(out, place.level)?;
-            push_plain(alloc, out, words, step)?;
-            out.extend_from_slice(b"\n")
-        }
+        } => push_try(alloc, out, words, place, body, handler, cleanup),
+        _ => push_plain(alloc, out, words, place.level, step),
     }
 }
 
@@ -108,6 +98,11 @@ fn push_try(
     handler: &Option<Handler>,
     cleanup: &Option<Body>,
 ) -> Result<(), AllocError> {
+    if place.is_deep_in_cleanups() {
+        if let Some(cleanup) = cleanup {
+            return push_try_apart(alloc, out, words, place, body, handler, cleanup);
+        }
+    }
     push_line(out, place.level, b"try:")?;
     push_block(alloc, out, words, &place.inside(2), body)?;
     push_handler(alloc, out, words, place, handler)?;
@@ -124,11 +119,8 @@ fn push_try_apart(
     place: &Place,
     body: &Body,
     handler: &Option<Handler>,
-    cleanup: &Option<Body>,
+    cleanup: &Body,
 ) -> Result<(), AllocError> {
-    let Some(cleanup) = cleanup else {
-        return push_try(alloc, out, words, place, body, handler, &None);
-    };
     push_gap(out)?;
     push_line(out, place.level, b"async def nested_block():")?;
     let inside = place.in_function();
@@ -177,8 +169,21 @@ fn push_cleanup(
     push_block(alloc, out, words, &place.in_cleanup(), cleanup)
 }
 
-// Appends the statement for a step without a block.
+// Appends the line for a step without a block.
 fn push_plain(
+    alloc: Global,
+    out: &mut Vec<u8>,
+    words: &Words,
+    level: usize,
+    step: &Step,
+) -> Result<(), AllocError> {
+    begin(out, level)?;
+    push_statement(alloc, out, words, step)?;
+    out.extend_from_slice(b"\n")
+}
+
+// Appends the statement of that line.
+fn push_statement(
     alloc: Global,
     out: &mut Vec<u8>,
     words: &Words,

@@ -59,7 +59,7 @@ impl Words {
 
     // Returns the names of the exceptions that are raised or handled, each once, in the order of the steps, without
     // `TooSlow`.
-    pub(crate) fn raised(&self) -> &[Name] {
+    pub(crate) fn raised_names(&self) -> &[Name] {
         self.raised.as_slice()
     }
 

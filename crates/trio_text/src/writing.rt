@@ -1,5 +1,5 @@
 ghost use Rattle.std.specs.Prelude.{◌≡◌, ◌-◌, ◌++◌, IfOk, codes, drop, length, take};
-ghost use Rattle.trio_text.specs.Program.{header, ending};
+ghost use Rattle.trio_text.specs.Program.{header, footer};
 
 use crate::helpers::{push_classes, push_helpers, push_imports};
 use crate::names::push_name;
@@ -18,13 +18,13 @@ use std::alloc::{AllocError, Global};
 /// only error is that memory was refused.
 pub fn program(alloc: Global, job: &Job) -> Result<Vec<u8>, AllocError>
     ensures begins { IfOk result (λ text. take (length (header job.now.name)) text.items ≡ header job.now.name) }
-    ensures ends { IfOk result (λ text. drop (length text.items - length (ending job.now.name)) text.items ≡ ending job.now.name) }
+    ensures ends { IfOk result (λ text. drop (length text.items - length (footer job.now.name)) text.items ≡ footer job.now.name) }
 {
     let design = design_of(alloc, job)?;
-    let ending = ending_of(alloc, job)?;
+    let footer = footer_of(alloc, job)?;
     let mut text = header_of(alloc, job)?;
     text.extend_from_slice(design.as_slice())?;
-    text.extend_from_slice(ending.as_slice())?;
+    text.extend_from_slice(footer.as_slice())?;
     Ok(text)
 }
 
@@ -52,8 +52,8 @@ fn design_of(alloc: Global, job: &Job) -> Result<Vec<u8>, AllocError> {
 }
 
 // Returns the last lines, which run the function of the root task and print how each task ended.
-fn ending_of(alloc: Global, job: &Job) -> Result<Vec<u8>, AllocError>
-    ensures { IfOk result (λ text. text.items ≡ ending job.now.name) }
+fn footer_of(alloc: Global, job: &Job) -> Result<Vec<u8>, AllocError>
+    ensures { IfOk result (λ text. text.items ≡ footer job.now.name) }
 {
     let mut text = Vec::new(alloc);
     text.extend_from_slice(HARNESS)?;

@@ -1,4 +1,5 @@
-use Rattle.std.proofs.Common.{◌≡◌, ◌+◌, min, List, [], drop, subst, arith}
+use Rattle.std.proofs.Common.{◌≡◌, ◌+◌, List, [], drop, subst, arith}
+use Rattle.std.specs.Io.Iter.{u64_saturate}
 use Rattle.std.proofs.lemmas.List.{drop_all}
 use Rattle.job_tree.specs.declared.step.Step.{Step}
 use Rattle.job_tree.specs.Blocks.{steps_of}
@@ -14,7 +15,7 @@ size_of-size_in-more-requires t c =
 pub size_of-returns : goal.size_of-returns
 size_of-returns t c =
     let done : drop c.steps.step-index c.args.steps.now ≡ [] = drop_all c.steps.step-index c.args.steps.now c.steps-test.false in
-    let all : min (c.steps.size + 0) 18446744073709551615 ≡ min (size_of (steps_of c.args.steps.now)) 18446744073709551615 =
-    subst (λ (ss : List Step). min (c.steps.size + size_of (steps_of ss)) 18446744073709551615
-    ≡ min (size_of (steps_of c.args.steps.now)) 18446744073709551615) done c.steps.invariant.1 in
+    let all : u64_saturate (c.steps.size + 0) ≡ u64_saturate (size_of (steps_of c.args.steps.now)) =
+    subst (λ (ss : List Step). u64_saturate (c.steps.size + size_of (steps_of ss)) ≡ u64_saturate (size_of (steps_of c.args.steps.now))) done
+    c.steps.invariant.1 in
     omega (arith, all, c.steps.invariant.0)

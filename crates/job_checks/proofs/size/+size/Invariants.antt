@@ -1,4 +1,5 @@
-use Rattle.std.proofs.Common.{◌≡◌, ◌≤◌, ◌+◌, min, drop}
+use Rattle.std.proofs.Common.{◌≡◌, ◌<◌, ◌+◌, ◌^◌, drop}
+use Rattle.std.specs.Io.Iter.{u64_saturate}
 use Rattle.job_tree.specs.Weigh.{weight_of, weight_in, handled_weight, cleaned_weight}
 use Rattle.job_tree.specs.Blocks.{step_of, steps_of, handled_of, cleaned_of}
 use Rattle.job_tree.specs.Names.{size_of}
@@ -6,9 +7,8 @@ use Rattle.job_checks.proofs.size.+size.Given as goal
 
 abbrev pub invariant-size_of-steps : goal.invariant-size_of-steps
 invariant-size_of-steps l =
-    (l.size ≤ 18446744073709551615)
-    × (min (l.size + size_of (steps_of (drop l.step-index l.steps))) 18446744073709551615
-    ≡ min (size_of (steps_of l.steps)) 18446744073709551615)
+    (l.size < 2 ^ 64)
+    × (u64_saturate (l.size + size_of (steps_of (drop l.step-index l.steps))) ≡ u64_saturate (size_of (steps_of l.steps)))
 
 abbrev pub decreases-size_of : goal.decreases-size_of
 decreases-size_of l = weight_of (steps_of l.steps.now)

@@ -1,7 +1,8 @@
 use Rattle.std.proofs.Common.{arith}
-use Rattle.job_tree.specs.Blocks.{steps_of}
+use Rattle.job_tree.specs.Blocks.{step_of, steps_of}
 use Rattle.job_syntax.specs.Pieces.{steps_pieces}
 use Rattle.job_tree.proofs.Weights.{weight_at}
+use Rattle.job_grammar.proofs.Tails.{step_appended}
 use Rattle.job_grammar.proofs.Writing_blocks.{closed}
 use Rattle.job_grammar.proofs.writing.+writing.Goals as goal
 
@@ -14,3 +15,8 @@ pub push_steps-returns : goal.push_steps-returns
 push_steps-returns t c = closed (steps_pieces (steps_of c.args.steps.now)) c.args.shapes.now.items c.steps.shapes.items
     c.push.new.self.items c.args.steps.now c.steps.step-index (omega (arith, c.steps-test.false)) c.steps.invariant
     c.in_ok-push.ensures.items
+
+pub push_step-returns : goal.push_step-returns
+push_step-returns t c =
+    step_appended (step_of c.args.step.now) c.args.shapes.now.items c.push_head.new.shapes.items c.push_tail.new.shapes.items
+    c.in_ok-push_head.ensures c.in_ok-push_tail.ensures

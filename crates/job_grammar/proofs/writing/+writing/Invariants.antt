@@ -9,13 +9,16 @@ abbrev pub invariant-push_steps-steps : goal.invariant-push_steps-steps
 invariant-push_steps-steps l = Left (steps_pieces (steps_of l.steps)) l.fn.shapes.items (left_from l.steps l.step-index) l.shapes.items
 
 abbrev pub decreases-push_steps : goal.decreases-push_steps
-decreases-push_steps l = weight_of (steps_of l.steps.now)
+decreases-push_steps l = weight_of (steps_of l.steps.now) + 1
 
 abbrev pub decreases-push_body : goal.decreases-push_body
 decreases-push_body l = weight_of l.body.now + 2
 
 abbrev pub decreases-push_step : goal.decreases-push_step
-decreases-push_step l = weight_in (step_of l.step.now)
+decreases-push_step l = weight_in (step_of l.step.now) + 1
+
+abbrev pub decreases-push_tail : goal.decreases-push_tail
+decreases-push_tail l = weight_in (step_of l.step.now)
 
 abbrev pub decreases-push_handler : goal.decreases-push_handler
 decreases-push_handler l = handled_weight (handled_of l.handler.now)

@@ -1,11 +1,12 @@
 use Rattle.std.proofs.Common.{◌+◌, arith}
+use Rattle.line_kernels.specs.declared.newlines.TheConstants.{RUN}
 use Rattle.line_kernels.proofs.CountLemmas.{newlines-more, newlines-rest, newlines-few}
 use Rattle.line_kernels.proofs.newlines.newline_count.Goals as goal
 
 pub runs-preserved : goal.runs-preserved
 runs-preserved c =
-    let more = newlines-more c.args.bytes.now c.runs.at 16320 in
-    let few = newlines-few c.args.bytes.now (c.runs.at + 16320) in
+    let more = newlines-more c.args.bytes.now c.runs.at RUN in
+    let few = newlines-few c.args.bytes.now (c.runs.at + RUN) in
     (omega arith, omega arith, omega arith)
 
 pub returns : goal.returns

@@ -1,6 +1,7 @@
 use Rattle.std.proofs.Common.{◌≡◌, ℕ, ◌+◌, ◌*◌, ◌≤◌, Fits, w16, map, slice_range, ap, ◌∙◌, arith}
 use lib.Lanes.{sum_l}
 use Rattle.std.proofs.lemmas.Simd.{Each1-weaker, sum_fits, fold-sum}
+use Rattle.line_kernels.specs.declared.newlines.TheConstants.{RUN}
 use Rattle.line_kernels.proofs.CountLemmas.{newlines}
 use Rattle.line_kernels.proofs.LaneLemmas.{added-low, added-fit, low-hits, lanes-next, same, lanes-sum-le}
 use Rattle.line_kernels.proofs.newlines.newlines_in_run.Goals as goal
@@ -37,6 +38,6 @@ pub returns : goal.returns
 returns c =
     let keeps = c.blocks-2.invariant in
     let few : c.blocks-2.seen ≤ 255 = keeps.0 in
-    let end : c.args.at + 64 * c.blocks-2.seen ≡ c.args.at + 16320 = omega arith in
+    let end : c.args.at + 64 * c.blocks-2.seen ≡ c.args.at + RUN = omega arith in
     fold-sum 0 (map (λ x. x) c.blocks-2.lanes) ∙ none (sum_l (map (λ x. x) c.blocks-2.lanes)) ∙ ap sum_l (same c.blocks-2.lanes) ∙ keeps.3
     ∙ ap (λ n. newlines (slice_range c.args.bytes.now c.args.at n)) end

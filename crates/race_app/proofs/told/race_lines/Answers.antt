@@ -1,4 +1,5 @@
 use Rattle.std.proofs.Common.{◌≤◌, ◌*◌, true, map, sym, ap, ◌∙◌}
+use Rattle.std.specs.Io.Iter.{u64_saturate}
 use Rattle.job_meaning.specs.Meaning.{meaning_end}
 use Rattle.job_runner.specs.Runs.{rows_of, root_end}
 use Rattle.job_edits.specs.Sites.{sites_in}
@@ -24,6 +25,6 @@ returns g c =
     (c.as_slice-4.ensures.value ∙ c.in_ok-sites.ensures ∙ ap sites_in c.as_slice.ensures.value)
     (c.as_slice-5.ensures.value ∙ c.in_ok-starts.ensures ∙ ap copied_in c.as_slice-3.ensures.value)
     (c.in-Some.ensures ∙ ap finer_for (c.as_slice-2.ensures.value ∙ sym c.as_slice-4.ensures.value))
-    (c.saturating_mul.ensures ∙ ap (λ n. capped (n * c.in-Some.finer.factor)) c.limit-limit.ensures.value)
+    (c.saturating_mul.ensures ∙ ap (λ n. u64_saturate (n * c.in-Some.finer.factor)) c.limit-limit.ensures.value)
     (ran_in_time job input limit rows c.in_ok-run.ensures.records soon) c.in_ok-lines.ensures
     c.in_ok-hairs.ensures

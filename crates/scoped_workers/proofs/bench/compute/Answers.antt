@@ -8,9 +8,9 @@ loop-i-preserved c =
     let before = c.loop-i.invariant in
     let row = c.loop-i.row in
     let i = c.loop-i.i in
-    let slot = c.computed.result in
+    let slot = c.compute_one.result in
     record {
       count = length-set row i slot ∙ before.count;
       done = computed-one_more c.args.requests.now row i c.index-requests-i.result slot (omega arith) (omega arith) c.index-requests-i.is
-          before.done c.computed.ensures;
+          before.done c.compute_one.ensures;
     }

@@ -1,7 +1,7 @@
 use Rattle.std.proofs.Common.{◌∙◌, All, length, drop, ap, sym, subst}
 use Rattle.std.proofs.lemmas.List.{length-replicate}
 use Rattle.std.proofs.lemmas.Result.{IfOk-weaker}
-use Rattle.scoped_workers.specs.Slots.{AreAnswers, IsFilled, empty}
+use Rattle.scoped_workers.specs.Slots.{AreAnswers, IsFilled, empty_slot}
 use Rattle.scoped_workers.proofs.SlotLemmas.{computed-filled-all, written-whole, answers-computed}
 use Rattle.scoped_workers.proofs.working.work.Goals as goal
 
@@ -10,7 +10,7 @@ answers-requires g c =
     let requests = c.args.requests.now in
     let row = c.place.new.row in
     let paired = c.place.ensures.count ∙ ap length c.as_mut_slice.ensures.value ∙ ap length c.in_ok-row.ensures
-    ∙ length-replicate (length requests) empty in
+    ∙ length-replicate (length requests) empty_slot in
     let whole = written-whole c.in_ok-row.row.len row (drop (length row) c.in_ok-row.row.items)
     (c.place.ensures.count ∙ c.as_mut_slice.ensures.len) in
     subst (All IsFilled) (sym whole) (computed-filled-all requests row paired c.place.ensures.computed)
@@ -20,7 +20,7 @@ returns g c =
     let requests = c.args.requests.now in
     let row = c.place.new.row in
     let paired = c.place.ensures.count ∙ ap length c.as_mut_slice.ensures.value ∙ ap length c.in_ok-row.ensures
-    ∙ length-replicate (length requests) empty in
+    ∙ length-replicate (length requests) empty_slot in
     let whole = written-whole c.in_ok-row.row.len row (drop (length row) c.in_ok-row.row.items)
     (c.place.ensures.count ∙ c.as_mut_slice.ensures.len) in
     IfOk-weaker c.answers.result _ (λ answers. AreAnswers requests answers.items)

@@ -22,4 +22,4 @@ abbrev pub decreases-push_try : goal.decreases-push_try
 decreases-push_try l = 4 + weight_of l.body.now + handled_weight (handled_of l.handler.now) + cleaned_weight (cleaned_of l.cleanup.now)
 
 abbrev pub decreases-push_try_apart : goal.decreases-push_try_apart
-decreases-push_try_apart l = 5 + weight_of l.body.now + handled_weight (handled_of l.handler.now) + cleaned_weight (cleaned_of l.cleanup.now)
+decreases-push_try_apart l = 5 + weight_of l.body.now + handled_weight (handled_of l.handler.now) + weight_of l.cleanup.now

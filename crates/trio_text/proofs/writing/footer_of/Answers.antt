@@ -1,5 +1,5 @@
 use Rattle.std.proofs.Common.{refl}
-use Rattle.trio_text.proofs.writing.ending_of.Goals as goal
+use Rattle.trio_text.proofs.writing.footer_of.Goals as goal
 
 pub returns : goal.returns
 returns c =
