@@ -15,6 +15,7 @@ use Rattle.task_machine.specs.Fitting.{Fits, waits_of}
 use Rattle.task_machine.specs.Frames.{unboxed_exc}
 use Rattle.task_machine.specs.Standing.{TurnsAs}
 use Rattle.task_machine.specs.Waking.{IsInRangeTaskState, WakesFrom}
+use Rattle.task_machine.specs.Waiters.{KeepsRest}
 use Rattle.run_refinement.specs.RunState.{RunState, Gone}
 use Rattle.task_table.specs.declared.rows.TaskRow.{TaskRow}
 use Rattle.task_table.specs.declared.rows.Ended.{Ended}
@@ -95,8 +96,8 @@ abbrev pub id_of : TaskTable → ℕ → ℕ
 id_of r p = id_by (row_at r p)
 
 -- the tasks of the program in this world, after the given number of turns
-abbrev pub state_of : TaskTable → World → ℕ → RunState
-state_of r world turns =
+abbrev pub run_state : TaskTable → World → ℕ → RunState
+run_state r world turns =
     record { world = world; turns = turns; task = task_of r; gone = gone_of r; start = start_of r; children = children_of r }
 
 -- ---- rows and ids agree
@@ -180,10 +181,7 @@ pub record HasTurn (old new : TaskTable) (was now : World) (id : ℕ) (wake : Wa
   pub task : task_of new row ≡ Some after
   pub same : SameBut old new row
   pub gone : gone_of new row ≡ gone_of old row
-  pub stays :
-      after ≡ record before { frames = after.frames; own = after.own; task_state = after.task_state; entries = after.entries; froms = after.froms }
-  pub world : now ≡ record was { scopes = now.scopes; labels = now.labels; book = now.book; started = now.started }
-  pub in_range : IsInRangeTaskState after.task_state
+  pub keeps : KeepsRest id before after was now
   pub fits : Fits (state_of after now) (waits_of after.task_state)
   pub turn : TurnsAs (state_of before was) (state_of after now) wake stop
 

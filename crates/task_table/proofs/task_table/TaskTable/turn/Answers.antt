@@ -28,9 +28,7 @@ returns-clause-turn c =
       task = turned_task old new c.args.id x y c.requires.agree lived live refl refl;
       same = turned_same old new c.args.id x y c.requires.agree lived live refl refl;
       gone = refl;
-      stays = c.in_ok-stop-in-Some.ensures.stays;
-      world = c.in_ok-stop-in-Some.ensures.world;
-      in_range = c.in_ok-stop-in-Some.ensures.task_state;
+      keeps = c.in_ok-stop-in-Some.ensures.keeps;
       fits = c.in_ok-stop-in-Some.ensures.fits;
       turn = c.in_ok-stop-in-Some.ensures.turn;
     }
