@@ -7,7 +7,7 @@ use Rattle.job_edits.specs.Finer.{capped, finer_for}
 use Rattle.race_text.specs.Views.{line_held}
 use Rattle.race_app.specs.Ran.{ran}
 use Rattle.race_app.proofs.Tabled.{in_time, ran_in_time, are_lines}
-use Rattle.race_app.proofs.told.race_lines.Goals as goal
+use Rattle.race_app.proofs.told.answer_for_job.Goals as goal
 
 pub returns : goal.returns
 returns g c =
@@ -20,7 +20,8 @@ returns g c =
     in_time c.end.result (meaning_end job input) c.limit-limit.result limit (c.end.ensures ∙ ap root_end c.in_ok-run.ensures.records)
     c.limit-limit.ensures.value c.if-end-limit.false in
     are_lines c.args.job_text.now input limit c.saturating_mul.result job c.in_ok-tokens.tokens.items c.in-Some.finer
-    c.as_slice-4.result.now c.as_slice-5.result.now (ran true rows) (map line_held lines) c.in_ok-hairs.hairs soon c.in_ok-tokens.ensures
+    c.as_slice-4.result.now c.as_slice-5.result.now (ran true rows) (map line_held lines) c.in_ok-hairs.hairs c.requires.spells soon
+    c.in_ok-tokens.ensures
     (c.as_slice-4.ensures.value ∙ c.in_ok-sites.ensures ∙ ap sites_in c.as_slice.ensures.value)
     (c.as_slice-5.ensures.value ∙ c.in_ok-starts.ensures ∙ ap copied_in c.as_slice-3.ensures.value)
     (c.in-Some.ensures ∙ ap finer_for (c.as_slice-2.ensures.value ∙ sym c.as_slice-4.ensures.value))
