@@ -6,7 +6,6 @@ ghost use Rattle.json_app.specs.Explaining.{IsStoryVerdict, IsStory, IsStorySent
 
 use crate::about::told_about;
 use crate::answers::refusal;
-use crate::meaning::meaning_of;
 use job_grammar::{Job, read_job};
 use job_report::{Out, send};
 use job_runner::{Gate, Pick, Settings};
@@ -14,7 +13,7 @@ use job_teller::tell;
 use nursery_app::ServeFault;
 use std::alloc::{AllocError, Global};
 use std::thread::Threads;
-use story_app::{StoryVerdict, told_until};
+use story_app::{StoryVerdict, meaning_of, told_until};
 
 /// Runs a job text over an input, and writes the story of the job's one-thread meaning as one JSON document: an object for each
 /// event, in the order of the story. For a job that ends later than the limit it is the story up to the limit, with what each
@@ -93,8 +92,9 @@ fn job_story<R: Threads + Sync, P: Pick, G: Gate + Sync>(
     ensures { IfOk result (λ r. IsStoryVerdict job.now input.now settings.limit (option_copied task.entry) r.0 r.1.items) }
 {
     let meaning = meaning_of(rt, alloc, job, input, settings, picker, gate)?;
+    let last = meaning.ending.until(settings.limit());
     let events = tell(alloc, job, input, &meaning.table)?;
-    let walked = told_until(alloc, events.as_slice(), meaning.until)?;
-    let answer = told_about(alloc, job, walked.as_slice(), &meaning, task)?;
+    let walked = told_until(alloc, events.as_slice(), last)?;
+    let answer = told_about(alloc, job, walked.as_slice(), &meaning, last, task)?;
     Ok(answer)
 }

@@ -18,9 +18,9 @@ use Rattle.story_app.specs.declared.about.About.{About}
 use Rattle.story_app.specs.declared.about.About.TheVariants.{All, Task, NoTask}
 use Rattle.story_app.specs.declared.verdict.StoryVerdict.{StoryVerdict}
 use Rattle.story_app.specs.declared.verdict.StoryVerdict.TheVariants as verdict
-use Rattle.story_app.specs.declared.telling.Ending.{Ending}
-use Rattle.story_app.specs.declared.telling.Ending.TheVariants.{Done, Raised, Late}
-use Rattle.story_app.specs.Stories.{told, told_if, story_if, meaning_story, written, IsAbout, IsAboutNone, IsJobVerdict}
+use Rattle.story_app.specs.declared.meaning.Ending.{Ending}
+use Rattle.story_app.specs.declared.meaning.Ending.TheVariants.{Done, Raised, Late}
+use Rattle.story_app.specs.Stories.{told, told_if, story_if, until_if, meaning_story, written, IsAbout, IsAboutNone, IsJobVerdict}
 use Rattle.story_app.specs.Tellings.{IsEnding, IsAsked, IsTold, ending_by, verdict_of, until_of, events_until, story_told}
 
 le_test : (m n : ℕ) → m ≤ n → nat_le m n ≡ true
@@ -66,6 +66,13 @@ pub told_is : (job : Tree) (input : List ℕ) (limit : ℕ) (ending : Ending) �
 told_is job input limit Done h = ap (λ (b : Bool). told_if b limit job input) (sym (le_test (meaning_end job input) limit h.0))
 told_is job input limit Raised h = ap (λ (b : Bool). told_if b limit job input) (sym (le_test (meaning_end job input) limit h.0))
 told_is job input limit Late h = ap (λ (b : Bool). told_if b limit job input) (sym (gt_test (meaning_end job input) limit h))
+
+-- and they are cut off where the meaning ends later than the limit
+pub cut_is : (job : Tree) (input : List ℕ) (limit : ℕ) (ending : Ending) → IsEnding job input limit ending →
+    until_of ending limit ≡ until_if (nat_le (meaning_end job input) limit) limit
+cut_is job input limit Done h = ap (λ (b : Bool). until_if b limit) (sym (le_test (meaning_end job input) limit h.0))
+cut_is job input limit Raised h = ap (λ (b : Bool). until_if b limit) (sym (le_test (meaning_end job input) limit h.0))
+cut_is job input limit Late h = ap (λ (b : Bool). until_if b limit) (sym (gt_test (meaning_end job input) limit h))
 
 whole_is : (job : Tree) (input : List ℕ) (limit : ℕ) (task : Option Label) →
     story_told (meaning_table job input) None task (told_if true limit job input) ≡ story_if true limit job input task

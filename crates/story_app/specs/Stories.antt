@@ -34,6 +34,11 @@ abbrev pub story_if : Bool → ℕ → Tree → List ℕ → Option Label → Li
 story_if true limit job input task = whole_story job input task
 story_if false limit job input task = front_story limit job input task
 
+-- the limit, where the story is cut off at it
+abbrev pub until_if : Bool → ℕ → Option ℕ
+until_if true limit = None
+until_if false limit = Some limit
+
 -- the story of a meaning: whole where it ends by the limit, and up to the limit otherwise
 abbrev pub meaning_story : ℕ → Tree → List ℕ → Option Label → List ℕ
 meaning_story limit job input task = story_if (nat_le (meaning_end job input) limit) limit job input task

@@ -15,8 +15,8 @@ use Rattle.story_focus.specs.Nearest.{nearest_in}
 use Rattle.story_app.specs.Stories.{written, IsAbout, IsAboutNone}
 use Rattle.story_app.specs.declared.verdict.StoryVerdict.{StoryVerdict}
 use Rattle.story_app.specs.declared.verdict.StoryVerdict.TheVariants as verdict
-use Rattle.story_app.specs.declared.telling.Ending.{Ending}
-use Rattle.story_app.specs.declared.telling.Ending.TheVariants.{Done, Raised, Late}
+use Rattle.story_app.specs.declared.meaning.Ending.{Ending}
+use Rattle.story_app.specs.declared.meaning.Ending.TheVariants.{Done, Raised, Late}
 use Rattle.story_app.specs.declared.about.About.{About}
 use Rattle.story_app.specs.declared.about.About.TheVariants.{All, Task, NoTask}
 

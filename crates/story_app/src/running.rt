@@ -2,7 +2,8 @@ ghost use Rattle.std.specs.Prelude.{◌≤◌, length, IfOk};
 ghost use Rattle.job_meaning.specs.declared.limits.TheConstants.{MAX_INPUT};
 ghost use Rattle.story_app.specs.Running.{AreRunning, IsJobRunning};
 
-use crate::telling::{Ending, meaning_of, told_until};
+use crate::meaning::{Ending, meaning_of};
+use crate::telling::told_until;
 use job_grammar::{Job, JobKind, read_job};
 use job_runner::{Gate, Pick, Settings};
 use job_teller::tell;

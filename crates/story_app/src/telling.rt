@@ -1,67 +1,22 @@
 ghost use Rattle.std.specs.Prelude.{◌≡◌, ◌≤◌, length, map, IfOk};
 ghost use Rattle.std.specs.Option.{option_copied};
 ghost use Rattle.job_meaning.specs.declared.limits.TheConstants.{MAX_INPUT};
-ghost use Rattle.job_meaning.specs.Meaning.{meaning_table};
-ghost use Rattle.job_runner.specs.Runs.{rows_of};
 ghost use Rattle.job_story.specs.Froms.{table_in};
 ghost use Rattle.job_story.specs.Held.{event_of};
 ghost use Rattle.story_causes.specs.Seen.{seen};
 ghost use Rattle.story_app.specs.Stories.{IsJobVerdict};
-ghost use Rattle.story_app.specs.Tellings.{IsEnding, IsTold, ending_by, verdict_of, until_of, is_until, events_until};
+ghost use Rattle.story_app.specs.Tellings.{IsTold, is_until, events_until};
 
 use crate::about::{About, asked_for};
-use crate::table::table_of;
+use crate::meaning::{Meaning, meaning_of};
 use crate::text::story;
 use crate::verdict::StoryVerdict;
 use job_grammar::Job;
-use job_runner::{Gate, Pick, Run, Settings, run_to_end};
-use job_story::{Event, Froms, law_froms_of_meaning};
+use job_runner::{Gate, Pick, Settings};
+use job_story::Event;
 use job_teller::tell;
 use std::alloc::{AllocError, Global};
 use std::thread::Threads;
-
-/// How a run ended, compared with a limit.
-#[derive(Clone, Copy)]
-pub enum Ending {
-    /// It ended by the limit, without an exception.
-    Done,
-    /// It ended by the limit, with an exception.
-    Raised,
-    /// It ended later than the limit.
-    Late,
-}
-
-impl Ending {
-    // Returns the verdict on the story of such a run.
-    fn verdict(self) -> StoryVerdict
-        ensures { result ≡ verdict_of self }
-    {
-        match self {
-            Ending::Done => StoryVerdict::Done,
-            Ending::Raised => StoryVerdict::Raised,
-            Ending::Late => StoryVerdict::Limit,
-        }
-    }
-
-    // Returns the limit if the story of such a run is cut off at it, and `None` otherwise.
-    fn until(self, limit: u64) -> Option<u64>
-        ensures { result ≡ until_of self limit }
-    {
-        match self {
-            Ending::Done | Ending::Raised => None,
-            Ending::Late => Some(limit),
-        }
-    }
-}
-
-/// What is known of the meaning of a job.
-#[derive(Drop)]
-pub struct Meaning {
-    /// How the job ends, compared with the limit.
-    pub ending: Ending,
-    /// The ticks from which the scopes and nurseries are cancelled.
-    pub table: Froms,
-}
 
 /// Returns the verdict on a job that was read, with its bytes.
 pub(crate) fn job_verdict<R: Threads + Sync, P: Pick, G: Gate + Sync>(
@@ -107,42 +62,6 @@ fn told_about(
             Ok((meaning.ending.verdict(), bytes))
         }
         About::NoTask { nearest } => Ok((StoryVerdict::NoTask { nearest }, Vec::new(alloc))),
-    }
-}
-
-/// Returns how the meaning of a job ends, compared with the limit, and its table.
-#[tactic(auto, using(crate::proofs::Told::is_ending, crate::proofs::Tables::is_of_meaning))]
-pub(crate) fn meaning_of<R: Threads + Sync, P: Pick, G: Gate + Sync>(
-    rt: &R,
-    alloc: Global,
-    job: &Job,
-    input: &[u8],
-    settings: Settings,
-    picker: &mut P,
-    gate: &G,
-) -> Result<Meaning, AllocError>
-    requires { length input.now ≤ MAX_INPUT }
-    ensures ending { IfOk result (λ meaning. IsEnding job.now input.now settings.limit meaning.ending) }
-    ensures table { IfOk result (λ meaning. table_in meaning.table ≡ meaning_table job.now input.now) }
-{
-    law_froms_of_meaning();
-    let run = run_to_end(rt, alloc, job, input, settings.workers(), picker, gate)?;
-    let ending = ending_of(&run, settings.limit());
-    let table = table_of(alloc, run)?;
-    Ok(Meaning { ending, table })
-}
-
-// Returns how a run ended, compared with a limit.
-fn ending_of(run: &Run<'_>, limit: u64) -> Ending
-    ensures { result ≡ ending_by (rows_of run.now) limit }
-{
-    if run.end() > limit {
-        return Ending::Late;
-    }
-    if run.is_well() {
-        Ending::Done
-    } else {
-        Ending::Raised
     }
 }
 

@@ -1,5 +1,5 @@
 use Rattle.story_app.proofs.Tables.{is_of_meaning}
-use Rattle.story_app.proofs.telling.meaning_of.Goals as goal
+use Rattle.story_app.proofs.meaning.meaning_of.Goals as goal
 
 pub returns-clause-table : goal.returns-clause-table
 returns-clause-table g c =
