@@ -2,10 +2,10 @@ ghost use Rattle.std.specs.Prelude.{◌≤◌, length, IfOk};
 ghost use Rattle.job_meaning.specs.declared.limits.TheConstants.{MAX_INPUT};
 ghost use Rattle.nursery.specs.Statuses.{TellsChart};
 
-use crate::answers::{read_both, tell_refusal, tell_running, word_of};
+use crate::answers::{conclude_run, read_both, word_of};
 use crate::stop::Stop;
 use chart_app::{Form, chart};
-use nursery_app::{Forward, NoGate, Settings, Verdict, WriteOut};
+use nursery_app::{Forward, NoGate, Settings, WriteOut};
 use nursery_cli::{ChartArgs, LEAST_WIDTH, MAX_WIDTH};
 use std::rt::{Env, Files};
 use std::thread::Threads;
@@ -79,10 +79,5 @@ fn chart_text<R: Print + Eprint + Threads + Sync + AllocGlobal>(
         &NoGate,
         &mut out,
     )?;
-    match verdict {
-        Verdict::JobRefused(fault) => tell_refusal(rt, job, text, fault),
-        Verdict::Limit => tell_running(rt, text, input, settings, &mut Forward),
-        Verdict::Done | Verdict::Raised => {}
-    }
-    Ok(verdict.status())
+    Ok(conclude_run(rt, job, text, input, settings, &mut Forward, verdict))
 }

@@ -18,7 +18,6 @@ mod races;
 mod sources;
 mod stop;
 mod sweep;
-mod tables;
 mod texts;
 
 use crate::answers::{check_job, explain_job, run_feed, run_job, show_help, upgrade_job};

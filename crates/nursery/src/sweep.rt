@@ -1,14 +1,15 @@
-ghost use Rattle.std.specs.Prelude.{◌≤◌, length, IfOk};
+ghost use Rattle.std.specs.Prelude.{◌≡◌, ◌≤◌, length, IfOk};
 ghost use Rattle.job_meaning.specs.declared.limits.TheConstants.{MAX_INPUT};
-ghost use Rattle.nursery.specs.Statuses.{TellsSweep};
+ghost use Rattle.sweep_app.specs.Statuses.{sweep_status_of};
+ghost use Rattle.nursery.specs.Statuses.{TellsSweep, TellsJsonSweep};
 
 use crate::answers::{read_both, tell_refusal, word_of};
 use crate::progress::Progress;
 use crate::stop::Stop;
-use crate::tables::sweep_as_json;
 use job_edits::Target;
 use job_files::shown_name;
 use job_tree::Name;
+use json_tables_app::sweep_json;
 use nursery_app::WriteOut;
 use nursery_cli::SweepArgs;
 use refusal_text::pointed_message;
@@ -46,38 +47,57 @@ fn sweep_text<R: Print + Eprint + Clock + Threads + Sync + AllocGlobal>(
     requires { length input.now ≤ MAX_INPUT }
     ensures { IfOk result (TellsSweep text.now input.now args.now.settings.limit args.now.target args.now.values.items) }
 {
+    let (alloc, settings) = (rt.alloc(), args.settings);
+    let (target, values) = (args.target, args.values.as_slice());
     let mut out = WriteOut::new(io::writer(rt));
-    let told = sweep(
-        rt,
-        rt.alloc(),
-        text,
-        input,
-        args.settings,
-        args.target,
-        args.values.as_slice(),
-        progress,
-        &mut out,
+    let written = sweep(
+        rt, alloc, text, input, settings, target, values, progress, &mut out,
     );
     progress.clear();
-    let verdict = told?;
-    let status = verdict.status();
-    conclude_sweep(rt, args.job.as_str(), text, &args.target, verdict);
-    Ok(status)
+    let verdict = written?;
+    Ok(conclude_sweep(rt, args, text, verdict))
 }
 
-// Prints to standard error why the job text is refused, or why it does not have the number that is meant.
-pub(crate) fn conclude_sweep<R: Eprint + AllocGlobal>(
+// The same as a JSON document.
+fn sweep_as_json<R: Print + Eprint + Clock + Threads + Sync + AllocGlobal>(
     rt: &R,
-    job: &str,
+    args: &SweepArgs,
     text: &[u8],
-    target: &Target,
+    input: &[u8],
+    progress: &Progress<'_, R>,
+) -> Result<u8, Stop>
+    requires { length input.now ≤ MAX_INPUT }
+    ensures { IfOk result (TellsJsonSweep text.now input.now args.now.settings.limit args.now.target args.now.values.items) }
+{
+    let (alloc, settings) = (rt.alloc(), args.settings);
+    let (target, values) = (args.target, args.values.as_slice());
+    let mut out = WriteOut::new(io::writer(rt));
+    let written = sweep_json(
+        rt, alloc, text, input, settings, target, values, progress, &mut out,
+    );
+    progress.clear();
+    let verdict = written?;
+    Ok(conclude_sweep(rt, args, text, verdict))
+}
+
+// Prints to standard error why the job text is refused, or why it does not have the number that is meant, and returns the status.
+fn conclude_sweep<R: Eprint + AllocGlobal>(
+    rt: &R,
+    args: &SweepArgs,
+    text: &[u8],
     verdict: SweepVerdict,
-) {
+) -> u8
+    ensures { result ≡ sweep_status_of verdict }
+{
+    let status = verdict.status();
     match verdict {
-        SweepVerdict::JobRefused(fault) => tell_refusal(rt, job, text, fault),
-        SweepVerdict::NoTarget(missing) => tell_missing(rt, job, text, target, &missing),
+        SweepVerdict::JobRefused(fault) => tell_refusal(rt, args.job.as_str(), text, fault),
+        SweepVerdict::NoTarget(missing) => {
+            tell_missing(rt, args.job.as_str(), text, &args.target, &missing)
+        }
         SweepVerdict::Told => {}
     }
+    status
 }
 
 // Prints to standard error why the text does not have the number that is meant. If memory or a write fails here nothing more is
