@@ -16,7 +16,7 @@ use std::test::Fail;
 use std::thread::Threads;
 
 // The run of a job at its beginning.
-fn opened<'a>(alloc: Global, job: &'a Job, input: &'a [u8]) -> Result<Runner<'a>, Fail>
+fn open_run<'a>(alloc: Global, job: &'a Job, input: &'a [u8]) -> Result<Runner<'a>, Fail>
     ensures { IfOk result IsUnderway }
 {
     if input.len() > MAX_INPUT {
@@ -66,7 +66,7 @@ fn asks_for(runner: &Runner<'_>, needle: &[u8], input: &[u8]) -> Result<bool, Al
 }
 
 // A run after the turns of its batch, which makes one request or none, as the caller says. A worker answers it.
-fn committed<'a, R: Threads + Sync + AllocGlobal>(
+fn commit_batch<'a, R: Threads + Sync + AllocGlobal>(
     rt: &R,
     runner: Runner<'a>,
     count: usize,
@@ -86,7 +86,7 @@ fn committed<'a, R: Threads + Sync + AllocGlobal>(
 }
 
 // A run after the jump of its clock.
-fn jumped<'a>(runner: Runner<'a>) -> Result<Runner<'a>, Fail>
+fn jump_clock<'a>(runner: Runner<'a>) -> Result<Runner<'a>, Fail>
     requires { IsUnderway runner }
     ensures { IfOk result IsUnderway }
 {
@@ -112,7 +112,7 @@ fn limit_of_jump(runner: Runner<'_>) -> Result<u64, Fail>
 }
 
 // A run whose root has ended, finished.
-fn finished<'a>(runner: Runner<'a>) -> Result<Run<'a>, Fail>
+fn finish_run<'a>(runner: Runner<'a>) -> Result<Run<'a>, Fail>
     requires { IsUnderway runner }
 {
     let Phase::Over = runner.phase() else {
@@ -131,7 +131,7 @@ fn is_line(entry: Option<&Entry<'_>>, at: usize, text: &[u8]) -> bool {
 }
 
 // Whether the first thing that the root of a run noted is that line.
-fn noted_line(run: &Run<'_>, at: usize, text: &[u8]) -> bool {
+fn has_noted_line(run: &Run<'_>, at: usize, text: &[u8]) -> bool {
     match run.records().first() {
         Some(root) => is_line(root.entries.first(), at, text),
         None => false,
@@ -141,23 +141,23 @@ fn noted_line(run: &Run<'_>, at: usize, text: &[u8]) -> bool {
 #[test]
 fn a_search_has_two_batches(rt: HostRuntime) -> Result<(), Fail> {
     let job = read_job(rt.alloc(), b"trio-job 1\njob main { find \"er\"; }")?;
-    let runner = opened(rt.alloc(), &job, TWO_LINES)?;
+    let runner = open_run(rt.alloc(), &job, TWO_LINES)?;
     assert!(rt; asks_nothing(&runner)?);
-    let runner = committed(&rt, runner, 0)?;
+    let runner = commit_batch(&rt, runner, 0)?;
     assert!(rt; asks_for(&runner, b"er", TWO_LINES)?);
-    let runner = committed(&rt, runner, 1)?;
+    let runner = commit_batch(&rt, runner, 1)?;
     assert!(rt; runner.turns() == 2);
-    let run = finished(runner)?;
+    let run = finish_run(runner)?;
     assert!(rt; run.turns() == 2);
-    assert!(rt; noted_line(&run, 0, b"error"));
+    assert!(rt; has_noted_line(&run, 0, b"error"));
     Ok(())
 }
 
 #[test]
 fn a_jump_past_the_limit_is_refused(rt: HostRuntime) -> Result<(), Fail> {
     let job = read_job(rt.alloc(), b"trio-job 1\njob main { sleep 101; }")?;
-    let runner = opened(rt.alloc(), &job, b"")?;
-    let runner = committed(&rt, runner, 0)?;
+    let runner = open_run(rt.alloc(), &job, b"")?;
+    let runner = commit_batch(&rt, runner, 0)?;
     assert!(rt; limit_of_jump(runner)? == 100);
     Ok(())
 }
@@ -165,10 +165,10 @@ fn a_jump_past_the_limit_is_refused(rt: HostRuntime) -> Result<(), Fail> {
 #[test]
 fn a_jump_to_the_limit_is_made(rt: HostRuntime) -> Result<(), Fail> {
     let job = read_job(rt.alloc(), b"trio-job 1\njob main { sleep 100; }")?;
-    let runner = opened(rt.alloc(), &job, b"")?;
-    let runner = committed(&rt, runner, 0)?;
-    let runner = jumped(runner)?;
-    let runner = committed(&rt, runner, 0)?;
-    assert!(rt; finished(runner)?.turns() == 2);
+    let runner = open_run(rt.alloc(), &job, b"")?;
+    let runner = commit_batch(&rt, runner, 0)?;
+    let runner = jump_clock(runner)?;
+    let runner = commit_batch(&rt, runner, 0)?;
+    assert!(rt; finish_run(runner)?.turns() == 2);
     Ok(())
 }

@@ -152,7 +152,7 @@ fn close_again(book: &mut NurseryBook, id: NurseryId) -> Result<Option<Exc>, All
 }
 
 // What the task of that name raised, which has the name too.
-fn raised(alloc: Global, name: Name) -> Exc {
+fn raised_exc(alloc: Global, name: Name) -> Exc {
     Exc::Raised {
         name,
         task: Label::new(alloc, name),
@@ -173,12 +173,12 @@ fn raised_by_two(
     if start_again(&mut book, id)? != 0 || start_again(&mut book, id)? != 1 {
         return Err("children have their places in the order of their starts")?;
     }
-    book.child_ended(id, 1, Some(raised(alloc, second)));
+    book.child_ended(id, 1, Some(raised_exc(alloc, second)));
     book.body_ended(id, None);
     if book.settled(id) {
         return Err("the first child has not ended")?;
     }
-    book.child_ended(id, 0, Some(raised(alloc, first)));
+    book.child_ended(id, 0, Some(raised_exc(alloc, first)));
     if !book.settled(id) {
         return Err("all members have ended")?;
     }
@@ -203,14 +203,14 @@ fn is_group_of(exc: &Option<Exc>, first: &[u8], second: &[u8]) -> bool {
 }
 
 // The name of these bytes.
-fn named(text: &[u8]) -> Result<Name, Fail> {
+fn name_of(text: &[u8]) -> Result<Name, Fail> {
     Ok(Name::new(text).ok_or("a name")?)
 }
 
 #[test]
 fn a_nursery_is_opened_and_closed_again(rt: HostRuntime) -> Result<(), Fail> {
-    let (first, second) = (named(b"A")?, named(b"B")?);
-    let exc = raised_by_two(rt.alloc(), named(b"n")?, first, second)?;
+    let (first, second) = (name_of(b"A")?, name_of(b"B")?);
+    let exc = raised_by_two(rt.alloc(), name_of(b"n")?, first, second)?;
     assert!(rt; is_group_of(&exc, b"A", b"B"));
     Ok(())
 }

@@ -43,7 +43,11 @@ pub(crate) fn push_each(out: &mut Vec<u8>, text: &[u8]) -> Result<(), AllocError
 }
 
 /// The steps inside 31 blocks that begin so, each with a number after its name.
-pub(crate) fn nested(alloc: Global, block: &[u8], steps: &[u8]) -> Result<Vec<u8>, AllocError> {
+pub(crate) fn nested_steps(
+    alloc: Global,
+    block: &[u8],
+    steps: &[u8],
+) -> Result<Vec<u8>, AllocError> {
     let mut text = Vec::new(alloc);
     push_up(&mut text, block, b" { ")?;
     text.extend_from_slice(steps)?;
