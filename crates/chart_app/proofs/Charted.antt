@@ -14,14 +14,14 @@ use Rattle.nursery_app.specs.declared.verdict.Verdict.{Verdict}
 use Rattle.nursery_app.specs.declared.verdict.Verdict.TheVariants as verdicts
 use Rattle.story_app.specs.declared.meaning.Ending.{Ending}
 use Rattle.story_app.specs.declared.meaning.Ending.TheVariants.{Done, Raised, Late}
-use Rattle.story_app.specs.Stories.{told, until_if}
+use Rattle.story_app.specs.Stories.{story_events, until_if}
 use Rattle.story_app.specs.Tellings.{IsEnding, until_of, events_until}
 use Rattle.story_app.proofs.Told.{told_is, cut_is}
 use Rattle.chart_bars.specs.Bars.{Bar, bars_of}
 use Rattle.chart_svg.specs.Drawing.{chart_svg}
 use Rattle.chart_app.specs.declared.form.Form.{Form}
 use Rattle.chart_app.specs.declared.form.Form.TheVariants.{Svg}
-use Rattle.chart_app.specs.Charts.{drawn_as, meaning_chart, IsInForm, IsVerdictOn, verdict_of, IsJobVerdict, IsVerdict}
+use Rattle.chart_app.specs.Charts.{chart_of, meaning_chart, IsInForm, IsVerdictOn, verdict_of, IsJobVerdict, IsVerdict}
 
 -- the verdict on a job that ends so
 verdict_is : (job : Tree) (input : List ℕ) (limit : ℕ) (ending : Ending) → IsEnding job input limit ending →
@@ -34,12 +34,12 @@ verdict_is job input limit Late h = h
 pub job_charted : (form : Form) (job : Tree) (input : List ℕ) (limit : ℕ) (ending : Ending) (verdict : Verdict) (table : Table) (until : Tick)
     (events walked : List Event) (bytes : List ℕ) → IsEnding job input limit ending → table ≡ meaning_table job input →
     until ≡ until_of ending limit → events ≡ events_of (root_label job.name) (story_by table job input) →
-    walked ≡ events_until until events → bytes ≡ drawn_as form table until walked → IsInForm form bytes → verdict ≡ verdict_of ending →
+    walked ≡ events_until until events → bytes ≡ chart_of form table until walked → IsInForm form bytes → verdict ≡ verdict_of ending →
     IsJobVerdict form job input limit verdict bytes
 job_charted form job input limit ending verdict table until events walked bytes h same until_is events_are walked_is drawn fits is =
     (subst (IsVerdictOn job input limit) (sym is) (verdict_is job input limit ending h), (chart, fits))
   where
-    all : walked ≡ told limit job input
+    all : walked ≡ story_events limit job input
     all =
         walked_is ∙ ap (events_until until) (events_are ∙ ap (λ (k : Table). events_of (root_label job.name) (story_by k job input)) same)
         ∙ ap (λ (u : Tick). events_until u (events_of (root_label job.name) (story_by (meaning_table job input) job input))) until_is
@@ -47,18 +47,18 @@ job_charted form job input limit ending verdict table until events walked bytes 
 
     chart : bytes ≡ meaning_chart form limit job input
     chart =
-        drawn ∙ ap (λ (k : Table). drawn_as form k until walked) same
-        ∙ ap (λ (u : Tick). drawn_as form (meaning_table job input) u walked) (until_is ∙ cut_is job input limit ending h)
-        ∙ ap (drawn_as form (meaning_table job input) (until_if (nat_le (meaning_end job input) limit) limit)) all
+        drawn ∙ ap (λ (k : Table). chart_of form k until walked) same
+        ∙ ap (λ (u : Tick). chart_of form (meaning_table job input) u walked) (until_is ∙ cut_is job input limit ending h)
+        ∙ ap (chart_of form (meaning_table job input) (until_if (nat_le (meaning_end job input) limit) limit)) all
 
 -- ---- the drawing of an index over the events
 
 pub svg_drawn : (form : Form) (width : ℕ) (table : Table) (until : Tick) (walked known : List Event) (bars : List Bar)
     (r : Result (Vec ℕ) AllocError) → form ≡ Svg width → known ≡ walked → bars ≡ bars_of table until known →
     IfOk r (λ bytes. bytes.items ≡ chart_svg width table until walked bars) →
-    IfOk r (λ bytes. bytes.items ≡ drawn_as form table until walked)
+    IfOk r (λ bytes. bytes.items ≡ chart_of form table until walked)
 svg_drawn form width table until walked known bars r is same bars_are drawn =
-    subst (λ (f : Form). IfOk r (λ bytes. bytes.items ≡ drawn_as f table until walked)) (sym is)
+    subst (λ (f : Form). IfOk r (λ bytes. bytes.items ≡ chart_of f table until walked)) (sym is)
     (subst (λ (bs : List Bar). IfOk r (λ bytes. bytes.items ≡ chart_svg width table until walked bs))
     (bars_are ∙ ap (bars_of table until) same) drawn)
 

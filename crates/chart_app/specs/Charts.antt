@@ -12,7 +12,7 @@ use Rattle.nursery_app.specs.declared.verdict.Verdict.{Verdict}
 use Rattle.nursery_app.specs.declared.verdict.Verdict.TheVariants.{Done, Raised, JobRefused, Limit}
 use Rattle.nursery_app.specs.declared.verdict.ServeFault.{ServeFault}
 use Rattle.nursery_app.specs.declared.verdict.ServeFault.TheVariants.{Send, NoMemory}
-use Rattle.story_app.specs.Stories.{told, until_if}
+use Rattle.story_app.specs.Stories.{story_events, until_if}
 use Rattle.story_app.specs.declared.meaning.Ending.{Ending}
 use Rattle.story_app.specs.declared.meaning.Ending.TheVariants as ending
 use Rattle.chart_bars.specs.Bars.{bars_of}
@@ -23,14 +23,14 @@ use Rattle.chart_app.specs.declared.form.Form.{Form}
 use Rattle.chart_app.specs.declared.form.Form.TheVariants.{Text, Svg}
 
 -- a chart of these events by a table, of a story that is whole or cut off at a limit
-abbrev pub drawn_as : Form → Table → Tick → List Event → List ℕ
-drawn_as (Text width) table until walked = chart_text width until walked (bars_of table until walked)
-drawn_as (Svg width) table until walked = chart_svg width table until walked (bars_of table until walked)
+abbrev pub chart_of : Form → Table → Tick → List Event → List ℕ
+chart_of (Text width) table until walked = chart_text width until walked (bars_of table until walked)
+chart_of (Svg width) table until walked = chart_svg width table until walked (bars_of table until walked)
 
 -- the chart of a meaning: whole where it ends by the limit, and up to the limit otherwise
 abbrev pub meaning_chart : Form → ℕ → Tree → List ℕ → List ℕ
 meaning_chart form limit job input =
-    drawn_as form (meaning_table job input) (until_if (nat_le (meaning_end job input) limit) limit) (told limit job input)
+    chart_of form (meaning_table job input) (until_if (nat_le (meaning_end job input) limit) limit) (story_events limit job input)
 
 -- an SVG document is well formed
 abbrev pub IsInForm : Form → List ℕ → Type 0

@@ -3,7 +3,7 @@ ghost use Rattle.job_meaning.specs.declared.limits.TheConstants.{MAX_INPUT};
 ghost use Rattle.nursery_app.specs.Verdict.{CountsFailure};
 ghost use Rattle.chart_app.specs.Charts.{verdict_of, IsJobVerdict, IsVerdict, IsSent, IsChartFault};
 
-use crate::drawing::drawn_as;
+use crate::drawing::chart_of;
 use crate::form::Form;
 use job_grammar::{Job, read_job};
 use job_report::{Out, send};
@@ -12,7 +12,7 @@ use job_teller::tell;
 use nursery_app::{ServeFault, Verdict, refusal};
 use std::alloc::{AllocError, Global};
 use std::thread::Threads;
-use story_app::{Ending, meaning_of, told_until};
+use story_app::{Ending, events_until, meaning_of};
 
 /// Runs a job text over an input, and writes the chart of the job's one-thread meaning: a row for each task, and below it one for
 /// each scope and nursery that it entered, with a column for each tick at which something happens. If the job ends later than the
@@ -92,8 +92,8 @@ fn job_chart<R: Threads + Sync, P: Pick, G: Gate + Sync>(
     let meaning = meaning_of(rt, alloc, job, input, settings, picker, gate)?;
     let last = meaning.ending.until(settings.limit());
     let events = tell(alloc, job, input, &meaning.table)?;
-    let walked = told_until(alloc, events.as_slice(), last)?;
-    let bytes = drawn_as(alloc, form, walked.as_slice(), &meaning.table, last)?;
+    let walked = events_until(alloc, events.as_slice(), last)?;
+    let bytes = chart_of(alloc, form, walked.as_slice(), &meaning.table, last)?;
     Ok((verdict_of(meaning.ending), bytes))
 }
 

@@ -15,7 +15,7 @@ use Rattle.story_app.specs.declared.meaning.Ending.{Ending}
 use Rattle.story_app.specs.declared.meaning.Ending.TheVariants.{Done, Raised, Late}
 use Rattle.story_app.specs.declared.verdict.StoryVerdict.{StoryVerdict}
 use Rattle.story_app.specs.declared.verdict.StoryVerdict.TheVariants as story
-use Rattle.story_app.specs.Stories.{told, written, IsAbout}
+use Rattle.story_app.specs.Stories.{story_events, label_or_nothing, IsAbout}
 use Rattle.story_app.specs.Tellings.{IsEnding, verdict_of, until_of, events_until}
 use Rattle.story_app.proofs.Told.{told_is, cut_is}
 use Rattle.json_report.specs.Values.{document}
@@ -37,7 +37,7 @@ told_of_task name table until ending asked walked label given bytes found is tex
 
 pub told_of_none : (name : List ℕ) (table : Table) (until : Tick) (ending : Ending) (asked : List ℕ) (walked : List Event)
     (nearest : Vec ℕ) (given : StoryVerdict) (bytes : List ℕ) → task_named asked walked ≡ None →
-    nearest.items ≡ written (nearest_in asked walked) → given ≡ story.NoTask nearest → bytes ≡ [] →
+    nearest.items ≡ label_or_nothing (nearest_in asked walked) → given ≡ story.NoTask nearest → bytes ≡ [] →
     IsTold name table until ending (Some asked) walked given bytes
 told_of_none name table until ending asked walked nearest given bytes none is told text = inr (nearest, (none, is), told, text)
 
@@ -51,14 +51,14 @@ told_of_some name table until ending asked text walked given bytes is =
 
 -- the document of the events that are written is that of the meaning's story
 story_is : (job : Tree) (input : List ℕ) (limit : ℕ) (ending : Ending) (task : Option Label) → IsEnding job input limit ending →
-    document (story_json job.name (until_of ending limit) (meaning_table job input) task (told limit job input))
+    document (story_json job.name (until_of ending limit) (meaning_table job input) task (story_events limit job input))
     ≡ meaning_story limit job input task
 story_is job input limit ending task h =
-    ap (λ (u : Tick). document (story_json job.name u (meaning_table job input) task (told limit job input)))
+    ap (λ (u : Tick). document (story_json job.name u (meaning_table job input) task (story_events limit job input)))
     (cut_is job input limit ending h)
 
 verdict_is : (job : Tree) (input : List ℕ) (limit : ℕ) (asked : Option (List ℕ)) (ending : Ending) (task : Option Label)
-    (bytes : List ℕ) → IsEnding job input limit ending → IsAbout asked (told limit job input) task →
+    (bytes : List ℕ) → IsEnding job input limit ending → IsAbout asked (story_events limit job input) task →
     bytes ≡ meaning_story limit job input task → IsStoryVerdict job input limit asked (verdict_of ending) bytes
 verdict_is job input limit asked Done task bytes h about is = (record { task = task; about = about; story = is }, h.0, h.1)
 verdict_is job input limit asked Raised task bytes h about is = (record { task = task; about = about; story = is }, h.0, h.1)
@@ -66,7 +66,7 @@ verdict_is job input limit asked Late task bytes h about is = (record { task = t
 
 by_told : (job : Tree) (input : List ℕ) (limit : ℕ) (asked : Option (List ℕ)) (ending : Ending) (given : StoryVerdict)
     (bytes : List ℕ) → IsEnding job input limit ending →
-    IsTold job.name (meaning_table job input) (until_of ending limit) ending asked (told limit job input) given bytes →
+    IsTold job.name (meaning_table job input) (until_of ending limit) ending asked (story_events limit job input) given bytes →
     IsStoryVerdict job input limit asked given bytes
 by_told job input limit asked ending given bytes h (inl t) =
     subst (λ (v : StoryVerdict). IsStoryVerdict job input limit asked v bytes) (sym t.2)
@@ -85,7 +85,7 @@ job_explained job input limit asked ending table until events walked given bytes
     (subst (λ (u : Tick). IsTold job.name (meaning_table job input) u ending asked walked given bytes) until_is
     (subst (λ (k : Table). IsTold job.name k until ending asked walked given bytes) same t)))
   where
-    all : walked ≡ told limit job input
+    all : walked ≡ story_events limit job input
     all =
         walked_is ∙ ap (events_until until) (events_are ∙ ap (λ (k : Table). events_of (root_label job.name) (story_by k job input)) same)
         ∙ ap (λ (u : Tick). events_until u (events_of (root_label job.name) (story_by (meaning_table job input) job input))) until_is

@@ -9,7 +9,7 @@ use Rattle.job_meaning.specs.Log.{Table}
 use Rattle.job_grammar.specs.Refusals.{Spells, IsRefused}
 use Rattle.job_meaning.specs.Meaning.{meaning, meaning_end, meaning_table}
 use Rattle.job_story.specs.Events.{Event}
-use Rattle.story_app.specs.Stories.{told, until_if, IsAbout, IsAboutNone}
+use Rattle.story_app.specs.Stories.{story_events, until_if, IsAbout, IsAboutNone}
 use Rattle.story_app.specs.Tellings.{verdict_of}
 use Rattle.story_app.specs.declared.meaning.Ending.{Ending}
 use Rattle.story_app.specs.declared.verdict.StoryVerdict.{StoryVerdict}
@@ -25,14 +25,14 @@ use Rattle.json_app.specs.Answers.{refusal_json}
 abbrev pub meaning_story : ℕ → Tree → List ℕ → Option Label → List ℕ
 meaning_story limit job input task =
     document (story_json job.name (until_if (nat_le (meaning_end job input) limit) limit) (meaning_table job input) task
-    (told limit job input))
+    (story_events limit job input))
 
 -- ---- verdicts
 
 -- these bytes are the story of a meaning, or of the task that was requested
 pub record IsJobStory (job : Tree) (input : List ℕ) (limit : ℕ) (asked : Option (List ℕ)) (bytes : List ℕ) : Type 0 where
   pub task : Option Label
-  pub about : IsAbout asked (told limit job input) task
+  pub about : IsAbout asked (story_events limit job input) task
   pub story : bytes ≡ meaning_story limit job input task
 
 -- The verdict on a job that was read, and its bytes: the story of the meaning; nothing if no task has the label.
@@ -44,7 +44,7 @@ IsStoryVerdict job input limit asked story.Raised bytes =
 IsStoryVerdict job input limit asked (story.JobRefused fault) bytes = ⊥
 IsStoryVerdict job input limit asked story.Limit bytes = IsJobStory job input limit asked bytes × (limit < meaning_end job input)
 IsStoryVerdict job input limit asked (story.NoTask nearest) bytes =
-    IsAboutNone asked (told limit job input) nearest.items × (bytes ≡ [])
+    IsAboutNone asked (story_events limit job input) nearest.items × (bytes ≡ [])
 
 -- A verdict and its bytes: that on the job which the text spells, or the refusal that the meaning names.
 abbrev pub IsStory : List ℕ → List ℕ → ℕ → Option (List ℕ) → StoryVerdict → List ℕ → Type 0

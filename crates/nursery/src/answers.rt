@@ -28,8 +28,8 @@ use story_app::{StoryVerdict, explain, running_at_limit};
 const AWAITED: &str =
     "reading a feed: a job text, a line `%input`, the input, and Ctrl-D after it (see --help)\n";
 
-/// Serves standard input with the defaults, and returns the status. If that is a terminal, standard error says first what is
-/// waited for.
+// Serves standard input with the defaults, and returns the status. If that is a terminal, standard error says first what is
+// waited for.
 pub(crate) fn run_feed<R: Files + Input + Print + Eprint + Threads + Sync + AllocGlobal>(
     rt: &R,
 ) -> Result<u8, Stop>
@@ -80,12 +80,12 @@ pub(crate) fn read_both<R: Files + Input + AllocGlobal>(
     })
 }
 
-/// The word that a command was given, if it was given one.
+// Returns the word that a command was given, if it was given one.
 pub(crate) fn word_of(word: &Option<String>) -> Option<&str> {
     word.as_ref().map(|name| name.as_str())
 }
 
-/// Runs a job file over an input file, and returns the status.
+// Runs a job file over an input file, and returns the status.
 pub(crate) fn run_job<R: Files + Input + Print + Eprint + Threads + Sync + AllocGlobal>(
     rt: &R,
     args: &RunArgs,
@@ -98,7 +98,7 @@ pub(crate) fn run_job<R: Files + Input + Print + Eprint + Threads + Sync + Alloc
     }
 }
 
-// The same for files that were read, in the order of a picker: writes the report, as a text or as a JSON document.
+// Does the same for files that were read, in the order of a picker: writes the report, as a text or as a JSON document.
 fn run_given<R: Print + Eprint + Threads + Sync + AllocGlobal, P: Pick>(
     rt: &R,
     args: &RunArgs,
@@ -115,7 +115,7 @@ fn run_given<R: Print + Eprint + Threads + Sync + AllocGlobal, P: Pick>(
     run_text(rt, job, text, input, settings, picker)
 }
 
-/// Writes the story of a job file over an input file, or over no input, and returns the status.
+// Writes the story of a job file over an input file, or over no input, and returns the status.
 pub(crate) fn explain_job<R: Files + Input + Print + Eprint + Threads + Sync + AllocGlobal>(
     rt: &R,
     args: &ExplainArgs,
@@ -128,7 +128,7 @@ pub(crate) fn explain_job<R: Files + Input + Print + Eprint + Threads + Sync + A
     }
 }
 
-// The same for files that were read, in the order of a picker: writes the story, as a text or as a JSON document.
+// Does the same for files that were read, in the order of a picker: writes the story, as a text or as a JSON document.
 fn explain_given<R: Print + Eprint + Threads + Sync + AllocGlobal, P: Pick>(
     rt: &R,
     args: &ExplainArgs,
@@ -187,7 +187,7 @@ pub(crate) fn conclude_story<R: Eprint + AllocGlobal>(
     status
 }
 
-// The bytes of a label, if there is one.
+// Returns the bytes of a label, if there is one.
 pub(crate) fn bytes_of(label: Option<&str>) -> Option<&[u8]>
     ensures { option_copied result ≡ option_copied label.entry }
 {
@@ -250,7 +250,7 @@ pub(crate) fn conclude_run<R: Eprint + Threads + Sync + AllocGlobal, P: Pick>(
     verdict.status()
 }
 
-/// Writes the canonical text of a job file, and returns the status.
+// Writes the canonical text of a job file, and returns the status.
 pub(crate) fn check_job<R: Files + Input + Print + Eprint + AllocGlobal>(
     rt: &R,
     job: &str,
@@ -271,7 +271,7 @@ fn check_text<R: Print + Eprint + AllocGlobal>(rt: &R, job: &str, text: &[u8]) -
     Ok(verdict.status())
 }
 
-/// Writes the canonical text of the same job in format 2, and returns the status.
+// Writes the canonical text of the same job in format 2, and returns the status.
 pub(crate) fn upgrade_job<R: Files + Input + Print + Eprint + AllocGlobal>(
     rt: &R,
     job: &str,
@@ -329,7 +329,7 @@ pub(crate) fn tell_refusal<R: Eprint + AllocGlobal>(
     }
 }
 
-/// Writes a text that was requested, and returns the status.
+// Writes a text that was requested, and returns the status.
 pub(crate) fn show_help<R: Print>(rt: &R, text: &str) -> Result<u8, Stop> {
     let mut out = WriteOut::new(io::writer(rt));
     match send(text.as_bytes(), &mut out) {

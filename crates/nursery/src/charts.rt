@@ -17,7 +17,7 @@ const USUAL_WIDTH: usize = 80;
 /// The width of an SVG document if none is requested, in columns of text.
 const USUAL_SVG_WIDTH: usize = 400;
 
-/// Draws the run of a job file over an input file, or over no input, and returns the status.
+// Draws the run of a job file over an input file, or over no input, and returns the status.
 pub(crate) fn chart_job<R: Files + Env + Input + Print + Eprint + Threads + Sync + AllocGlobal>(
     rt: &R,
     args: &ChartArgs,
@@ -29,7 +29,7 @@ pub(crate) fn chart_job<R: Files + Env + Input + Print + Eprint + Threads + Sync
     chart_text(rt, job, text, input, form, args.settings)
 }
 
-// The form of a chart, with the requested width, or else the usual one.
+// Returns the form of a chart, with the requested width, or else the usual one.
 fn form_of<R: Env + AllocGlobal>(rt: &R, width: Option<usize>, svg: bool) -> Form {
     if svg {
         return Form::Svg {
@@ -44,7 +44,7 @@ fn form_of<R: Env + AllocGlobal>(rt: &R, width: Option<usize>, svg: bool) -> For
     }
 }
 
-// The terminal's width in columns, from `COLUMNS` in the environment.
+// Returns the terminal's width in columns, from `COLUMNS` in the environment.
 fn terminal_width<R: Env + AllocGlobal>(rt: &R) -> usize {
     let Ok(columns) = env::var(rt, "COLUMNS") else {
         return USUAL_WIDTH;

@@ -15,8 +15,8 @@ use std::rt::Files;
 use std::thread::Threads;
 use std::time::Clock;
 
-/// Writes the outcome of a job file over an input file, or over no input, with each fault of it, and returns the status. The name
-/// is that of the exception that a faulty step raises. Progress is shown if standard error is a terminal.
+// Writes the outcome of a job file over an input file, or over no input, with each fault of it, and returns the status. The name
+// is that of the exception that a faulty step raises. Progress is shown if standard error is a terminal.
 pub(crate) fn faults_job<R: Files + Input + Print + Eprint + Clock + Threads + Sync + AllocGlobal>(
     rt: &R,
     args: &FaultsArgs,
@@ -52,7 +52,7 @@ fn faults_text<R: Print + Eprint + Clock + Threads + Sync + AllocGlobal>(
     Ok(conclude_faults(rt, args.job.as_str(), text, verdict))
 }
 
-// The same as a JSON document.
+// Does the same, as a JSON document.
 fn faults_as_json<R: Print + Eprint + Clock + Threads + Sync + AllocGlobal>(
     rt: &R,
     args: &FaultsArgs,

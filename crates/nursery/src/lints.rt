@@ -14,7 +14,7 @@ use std::alloc::{AllocError, Global};
 use std::io;
 use std::rt::Files;
 
-/// Writes the probable mistakes in a job file, or the line of its refusal, and returns the status.
+// Writes the probable mistakes in a job file, or the line of its refusal, and returns the status.
 pub(crate) fn lint_job<R: Files + Input + Print + Eprint + AllocGlobal>(
     rt: &R,
     job: &str,
@@ -27,7 +27,7 @@ pub(crate) fn lint_job<R: Files + Input + Print + Eprint + AllocGlobal>(
     lint_text(rt, job, text.as_slice())
 }
 
-// The same for a job text.
+// Does the same for a job text.
 fn lint_text<R: Print + Eprint + AllocGlobal>(rt: &R, job: &str, text: &[u8]) -> Result<u8, Stop>
     ensures { IfOk result (TellsLints text.now) }
 {
@@ -46,7 +46,7 @@ fn lint_text<R: Print + Eprint + AllocGlobal>(rt: &R, job: &str, text: &[u8]) ->
     }
 }
 
-// The same as a JSON document.
+// Does the same, as a JSON document.
 fn lints_as_json<R: Print + Eprint + AllocGlobal>(
     rt: &R,
     job: &str,
@@ -98,7 +98,7 @@ fn show_warnings<R: Print + AllocGlobal>(
     Ok(())
 }
 
-// The text of warnings: for each its place and its sentence, the line of the job text, and a caret under the place.
+// Returns the text of warnings: for each its place and its sentence, the line of the job text, and a caret under the place.
 fn lines_of(
     alloc: Global,
     job: &str,

@@ -39,7 +39,7 @@ use std::rt::{Env, Files};
 use std::thread::Threads;
 use std::time::Clock;
 
-// The words after the program's name.
+// Returns the words after the program's name.
 fn words<R: Env + AllocGlobal>(rt: &R) -> Result<Vec<String>, Stop> {
     let mut words = match env::args(rt) {
         Ok(words) => words,

@@ -20,8 +20,8 @@ use std::time::Clock;
 const NO_FINER_TICKS: &str =
     "error: a `sleep`, `after` or `at` of more than 100000000 ticks has no finer ticks: use a coarser unit of time\n";
 
-/// Writes the places of a job file, run over an input file or over no input, where a hair changes the outcome, and returns the
-/// status. Progress is shown if standard error is a terminal.
+// Writes the places of a job file, run over an input file or over no input, where a hair changes the outcome, and returns the
+// status. Progress is shown if standard error is a terminal.
 pub(crate) fn races_job<R: Files + Input + Print + Eprint + Clock + Threads + Sync + AllocGlobal>(
     rt: &R,
     args: &RacesArgs,
@@ -57,7 +57,7 @@ fn races_text<R: Print + Eprint + Clock + Threads + Sync + AllocGlobal>(
     Ok(conclude_races(rt, args, text, input, verdict))
 }
 
-// The same as a JSON document.
+// Does the same, as a JSON document.
 fn races_as_json<R: Print + Eprint + Clock + Threads + Sync + AllocGlobal>(
     rt: &R,
     args: &RacesArgs,

@@ -20,8 +20,8 @@ use std::thread::Threads;
 use std::time::Clock;
 use sweep_app::{Missing, SweepVerdict, sweep};
 
-/// Writes the outcome of a job file over an input file, or over no input, for each of these values of one of its numbers, and
-/// returns the status. Progress is shown if standard error is a terminal.
+// Writes the outcome of a job file over an input file, or over no input, for each of these values of one of its numbers, and
+// returns the status. Progress is shown if standard error is a terminal.
 pub(crate) fn sweep_job<R: Files + Input + Print + Eprint + Clock + Threads + Sync + AllocGlobal>(
     rt: &R,
     args: &SweepArgs,
@@ -58,7 +58,7 @@ fn sweep_text<R: Print + Eprint + Clock + Threads + Sync + AllocGlobal>(
     Ok(conclude_sweep(rt, args, text, verdict))
 }
 
-// The same as a JSON document.
+// Does the same, as a JSON document.
 fn sweep_as_json<R: Print + Eprint + Clock + Threads + Sync + AllocGlobal>(
     rt: &R,
     args: &SweepArgs,
@@ -114,7 +114,7 @@ fn tell_missing<R: Eprint + AllocGlobal>(
     }
 }
 
-// Why the text does not have the number that is meant.
+// Returns the message that says why the text does not have the number that is meant.
 fn missing_message(
     alloc: Global,
     job: &str,
@@ -130,7 +130,7 @@ fn missing_message(
     }
 }
 
-// That no number begins at a place, and what is there.
+// Returns the message that no number begins at a place, with what is there.
 fn no_number_message(
     alloc: Global,
     job: &str,
@@ -141,7 +141,7 @@ fn no_number_message(
     pointed_message(alloc, name.as_str(), text, at, "no number begins here")
 }
 
-// That the text has no such line and column.
+// Returns the message that the text has no such line and column.
 fn no_place_message(alloc: Global, target: &Target) -> Result<String, AllocError> {
     match target {
         Target::At { line, column } => format!(in alloc;
@@ -151,13 +151,13 @@ fn no_place_message(alloc: Global, target: &Target) -> Result<String, AllocError
     }
 }
 
-// That the scope or nursery has no deadline.
+// Returns the message that the scope or nursery has no deadline.
 fn no_deadline_message(alloc: Global, target: &Target) -> Result<String, AllocError> {
     let name = name_in(target);
     format!(in alloc; "error: `{name}` has no deadline that could be varied: give it `after N`\n")
 }
 
-// That no scope or nursery has the name, and which one is the nearest.
+// Returns the message that no scope or nursery has the name, with the nearest name.
 fn no_block_message(
     alloc: Global,
     target: &Target,
@@ -177,7 +177,7 @@ fn no_block_message(
     }
 }
 
-// The name of the scope or nursery whose deadline is meant, or nothing if none is.
+// Returns the name of the scope or nursery whose deadline is meant, or nothing if none is.
 fn name_in(target: &Target) -> &str {
     match target {
         Target::DeadlineOf(name) => shown_word(name.bytes()),
@@ -185,7 +185,7 @@ fn name_in(target: &Target) -> &str {
     }
 }
 
-// A name as text. Its bytes are ASCII.
+// Returns a name as text. Its bytes are ASCII.
 fn shown_word(word: &[u8]) -> &str {
     str::from_utf8(word).unwrap_or("?")
 }

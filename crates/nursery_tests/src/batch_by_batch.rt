@@ -15,7 +15,7 @@ use std::alloc::{AllocError, Global};
 use std::test::Fail;
 use std::thread::Threads;
 
-// The run of a job at its beginning.
+// Returns the run of a job at its beginning.
 fn open_run<'a>(alloc: Global, job: &'a Job, input: &'a [u8]) -> Result<Runner<'a>, Fail>
     ensures { IfOk result IsUnderway }
 {
@@ -26,7 +26,7 @@ fn open_run<'a>(alloc: Global, job: &'a Job, input: &'a [u8]) -> Result<Runner<'
     Ok(runner)
 }
 
-// The requests of a run. If memory is refused they are requested again.
+// Returns the requests of a run. If memory is refused they are requested again.
 fn requests_again<'a>(runner: &Runner<'a>) -> Result<Vec<Request<'a>>, AllocError> {
     if let Ok(requests) = runner.requests() {
         return Ok(requests);
@@ -34,7 +34,7 @@ fn requests_again<'a>(runner: &Runner<'a>) -> Result<Vec<Request<'a>>, AllocErro
     runner.requests()
 }
 
-// Whether a run is ready, and none of its tasks makes a request.
+// Returns whether a run is ready, and none of its tasks makes a request.
 fn asks_nothing(runner: &Runner<'_>) -> Result<bool, AllocError>
     requires { IsUnderway runner.now }
 {
@@ -42,7 +42,7 @@ fn asks_nothing(runner: &Runner<'_>) -> Result<bool, AllocError>
     Ok(requests.is_empty() && runner.phase() == Phase::Ready)
 }
 
-// Whether a request searches the whole of that input for a string.
+// Returns whether a request searches the whole of that input for a string.
 fn is_search(request: &Request<'_>, needle: &[u8], input: &[u8]) -> bool {
     let Kernel::Find(found) = request.kernel else {
         return false;
@@ -50,7 +50,7 @@ fn is_search(request: &Request<'_>, needle: &[u8], input: &[u8]) -> bool {
     found == needle && request.part.at() == 0 && request.part.text() == input
 }
 
-// Whether a run is ready, and one of its tasks searches the whole of that input for a string, and no other makes a
+// Returns whether a run is ready, and one of its tasks searches the whole of that input for a string, and no other makes a
 // request.
 fn asks_for(runner: &Runner<'_>, needle: &[u8], input: &[u8]) -> Result<bool, AllocError>
     requires { IsUnderway runner.now }
@@ -65,7 +65,7 @@ fn asks_for(runner: &Runner<'_>, needle: &[u8], input: &[u8]) -> Result<bool, Al
     }
 }
 
-// A run after the turns of its batch, which makes one request or none, as the caller says. A worker answers it.
+// Returns a run after the turns of its batch, which makes one request or none, as the caller says. A worker answers it.
 fn commit_batch<'a, R: Threads + Sync + AllocGlobal>(
     rt: &R,
     runner: Runner<'a>,
@@ -85,7 +85,7 @@ fn commit_batch<'a, R: Threads + Sync + AllocGlobal>(
     Ok(runner)
 }
 
-// A run after the jump of its clock.
+// Returns a run after the jump of its clock.
 fn jump_clock<'a>(runner: Runner<'a>) -> Result<Runner<'a>, Fail>
     requires { IsUnderway runner }
     ensures { IfOk result IsUnderway }
@@ -97,7 +97,7 @@ fn jump_clock<'a>(runner: Runner<'a>) -> Result<Runner<'a>, Fail>
     Ok(runner)
 }
 
-// The limit that the jump of a run's clock would pass, and 0 if it passes none.
+// Returns the limit that the jump of a run's clock would pass, and 0 if it passes none.
 fn limit_of_jump(runner: Runner<'_>) -> Result<u64, Fail>
     requires { IsUnderway runner }
 {
@@ -111,7 +111,7 @@ fn limit_of_jump(runner: Runner<'_>) -> Result<u64, Fail>
     }
 }
 
-// A run whose root has ended, finished.
+// Returns a run whose root has ended, finished.
 fn finish_run<'a>(runner: Runner<'a>) -> Result<Run<'a>, Fail>
     requires { IsUnderway runner }
 {
@@ -122,7 +122,7 @@ fn finish_run<'a>(runner: Runner<'a>) -> Result<Run<'a>, Fail>
     Ok(run)
 }
 
-// Whether an entry is that line.
+// Returns whether an entry is that line.
 fn is_line(entry: Option<&Entry<'_>>, at: usize, text: &[u8]) -> bool {
     match entry {
         Some(Entry::Line(line)) => line.at() == at && line.text() == text,
@@ -130,7 +130,7 @@ fn is_line(entry: Option<&Entry<'_>>, at: usize, text: &[u8]) -> bool {
     }
 }
 
-// Whether the first thing that the root of a run noted is that line.
+// Returns whether the first thing that the root of a run noted is that line.
 fn has_noted_line(run: &Run<'_>, at: usize, text: &[u8]) -> bool {
     match run.records().first() {
         Some(root) => is_line(root.entries.first(), at, text),

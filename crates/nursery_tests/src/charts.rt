@@ -26,7 +26,7 @@ fn chart_again<R: Abort + Threads + Sync + AllocGlobal, P: Pick>(
     )
 }
 
-// The status and the chart of a job text.
+// Returns the status and the chart of a job text.
 fn chart_of<R: Abort + Threads + Sync + AllocGlobal, P: Pick>(
     rt: &R,
     text: &[u8],
@@ -101,7 +101,7 @@ fn a_chart_has_a_row_for_each_bar(rt: HostRuntime) -> Result<(), Fail> {
     Ok(())
 }
 
-// Whether some bytes begin and end so.
+// Returns whether some bytes begin and end so.
 fn is_between(bytes: &[u8], first: &[u8], last: &[u8]) -> bool {
     bytes.starts_with(first) && bytes.ends_with(last)
 }

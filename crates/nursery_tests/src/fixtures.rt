@@ -27,7 +27,7 @@ pub(crate) const HALVES: &[u8] = b"aa\nb\ncccc\n";
 /// The last tick at which the jobs of these tests may end.
 pub(crate) const LIMIT: u64 = 100;
 
-/// The pieces of a text, one after another.
+// Returns the pieces of a text, one after another.
 pub(crate) fn joined_text(alloc: Global, pieces: &[&[u8]]) -> Result<Vec<u8>, AllocError> {
     let mut text = Vec::new(alloc);
     for piece in pieces {
@@ -36,7 +36,7 @@ pub(crate) fn joined_text(alloc: Global, pieces: &[&[u8]]) -> Result<Vec<u8>, Al
     Ok(text)
 }
 
-/// The text of the job `main` of these steps, after the first line of its format.
+// Returns the text of the job `main` of these steps, after the first line of its format.
 pub(crate) fn job_text(
     alloc: Global,
     first_line: &[u8],
@@ -45,7 +45,7 @@ pub(crate) fn job_text(
     joined_text(alloc, &[first_line, b"job main { ", steps, b" }"])
 }
 
-/// The run of a job by some workers.
+// Returns the run of a job by some workers.
 pub(crate) fn run_of<'a, R: Abort + Threads + Sync + AllocGlobal, P: Pick, G: Gate + Sync>(
     rt: &R,
     job: &'a Job,
@@ -60,7 +60,7 @@ pub(crate) fn run_of<'a, R: Abort + Threads + Sync + AllocGlobal, P: Pick, G: Ga
     Ok(done)
 }
 
-/// Calls `serve` with a writer that has not failed.
+// Calls `serve` with a writer that has not failed.
 pub(crate) fn serve_into<R: Abort + Threads + Sync + AllocGlobal, P: Pick, G: Gate + Sync, W: Out>(
     rt: &R,
     text: &[u8],
@@ -92,7 +92,7 @@ macro_rules! call_again {
 
 pub(crate) use call_again;
 
-/// Serves a text, again if memory is refused.
+// Serves a text, again if memory is refused.
 pub(crate) fn serve_again<R: Abort + Threads + Sync + AllocGlobal, P: Pick>(
     rt: &R,
     text: &[u8],
@@ -108,7 +108,7 @@ pub(crate) fn serve_again<R: Abort + Threads + Sync + AllocGlobal, P: Pick>(
     )
 }
 
-/// What `serve` writes for a text with these settings, and the status of its verdict, which is 5 for a fault.
+// Returns what `serve` writes for a text with these settings, and the status of its verdict, which is 5 for a fault.
 pub(crate) fn serve_answer<R: Abort + Threads + Sync + AllocGlobal, P: Pick>(
     rt: &R,
     text: &[u8],
@@ -147,7 +147,7 @@ pub(crate) fn request_again(
     }
 }
 
-/// What `check` or `upgrade` writes for a text, and the status of its verdict.
+// Returns what `check` or `upgrade` writes for a text, and the status of its verdict.
 pub(crate) fn text_answer(
     rt: &(impl Abort + AllocGlobal),
     asked: Asked,
@@ -158,12 +158,12 @@ pub(crate) fn text_answer(
     Ok((verdict.status(), out))
 }
 
-/// Checks what was written, with the name of what was requested.
+// Checks what was written, with the name of what was requested.
 pub(crate) fn assert_written(rt: &impl Abort, name: &str, out: &MemOut, expected: &[u8]) {
     assert_eq!(rt; out.taken(), expected, "{name}");
 }
 
-/// Checks what `serve` writes for a text with the limit 100, by 1 and 64 workers in each order of picks.
+// Checks what `serve` writes for a text with the limit 100, by 1 and 64 workers in each order of picks.
 pub(crate) fn assert_serves<R: Abort + Threads + Sync + AllocGlobal>(
     rt: &R,
     name: &str,
@@ -183,7 +183,7 @@ pub(crate) fn assert_serves<R: Abort + Threads + Sync + AllocGlobal>(
     Ok(())
 }
 
-/// Checks the reports of worked jobs in a format.
+// Checks the reports of worked jobs in a format.
 pub(crate) fn assert_rows<R: Abort + Threads + Sync + AllocGlobal>(
     rt: &R,
     first_line: &[u8],
@@ -196,7 +196,7 @@ pub(crate) fn assert_rows<R: Abort + Threads + Sync + AllocGlobal>(
     Ok(())
 }
 
-/// Checks the reports of worked jobs, which are the same in both formats.
+// Checks the reports of worked jobs, which are the same in both formats.
 pub(crate) fn assert_rows_in_both_formats<R: Abort + Threads + Sync + AllocGlobal>(
     rt: &R,
     rows: &[Row],
@@ -205,7 +205,7 @@ pub(crate) fn assert_rows_in_both_formats<R: Abort + Threads + Sync + AllocGloba
     assert_rows(rt, FORMAT_2, rows)
 }
 
-/// Checks what `serve` writes for a text, and the status of its verdict.
+// Checks what `serve` writes for a text, and the status of its verdict.
 pub(crate) fn assert_answers<R: Abort + Threads + Sync + AllocGlobal>(
     rt: &R,
     text: &str,

@@ -39,7 +39,7 @@ const TEXTS: &[(&str, &str)] = &[
     ),
 ];
 
-// The formatted text of a job text.
+// Returns the formatted text of a job text.
 fn formatted_text(alloc: Global, text: &[u8]) -> Result<Vec<u8>, Fail> {
     match format_text(alloc, text) {
         Ok(bytes) => Ok(bytes),
@@ -62,7 +62,7 @@ fn each_step_has_its_line_and_short_blocks_one(rt: HostRuntime) -> Result<(), Fa
     Ok(())
 }
 
-// The result for a job text. If memory is refused it is computed again.
+// Returns the result for a job text. If memory is refused it is computed again.
 fn format_check(alloc: Global, text: &[u8]) -> Result<FormatCheck, Fail> {
     match check_format(alloc, text) {
         Ok(check) => Ok(check),
@@ -97,7 +97,7 @@ fn a_difference_has_its_place(rt: HostRuntime) -> Result<(), Fail> {
     Ok(())
 }
 
-// A job text of 31 nested scopes, and the given number of steps in the innermost.
+// Returns a job text of 31 nested scopes, and the given number of steps in the innermost.
 fn nested_job(alloc: Global, steps: usize) -> Result<Vec<u8>, Fail> {
     let mut text = Vec::from_slice(alloc, b"trio-job 1\njob a{")?;
     for depth in 0..31u8 {

@@ -5,7 +5,7 @@ use job_grammar::{Body, Step, read_job};
 use std::alloc::{AllocError, Global};
 use std::test::Fail;
 
-// The size of the job of a text.
+// Returns the size of the job of a text.
 fn size_in(alloc: Global, text: &[u8]) -> Result<u64, Fail> {
     let job = read_job(alloc, text)?;
     Ok(job.size())
@@ -35,7 +35,7 @@ fn jobs_of_format_2_have_sizes_up_to_a_million(rt: HostRuntime) -> Result<(), Fa
     Ok(())
 }
 
-// A block that repeats a block of these steps 1,000 times.
+// Returns a block that repeats a block of these steps 1,000 times.
 fn thousand_passes(alloc: Global, body: Body) -> Result<Body, AllocError> {
     let mut steps = Vec::with_capacity(alloc, 1)?;
     match steps.push(Step::Repeat { count: 1000, body }) {

@@ -70,7 +70,7 @@ fn sweep_status<R: Abort + Threads + Sync + AllocGlobal>(
 
 const VALUES: &[u64] = &[1, 2];
 
-// The number of the job's sleep.
+// Returns the number of the job's sleep.
 fn ticks_of_the_sleep() -> Target {
     Target::At {
         line: 2,

@@ -41,7 +41,7 @@ fn thirty_one_nested_nurseries_around_a_raise(rt: HostRuntime) -> Result<(), Fai
     assert_reports(&rt, "nurseries", steps.as_slice(), report.as_slice())
 }
 
-// How many lines a report has.
+// Returns how many lines a report has.
 fn lines_of(report: &[u8]) -> u64 {
     let mut lines = 0u64;
     for byte in report {

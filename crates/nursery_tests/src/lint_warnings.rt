@@ -124,7 +124,7 @@ fn push_line(alloc: Global, lines: &mut Vec<u8>, warning: &Warning) -> Result<()
     lines.extend_from_slice(b"\n")
 }
 
-// The warnings of a text. If memory is refused they are requested again.
+// Returns the warnings of a text. If memory is refused they are requested again.
 fn warnings_of(alloc: Global, text: &[u8]) -> Result<Vec<Warning>, JobFault> {
     match lints(alloc, text) {
         Err(fault) if fault.kind == JobKind::NoMemory => lints(alloc, text),
@@ -132,7 +132,7 @@ fn warnings_of(alloc: Global, text: &[u8]) -> Result<Vec<Warning>, JobFault> {
     }
 }
 
-// A line for each warning of a text.
+// Returns a line for each warning of a text.
 fn lines_of(alloc: Global, text: &[u8]) -> Result<Vec<u8>, Fail> {
     let warnings = warnings_of(alloc, text)?;
     let mut lines = Vec::new(alloc);
@@ -192,7 +192,7 @@ fn warnings_are_listed_in_the_order_of_the_text(rt: HostRuntime) -> Result<(), F
     assert_lines(rt.alloc(), SEVERAL)
 }
 
-// The refusal of a text.
+// Returns the refusal of a text.
 fn refusal_of(alloc: Global, text: &[u8]) -> Result<JobFault, Fail> {
     match warnings_of(alloc, text) {
         Ok(_) => Err("not refused")?,

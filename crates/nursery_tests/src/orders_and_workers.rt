@@ -23,7 +23,7 @@ fn assert_ticks(rt: &impl Abort, records: &[Record<'_>], ticks: &[(u64, u64)]) {
     }
 }
 
-// The ticks in which a task started and ended.
+// Returns the ticks in which a task started and ended.
 fn ticks_of(record: Option<&Record<'_>>) -> (u64, u64) {
     match record {
         Some(record) => (record.from_tick, record.to_tick),
@@ -31,7 +31,7 @@ fn ticks_of(record: Option<&Record<'_>>) -> (u64, u64) {
     }
 }
 
-// Whether a task of that name with these indices ended without an exception.
+// Returns whether a task of that name with these indices ended without an exception.
 fn is_done(record: Option<&Record<'_>>, name: &[u8], indices: &[u64]) -> bool {
     match record {
         Some(record) => {
@@ -154,7 +154,7 @@ fn assert_froms(rt: &impl Abort, froms: &[ScopeFrom], wanted: &[(&[u8], Option<u
     }
 }
 
-// Whether a scope of that name was cancelled from that tick.
+// Returns whether a scope of that name was cancelled from that tick.
 fn is_from(from: Option<&ScopeFrom>, name: &[u8], seen: Option<u64>) -> bool {
     match from {
         Some(from) => *from.label.name().bytes() == *name && from.seen == seen,
@@ -222,7 +222,7 @@ impl Both {
         }
     }
 
-    // Whether both requests were begun, and neither waited in vain.
+    // Returns whether both requests were begun, and neither waited in vain.
     fn have_met(&self) -> bool {
         self.have_begun() && self.missed.load(Ordering::SeqCst) == 0
     }
@@ -288,7 +288,7 @@ impl Counting {
         }
     }
 
-    // How often it was called before and after a request.
+    // Returns how often it was called before and after a request.
     fn counts(&self) -> (u64, u64) {
         (
             self.before.load(Ordering::SeqCst),

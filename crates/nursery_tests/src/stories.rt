@@ -26,7 +26,7 @@ fn explain_again<R: Abort + Threads + Sync + AllocGlobal, P: Pick>(
     )
 }
 
-// The status and the story of a job text, or of a task.
+// Returns the status and the story of a job text, or of a task.
 fn story_of<R: Abort + Threads + Sync + AllocGlobal, P: Pick>(
     rt: &R,
     text: &[u8],

@@ -39,7 +39,7 @@ enum Asked {
     At(usize, usize),
 }
 
-// The same as a target.
+// Returns the same as a target.
 fn target_of(asked: Asked) -> Result<Target, Fail> {
     match asked {
         Asked::Of(name) => {
@@ -50,7 +50,7 @@ fn target_of(asked: Asked) -> Result<Target, Fail> {
     }
 }
 
-// The status of a sweep, and the bytes that it writes.
+// Returns the status of a sweep, and the bytes that it writes.
 fn answer_of<R: Abort + Threads + Sync + AllocGlobal>(
     rt: &R,
     text: &str,
@@ -113,7 +113,7 @@ fn a_refused_text_has_its_refusal(rt: HostRuntime) -> Result<(), Fail> {
     Ok(())
 }
 
-// Why the text does not have the number that is meant, in words. Nothing is written.
+// Returns why the text does not have the number that is meant, in words. Nothing is written.
 fn reason_of<R: Abort + Threads + Sync + AllocGlobal>(
     rt: &R,
     text: &str,
@@ -129,7 +129,7 @@ fn reason_of<R: Abort + Threads + Sync + AllocGlobal>(
     }
 }
 
-// A reason in words.
+// Returns a reason in words.
 fn words_of(alloc: Global, missing: &Missing) -> Result<String, Fail> {
     match missing {
         Missing::NoBlock { nearest } => Ok(nearest_words(alloc, nearest)?),
@@ -139,7 +139,7 @@ fn words_of(alloc: Global, missing: &Missing) -> Result<String, Fail> {
     }
 }
 
-// The nearest name in words.
+// Returns the nearest name in words.
 fn nearest_words(alloc: Global, nearest: &Option<Name>) -> Result<String, AllocError> {
     match nearest {
         Some(name) => {

@@ -10,7 +10,7 @@ use std::process::Abort;
 use std::test::Fail;
 use std::thread::Threads;
 
-// What `serve` writes for the upgrade of a text.
+// Returns what `serve` writes for the upgrade of a text.
 fn serve_upgrade<R: Abort + Threads + Sync + AllocGlobal>(
     rt: &R,
     text: &[u8],

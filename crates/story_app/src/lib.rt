@@ -22,5 +22,5 @@ pub use laws::law_texts_agree;
 pub use meaning::{Ending, Meaning, meaning_of};
 pub use running::running_at_limit;
 pub use table::table_of;
-pub use telling::told_until;
+pub use telling::events_until;
 pub use verdict::StoryVerdict;

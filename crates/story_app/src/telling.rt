@@ -7,7 +7,7 @@ ghost use Rattle.story_causes.specs.Seen.{seen};
 ghost use Rattle.story_app.specs.Stories.{IsJobVerdict};
 ghost use Rattle.story_app.specs.Tellings.{IsTold, is_until, events_until};
 
-use crate::about::{About, asked_for};
+use crate::about::{About, about_of};
 use crate::meaning::{Meaning, meaning_of};
 use crate::text::story;
 use crate::verdict::StoryVerdict;
@@ -18,7 +18,7 @@ use job_teller::tell;
 use std::alloc::{AllocError, Global};
 use std::thread::Threads;
 
-/// Returns the verdict on a job that was read, with its bytes.
+// Returns the verdict on a job that was read, with its bytes.
 pub(crate) fn job_verdict<R: Threads + Sync, P: Pick, G: Gate + Sync>(
     rt: &R,
     alloc: Global,
@@ -35,14 +35,14 @@ pub(crate) fn job_verdict<R: Threads + Sync, P: Pick, G: Gate + Sync>(
     let meaning = meaning_of(rt, alloc, job, input, settings, picker, gate)?;
     let last = meaning.ending.until(settings.limit());
     let events = tell(alloc, job, input, &meaning.table)?;
-    let walked = told_until(alloc, events.as_slice(), last)?;
-    let answer = told_about(alloc, walked.as_slice(), &meaning, last, task)?;
+    let walked = events_until(alloc, events.as_slice(), last)?;
+    let answer = story_about(alloc, walked.as_slice(), &meaning, last, task)?;
     Ok(answer)
 }
 
 // Returns the verdict on a story with these events, and its text.
 #[tactic(auto, using(crate::proofs::Told::told_of_all, crate::proofs::Told::told_of_task, crate::proofs::Told::told_of_none))]
-fn told_about(
+fn story_about(
     alloc: Global,
     walked: &[&Event],
     meaning: &Meaning,
@@ -52,7 +52,7 @@ fn told_about(
     ensures { IfOk result (λ r. IsTold (table_in meaning.now.table) until meaning.now.ending (option_copied task.entry)
         (map seen walked.now) r.0 r.1.items) }
 {
-    match asked_for(alloc, walked, task)? {
+    match about_of(alloc, walked, task)? {
         About::All => {
             let bytes = story(alloc, walked, &meaning.table, None, until)?;
             Ok((meaning.ending.verdict(), bytes))
@@ -67,7 +67,7 @@ fn told_about(
 
 /// Returns the events up to and including the tick `until`, or all of them if it is `None`, in the same order. Returns
 /// `AllocError` if memory is refused.
-pub fn told_until<'e>(
+pub fn events_until<'e>(
     alloc: Global,
     events: &'e [Event],
     until: Option<u64>,

@@ -1,7 +1,7 @@
 use Rattle.std.proofs.Common.{ap, ◌∙◌, map}
 use Rattle.chart_bars.specs.Held.{bar_of}
 use Rattle.chart_app.proofs.Charted.{svg_drawn}
-use Rattle.chart_app.proofs.drawing.drawn_as.Goals as goal
+use Rattle.chart_app.proofs.drawing.chart_of.Goals as goal
 
 pub returns-clause-chart : goal.returns-clause-chart
 returns-clause-chart c =

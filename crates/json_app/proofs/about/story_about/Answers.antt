@@ -3,7 +3,7 @@ use Rattle.std.specs.Option.{option_copied}
 use Rattle.job_story.specs.Froms.{table_in}
 use Rattle.story_causes.specs.Seen.{seen}
 use Rattle.json_app.proofs.Explained.{told_of_some}
-use Rattle.json_app.proofs.about.told_about.Goals as goal
+use Rattle.json_app.proofs.about.story_about.Goals as goal
 
 pub returns : goal.returns
 returns c =

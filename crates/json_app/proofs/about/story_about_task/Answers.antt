@@ -4,7 +4,7 @@ use Rattle.story_causes.specs.Seen.{seen}
 use Rattle.story_focus.specs.Holds.{label_seen}
 use Rattle.story_app.specs.declared.verdict.StoryVerdict.TheVariants.{NoTask}
 use Rattle.json_app.proofs.Explained.{told_of_none}
-use Rattle.json_app.proofs.about.told_of.Goals as goal
+use Rattle.json_app.proofs.about.story_about_task.Goals as goal
 
 pub returns-in_default : goal.returns-in_default
 returns-in_default c =

@@ -1,7 +1,7 @@
 use Rattle.std.specs.Prelude.{map}
 use Rattle.race_copies.specs.Views.{sight_held}
 use Rattle.race_copies.proofs.Nothing.{meets_none_by}
-use Rattle.race_copies.proofs.meeting.first_met.Goals as goal
+use Rattle.race_copies.proofs.meeting.first_meeting.Goals as goal
 
 pub returns-then-not-cancels_some : goal.returns-then-not-cancels_some
 returns-then-not-cancels_some c =

@@ -2,7 +2,7 @@ use Rattle.std.proofs.Common.{◌≡◌, ◌++◌, drop, map}
 use Rattle.job_story.specs.Held.{event_of}
 use Rattle.story_causes.specs.Seen.{seen}
 use Rattle.story_app.specs.Tellings.{events_until}
-use Rattle.story_app.proofs.telling.told_until.Given as goal
+use Rattle.story_app.proofs.telling.events_until.Given as goal
 
 abbrev pub invariant-events : goal.invariant-events
 invariant-events l =
