@@ -76,16 +76,10 @@ fn report_of<R: Threads + Sync>(
     requires { length asked.now.input.now ≤ MAX_INPUT }
     ensures { IfOk result (λ bytes. IsReport asked.now.text.now asked.now.input.now asked.now.settings.limit bytes.items) }
 {
-    let mut out = Kept::new(alloc);
+    let (text, input, settings) = (asked.text, asked.input, asked.settings);
+    let (mut out, mut order) = (Kept::new(alloc), Forward);
     serve(
-        rt,
-        alloc,
-        asked.text,
-        asked.input,
-        asked.settings,
-        &mut Forward,
-        &NoGate,
-        &mut out,
+        rt, alloc, text, input, settings, &mut order, &NoGate, &mut out,
     )?;
     Ok(out.into_bytes())
 }
@@ -99,17 +93,10 @@ fn story_of<R: Threads + Sync>(
     requires { length asked.now.input.now ≤ MAX_INPUT }
     ensures { IfOk result (λ bytes. IsStory asked.now.text.now asked.now.input.now asked.now.settings.limit bytes.items) }
 {
-    let mut out = Kept::new(alloc);
+    let (text, input, settings) = (asked.text, asked.input, asked.settings);
+    let (mut out, mut order) = (Kept::new(alloc), Forward);
     explain(
-        rt,
-        alloc,
-        asked.text,
-        asked.input,
-        asked.settings,
-        None,
-        &mut Forward,
-        &NoGate,
-        &mut out,
+        rt, alloc, text, input, settings, None, &mut order, &NoGate, &mut out,
     )?;
     Ok(out.into_bytes())
 }
@@ -123,18 +110,11 @@ fn chart_of<R: Threads + Sync>(
     requires { length asked.now.input.now ≤ MAX_INPUT }
     ensures { IfOk result (λ bytes. IsChart asked.now.text.now asked.now.input.now asked.now.settings.limit bytes.items) }
 {
-    let mut out = Kept::new(alloc);
+    let (text, input, settings) = (asked.text, asked.input, asked.settings);
+    let (mut out, mut order) = (Kept::new(alloc), Forward);
     let form = Form::Text { width: 80 };
     chart(
-        rt,
-        alloc,
-        asked.text,
-        asked.input,
-        asked.settings,
-        form,
-        &mut Forward,
-        &NoGate,
-        &mut out,
+        rt, alloc, text, input, settings, form, &mut order, &NoGate, &mut out,
     )?;
     Ok(out.into_bytes())
 }
@@ -148,22 +128,16 @@ fn faults_of<R: Threads + Sync>(
     requires { length asked.now.input.now ≤ MAX_INPUT }
     ensures { IfOk result (λ bytes. IsFaults asked.now.text.now asked.now.input.now asked.now.settings.limit bytes.items) }
 {
+    let (text, input, settings) = (asked.text, asked.input, asked.settings);
     let mut out = Kept::new(alloc);
+    let name = fault_name();
     let deny = Deny {
         stuck: false,
         cut: false,
         lost: false,
     };
     faults(
-        rt,
-        alloc,
-        asked.text,
-        asked.input,
-        asked.settings,
-        fault_name(),
-        deny,
-        &NoGate,
-        &mut out,
+        rt, alloc, text, input, settings, name, deny, &NoGate, &mut out,
     )?;
     Ok(out.into_bytes())
 }
@@ -177,16 +151,8 @@ fn races_of<R: Threads + Sync>(
     requires { length asked.now.input.now ≤ MAX_INPUT }
     ensures { IfOk result (λ bytes. IsRaces asked.now.text.now asked.now.input.now asked.now.settings.limit bytes.items) }
 {
+    let (text, input, settings) = (asked.text, asked.input, asked.settings);
     let mut out = Kept::new(alloc);
-    races(
-        rt,
-        alloc,
-        asked.text,
-        asked.input,
-        asked.settings,
-        false,
-        &NoGate,
-        &mut out,
-    )?;
+    races(rt, alloc, text, input, settings, false, &NoGate, &mut out)?;
     Ok(out.into_bytes())
 }
