@@ -1,20 +1,20 @@
 -- What `chart` writes: the chart of a job's meaning over an input, or the refusal that the meaning names.
-use Rattle.std.specs.Prelude.{◌≡◌, ℕ, ◌≤◌, ◌<◌, Bool, true, false, nat_le, nat_lt, if◌then◌else◌, Option, Some, None, List, length, take, IsSome, IsNone}
+use Rattle.std.specs.Prelude.{◌≡◌, ℕ, ◌≤◌, ◌<◌, nat_le, Option, List, length, take, IsSome, IsNone}
 use Rattle.std.specs.Io.KnownBytes.{Appends}
 use Rattle.job_tree.specs.Tree.{Tree}
 use Rattle.cancel_scopes.specs.Sight.{Tick}
 use Rattle.job_grammar.specs.Refusals.{Spells, IsRefused}
 use Rattle.job_meaning.specs.Log.{Table}
 use Rattle.job_meaning.specs.Meaning.{meaning, meaning_end, meaning_table}
-use Rattle.job_meaning.specs.Shown.{Row}
-use Rattle.job_runner.specs.Runs.{root_is_well, root_end}
 use Rattle.job_story.specs.Events.{Event}
 use Rattle.nursery_app.specs.Verdict.{refusal_line}
 use Rattle.nursery_app.specs.declared.verdict.Verdict.{Verdict}
 use Rattle.nursery_app.specs.declared.verdict.Verdict.TheVariants.{Done, Raised, JobRefused, Limit}
 use Rattle.nursery_app.specs.declared.verdict.ServeFault.{ServeFault}
 use Rattle.nursery_app.specs.declared.verdict.ServeFault.TheVariants.{Send, NoMemory}
-use Rattle.story_app.specs.Stories.{told}
+use Rattle.story_app.specs.Stories.{story_events, until_if}
+use Rattle.story_app.specs.declared.meaning.Ending.{Ending}
+use Rattle.story_app.specs.declared.meaning.Ending.TheVariants as ending
 use Rattle.chart_bars.specs.Bars.{bars_of}
 use Rattle.chart_text.specs.Text.{chart_text}
 use Rattle.svg_text.specs.Content.{IsDocument}
@@ -23,19 +23,14 @@ use Rattle.chart_app.specs.declared.form.Form.{Form}
 use Rattle.chart_app.specs.declared.form.Form.TheVariants.{Text, Svg}
 
 -- a chart of these events by a table, of a story that is whole or cut off at a limit
-abbrev pub drawn_as : Form → Table → Tick → List Event → List ℕ
-drawn_as (Text width) table until walked = chart_text width until walked (bars_of table until walked)
-drawn_as (Svg width) table until walked = chart_svg width table until walked (bars_of table until walked)
-
--- the limit, where the story is cut off at it
-abbrev pub until_if : Bool → ℕ → Tick
-until_if true limit = None
-until_if false limit = Some limit
+abbrev pub chart_of : Form → Table → Tick → List Event → List ℕ
+chart_of (Text width) table until walked = chart_text width until walked (bars_of table until walked)
+chart_of (Svg width) table until walked = chart_svg width table until walked (bars_of table until walked)
 
 -- the chart of a meaning: whole where it ends by the limit, and up to the limit otherwise
 abbrev pub meaning_chart : Form → ℕ → Tree → List ℕ → List ℕ
 meaning_chart form limit job input =
-    drawn_as form (meaning_table job input) (until_if (nat_le (meaning_end job input) limit) limit) (told limit job input)
+    chart_of form (meaning_table job input) (until_if (nat_le (meaning_end job input) limit) limit) (story_events limit job input)
 
 -- an SVG document is well formed
 abbrev pub IsInForm : Form → List ℕ → Type 0
@@ -54,14 +49,11 @@ IsVerdictOn job input limit Raised = (meaning_end job input ≤ limit) × IsSome
 IsVerdictOn job input limit (JobRefused fault) = ⊥
 IsVerdictOn job input limit Limit = limit < meaning_end job input
 
--- how a run with these rows ended
-abbrev pub verdict_by : List Row → ℕ → Verdict
-verdict_by rows limit = if nat_lt limit (root_end rows) then Limit else (if root_is_well rows then Done else Raised)
-
--- the limit, where the job ends later
-abbrev pub until_by : Verdict → ℕ → Tick
-until_by Limit limit = Some limit
-until_by _ limit = None
+-- the verdict on a job that ends so
+abbrev pub verdict_of : Ending → Verdict
+verdict_of ending.Done = Done
+verdict_of ending.Raised = Raised
+verdict_of ending.Late = Limit
 
 -- ---- verdicts
 

@@ -1,11 +1,10 @@
 ghost use Rattle.std.specs.Prelude.{◌≡◌, ◌<◌, ◌≤◌, length, IfOk, IfErr, OnOk};
 ghost use Rattle.job_meaning.specs.declared.limits.TheConstants.{MAX_INPUT};
 ghost use Rattle.nursery_app.specs.Verdict.{CountsFailure};
-ghost use Rattle.chart_app.specs.Charts.{IsJobVerdict, IsVerdict, IsSent, IsChartFault};
+ghost use Rattle.chart_app.specs.Charts.{verdict_of, IsJobVerdict, IsVerdict, IsSent, IsChartFault};
 
-use crate::drawing::drawn_as;
+use crate::drawing::chart_of;
 use crate::form::Form;
-use crate::meaning::meaning_of;
 use job_grammar::{Job, read_job};
 use job_report::{Out, send};
 use job_runner::{Gate, Pick, Settings};
@@ -13,7 +12,7 @@ use job_teller::tell;
 use nursery_app::{ServeFault, Verdict, refusal};
 use std::alloc::{AllocError, Global};
 use std::thread::Threads;
-use story_app::told_until;
+use story_app::{Ending, events_until, meaning_of};
 
 /// Runs a job text over an input, and writes the chart of the job's one-thread meaning: a row for each task, and below it one for
 /// each scope and nursery that it entered, with a column for each tick at which something happens. If the job ends later than the
@@ -91,14 +90,20 @@ fn job_chart<R: Threads + Sync, P: Pick, G: Gate + Sync>(
     ensures { IfOk result (λ r. IsJobVerdict form job.now input.now settings.limit r.0 r.1.items) }
 {
     let meaning = meaning_of(rt, alloc, job, input, settings, picker, gate)?;
+    let last = meaning.ending.until(settings.limit());
     let events = tell(alloc, job, input, &meaning.table)?;
-    let walked = told_until(alloc, events.as_slice(), meaning.until)?;
-    let bytes = drawn_as(
-        alloc,
-        form,
-        walked.as_slice(),
-        &meaning.table,
-        meaning.until,
-    )?;
-    Ok((meaning.verdict, bytes))
+    let walked = events_until(alloc, events.as_slice(), last)?;
+    let bytes = chart_of(alloc, form, walked.as_slice(), &meaning.table, last)?;
+    Ok((verdict_of(meaning.ending), bytes))
+}
+
+// Returns the verdict on a job that ends so.
+fn verdict_of(ending: Ending) -> Verdict
+    ensures { result ≡ verdict_of ending }
+{
+    match ending {
+        Ending::Done => Verdict::Done,
+        Ending::Raised => Verdict::Raised,
+        Ending::Late => Verdict::Limit,
+    }
 }

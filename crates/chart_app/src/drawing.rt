@@ -4,7 +4,7 @@ ghost use Rattle.story_causes.specs.Seen.{seen};
 ghost use Rattle.chart_bars.specs.Held.{bar_of};
 ghost use Rattle.svg_text.specs.Content.{IsDocument};
 ghost use Rattle.chart_svg.specs.Drawing as svg;
-ghost use Rattle.chart_app.specs.Charts.{drawn_as, IsInForm};
+ghost use Rattle.chart_app.specs.Charts.{chart_of, IsInForm};
 
 use crate::form::Form;
 use chart_bars::{Bar, StoryIndex};
@@ -16,14 +16,14 @@ use story_causes::Causes;
 use story_text::in_order;
 
 // Returns the chart of a story with these events in the order of the walk, and this table.
-pub(crate) fn drawn_as(
+pub(crate) fn chart_of(
     alloc: Global,
     form: Form,
     walked: &[&Event],
     froms: &Froms,
     until: Option<u64>,
 ) -> Result<Vec<u8>, AllocError>
-    ensures chart { IfOk result (λ bytes. bytes.items ≡ drawn_as form (table_in froms.now) until (map seen walked.now)) }
+    ensures chart { IfOk result (λ bytes. bytes.items ≡ chart_of form (table_in froms.now) until (map seen walked.now)) }
     ensures well { IfOk result (λ bytes. IsInForm form bytes.items) }
 {
     let index = StoryIndex::of(alloc, walked)?;

@@ -2,8 +2,8 @@
 use Rattle.std.specs.Prelude.{◌≡◌, true, false, Some, None, [], ◌∷◌, codes, refl}
 use Rattle.expect_text.specs.Lines.{lines_of, ended_lines}
 use Rattle.expect_text.specs.Differences.{first_difference}
-use Rattle.expect_text.specs.Patterns.{squeezed, meets, first_match}
-use Rattle.expect_text.specs.Expectations.{said, present, absent, no_races, no_faults, nothing, expects, unknown}
+use Rattle.expect_text.specs.Patterns.{squeezed_text, meets, first_match}
+use Rattle.expect_text.specs.Expectations.{line_meaning, present, absent, no_races, no_faults, nothing, expects, unknown}
 
 -- ---- lines and differences
 
@@ -51,7 +51,7 @@ two_stars = refl
 two_stars_missed : meets (codes "*b*d") (codes "adcb") ≡ false
 two_stars_missed = refl
 
-blanks_around : squeezed (codes "  a \t b\r") ≡ codes "a b"
+blanks_around : squeezed_text (codes "  a \t b\r") ≡ codes "a b"
 blanks_around = refl
 
 runs_of_blanks : meets (codes " tick  4 ") (codes "   tick\t4\r") ≡ true
@@ -68,29 +68,29 @@ no_line_after_the_last = refl
 
 -- ---- expectations
 
-blank_line : said (codes "  \t\r") ≡ nothing
+blank_line : line_meaning (codes "  \t\r") ≡ nothing
 blank_line = refl
 
-comment : said (codes "  # as in the paper") ≡ nothing
+comment : line_meaning (codes "  # as in the paper") ≡ nothing
 comment = refl
 
-wanted : said (codes " a ended*") ≡ expects (present (codes " a ended*"))
+wanted : line_meaning (codes " a ended*") ≡ expects (present (codes " a ended*"))
 wanted = refl
 
-unwanted : said (codes " ! *Cancelled*") ≡ expects (absent (codes "*Cancelled*"))
+unwanted : line_meaning (codes " ! *Cancelled*") ≡ expects (absent (codes "*Cancelled*"))
 unwanted = refl
 
-races_none : said (codes "races: none\r") ≡ expects no_races
+races_none : line_meaning (codes "races: none\r") ≡ expects no_races
 races_none = refl
 
-races_some : said (codes "races: some") ≡ unknown
+races_some : line_meaning (codes "races: some") ≡ unknown
 races_some = refl
 
-two_kinds : said (codes "faults: no cut , no lost") ≡ expects (no_faults (record { stuck = false; cut = true; lost = true }))
+two_kinds : line_meaning (codes "faults: no cut , no lost") ≡ expects (no_faults (record { stuck = false; cut = true; lost = true }))
 two_kinds = refl
 
-no_kinds : said (codes "faults: ") ≡ unknown
+no_kinds : line_meaning (codes "faults: ") ≡ unknown
 no_kinds = refl
 
-a_comma_too_many : said (codes "faults: no stuck,") ≡ unknown
+a_comma_too_many : line_meaning (codes "faults: no stuck,") ≡ unknown
 a_comma_too_many = refl

@@ -30,8 +30,8 @@ from_word [] = []
 from_word (b ∷ bs) = from_word_by (is_blank b) b bs (from_word bs)
 
 -- what follows a word with which a text begins
-abbrev pub after : (word text : List ℕ) → Option (List ℕ)
-after word text = if bytes_eq (take (length word) text) word then Some (drop (length word) text) else None
+abbrev pub rest_after : (word text : List ℕ) → Option (List ℕ)
+rest_after word text = if bytes_eq (take (length word) text) word then Some (drop (length word) text) else None
 
 -- whether nothing but blanks follows
 abbrev pub is_end : Option (List ℕ) → Bool
@@ -40,7 +40,7 @@ is_end (Some rest) = is_empty (from_word rest)
 
 -- whether a text is this word, possibly with blanks before and after it
 abbrev pub is_word : (word text : List ℕ) → Bool
-is_word word text = is_end (after word (from_word text))
+is_word word text = is_end (rest_after word (from_word text))
 
 -- ---- lines
 
@@ -61,16 +61,16 @@ with_kinds (Some kinds) (text ∷ texts) = with_kinds (with_kind kinds text) tex
 abbrev pub no_kind : Deny
 no_kind = record { stuck = false; cut = false; lost = false }
 
-abbrev pub denying : Option Deny → Said
-denying None = unknown
-denying (Some kinds) = expects (no_faults kinds)
+abbrev pub faults_expectation : Option Deny → Said
+faults_expectation None = unknown
+faults_expectation (Some kinds) = expects (no_faults kinds)
 
 -- the meaning of a line in which this follows `races:`, and of one in which it follows `faults:`
 abbrev pub races_line : List ℕ → Said
 races_line rest = if is_word (codes "none") rest then expects no_races else unknown
 
 abbrev pub faults_line : List ℕ → Said
-faults_line rest = denying (with_kinds (Some no_kind) (parts_of 44 rest))
+faults_line rest = faults_expectation (with_kinds (Some no_kind) (parts_of 44 rest))
 
 -- the meaning of a line in which this follows `! `, if it begins with that
 abbrev pub pattern_line : (line : List ℕ) → Option (List ℕ) → Said
@@ -87,8 +87,8 @@ line_by line None None None unwanted = pattern_line line unwanted
 abbrev pub worded_line : (line word : List ℕ) → Said
 worded_line line [] = nothing
 worded_line line (b ∷ bs) =
-    let text = b ∷ bs in line_by line (after (codes "#") text) (after (codes "races:") text) (after (codes "faults:") text) (after (codes "! ") text)
+    let text = b ∷ bs in line_by line (rest_after (codes "#") text) (rest_after (codes "races:") text) (rest_after (codes "faults:") text) (rest_after (codes "! ") text)
 
 -- the meaning of a line, which depends on the text from its first byte on that is not a blank
-abbrev pub said : (line : List ℕ) → Said
-said line = worded_line line (from_word line)
+abbrev pub line_meaning : (line : List ℕ) → Said
+line_meaning line = worded_line line (from_word line)

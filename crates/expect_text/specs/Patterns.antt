@@ -58,12 +58,12 @@ squeezed_in gap [] = []
 squeezed_in gap (b ∷ bs) = squeezed_at (is_blank b) gap b (λ next. squeezed_in next bs)
 
 -- a text without the blanks at its start and its end, and with one space for each other run of blanks
-abbrev pub squeezed : List ℕ → List ℕ
-squeezed = squeezed_in Start
+abbrev pub squeezed_text : List ℕ → List ℕ
+squeezed_text = squeezed_in Start
 
 -- whether a line matches a pattern
 abbrev pub meets : (pattern line : List ℕ) → Bool
-meets pattern line = matches (squeezed pattern) (squeezed line)
+meets pattern line = matches (squeezed_text pattern) (squeezed_text line)
 
 -- ---- the lines of a text
 

@@ -37,10 +37,10 @@ pub fn first_difference<'a>(kept: &'a [u8], written: &'a [u8]) -> Option<Differe
         }
         line += 1;
         let Some(kept_rest) = kept_after else {
-            return only_written(line, written_after);
+            return written_difference(line, written_after);
         };
         let Some(written_rest) = written_after else {
-            return Some(only_kept(line, kept_rest));
+            return Some(kept_difference(line, kept_rest));
         };
         kept_left = kept_rest;
         written_left = written_rest;
@@ -59,7 +59,7 @@ fn first_line(text: &[u8]) -> (&[u8], Option<&[u8]>)
 }
 
 // Returns the difference that only the kept text has a line of this number, which is the first line of `kept`.
-fn only_kept(line: usize, kept: &[u8]) -> Difference<'_>
+fn kept_difference(line: usize, kept: &[u8]) -> Difference<'_>
     ensures { Some (difference_of result) ≡ difference_from line (lines_of kept.now) [] }
 {
     Difference {
@@ -71,7 +71,7 @@ fn only_kept(line: usize, kept: &[u8]) -> Difference<'_>
 
 // Returns the difference that only the text written now has a line of this number, which is the first line of `written`, if there
 // is one.
-fn only_written(line: usize, written: Option<&[u8]>) -> Option<Difference<'_>>
+fn written_difference(line: usize, written: Option<&[u8]>) -> Option<Difference<'_>>
     ensures { option_map difference_of result ≡ difference_from line [] (lines_left (bytes_of written.entry)) }
 {
     let Some(text) = written else {

@@ -1,10 +1,10 @@
 ghost use Rattle.std.specs.Prelude.{◌≡◌, Some};
-ghost use Rattle.expect_text.specs.Expectations.{faults_line, no_kind, races_line, said, with_kind, with_kinds};
+ghost use Rattle.expect_text.specs.Expectations.{faults_line, no_kind, races_line, line_meaning, with_kind, with_kinds};
 ghost use Rattle.expect_text.specs.Lines.{parts_of};
 ghost use Rattle.expect_text.specs.Views.{said_of};
 
 use crate::parts::split_once;
-use crate::words::{after, from_word, is_word};
+use crate::words::{from_word, is_word, rest_after};
 use fault_text::Deny;
 
 /// What a line of a `.expect` file requires of a job.
@@ -39,19 +39,19 @@ pub enum ExpectLine<'a> {
 /// around these do not count. After `! ` comes a pattern that no line may match. Any other line as a whole is a pattern that some
 /// line must match. A pattern that begins like one of the other lines is written with a `*` in front.
 pub fn read_expectation(line: &[u8]) -> ExpectLine<'_>
-    ensures { said_of result ≡ said line.now }
+    ensures { said_of result ≡ line_meaning line.now }
 {
     let text = from_word(line);
-    if text.is_empty() || after(b"#", text).is_some() {
+    if text.is_empty() || rest_after(b"#", text).is_some() {
         return ExpectLine::Nothing;
     }
-    if let Some(rest) = after(b"races:", text) {
+    if let Some(rest) = rest_after(b"races:", text) {
         return races_line(rest);
     }
-    if let Some(rest) = after(b"faults:", text) {
+    if let Some(rest) = rest_after(b"faults:", text) {
         return faults_line(rest);
     }
-    match after(b"! ", text) {
+    match rest_after(b"! ", text) {
         Some(pattern) => ExpectLine::Expects(Expectation::Absent(pattern)),
         None => ExpectLine::Expects(Expectation::Present(line)),
     }

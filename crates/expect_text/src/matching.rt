@@ -1,10 +1,10 @@
 ghost use Rattle.std.specs.Prelude.{◌≡◌, ◌<◌, ◌∷◌, IfOk, length};
 ghost use Rattle.expect_text.specs.Lines.{ended_lines};
-ghost use Rattle.expect_text.specs.Patterns.{first_from, first_match, matches, squeezed};
+ghost use Rattle.expect_text.specs.Patterns.{first_from, first_match, matches, squeezed_text};
 
 use crate::parts::split_once;
 use crate::rows::matches;
-use crate::squeezing::squeezed;
+use crate::squeezing::squeezed_text;
 use std::alloc::{AllocError, Global};
 
 /// Returns the number, from 1, of the first line of a text that matches a pattern, or `None` if no line does. `*` in the pattern
@@ -13,13 +13,13 @@ use std::alloc::{AllocError, Global};
 pub fn first_match(alloc: Global, pattern: &[u8], text: &[u8]) -> Result<Option<usize>, AllocError>
     ensures { IfOk result (λ found. found ≡ first_match pattern.now text.now) }
 {
-    let wanted = squeezed(alloc, pattern)?;
+    let wanted = squeezed_text(alloc, pattern)?;
     first_line_of(alloc, wanted.as_slice(), text)
 }
 
 // Returns the number of the first line that matches a squeezed pattern.
 fn first_line_of(alloc: Global, wanted: &[u8], text: &[u8]) -> Result<Option<usize>, AllocError>
-    ensures { IfOk result (λ found. found ≡ first_from (λ line. matches wanted.now (squeezed line)) 1 (ended_lines text.now)) }
+    ensures { IfOk result (λ found. found ≡ first_from (λ line. matches wanted.now (squeezed_text line)) 1 (ended_lines text.now)) }
 {
     let mut number = 1;
     let mut left = text;
@@ -48,8 +48,8 @@ fn ended_line(text: &[u8]) -> (&[u8], &[u8])
 
 // Returns whether a line matches a squeezed pattern.
 fn matches_line(alloc: Global, wanted: &[u8], line: &[u8]) -> Result<bool, AllocError>
-    ensures { IfOk result (λ met. met ≡ matches wanted.now (squeezed line.now)) }
+    ensures { IfOk result (λ met. met ≡ matches wanted.now (squeezed_text line.now)) }
 {
-    let bytes = squeezed(alloc, line)?;
+    let bytes = squeezed_text(alloc, line)?;
     matches(alloc, wanted, bytes.as_slice())
 }

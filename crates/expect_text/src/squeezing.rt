@@ -1,5 +1,5 @@
 ghost use Rattle.std.specs.Prelude.{◌≡◌, ◌++◌, ℕ, IfOk, List, OnOk};
-ghost use Rattle.expect_text.specs.Patterns.{after_gap, is_blank, squeezed, with_blank};
+ghost use Rattle.expect_text.specs.Patterns.{after_gap, is_blank, squeezed_text, with_blank};
 
 use std::alloc::{AllocError, Global};
 
@@ -15,8 +15,8 @@ pub(crate) enum Gap {
 }
 
 // Returns a text without the blanks at its start and its end, and with one space for each other run of blanks.
-pub(crate) fn squeezed(alloc: Global, text: &[u8]) -> Result<Vec<u8>, AllocError>
-    ensures { IfOk result (λ bytes. bytes.items ≡ squeezed text.now) }
+pub(crate) fn squeezed_text(alloc: Global, text: &[u8]) -> Result<Vec<u8>, AllocError>
+    ensures { IfOk result (λ bytes. bytes.items ≡ squeezed_text text.now) }
 {
     let mut bytes = Vec::new(alloc);
     let mut gap = Gap::Start;

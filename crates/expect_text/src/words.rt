@@ -1,5 +1,5 @@
 ghost use Rattle.std.specs.Prelude.{◌≡◌};
-ghost use Rattle.expect_text.specs.Expectations.{after, from_word, is_word};
+ghost use Rattle.expect_text.specs.Expectations.{rest_after, from_word, is_word};
 ghost use Rattle.expect_text.specs.Patterns.{is_blank};
 ghost use Rattle.expect_text.specs.Views.{bytes_of};
 
@@ -20,8 +20,8 @@ pub(crate) fn from_word(text: &[u8]) -> &[u8]
 }
 
 // Returns what follows a word with which a text begins, or `None` if the text does not begin with it.
-pub(crate) fn after<'a>(word: &[u8], text: &'a [u8]) -> Option<&'a [u8]>
-    ensures { bytes_of result ≡ after word.now text.now }
+pub(crate) fn rest_after<'a>(word: &[u8], text: &'a [u8]) -> Option<&'a [u8]>
+    ensures { bytes_of result ≡ rest_after word.now text.now }
 {
     text.strip_prefix(word)
 }
@@ -30,7 +30,7 @@ pub(crate) fn after<'a>(word: &[u8], text: &'a [u8]) -> Option<&'a [u8]>
 pub(crate) fn is_word(word: &[u8], text: &[u8]) -> bool
     ensures { result ≡ is_word word.now text.now }
 {
-    match after(word, from_word(text)) {
+    match rest_after(word, from_word(text)) {
         Some(rest) => from_word(rest).is_empty(),
         None => false,
     }

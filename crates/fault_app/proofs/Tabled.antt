@@ -15,16 +15,16 @@ use Rattle.fault_text.specs.declared.line.Line.{Line}
 use Rattle.slot_work.specs.Answers.{AreAnswers}
 use Rattle.slot_work.proofs.Answered.{seen_as}
 use Rattle.fault_app.specs.JobOutcomes.{IsLine}
-use Rattle.fault_app.specs.Verdicts.{AreFaultLines, IsTable}
+use Rattle.fault_app.specs.Verdicts.{AreFaultLines, IsTableOf, IsTable}
 
 -- given the limit of the settings, the tokens of the text, and the variants, as they were passed on
 pub are_lines : (text input : List ℕ) (limit l : ℕ) (name : List ℕ) (job : Tree) (tokens ts us : List Token) (variants vs : List Variant)
     (plan : Plan) (first : told.JobOutcome) (lines : List Line) →
-    HasTokens text tokens None → l ≡ limit → ts ≡ tokens → variants ≡ variants_in ts → us ≡ tokens → plan ≡ plan_of name us →
+    Spells text job → HasTokens text tokens None → l ≡ limit → ts ≡ tokens → variants ≡ variants_in ts → us ≡ tokens → plan ≡ plan_of name us →
     first ≡ told.job_outcome_of l None job input → vs ≡ variants →
     AreAnswers (λ (v : Variant) (k : Line). IsLine text input l plan v (line_held k)) vs lines →
-    AreFaultLines text input limit name job first (map line_held lines)
-are_lines text input limit l name job tokens ts us variants vs plan first lines has at t v u p f w are =
+    AreFaultLines text input limit name first (map line_held lines)
+are_lines text input limit l name job tokens ts us variants vs plan first lines spells has at t v u p f w are =
     let held : List told_lines.Line = map line_held lines in
     let seen : AreAnswers (IsLine text input l plan) vs held = seen_as (IsLine text input l plan) line_held vs lines are in
     let planned : AreAnswers (IsLine text input l (plan_of name tokens)) vs held =
@@ -32,6 +32,8 @@ are_lines text input limit l name job tokens ts us variants vs plan first lines 
     let limited : AreAnswers (IsLine text input limit (plan_of name tokens)) vs held =
     subst (λ (n : ℕ). AreAnswers (IsLine text input n (plan_of name tokens)) vs held) at planned in
     record {
+      job = job;
+      spells = spells;
       tokens = tokens;
       tokens_are = has;
       lines_are =
@@ -40,23 +42,25 @@ are_lines text input limit l name job tokens ts us variants vs plan first lines 
       first_is = f ∙ ap (λ (n : ℕ). told.job_outcome_of n None job input) at;
     }
 
--- given the limit of the settings and the lines, as they were passed on
-pub is_table : (text input : List ℕ) (limit l : ℕ) (name : List ℕ) (deny : Deny) (bytes denied : List ℕ) (job : Tree) (first : told.JobOutcome)
-    (lines ks ms : List Line) →
-    Spells text job → AreFaultLines text input limit name job first (map line_held lines) → l ≡ limit → ks ≡ lines →
-    bytes ≡ table_text l first (map line_held ks) → ms ≡ lines → denied ≡ denied_text l deny first (map line_held ms) →
-    IsTable text input limit name deny bytes denied
-is_table text input limit l name deny bytes denied job first lines ks ms spells are at k b m d =
+-- given the lines, as they were passed on
+pub is_table_of : (limit : ℕ) (deny : Deny) (bytes denied : List ℕ) (first : told.JobOutcome) (lines ks ms : List Line) →
+    ks ≡ lines → bytes ≡ table_text limit first (map line_held ks) → ms ≡ lines →
+    denied ≡ denied_text limit deny first (map line_held ms) → IsTableOf limit deny first (map line_held lines) bytes denied
+is_table_of limit deny bytes denied first lines ks ms k b m d =
     record {
-      job = job;
-      spells = spells;
+      table = b ∙ ap (λ (xs : List Line). table_text limit first (map line_held xs)) k;
+      denied_are = d ∙ ap (λ (xs : List Line). denied_text limit deny first (map line_held xs)) m;
+    }
+
+-- given the limit of the settings, as it was passed on
+pub is_table : (text input : List ℕ) (limit l : ℕ) (name : List ℕ) (deny : Deny) (bytes denied : List ℕ) (first : told.JobOutcome)
+    (lines : List told_lines.Line) →
+    AreFaultLines text input limit name first lines → l ≡ limit → IsTableOf l deny first lines bytes denied →
+    IsTable text input limit name deny bytes denied
+is_table text input limit l name deny bytes denied first lines are at table =
+    record {
       first = first;
-      lines = map line_held lines;
+      lines = lines;
       lines_are = are;
-      table =
-          b ∙ ap (λ (xs : List Line). table_text l first (map line_held xs)) k
-          ∙ ap (λ (n : ℕ). table_text n first (map line_held lines)) at;
-      denied_are =
-          d ∙ ap (λ (xs : List Line). denied_text l deny first (map line_held xs)) m
-          ∙ ap (λ (n : ℕ). denied_text n deny first (map line_held lines)) at;
+      table_is = subst (λ (n : ℕ). IsTableOf n deny first lines bytes denied) at table;
     }

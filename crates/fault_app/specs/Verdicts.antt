@@ -16,24 +16,28 @@ use Rattle.fault_app.specs.JobOutcomes.{IsLine}
 use Rattle.fault_app.specs.declared.verdict.FaultsVerdict.{FaultsVerdict}
 use Rattle.fault_app.specs.declared.verdict.FaultsVerdict.TheVariants.{Told, JobRefused}
 
--- The outcome of a job without a fault, and, in the order of places, with each fault of each waiting step of its text, each
--- kind once.
-pub record AreFaultLines (text input : List ℕ) (limit : ℕ) (name : List ℕ) (job : Tree) (first : JobOutcome) (lines : List Line) : Type 0 where
+-- The outcome of the job that the text spells without a fault, and, in the order of places, with each fault of each waiting step
+-- of the text, each kind once.
+pub record AreFaultLines (text input : List ℕ) (limit : ℕ) (name : List ℕ) (first : JobOutcome) (lines : List Line) : Type 0 where
+  pub job : Tree
+  pub spells : Spells text job
   pub tokens : List Token
   pub tokens_are : HasTokens text tokens None
   pub lines_are : AreAnswers (IsLine text input limit (plan_of name tokens)) (variants_in tokens) lines
   pub first_is : first ≡ job_outcome_of limit None job input
 
+-- these bytes are the table of these outcomes; and these lines of it are denied
+pub record IsTableOf (limit : ℕ) (deny : Deny) (first : JobOutcome) (lines : List Line) (bytes denied : List ℕ) : Type 0 where
+  pub table : bytes ≡ table_text limit first lines
+  pub denied_are : denied ≡ denied_text limit deny first lines
+
 -- These bytes are the table of the job that the text spells, without a fault and with each fault in one line; and these lines
 -- of it are denied.
 pub record IsTable (text input : List ℕ) (limit : ℕ) (name : List ℕ) (deny : Deny) (bytes denied : List ℕ) : Type 0 where
-  pub job : Tree
-  pub spells : Spells text job
   pub first : JobOutcome
   pub lines : List Line
-  pub lines_are : AreFaultLines text input limit name job first lines
-  pub table : bytes ≡ table_text limit first lines
-  pub denied_are : denied ≡ denied_text limit deny first lines
+  pub lines_are : AreFaultLines text input limit name first lines
+  pub table_is : IsTableOf limit deny first lines bytes denied
 
 -- a verdict and its bytes
 abbrev pub IsVerdict : List ℕ → List ℕ → ℕ → List ℕ → Deny → FaultsVerdict → List ℕ → Type 0

@@ -1,13 +1,14 @@
-ghost use Rattle.std.specs.Prelude.{◌≡◌, ◌<◌, ◌≤◌, drop, length, IfOk, IfErr, OnOk, None};
+ghost use Rattle.std.specs.Prelude.{◌≡◌, ◌<◌, ◌≤◌, drop, length, map, IfOk, IfErr, OnOk, None};
 ghost use Rattle.job_meaning.specs.declared.limits.TheConstants.{MAX_INPUT};
 ghost use Rattle.job_grammar.specs.Refusals.{Spells, HasTokens};
 ghost use Rattle.nursery_app.specs.Verdict.{CountsFailure};
-ghost use Rattle.fault_app.specs.Verdicts.{IsVerdict, IsTable, IsSent, IsFaultsFault};
+ghost use Rattle.fault_text.specs.Views.{job_outcome_held, line_held};
+ghost use Rattle.fault_app.specs.Verdicts.{IsVerdict, IsTableOf, IsSent, IsFaultsFault};
 
-use crate::told::fault_lines;
+use crate::told::{FaultLines, fault_lines};
 use crate::verdict::FaultsVerdict;
 use fault_text::{Deny, denied, table};
-use job_grammar::{FIRST_LINE_LENGTH, Job, Name, read_job};
+use job_grammar::{FIRST_LINE_LENGTH, Job, Name};
 use job_report::{Out, send};
 use job_runner::Settings;
 use job_tokens::{Lexed, Token, lex};
@@ -52,6 +53,7 @@ pub fn faults<R: Threads + Sync, G: Gate + Sync, W: Out>(
 }
 
 // Returns the verdict and all its bytes.
+#[tactic(auto, using(crate::proofs::Tabled::is_table))]
 fn answer<R: Threads + Sync, G: Gate + Sync>(
     rt: &R,
     alloc: Global,
@@ -65,11 +67,9 @@ fn answer<R: Threads + Sync, G: Gate + Sync>(
     requires { length input.now ≤ MAX_INPUT }
     ensures { IfOk result (λ r. IsVerdict job_text.now input.now settings.limit name deny r.0 r.1.items) }
 {
-    match read_job(alloc, job_text) {
-        Ok(job) => {
-            let (denied, bytes) = table_and_denied(
-                rt, alloc, job_text, &job, input, settings, name, deny, gate,
-            )?;
+    match fault_lines(rt, alloc, job_text, input, settings, name, gate) {
+        Ok(told) => {
+            let (denied, bytes) = table_and_denied(alloc, settings.limit(), deny, &told)?;
             Ok((FaultsVerdict::Told { denied }, bytes))
         }
         Err(fault) => Ok((FaultsVerdict::JobRefused(fault), refusal(alloc, fault)?)),
@@ -77,23 +77,15 @@ fn answer<R: Threads + Sync, G: Gate + Sync>(
 }
 
 // Returns the lines that are denied, and the bytes of the table.
-fn table_and_denied<R: Threads + Sync, G: Gate + Sync>(
-    rt: &R,
+fn table_and_denied(
     alloc: Global,
-    job_text: &[u8],
-    job: &Job,
-    input: &[u8],
-    settings: Settings,
-    name: Name,
+    limit: u64,
     deny: Deny,
-    gate: &G,
+    told: &FaultLines,
 ) -> Result<(Vec<u8>, Vec<u8>), AllocError>
-    requires input { length input.now ≤ MAX_INPUT }
-    requires spells { Spells job_text.now job.now }
-    ensures { IfOk result (λ r. IsTable job_text.now input.now settings.limit name deny r.1.items r.0.items) }
+    ensures { IfOk result (λ r. IsTableOf limit deny (job_outcome_held told.now.first) (map line_held told.now.lines.items)
+        r.1.items r.0.items) }
 {
-    let told = fault_lines(rt, alloc, job_text, job, input, settings, name, gate)?;
-    let limit = settings.limit();
     let bytes = table(alloc, limit, &told.first, told.lines.as_slice())?;
     let denied = denied(alloc, limit, &told.first, told.lines.as_slice(), deny)?;
     Ok((denied, bytes))

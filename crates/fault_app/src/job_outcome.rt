@@ -20,7 +20,7 @@ use job_grammar::{Job, JobKind, Name, read_job};
 use job_story::Event;
 use std::alloc::{AllocError, Global};
 use std::thread::Threads;
-use story_app::told_until;
+use story_app::events_until;
 use story_text::in_order;
 
 /// Returns the outcome of the job that a text spells, over an input and up to a limit in ticks. `name` is the exception that
@@ -93,7 +93,7 @@ pub fn outcome_of_job<R: Threads + Sync>(
         let sleeping = sleeping_tasks(alloc, summary.events.as_slice(), limit)?;
         return Ok(JobOutcome::Stuck { sleeping });
     }
-    ended(alloc, summary, name)
+    ended_outcome(alloc, summary, name)
 }
 
 // Returns whether a job raises an exception with this name by the limit.
@@ -110,12 +110,16 @@ fn reaches_in_job<R: Threads + Sync>(
     ensures { IfOk result (λ reached. reached ≡ reaches limit name job.now input.now) }
 {
     let summary = summary_of(rt, alloc, job, input)?;
-    let walked = told_until(alloc, summary.events.as_slice(), Some(limit))?;
+    let walked = events_until(alloc, summary.events.as_slice(), Some(limit))?;
     Ok(is_raised(walked.as_slice(), name))
 }
 
 // Returns the outcome of a job that ends by the limit.
-fn ended(alloc: Global, summary: Summary, name: Option<Name>) -> Result<JobOutcome, AllocError>
+fn ended_outcome(
+    alloc: Global,
+    summary: Summary,
+    name: Option<Name>,
+) -> Result<JobOutcome, AllocError>
     ensures { IfOk result (λ job_outcome. job_outcome_held job_outcome ≡ job_outcomes.ended summary.end (option_map exc_of summary.exc) summary.cancelled.items
         (cut_in (in_order (map event_of summary.events.items))) (loses name (map event_of summary.events.items))) }
 {
@@ -140,7 +144,7 @@ fn ended(alloc: Global, summary: Summary, name: Option<Name>) -> Result<JobOutco
 fn sleeping_tasks(alloc: Global, events: &[Event], limit: u64) -> Result<Vec<Label>, AllocError>
     ensures { IfOk result (λ tasks. tasks.items ≡ sleeping_in (by_limit limit (map event_of events.now))) }
 {
-    let walked = told_until(alloc, events, Some(limit))?;
+    let walked = events_until(alloc, events, Some(limit))?;
     let tasks = sleeping_forever(alloc, walked.as_slice())?;
     copies(alloc, tasks.as_slice())
 }
@@ -149,7 +153,7 @@ fn sleeping_tasks(alloc: Global, events: &[Event], limit: u64) -> Result<Vec<Lab
 fn cut_tasks(alloc: Global, events: &[Event]) -> Result<Vec<Label>, AllocError>
     ensures { IfOk result (λ tasks. tasks.items ≡ cut_in (in_order (map event_of events.now))) }
 {
-    let walked = told_until(alloc, events, None)?;
+    let walked = events_until(alloc, events, None)?;
     let sorted = in_order(alloc, walked.as_slice())?;
     let tasks = cut_in_cleanup(alloc, sorted.as_slice())?;
     copies(alloc, tasks.as_slice())
@@ -162,7 +166,7 @@ fn loses(alloc: Global, events: &[Event], name: Option<Name>) -> Result<bool, Al
     let Some(name) = name else {
         return Ok(false);
     };
-    let walked = told_until(alloc, events, None)?;
+    let walked = events_until(alloc, events, None)?;
     Ok(is_lost(walked.as_slice(), name))
 }
 

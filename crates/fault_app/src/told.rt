@@ -1,6 +1,6 @@
-ghost use Rattle.std.specs.Prelude.{◌≤◌, length, IfOk, map};
+ghost use Rattle.std.specs.Prelude.{◌≤◌, length, IfOk, IfErr, map};
 ghost use Rattle.job_meaning.specs.declared.limits.TheConstants.{MAX_INPUT};
-ghost use Rattle.job_grammar.specs.Refusals.{Spells};
+ghost use Rattle.job_grammar.specs.Refusals.{Spells, IsFair};
 ghost use Rattle.fault_text.specs.Views.{job_outcome_held, line_held};
 ghost use Rattle.fault_app.specs.Verdicts.{AreFaultLines};
 
@@ -9,7 +9,7 @@ use crate::job_outcome::outcome_of_job;
 use crate::lines::Author;
 use fault_text::{JobOutcome, Line};
 use job_edits::{Plan, variants};
-use job_grammar::{Job, Name};
+use job_grammar::{Job, JobFault, Name, read_job};
 use job_runner::Settings;
 use nursery_app::Gate;
 use slot_work::answers_for;
@@ -25,14 +25,34 @@ pub struct FaultLines {
     pub lines: Vec<Line>,
 }
 
-/// Returns the outcome of a job over an input: without a fault, and with each fault of each of its waiting steps, each kind
-/// once. A step that fails raises an exception with the given name. The caller must ensure that the text spells the job, and
-/// that the input has at most 16,777,216 bytes.
+/// Returns the outcome of the job that a text spells over an input: without a fault, and with each fault of each of its waiting
+/// steps, each kind once. A step that fails raises an exception with the given name. If the text is refused, the error is the
+/// refusal, as `read_job` returns it. If memory was refused, the error has the kind `NoMemory`. The caller must ensure that the
+/// input has at most 16,777,216 bytes.
 ///
 /// The number of workers in `settings` is the number of threads that run the faults. The gate is called before and after each
-/// fault, with the place of the fault among the lines, by the thread that runs it. Neither changes a line. The only error is
-/// that memory was refused.
+/// fault, with the place of the fault among the lines, by the thread that runs it. Neither changes a line.
 pub fn fault_lines<R: Threads + Sync, G: Gate + Sync>(
+    rt: &R,
+    alloc: Global,
+    job_text: &[u8],
+    input: &[u8],
+    settings: Settings,
+    name: Name,
+    gate: &G,
+) -> Result<FaultLines, JobFault>
+    requires { length input.now ≤ MAX_INPUT }
+    ensures lines { IfOk result (λ told. AreFaultLines job_text.now input.now settings.limit name (job_outcome_held told.first)
+        (map line_held told.lines.items)) }
+    ensures refused { IfErr result (IsFair job_text.now) }
+{
+    let job = read_job(alloc, job_text)?;
+    let told = lines_of_job(rt, alloc, job_text, &job, input, settings, name, gate)?;
+    Ok(told)
+}
+
+// Returns the same for a text that spells a job.
+fn lines_of_job<R: Threads + Sync, G: Gate + Sync>(
     rt: &R,
     alloc: Global,
     job_text: &[u8],
@@ -44,7 +64,7 @@ pub fn fault_lines<R: Threads + Sync, G: Gate + Sync>(
 ) -> Result<FaultLines, AllocError>
     requires input { length input.now ≤ MAX_INPUT }
     requires spells { Spells job_text.now job.now }
-    ensures { IfOk result (λ told. AreFaultLines job_text.now input.now settings.limit name job.now (job_outcome_held told.first)
+    ensures { IfOk result (λ told. AreFaultLines job_text.now input.now settings.limit name (job_outcome_held told.first)
         (map line_held told.lines.items)) }
 {
     let tokens = tokens_of(alloc, job_text, job)?;

@@ -11,7 +11,7 @@ use std::rt::Files;
 use std::thread::Threads;
 use test_app::{Met, Output, meets, output_of};
 
-/// Tests a feed by the expectations that are kept beside it, and returns whether there are any.
+// Tests a feed by the expectations that are kept beside it, and returns whether there are any.
 pub(crate) fn test_expectations<R: Files + Print + Eprint + Threads + Sync + AllocGlobal>(
     rt: &R,
     feed: &Feed<'_>,
@@ -29,29 +29,11 @@ pub(crate) fn test_expectations<R: Files + Print + Eprint + Threads + Sync + All
             return Ok(true);
         }
     };
-    let alloc = rt.alloc();
-    let told = Told {
-        report: output_of(
-            rt,
-            alloc,
-            feed.text,
-            feed.input,
-            feed.settings,
-            Output::Report,
-        )?,
-        story: output_of(
-            rt,
-            alloc,
-            feed.text,
-            feed.input,
-            feed.settings,
-            Output::Story,
-        )?,
-    };
+    let told = report_and_story(rt, feed)?;
     let lines = unmet_lines(rt, feed, name.as_str(), &told, bytes.as_slice())?;
     if lines.is_empty() {
         tally.count_passed();
-        let line = format!(in alloc; "{name}: passed\n")?;
+        let line = format!(in rt.alloc(); "{name}: passed\n")?;
         show_lines(rt, line.as_str())?;
     } else {
         tally.count_failed();
@@ -67,7 +49,21 @@ struct Told {
     story: Vec<u8>,
 }
 
-// The lines about what is not as expected; none if all is.
+// Returns the report and the story of a feed.
+fn report_and_story<R: Threads + Sync + AllocGlobal>(
+    rt: &R,
+    feed: &Feed<'_>,
+) -> Result<Told, AllocError>
+    requires { length feed.now.input.now ≤ MAX_INPUT }
+{
+    let (alloc, text, input, settings) = (rt.alloc(), feed.text, feed.input, feed.settings);
+    Ok(Told {
+        report: output_of(rt, alloc, text, input, settings, Output::Report)?,
+        story: output_of(rt, alloc, text, input, settings, Output::Story)?,
+    })
+}
+
+// Returns the lines about what is not as expected; none if all is.
 fn unmet_lines<R: Threads + Sync + AllocGlobal>(
     rt: &R,
     feed: &Feed<'_>,
@@ -125,7 +121,7 @@ fn push_unmet<R: Threads + Sync + AllocGlobal>(
     }
 }
 
-// What is printed about an expectation; nothing if it is met.
+// Returns what is printed about an expectation; nothing if it is met.
 fn met_text(
     alloc: Global,
     name: &str,
@@ -174,7 +170,7 @@ fn push_indented(alloc: Global, text: &mut String, line: &[u8]) -> Result<(), Al
     Ok(())
 }
 
-// The line with a number, counted from 1, or no bytes if there is none.
+// Returns the line with a number, counted from 1, or no bytes if there is none.
 fn nth_line(text: &[u8], number: usize) -> &[u8] {
     match text.split(|b| *b == b'\n').nth(number.saturating_sub(1)) {
         Some(line) => line,

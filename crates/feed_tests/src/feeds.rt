@@ -15,8 +15,8 @@ pub(crate) struct Found {
     pub faults: Vec<String>,
 }
 
-/// Returns the feeds of a path: a feed itself, or those of a folder and its folders. In a folder, names that begin with a `.` are
-/// skipped.
+// Returns the feeds of a path: a feed itself, or those of a folder and its folders. In a folder, names that begin with a `.` are
+// skipped.
 pub(crate) fn find_feeds<R: Files + AllocGlobal + Clone + Drop>(
     rt: &R,
     path: &str,
@@ -29,14 +29,14 @@ pub(crate) fn find_feeds<R: Files + AllocGlobal + Clone + Drop>(
     match fs::metadata(rt, path) {
         Ok(data) if data.is_dir() => search_folder(rt, &mut found, path)?,
         Ok(_) if path.ends_with(".feed") => push(&mut found.feeds, String::from_str(alloc, path)?)?,
-        Ok(_) => push(&mut found.faults, not_a_feed(alloc, path)?)?,
+        Ok(_) => push(&mut found.faults, not_a_feed_line(alloc, path)?)?,
         Err(error) => push(&mut found.faults, reason_line(alloc, path, error.kind()))?,
     }
     Ok(found)
 }
 
-// The line for a file that is no feed.
-fn not_a_feed(alloc: Global, path: &str) -> Result<String, AllocError> {
+// Returns the line for a file that is no feed.
+fn not_a_feed_line(alloc: Global, path: &str) -> Result<String, AllocError> {
     format!(in alloc; "{path}: not a feed: its name does not end with `.feed`\n")
 }
 

@@ -25,7 +25,7 @@ impl From<AllocError> for Unread {
     }
 }
 
-/// Returns the bytes of a file.
+// Returns the bytes of a file.
 pub(crate) fn read_kept<R: Files + AllocGlobal>(rt: &R, name: &str) -> Result<Vec<u8>, Unread> {
     let alloc = rt.alloc();
     let mut file = match fs::open(rt, name) {
@@ -36,18 +36,18 @@ pub(crate) fn read_kept<R: Files + AllocGlobal>(rt: &R, name: &str) -> Result<Ve
     match read_whole(alloc, &mut file, MAX_KEPT) {
         Ok(bytes) => Ok(bytes),
         Err(ReadFault::Device) => Err(Unread::Fault(read_reason(rt, name))),
-        Err(ReadFault::TooLong) => Err(Unread::Fault(too_long(alloc, name)?)),
+        Err(ReadFault::TooLong) => Err(Unread::Fault(too_long_line(alloc, name)?)),
         Err(ReadFault::NoMemory) => Err(Unread::NoMemory),
     }
 }
 
-// The line for a file with too many bytes.
-fn too_long(alloc: Global, name: &str) -> Result<String, AllocError> {
+// Returns the line for a file with too many bytes.
+fn too_long_line(alloc: Global, name: &str) -> Result<String, AllocError> {
     format!(in alloc; "{name}: more than {MAX_KEPT} bytes\n")
 }
 
-/// Returns the name of the file with this extension beside a feed, given the feed's name without its own
-/// extension.
+// Returns the name of the file with this extension beside a feed, given the feed's name without its own
+// extension.
 pub(crate) fn name_beside(
     alloc: Global,
     stem: &str,
@@ -56,8 +56,8 @@ pub(crate) fn name_beside(
     format!(in alloc; "{stem}.{extension}")
 }
 
-/// Returns a line of a file as it is shown: at most 200 bytes of it, and `?` for each byte that is no
-/// printable ASCII.
+// Returns a line of a file as it is shown: at most 200 bytes of it, and `?` for each byte that is no
+// printable ASCII.
 pub(crate) fn shown_line(alloc: Global, line: &[u8]) -> Result<String, AllocError> {
     let mut shown = String::new(alloc);
     let (front, rest) = line.split_at(line.len().min(MAX_SHOWN));
@@ -73,6 +73,7 @@ pub(crate) fn shown_line(alloc: Global, line: &[u8]) -> Result<String, AllocErro
 /// The maximum number of bytes of a line that are shown.
 const MAX_SHOWN: usize = 200;
 
+// Returns the character that is shown for a byte.
 fn shown_byte(byte: u8) -> char {
     match byte {
         b' '..=b'~' => byte as char,

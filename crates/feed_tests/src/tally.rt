@@ -10,7 +10,7 @@ pub(crate) struct Tally {
 }
 
 impl Tally {
-    /// Returns a tally with no tests.
+    // Returns a tally with no tests.
     pub(crate) fn new() -> Tally {
         Tally {
             passed: 0,
@@ -20,27 +20,27 @@ impl Tally {
         }
     }
 
-    /// Counts a file that is as it was kept, or as expected.
+    // Counts a file that is as it was kept, or as expected.
     pub(crate) fn count_passed(&mut self) {
         self.passed = self.passed.saturating_add(1);
     }
 
-    /// Counts an output that was kept instead of another, or as the first.
+    // Counts an output that was kept instead of another, or as the first.
     pub(crate) fn count_accepted(&mut self) {
         self.accepted = self.accepted.saturating_add(1);
     }
 
-    /// Counts a file from which a run differs.
+    // Counts a file from which a run differs.
     pub(crate) fn count_failed(&mut self) {
         self.failed = self.failed.saturating_add(1);
     }
 
-    /// Counts what could not be tested.
+    // Counts what could not be tested.
     pub(crate) fn count_fault(&mut self) {
         self.faults = self.faults.saturating_add(1);
     }
 
-    /// Returns the line with the counts: those that passed and failed, and the others if there are any.
+    // Returns the line with the counts: those that passed and failed, and the others if there are any.
     pub(crate) fn line(&self, alloc: Global) -> Result<String, AllocError> {
         let mut line = format!(in alloc; "{} passed", self.passed)?;
         if self.accepted > 0 {
@@ -54,8 +54,8 @@ impl Tally {
         Ok(line)
     }
 
-    /// Returns the exit status: 1 if something failed, 4 if something could not be tested, and otherwise
-    /// 0.
+    // Returns the exit status: 1 if something failed, 4 if something could not be tested, and otherwise
+    // 0.
     pub(crate) fn status(&self) -> u8 {
         if self.failed > 0 {
             1

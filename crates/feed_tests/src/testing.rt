@@ -66,7 +66,7 @@ fn complain_of<R: Eprint>(rt: &R, tally: &mut Tally, lines: &[String]) {
     }
 }
 
-/// Prints to standard error why something is not tested.
+// Prints to standard error why something is not tested.
 pub(crate) fn complain<R: Eprint>(rt: &R, tally: &mut Tally, line: &str) {
     tally.count_fault();
     let _ = rt.eprint(line);
@@ -229,7 +229,7 @@ fn compare<R: Files + Print + Eprint + AllocGlobal>(
     }
 }
 
-// The lines that show where an output differs from the one that was kept.
+// Returns the lines that show where an output differs from the one that was kept.
 fn difference_lines(
     alloc: Global,
     name: &str,
@@ -241,7 +241,7 @@ fn difference_lines(
     format!(in alloc; "{name}: failed: line {line} differs\n  kept: {kept}\n  now:  {now}\n")
 }
 
-// A line as it is shown, or that there is none.
+// Returns a line as it is shown, or that there is none.
 fn side(alloc: Global, line: Option<&[u8]>) -> Result<String, AllocError> {
     match line {
         Some(line) => shown_line(alloc, line),
@@ -271,7 +271,7 @@ fn keep<R: Files + Print + Eprint + AllocGlobal>(
     }
 }
 
-/// Writes the lines about a file of expectations.
+// Writes the lines about a file of expectations.
 pub(crate) fn show_lines<R: Print>(rt: &R, lines: &str) -> Result<(), TestStop> {
     show(rt, lines.as_bytes())
 }

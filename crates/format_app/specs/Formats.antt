@@ -45,16 +45,16 @@ difference_from place (a ∷ one) (b ∷ other) = if a == b then difference_from
 abbrev pub difference : List ℕ → List ℕ → Option ℕ
 difference one other = difference_from 0 one other
 
-abbrev pub by_place : Option ℕ → FormatCheck
-by_place None = checks.Same
-by_place (Some place) = checks.Differs place
+abbrev pub check_by_place : Option ℕ → FormatCheck
+check_by_place None = checks.Same
+check_by_place (Some place) = checks.Differs place
 
-abbrev pub compared : List ℕ → List ℕ → FormatCheck
-compared text bytes = by_place (difference text bytes)
+abbrev pub comparison : List ℕ → List ℕ → FormatCheck
+comparison text bytes = check_by_place (difference text bytes)
 
 -- for a text that spells a job: the comparison with the formatted text of the job
 abbrev pub IsComparison : List ℕ → FormatCheck → Type 0
-IsComparison text check = (job : Tree) × Spells text job × (check ≡ compared text (formatted_text job))
+IsComparison text check = (job : Tree) × Spells text job × (check ≡ comparison text (formatted_text job))
 
 -- the result of the check of a text
 abbrev pub IsCheck : List ℕ → FormatCheck → Type 0

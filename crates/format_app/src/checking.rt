@@ -1,5 +1,5 @@
 ghost use Rattle.std.specs.Prelude.{◌≡◌, IfOk};
-ghost use Rattle.format_app.specs.Formats.{IsCheck, compared};
+ghost use Rattle.format_app.specs.Formats.{IsCheck, comparison};
 
 use crate::difference::difference;
 use crate::verdict::FormatCheck;
@@ -12,7 +12,7 @@ pub fn check_format(alloc: Global, job_text: &[u8]) -> Result<FormatCheck, Alloc
     ensures { IfOk result (IsCheck job_text.now) }
 {
     match format_text(alloc, job_text) {
-        Ok(bytes) => Ok(compared(job_text, bytes.as_slice())),
+        Ok(bytes) => Ok(comparison(job_text, bytes.as_slice())),
         Err(FormatFault::Refused(fault)) => Ok(FormatCheck::JobRefused(fault)),
         Err(FormatFault::TooLong(bytes)) => Ok(FormatCheck::TooLong(bytes)),
         Err(FormatFault::NoMemory) => Err(AllocError),
@@ -20,8 +20,8 @@ pub fn check_format(alloc: Global, job_text: &[u8]) -> Result<FormatCheck, Alloc
 }
 
 // Returns the result for a text, given its formatted text.
-fn compared(text: &[u8], formatted: &[u8]) -> FormatCheck
-    ensures { result ≡ compared text.now formatted.now }
+fn comparison(text: &[u8], formatted: &[u8]) -> FormatCheck
+    ensures { result ≡ comparison text.now formatted.now }
 {
     match difference(text, formatted) {
         None => FormatCheck::Same,

@@ -6,7 +6,7 @@ use std::rt::Files;
 
 /// Returns a line that names a file and says what was wrong with it, for standard error. It is empty if memory is refused.
 pub fn reason_line(alloc: Global, name: &str, kind: ErrorKind) -> String {
-    match named(alloc, name, kind) {
+    match reason_text(alloc, name, kind) {
         Ok(line) => line,
         Err(_) => String::new(alloc),
     }
@@ -17,7 +17,7 @@ pub fn read_reason<R: Files + AllocGlobal>(rt: &R, name: &str) -> String {
     reason_line(rt.alloc(), name, read_kind(rt, name))
 }
 
-// Why a file could be opened and not read.
+// Returns why a file could be opened and not read.
 fn read_kind<R: Files>(rt: &R, name: &str) -> ErrorKind {
     if name == "-" {
         return ErrorKind::Other;
@@ -28,8 +28,8 @@ fn read_kind<R: Files>(rt: &R, name: &str) -> ErrorKind {
     }
 }
 
-// The line.
-fn named(alloc: Global, name: &str, kind: ErrorKind) -> Result<String, AllocError> {
+// Returns the line.
+fn reason_text(alloc: Global, name: &str, kind: ErrorKind) -> Result<String, AllocError> {
     let shown = if name == "-" {
         String::from_str(alloc, "standard input")?
     } else {

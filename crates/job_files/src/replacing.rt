@@ -40,7 +40,7 @@ pub fn replace<R: Files + AllocGlobal>(
     }
 }
 
-// Why a call about a file was refused.
+// Returns why a call about a file was refused.
 fn fault_of(alloc: Global, name: &str, kind: ErrorKind) -> ReplaceFault {
     if kind == ErrorKind::OutOfMemory {
         return ReplaceFault::NoMemory;
@@ -50,7 +50,7 @@ fn fault_of(alloc: Global, name: &str, kind: ErrorKind) -> ReplaceFault {
     }
 }
 
-// The same for a name that is no link.
+// Does the same for a name that is no link.
 fn replace_at<R: Files + AllocGlobal>(
     rt: &R,
     target: &str,
@@ -70,7 +70,7 @@ fn replace_at<R: Files + AllocGlobal>(
     Ok(())
 }
 
-// The name of the new file.
+// Returns the name of the new file.
 fn name_beside(alloc: Global, target: &str) -> Result<String, AllocError> {
     let mut beside = String::from_str(alloc, target)?;
     beside.push_str(BESIDE)?;

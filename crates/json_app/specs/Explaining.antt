@@ -1,5 +1,5 @@
 -- What `explain_json` writes: the story of a job's meaning over an input as JSON, or the refusal that the meaning names.
-use Rattle.std.specs.Prelude.{◌≡◌, ◌⊎◌, ℕ, ◌≤◌, ◌<◌, Bool, true, false, nat_le, nat_lt, if◌then◌else◌, Option, Some, None, List, [], length, take, IsSome, IsNone}
+use Rattle.std.specs.Prelude.{◌≡◌, ◌⊎◌, ℕ, ◌≤◌, ◌<◌, nat_le, Option, List, [], length, take, IsSome, IsNone}
 use Rattle.std.specs.Global.{Vec}
 use Rattle.std.specs.Io.KnownBytes.{Appends}
 use Rattle.job_tree.specs.Tree.{Tree}
@@ -8,56 +8,31 @@ use Rattle.cancel_scopes.specs.Sight.{Tick}
 use Rattle.job_meaning.specs.Log.{Table}
 use Rattle.job_grammar.specs.Refusals.{Spells, IsRefused}
 use Rattle.job_meaning.specs.Meaning.{meaning, meaning_end, meaning_table}
-use Rattle.job_meaning.specs.Shown.{Row}
-use Rattle.job_runner.specs.Runs.{root_is_well, root_end}
 use Rattle.job_story.specs.Events.{Event}
-use Rattle.story_app.specs.Stories.{told, IsAbout, IsAboutNone}
+use Rattle.story_app.specs.Stories.{story_events, until_if, IsAbout, IsAboutNone}
+use Rattle.story_app.specs.Tellings.{verdict_of}
+use Rattle.story_app.specs.declared.meaning.Ending.{Ending}
 use Rattle.story_app.specs.declared.verdict.StoryVerdict.{StoryVerdict}
 use Rattle.story_app.specs.declared.verdict.StoryVerdict.TheVariants as story
-use Rattle.nursery_app.specs.declared.verdict.Verdict.{Verdict}
-use Rattle.nursery_app.specs.declared.verdict.Verdict.TheVariants.{Done, Raised, JobRefused, Limit}
 use Rattle.nursery_app.specs.declared.verdict.ServeFault.{ServeFault}
 use Rattle.nursery_app.specs.declared.verdict.ServeFault.TheVariants.{Send, NoMemory}
 use Rattle.json_report.specs.Values.{document}
 use Rattle.json_story.specs.Stories.{story_json}
 use Rattle.json_app.specs.Answers.{refusal_json}
 
--- the limit, if the story is cut off at it
-abbrev pub until_if : Bool → ℕ → Tick
-until_if true limit = None
-until_if false limit = Some limit
-
 -- the story of a meaning as a JSON document, or the part of it that concerns a task: whole if it ends by the limit, or else up to
 -- the limit
 abbrev pub meaning_story : ℕ → Tree → List ℕ → Option Label → List ℕ
 meaning_story limit job input task =
     document (story_json job.name (until_if (nat_le (meaning_end job input) limit) limit) (meaning_table job input) task
-    (told limit job input))
-
--- ---- how a job ends, by a limit
-
--- how its meaning ends
-abbrev pub IsVerdictOn : Tree → List ℕ → ℕ → Verdict → Type 0
-IsVerdictOn job input limit Done = (meaning_end job input ≤ limit) × IsNone (meaning job input).exc
-IsVerdictOn job input limit Raised = (meaning_end job input ≤ limit) × IsSome (meaning job input).exc
-IsVerdictOn job input limit (JobRefused fault) = ⊥
-IsVerdictOn job input limit Limit = limit < meaning_end job input
-
--- how a run with these rows ends
-abbrev pub verdict_by : List Row → ℕ → Verdict
-verdict_by rows limit = if nat_lt limit (root_end rows) then Limit else (if root_is_well rows then Done else Raised)
-
--- the limit, if it ends later
-abbrev pub until_by : Verdict → ℕ → Tick
-until_by Limit limit = Some limit
-until_by _ limit = None
+    (story_events limit job input))
 
 -- ---- verdicts
 
 -- these bytes are the story of a meaning, or of the task that was requested
 pub record IsJobStory (job : Tree) (input : List ℕ) (limit : ℕ) (asked : Option (List ℕ)) (bytes : List ℕ) : Type 0 where
   pub task : Option Label
-  pub about : IsAbout asked (told limit job input) task
+  pub about : IsAbout asked (story_events limit job input) task
   pub story : bytes ≡ meaning_story limit job input task
 
 -- The verdict on a job that was read, and its bytes: the story of the meaning; nothing if no task has the label.
@@ -69,7 +44,7 @@ IsStoryVerdict job input limit asked story.Raised bytes =
 IsStoryVerdict job input limit asked (story.JobRefused fault) bytes = ⊥
 IsStoryVerdict job input limit asked story.Limit bytes = IsJobStory job input limit asked bytes × (limit < meaning_end job input)
 IsStoryVerdict job input limit asked (story.NoTask nearest) bytes =
-    IsAboutNone asked (told limit job input) nearest.items × (bytes ≡ [])
+    IsAboutNone asked (story_events limit job input) nearest.items × (bytes ≡ [])
 
 -- A verdict and its bytes: that on the job which the text spells, or the refusal that the meaning names.
 abbrev pub IsStory : List ℕ → List ℕ → ℕ → Option (List ℕ) → StoryVerdict → List ℕ → Type 0
@@ -91,17 +66,10 @@ IsStoryFault text input limit asked before after NoMemory = after ≡ before
 
 -- ---- steps
 
--- the verdict on a story of a job that ends so
-abbrev pub verdict_of : Verdict → StoryVerdict
-verdict_of Done = story.Done
-verdict_of Raised = story.Raised
-verdict_of (JobRefused fault) = story.JobRefused fault
-verdict_of Limit = story.Limit
-
 -- a verdict on a story with these events, and its bytes: of all tasks, or of those that concern one; nothing if no task has the
 -- label
-abbrev pub IsTold : List ℕ → Table → Tick → Verdict → Option (List ℕ) → List Event → StoryVerdict → List ℕ → Type 0
-IsTold name table until verdict asked walked given bytes =
-    ((task : Option Label) × IsAbout asked walked task × (given ≡ verdict_of verdict)
+abbrev pub IsTold : List ℕ → Table → Tick → Ending → Option (List ℕ) → List Event → StoryVerdict → List ℕ → Type 0
+IsTold name table until ending asked walked given bytes =
+    ((task : Option Label) × IsAbout asked walked task × (given ≡ verdict_of ending)
     × (bytes ≡ document (story_json name until table task walked)))
     ⊎ ((nearest : Vec ℕ) × IsAboutNone asked walked nearest.items × (given ≡ story.NoTask nearest) × (bytes ≡ []))

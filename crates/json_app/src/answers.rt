@@ -24,7 +24,7 @@ pub fn refusal(alloc: Global, job_text: &[u8], fault: JobFault) -> Result<Vec<u8
     document(alloc, &value)
 }
 
-// The same as a JSON object.
+// Returns the same as a JSON object.
 fn refusal_value(alloc: Global, job_text: &[u8], fault: JobFault) -> Result<Value, AllocError>
     ensures { IfOk result (λ value. view value ≡ refusal_json job_text.now fault) }
 {
@@ -38,7 +38,7 @@ fn refusal_value(alloc: Global, job_text: &[u8], fault: JobFault) -> Result<Valu
     })
 }
 
-// `J` and the number of a kind.
+// Returns `J` and the number of a kind.
 fn kind_code(alloc: Global, number: u64) -> Result<String, AllocError>
     ensures { IfOk result (λ text. string_bytes text ≡ codes "J" ++ decimal number) }
 {
@@ -56,7 +56,7 @@ pub fn past_limit(alloc: Global, limit: u64) -> Result<Vec<u8>, AllocError>
     document(alloc, &value)
 }
 
-// The same as a JSON object.
+// Returns the same as a JSON object.
 fn limit_value(alloc: Global, limit: u64) -> Result<Value, AllocError>
     ensures { IfOk result (λ value. view value ≡ limit_json limit) }
 {

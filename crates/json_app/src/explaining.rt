@@ -4,9 +4,8 @@ ghost use Rattle.job_meaning.specs.declared.limits.TheConstants.{MAX_INPUT};
 ghost use Rattle.nursery_app.specs.Verdict.{CountsFailure};
 ghost use Rattle.json_app.specs.Explaining.{IsStoryVerdict, IsStory, IsStorySent, IsStoryFault};
 
-use crate::about::told_about;
+use crate::about::story_about;
 use crate::answers::refusal;
-use crate::meaning::meaning_of;
 use job_grammar::{Job, read_job};
 use job_report::{Out, send};
 use job_runner::{Gate, Pick, Settings};
@@ -14,7 +13,7 @@ use job_teller::tell;
 use nursery_app::ServeFault;
 use std::alloc::{AllocError, Global};
 use std::thread::Threads;
-use story_app::{StoryVerdict, told_until};
+use story_app::{StoryVerdict, events_until, meaning_of};
 
 /// Runs a job text over an input, and writes the story of the job's one-thread meaning as one JSON document: an object for each
 /// event, in the order of the story. For a job that ends later than the limit it is the story up to the limit, with what each
@@ -51,7 +50,7 @@ pub fn explain_json<R: Threads + Sync, P: Pick, G: Gate + Sync, W: Out>(
     Ok(verdict)
 }
 
-// The verdict and all its bytes.
+// Returns the verdict and all its bytes.
 #[tactic(auto, using(crate::proofs::Explained::of_spelt))]
 fn answer<R: Threads + Sync, P: Pick, G: Gate + Sync>(
     rt: &R,
@@ -78,7 +77,7 @@ fn answer<R: Threads + Sync, P: Pick, G: Gate + Sync>(
     }
 }
 
-// The verdict on a job that was read, with its story.
+// Returns the verdict on a job that was read, with its story.
 fn job_story<R: Threads + Sync, P: Pick, G: Gate + Sync>(
     rt: &R,
     alloc: Global,
@@ -93,8 +92,9 @@ fn job_story<R: Threads + Sync, P: Pick, G: Gate + Sync>(
     ensures { IfOk result (λ r. IsStoryVerdict job.now input.now settings.limit (option_copied task.entry) r.0 r.1.items) }
 {
     let meaning = meaning_of(rt, alloc, job, input, settings, picker, gate)?;
+    let last = meaning.ending.until(settings.limit());
     let events = tell(alloc, job, input, &meaning.table)?;
-    let walked = told_until(alloc, events.as_slice(), meaning.until)?;
-    let answer = told_about(alloc, job, walked.as_slice(), &meaning, task)?;
+    let walked = events_until(alloc, events.as_slice(), last)?;
+    let answer = story_about(alloc, job, walked.as_slice(), &meaning, last, task)?;
     Ok(answer)
 }

@@ -9,7 +9,6 @@
 mod about;
 mod answers;
 mod explaining;
-mod meaning;
 mod serving;
 
 pub use answers::{past_limit, refusal};

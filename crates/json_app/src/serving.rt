@@ -44,7 +44,7 @@ pub fn serve_json<R: Threads + Sync, P: Pick, G: Gate + Sync, W: Out>(
     Ok(verdict)
 }
 
-// The verdict and all its bytes.
+// Returns the verdict and all its bytes.
 #[tactic(auto, using(crate::proofs::Served::of_spelt))]
 fn answer<R: Threads + Sync, P: Pick, G: Gate + Sync>(
     rt: &R,
@@ -70,7 +70,7 @@ fn answer<R: Threads + Sync, P: Pick, G: Gate + Sync>(
     }
 }
 
-// The verdict on a job that was read.
+// Returns the verdict on a job that was read.
 fn job_answer<R: Threads + Sync, P: Pick, G: Gate + Sync>(
     rt: &R,
     alloc: Global,

@@ -8,7 +8,7 @@ use exc_groups::{Exc, Whose};
 use serde_json::{Value, json};
 use std::alloc::{AllocError, Global};
 
-// The origin of a group.
+// Returns the origin of a group.
 fn whose_value(alloc: Global, whose: &Whose) -> Result<Value, AllocError>
     ensures { IfOk result (λ value. view value ≡ whose_json (whose_of whose.now)) }
 {
@@ -43,7 +43,7 @@ pub fn exc_value(alloc: Global, exc: &Exc) -> Result<Value, AllocError>
     }
 }
 
-// The parts of a group.
+// Returns the parts of a group.
 #[cycle(exc)]
 fn part_values(alloc: Global, parts: &[Exc]) -> Result<Vec<Value>, AllocError>
     ensures { IfOk result (λ values. map view values.items ≡ parts_json (excs_of parts.now)) }

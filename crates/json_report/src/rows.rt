@@ -14,7 +14,7 @@ use job_runner::{Entry, Outcome, Record};
 use serde_json::{Value, json};
 use std::alloc::{AllocError, Global};
 
-// An entry as a JSON object.
+// Returns an entry as a JSON object.
 fn entry_value(alloc: Global, entry: &Entry<'_>) -> Result<Value, AllocError>
     ensures { IfOk result (λ value. view value ≡ entry_json (entry_of entry.now)) }
 {
@@ -39,7 +39,7 @@ fn entry_value(alloc: Global, entry: &Entry<'_>) -> Result<Value, AllocError>
     }
 }
 
-// A line of the input as a JSON object.
+// Returns a line of the input as a JSON object.
 fn line_value(alloc: Global, line: Line<'_>) -> Result<Value, AllocError>
     ensures { IfOk result (λ value. view value
         ≡ entry_json (line_shown (span_of line.entry).at (line_text line.entry))) }
@@ -48,7 +48,7 @@ fn line_value(alloc: Global, line: Line<'_>) -> Result<Value, AllocError>
     json!(in alloc; {"line": {"at": line.at() as u64, "length": line.text().len() as u64, "text": text}})
 }
 
-// The entries of a task.
+// Returns the entries of a task.
 fn entry_values(alloc: Global, entries: &[Entry<'_>]) -> Result<Vec<Value>, AllocError>
     ensures { IfOk result (λ values. map view values.items ≡ map entry_json (map entry_of entries.now)) }
 {
@@ -60,7 +60,7 @@ fn entry_values(alloc: Global, entries: &[Entry<'_>]) -> Result<Vec<Value>, Allo
     Ok(values)
 }
 
-// How a task ended, in a word.
+// Returns how a task ended, in a word.
 fn outcome_word(outcome: &Outcome) -> &'static str
     ensures { word result.now ≡ outcome_json (ending_in outcome.now) }
 {
@@ -71,7 +71,7 @@ fn outcome_word(outcome: &Outcome) -> &'static str
     }
 }
 
-// The exception that a task ended with, or `null`.
+// Returns the exception that a task ended with, or `null`.
 fn exception_value(alloc: Global, outcome: &Outcome) -> Result<Value, AllocError>
     ensures { IfOk result (λ value. view value ≡ exception_json (ending_in outcome.now)) }
 {
@@ -82,7 +82,7 @@ fn exception_value(alloc: Global, outcome: &Outcome) -> Result<Value, AllocError
     }
 }
 
-// A record as a JSON object.
+// Returns a record as a JSON object.
 fn row_value(alloc: Global, row: &Record<'_>) -> Result<Value, AllocError>
     ensures { IfOk result (λ value. view value ≡ row_json (row_in row.now)) }
 {
@@ -99,7 +99,7 @@ fn row_value(alloc: Global, row: &Record<'_>) -> Result<Value, AllocError>
     })
 }
 
-// The records of a run.
+// Returns the records of a run.
 pub(crate) fn row_values(alloc: Global, rows: &[Record<'_>]) -> Result<Vec<Value>, AllocError>
     ensures { IfOk result (λ values. map view values.items ≡ map row_json (map row_in rows.now)) }
 {

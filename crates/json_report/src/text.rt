@@ -86,6 +86,7 @@ fn push_byte(out: &mut String, b: u8) -> Result<(), AllocError>
     out.push(hex_digit_of(b % 16))
 }
 
+// Returns whether a byte is shown as it is.
 fn is_plain_byte(b: u8) -> bool
     ensures value { result ≡ stands_for_itself b }
     ensures ascii { IsTrue result → b < 128 }
@@ -93,7 +94,7 @@ fn is_plain_byte(b: u8) -> bool
     32 <= b && b <= 126 && b != 92
 }
 
-// A hexadecimal digit.
+// Returns a hexadecimal digit.
 fn hex_digit_of(n: u8) -> char
     requires { n < 16 }
     ensures value { result ≡ hex_digit n }

@@ -19,7 +19,7 @@ pub fn report_json(alloc: Global, run: &Run<'_>) -> Result<Vec<u8>, AllocError>
     document(alloc, &value)
 }
 
-// The report of a run as a JSON object.
+// Returns the report of a run as a JSON object.
 fn report_value(alloc: Global, run: &Run<'_>) -> Result<Value, AllocError>
     ensures { IfOk result (λ value. view value ≡ report_json (name_of run.now) (rows_of run.now)) }
 {

@@ -18,7 +18,7 @@ use Rattle.json_report.specs.Values.{integer, word, list_of, text_json, label_js
 use Rattle.json_report.proofs.Integers.{exc_without_float}
 use Rattle.json_story.specs.Events.{tick_json, label_or_null, exc_or_null, cause_json, why_json, cancel_from, failure_from, kind_key, span_json, with_happening, with_what, event_head, event_json}
 use Rattle.json_story.specs.Lasts.{last_event}
-use Rattle.json_story.specs.Running.{idle, with_doing, with_last, task_json}
+use Rattle.json_story.specs.Running.{with_idle, with_doing, with_last, task_json}
 use Rattle.json_story.specs.Stories.{running_json, kept_json}
 
 -- ---- members
@@ -131,7 +131,7 @@ events_have_none table all (e ∷ es) = rw (event_has_none table all e, events_h
 
 -- ---- tasks that have not ended
 
-idle_has_none : (ms : Members) → members_have_float ms ≡ false → members_have_float (idle ms) ≡ false
+idle_has_none : (ms : Members) → members_have_float ms ≡ false → members_have_float (with_idle ms) ≡ false
 idle_has_none ms hm = with_put (codes "doing") null ms refl hm
 
 doing_in_has_none : (t : ℕ) (h : Happening) (ms : Members) → members_have_float ms ≡ false →

@@ -9,8 +9,8 @@ use Rattle.json_story.specs.Events.{tick_json}
 use Rattle.json_story.specs.Lasts.{last_event}
 
 -- nothing that a task waits for
-abbrev pub idle : Members → Members
-idle ms = put (codes "doing") null ms
+abbrev pub with_idle : Members → Members
+with_idle ms = put (codes "doing") null ms
 
 -- what a task is doing after this has happened in a tick: it sleeps, or waits for a nursery
 abbrev pub with_doing : ℕ → What → Members → Members
@@ -18,10 +18,10 @@ with_doing t (happens (sleeps until)) ms =
     put (codes "until") (tick_json until) (put (codes "since") (integer t) (put (codes "doing") (word (codes "sleeping")) ms))
 with_doing t (happens (waits nursery exc)) ms =
     put (codes "nursery") (label_json nursery) (put (codes "since") (integer t) (put (codes "doing") (word (codes "waiting")) ms))
-with_doing t _ ms = idle ms
+with_doing t _ ms = with_idle ms
 
 abbrev pub with_last : Option Event → Members → Members
-with_last None ms = idle ms
+with_last None ms = with_idle ms
 with_last (Some e) ms = with_doing e.tick e.what ms
 
 -- a task, by the last of these events that is its own

@@ -11,7 +11,7 @@ use serde_json::{Value, json};
 use std::alloc::{AllocError, Global};
 use story_causes::Cause;
 
-// Why a scope or nursery is cancelled, or `null`.
+// Returns why a scope or nursery is cancelled, or `null`.
 pub(crate) fn why_value(
     alloc: Global,
     known: &Known<'_, '_>,
@@ -28,7 +28,7 @@ pub(crate) fn why_value(
     cause_value(alloc, &cause)
 }
 
-// A cause.
+// Returns a cause.
 fn cause_value(alloc: Global, cause: &Cause<'_>) -> Result<Value, AllocError>
     ensures { IfOk result (λ value. view value ≡ cause_json (Some (cause_in_code cause.now))) }
 {
@@ -40,7 +40,7 @@ fn cause_value(alloc: Global, cause: &Cause<'_>) -> Result<Value, AllocError>
     }
 }
 
-// A cause by what a task did in a tick.
+// Returns a cause by what a task did in a tick.
 fn act_value(alloc: Global, cause: &str, task: &Label, tick: u64) -> Result<Value, AllocError>
     ensures { IfOk result (λ value. view value ≡ act_json cause.now task.now tick) }
 {

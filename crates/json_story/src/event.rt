@@ -14,7 +14,7 @@ use json_report::label_value;
 use serde_json::{Map, Value, put};
 use std::alloc::{AllocError, Global};
 
-// The events of a story as JSON objects.
+// Returns the events of a story as JSON objects.
 pub(crate) fn event_values(
     alloc: Global,
     known: &Known<'_, '_>,
@@ -31,7 +31,7 @@ pub(crate) fn event_values(
     Ok(values)
 }
 
-// An event as a JSON object.
+// Returns an event as a JSON object.
 fn event_value(alloc: Global, known: &Known<'_, '_>, event: &Event) -> Result<Value, AllocError>
     ensures { IfOk result (λ value. view value
         ≡ event_json (froms_in known.now) (events_in known.now) (event_of event.now)) }
@@ -41,7 +41,7 @@ fn event_value(alloc: Global, known: &Known<'_, '_>, event: &Event) -> Result<Va
     Ok(Value::Object(members))
 }
 
-// What each event has.
+// Returns what each event has.
 fn event_head(alloc: Global, event: &Event) -> Result<Map<String, Value>, AllocError>
     ensures { IfOk result (λ members. members_view members.entries ≡ event_head (event_of event.now)) }
 {
@@ -54,7 +54,7 @@ fn event_head(alloc: Global, event: &Event) -> Result<Map<String, Value>, AllocE
     Ok(members)
 }
 
-// The word for what an event is.
+// Returns the word for what an event is.
 fn what_word(what: &What) -> &'static str
     ensures { result.now ≡ what_word (what_of what.now) }
 {

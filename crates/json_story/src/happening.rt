@@ -16,7 +16,7 @@ use json_report::{exc_value, label_value, text_value};
 use serde_json::{Map, Value, json, put};
 use std::alloc::{AllocError, Global};
 
-// The word for what happens.
+// Returns the word for what happens.
 pub(crate) fn happening_word(happening: &Happening) -> &'static str
     ensures { result.now ≡ happening_word (happening_of happening.now) }
 {
@@ -156,7 +156,7 @@ fn put_lines(
     put(members, alloc, "lines", Value::Array(values))
 }
 
-// The places of lines.
+// Returns the places of lines.
 fn span_values(alloc: Global, lines: &[Span]) -> Result<Vec<Value>, AllocError>
     ensures { IfOk result (λ values. map view values.items ≡ map span_json (map span_in lines.now)) }
 {
@@ -168,7 +168,7 @@ fn span_values(alloc: Global, lines: &[Span]) -> Result<Vec<Value>, AllocError>
     Ok(values)
 }
 
-// The place of a line.
+// Returns the place of a line.
 fn span_value(alloc: Global, line: Span) -> Result<Value, AllocError>
     ensures { IfOk result (λ value. view value ≡ span_json (span_in line)) }
 {

@@ -30,7 +30,7 @@ pub(crate) struct Tasks<'s, 'e> {
 }
 
 impl<'s, 'e> Tasks<'s, 'e> {
-    // The tasks of these events. Each event takes constant time.
+    // Returns the tasks of these events. Each event takes constant time.
     pub(crate) fn of(
         alloc: Global,
         sorted: &'s [&'e Event],
@@ -49,14 +49,14 @@ impl<'s, 'e> Tasks<'s, 'e> {
         })
     }
 
-    // Whether a task has ended.
+    // Returns whether a task has ended.
     pub(crate) fn has_ended(&self, label: &Label) -> bool
         ensures { result ≡ has_ended label.now (map seen self.now.walked.now) }
     {
         self.ended.contains(&label)
     }
 
-    // The last event of a task.
+    // Returns the last event of a task.
     pub(crate) fn last(&self, label: &Label) -> Option<&'e Event>
         ensures { seen_last result ≡ last_event label.now (map seen self.now.sorted.now) None }
     {
@@ -64,7 +64,7 @@ impl<'s, 'e> Tasks<'s, 'e> {
     }
 }
 
-// The tasks that end in these events.
+// Returns the tasks that end in these events.
 fn ended_tasks<'e>(alloc: Global, events: &[&'e Event]) -> Result<IndexSet<&'e Label>, AllocError>
     ensures { IfOk result (λ ended. (l : tree.Label) → is_among ended l ≡ has_ended l (map seen events.now)) }
 {
@@ -87,7 +87,7 @@ fn note_end<'e>(ended: &mut IndexSet<&'e Label>, event: &'e Event) -> Result<(),
     Ok(())
 }
 
-// Whether an event is the end of a task.
+// Returns whether an event is the end of a task.
 fn ends(what: &What) -> bool
     ensures { result ≡ is_end (what_of what.now) }
 {
@@ -98,7 +98,7 @@ fn ends(what: &What) -> bool
     }
 }
 
-// The last event of each task.
+// Returns the last event of each task.
 fn last_events<'e>(
     alloc: Global,
     events: &[&'e Event],

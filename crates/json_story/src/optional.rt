@@ -8,7 +8,7 @@ use json_report::{exc_value, label_value};
 use serde_json::Value;
 use std::alloc::{AllocError, Global};
 
-// A tick, or `null` for never.
+// Returns a tick, or `null` for never.
 pub(crate) fn tick_value(tick: Option<u64>) -> Value
     ensures { view result ≡ tick_json tick }
 {
@@ -18,7 +18,7 @@ pub(crate) fn tick_value(tick: Option<u64>) -> Value
     }
 }
 
-// A label, or `null`.
+// Returns a label, or `null`.
 pub(crate) fn label_or_null(alloc: Global, label: &Option<Label>) -> Result<Value, AllocError>
     ensures { IfOk result (λ value. view value ≡ label_or_null label.now) }
 {
@@ -28,7 +28,7 @@ pub(crate) fn label_or_null(alloc: Global, label: &Option<Label>) -> Result<Valu
     }
 }
 
-// An exception, or `null`.
+// Returns an exception, or `null`.
 pub(crate) fn exc_or_null(alloc: Global, exc: &Option<Box<Exc>>) -> Result<Value, AllocError>
     ensures { IfOk result (λ value. view value ≡ exc_or_null (boxed exc.now)) }
 {

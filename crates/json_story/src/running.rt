@@ -8,7 +8,7 @@ ghost use Rattle.job_story.specs.Limit.{has_ended, start_if, is_start, running_i
 ghost use Rattle.story_causes.specs.Seen.{seen};
 ghost use Rattle.json_report.specs.Values.{integer, word};
 ghost use Rattle.json_story.specs.Lasts.{seen_last};
-ghost use Rattle.json_story.specs.Running.{idle, with_doing, with_last, task_json};
+ghost use Rattle.json_story.specs.Running.{with_idle, with_doing, with_last, task_json};
 ghost use Rattle.json_story.specs.Tasks.{sorted_in, walked_in};
 
 use crate::lasts::Tasks;
@@ -19,7 +19,7 @@ use json_report::label_value;
 use serde_json::{Map, Value, put};
 use std::alloc::{AllocError, Global};
 
-// The tasks that have not ended as JSON objects, in the order in which the walk starts them.
+// Returns the tasks that have not ended as JSON objects, in the order in which the walk starts them.
 pub(crate) fn running_values(
     alloc: Global,
     tasks: &Tasks<'_, '_>,
@@ -55,14 +55,14 @@ fn push_if_running(
     Ok(())
 }
 
-// Whether an event is the start of a task that has not ended.
+// Returns whether an event is the start of a task that has not ended.
 fn is_running(event: &Event, tasks: &Tasks<'_, '_>) -> bool
     ensures { result ≡ (is_start (what_of event.now.what) && not (has_ended event.now.task (walked_in tasks.now))) }
 {
     starts(&event.what) && !tasks.has_ended(&event.task)
 }
 
-// Whether an event is the start of a task.
+// Returns whether an event is the start of a task.
 fn starts(what: &What) -> bool
     ensures { result ≡ is_start (what_of what.now) }
 {
@@ -73,7 +73,7 @@ fn starts(what: &What) -> bool
     }
 }
 
-// A task that has not ended as a JSON object.
+// Returns a task that has not ended as a JSON object.
 fn task_value(alloc: Global, tasks: &Tasks<'_, '_>, label: &Label) -> Result<Value, AllocError>
     ensures { IfOk result (λ value. view value ≡ task_json (sorted_in tasks.now) label.now) }
 {
@@ -114,7 +114,7 @@ fn put_doing(
     }
 }
 
-// The same for what happens to a task between its start and its end.
+// Does the same for what happens to a task between its start and its end.
 fn put_doing_in(
     members: &mut Map<String, Value>,
     alloc: Global,
@@ -155,7 +155,7 @@ fn put_state(
 
 // Adds that a task waits for nothing.
 fn put_idle(members: &mut Map<String, Value>, alloc: Global) -> Result<(), AllocError>
-    ensures { OnOk result (members_view members.new.entries ≡ idle (members_view members.old.entries)) }
+    ensures { OnOk result (members_view members.new.entries ≡ with_idle (members_view members.old.entries)) }
 {
     put(members, alloc, "doing", Value::Null)
 }

@@ -59,7 +59,7 @@ pub fn story_json<'e>(
     Ok(bytes)
 }
 
-// Some events of a story, in order and in the order of the walk, as a document.
+// Returns some events of a story, in order and in the order of the walk, as a document.
 #[tactic(auto, using(crate::proofs::Integers::kept_without_float))]
 fn kept_json(
     alloc: Global,
@@ -76,7 +76,7 @@ fn kept_json(
     document(alloc, &value)
 }
 
-// The same as a JSON object.
+// Returns the same as a JSON object.
 fn kept_value(
     alloc: Global,
     job: Name,
@@ -94,7 +94,7 @@ fn kept_value(
     json!(in alloc; {"job": name, "limit": tick_value(until), "events": events, "running": running})
 }
 
-// The tasks that have not ended by the limit, if the story is cut off at one.
+// Returns the tasks that have not ended by the limit, if the story is cut off at one.
 fn running_until(
     alloc: Global,
     until: Option<u64>,

@@ -32,14 +32,14 @@ impl<'k, 'e> Known<'k, 'e> {
         }
     }
 
-    // Why a scope or nursery is cancelled, or `None` if it never is.
+    // Returns why a scope or nursery is cancelled, or `None` if it never is.
     pub(crate) fn cause(&self, label: &Label) -> Option<Cause<'e>>
         ensures { option_map cause_in_code result ≡ cause_of (froms_in self.now) (events_in self.now) label.now }
     {
         self.causes.cause(label)
     }
 
-    // The tick after this one, if a scope or nursery is cancelled from then on.
+    // Returns the tick after this one, if a scope or nursery is cancelled from then on.
     pub(crate) fn cancel_from(&self, label: &Option<Label>, tick: u64) -> Option<u64>
         ensures { result ≡ cancel_from (froms_in self.now) label.now tick }
     {
@@ -49,7 +49,7 @@ impl<'k, 'e> Known<'k, 'e> {
         }
     }
 
-    // The same for a nursery whose member or body ended, if with an exception.
+    // Returns the same for a nursery whose member or body ended, if with an exception.
     pub(crate) fn failure_from(
         &self,
         home: &Option<Label>,
@@ -64,7 +64,7 @@ impl<'k, 'e> Known<'k, 'e> {
         }
     }
 
-    // The same for a nursery whose body ended.
+    // Returns the same for a nursery whose body ended.
     pub(crate) fn body_from(
         &self,
         nursery: &Label,
@@ -80,7 +80,7 @@ impl<'k, 'e> Known<'k, 'e> {
     }
 }
 
-// The tick after this one, if that is the from.
+// Returns the tick after this one, if that is the from.
 fn next_if(from: Option<u64>, tick: u64) -> Option<u64>
     ensures { result ≡ next_if from tick }
 {

@@ -11,7 +11,7 @@ use Rattle.sweep_text.specs.Groups as sweeps
 use Rattle.race_rows.specs.Differences.{Difference, otherwise, inside}
 use Rattle.race_text.specs.Lines as races
 use Rattle.race_text.specs.Lines.{finer, moved, copies, is_shown}
-use Rattle.race_text.specs.Table.{only}
+use Rattle.race_text.specs.Table.{lines_that}
 use Rattle.job_lint.specs.declared.warning.Warning.{Warning}
 use Rattle.json_report.specs.Values.{label_json}
 use Rattle.json_report.proofs.Integers.{exc_without_float}
@@ -83,7 +83,7 @@ race_lines_have_none [] = refl
 race_lines_have_none (l ∷ ls) = rw (race_line_has_none l, race_lines_have_none ls) refl
 
 pub races_without_float : (value : Data) (hairs : ℕ) (ls : List races.Line) → value ≡ races_json hairs ls → has_float value ≡ false
-races_without_float value hairs ls is = rw (is, race_lines_have_none (only is_shown ls)) refl
+races_without_float value hairs ls is = rw (is, race_lines_have_none (lines_that is_shown ls)) refl
 
 -- ---- warnings
 

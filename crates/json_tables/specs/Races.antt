@@ -5,7 +5,7 @@ use Rattle.exc_groups.specs.Exceptions.{Label}
 use Rattle.job_edits.specs.declared.shift.Hair.{Hair}
 use Rattle.race_rows.specs.Differences.{Difference, otherwise, inside}
 use Rattle.race_text.specs.Lines.{Found, refused, differs, Line, finer, moved, copies, is_shown, is_race, is_refused_found, is_refused}
-use Rattle.race_text.specs.Table.{hair_name, step_text, only}
+use Rattle.race_text.specs.Table.{hair_name, step_text, lines_that}
 use Rattle.json_report.specs.Values.{integer, word, list_of, text_json, label_json}
 
 -- `{"after":TEXT,"before":TEXT,"task":LABEL}`, or `{"entries_differ":true,"task":LABEL}` where only lines or scopes differ
@@ -51,11 +51,11 @@ race_line_json (copies line column name count one other tick) =
 -- how many hairs were tried, how many lines are races, and how many texts were refused
 abbrev pub race_counts_json : ℕ → List Line → Data
 race_counts_json hairs ls =
-    object (member (codes "hairs") (integer hairs) (member (codes "races") (integer (length (only is_race ls)))
-    (member (codes "refused") (integer (length (only is_refused ls))) no_members)))
+    object (member (codes "hairs") (integer hairs) (member (codes "races") (integer (length (lines_that is_race ls)))
+    (member (codes "refused") (integer (length (lines_that is_refused ls))) no_members)))
 
 -- the counts, and the lines that are shown
 abbrev pub races_json : ℕ → List Line → Data
 races_json hairs ls =
     object (member (codes "counts") (race_counts_json hairs ls)
-    (member (codes "lines") (list_of (map race_line_json (only is_shown ls))) no_members))
+    (member (codes "lines") (list_of (map race_line_json (lines_that is_shown ls))) no_members))

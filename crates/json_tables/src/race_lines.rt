@@ -3,7 +3,7 @@ ghost use Rattle.serde_json.specs.View.{view};
 ghost use Rattle.race_rows.specs.Views.{difference_held};
 ghost use Rattle.race_text.specs.Lines as told;
 ghost use Rattle.race_text.specs.Lines.{is_shown};
-ghost use Rattle.race_text.specs.Table.{hair_name, only};
+ghost use Rattle.race_text.specs.Table.{hair_name, lines_that};
 ghost use Rattle.race_text.specs.Views.{found_held, line_held};
 ghost use Rattle.json_report.specs.Values.{document, label_json, list_of};
 ghost use Rattle.json_tables.specs.Races.{difference_json, differences_json, finer_json, moved_json, copies_json, race_line_json, race_counts_json, races_json};
@@ -49,7 +49,7 @@ fn counts_value(alloc: Global, hairs: usize, lines: &[Line]) -> Result<Value, Al
 
 // Returns the lines that are shown, as JSON objects.
 fn line_values(alloc: Global, lines: &[Line]) -> Result<Vec<Value>, AllocError>
-    ensures { IfOk result (λ values. map view values.items ≡ map race_line_json (only is_shown (map line_held lines.now))) }
+    ensures { IfOk result (λ values. map view values.items ≡ map race_line_json (lines_that is_shown (map line_held lines.now))) }
 {
     let mut values = Vec::new(alloc);
     'lines: for line in lines {

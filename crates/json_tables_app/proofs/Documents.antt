@@ -1,8 +1,6 @@
 -- The documents of lines, from the lines and the limit as they were passed on.
 use Rattle.std.proofs.Common.{◌≡◌, ℕ, ◌<◌, Bool, List, [], ◌∷◌, length, map, ap, subst, ◌∙◌, arith}
 use Rattle.std.specs.Prelude.{if◌then◌else◌}
-use Rattle.job_tree.specs.Tree.{Tree}
-use Rattle.job_grammar.specs.Refusals.{Spells}
 use Rattle.job_edits.specs.declared.number.Target.{Target}
 use Rattle.job_lint.specs.Linted.{AreWarnings}
 use Rattle.job_lint.specs.declared.warning.Warning.{Warning}
@@ -28,33 +26,32 @@ use Rattle.json_tables_app.specs.Sweeps as of_values_are
 use Rattle.json_tables_app.specs.Races.{IsDocumentOf}
 use Rattle.json_tables_app.specs.Lints.{IsDocument}
 
-pub of_faults : (text input : List ℕ) (limit l : ℕ) (name : List ℕ) (deny : Deny) (bytes denied : List ℕ) (job : Tree) (first : JobOutcome)
-    (lines ks ms : List faults_kept.Line) →
-    Spells text job → AreFaultLines text input limit name job first (map faults_held.line_held lines) → l ≡ limit → ks ≡ lines →
-    bytes ≡ document (faults_json l first (map faults_held.line_held ks)) → ms ≡ lines →
-    denied ≡ faults.denied_text l deny first (map faults_held.line_held ms) →
-    of_faults_are.IsDocument text input limit name deny bytes denied
-of_faults text input limit l name deny bytes denied job first lines ks ms spells are at k b m d =
+pub of_fault_lines : (limit : ℕ) (deny : Deny) (bytes denied : List ℕ) (first : JobOutcome) (lines ks ms : List faults_kept.Line) →
+    ks ≡ lines → bytes ≡ document (faults_json limit first (map faults_held.line_held ks)) → ms ≡ lines →
+    denied ≡ faults.denied_text limit deny first (map faults_held.line_held ms) →
+    of_faults_are.IsDocumentOf limit deny first (map faults_held.line_held lines) bytes denied
+of_fault_lines limit deny bytes denied first lines ks ms k b m d =
     record {
-      job = job;
-      spells = spells;
-      first = first;
-      lines = map faults_held.line_held lines;
-      lines_are = are;
-      document_is =
-          b ∙ ap (λ (xs : List faults_kept.Line). document (faults_json l first (map faults_held.line_held xs))) k
-          ∙ ap (λ (n : ℕ). document (faults_json n first (map faults_held.line_held lines))) at;
-      denied_are =
-          d ∙ ap (λ (xs : List faults_kept.Line). faults.denied_text l deny first (map faults_held.line_held xs)) m
-          ∙ ap (λ (n : ℕ). faults.denied_text n deny first (map faults_held.line_held lines)) at;
+      document_is = b ∙ ap (λ (xs : List faults_kept.Line). document (faults_json limit first (map faults_held.line_held xs))) k;
+      denied_are = d ∙ ap (λ (xs : List faults_kept.Line). faults.denied_text limit deny first (map faults_held.line_held xs)) m;
     }
 
-pub of_values : (text : List ℕ) (job : Tree) (input : List ℕ) (limit l : ℕ) (target : Target) (values bytes : List ℕ) (first : JobOutcome)
-    (vs us : List Value) →
-    AreSweepValues text job input limit target values first (map value_held vs) → l ≡ limit → us ≡ vs →
-    bytes ≡ document (sweep_json l first (map value_held us)) →
-    of_values_are.IsDocument text job input limit target values bytes
-of_values text job input limit l target values bytes first vs us are at same b =
+pub of_faults : (text input : List ℕ) (limit l : ℕ) (name : List ℕ) (deny : Deny) (bytes denied : List ℕ) (first : JobOutcome)
+    (lines : List faults.Line) →
+    AreFaultLines text input limit name first lines → l ≡ limit → of_faults_are.IsDocumentOf l deny first lines bytes denied →
+    of_faults_are.IsDocument text input limit name deny bytes denied
+of_faults text input limit l name deny bytes denied first lines are at document_of =
+    record {
+      first = first;
+      lines = lines;
+      lines_are = are;
+      document_is = subst (λ (n : ℕ). of_faults_are.IsDocumentOf n deny first lines bytes denied) at document_of;
+    }
+
+pub of_values : (text input : List ℕ) (limit l : ℕ) (target : Target) (values bytes : List ℕ) (first : JobOutcome) (vs us : List Value) →
+    AreSweepValues text input limit target values first (map value_held vs) → l ≡ limit → us ≡ vs →
+    bytes ≡ document (sweep_json l first (map value_held us)) → of_values_are.IsDocument text input limit target values bytes
+of_values text input limit l target values bytes first vs us are at same b =
     record {
       first = first;
       vs = map value_held vs;

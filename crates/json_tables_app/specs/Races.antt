@@ -2,14 +2,12 @@
 -- or nothing.
 use Rattle.std.specs.Prelude.{◌≡◌, ℕ, ◌<◌, Bool, if◌then◌else◌, Option, List, [], length, take}
 use Rattle.std.specs.Io.KnownBytes.{Appends}
-use Rattle.job_tree.specs.Tree.{Tree}
-use Rattle.job_grammar.specs.Refusals.{Spells, IsRefused}
-use Rattle.job_meaning.specs.Meaning.{meaning_end}
+use Rattle.job_grammar.specs.Refusals.{IsRefused}
 use Rattle.nursery_app.specs.declared.verdict.ServeFault.{ServeFault}
 use Rattle.nursery_app.specs.declared.verdict.ServeFault.TheVariants.{Send, NoMemory}
 use Rattle.race_text.specs.Lines.{Line}
 use Rattle.race_text.specs.Table.{denied_text}
-use Rattle.race_app.specs.Answers.{AreRaceLines, HasNoFiner}
+use Rattle.race_app.specs.Answers.{AreRaceLines, IsLate, HasNoFiner}
 use Rattle.race_app.specs.declared.verdict.RacesVerdict.{RacesVerdict}
 use Rattle.race_app.specs.declared.verdict.RacesVerdict.TheVariants.{Told, JobRefused, Limit, NoFinerTicks}
 use Rattle.json_report.specs.Values.{document}
@@ -22,23 +20,17 @@ pub record IsDocumentOf (deny : Bool) (hairs : ℕ) (lines : List Line) (denied 
   pub denied_are : denied ≡ (if deny then denied_text lines else [])
 
 -- these bytes are the document of each hair of each place of the text; and these lines of the text table are denied
-abbrev pub IsDocument : List ℕ → List ℕ → ℕ → Bool → Tree → List ℕ → List ℕ → Type 0
-IsDocument text input limit deny job denied bytes =
-    (hairs : ℕ) × (lines : List Line) × AreRaceLines text input limit job hairs lines × IsDocumentOf deny hairs lines denied bytes
-
--- a verdict on a text that spells a job, and its bytes
-abbrev pub IsJobVerdict : List ℕ → Tree → List ℕ → ℕ → Bool → RacesVerdict → List ℕ → Type 0
-IsJobVerdict text job input limit deny (Told denied) bytes = IsDocument text input limit deny job denied.items bytes
-IsJobVerdict text job input limit deny (JobRefused fault) bytes = ⊥
-IsJobVerdict text job input limit deny Limit bytes = (limit < meaning_end job input) × (bytes ≡ document (limit_json limit))
-IsJobVerdict text job input limit deny NoFinerTicks bytes = HasNoFiner text input limit job × (bytes ≡ [])
+abbrev pub IsDocument : List ℕ → List ℕ → ℕ → Bool → List ℕ → List ℕ → Type 0
+IsDocument text input limit deny denied bytes =
+    (hairs : ℕ) × (lines : List Line) × AreRaceLines text input limit hairs lines × IsDocumentOf deny hairs lines denied bytes
 
 -- a verdict and its bytes
 abbrev pub IsVerdict : List ℕ → List ℕ → ℕ → Bool → RacesVerdict → List ℕ → Type 0
+IsVerdict text input limit deny (Told denied) bytes = IsDocument text input limit deny denied.items bytes
 IsVerdict text input limit deny (JobRefused fault) bytes =
     IsRefused text fault.kind fault.at × (bytes ≡ document (refusal_json text fault))
-IsVerdict text input limit deny verdict bytes =
-    (job : Tree) × Spells text job × IsJobVerdict text job input limit deny verdict bytes
+IsVerdict text input limit deny Limit bytes = IsLate text input limit × (bytes ≡ document (limit_json limit))
+IsVerdict text input limit deny NoFinerTicks bytes = HasNoFiner text input limit × (bytes ≡ [])
 
 -- All bytes of the verdict were sent.
 abbrev pub IsSent : List ℕ → List ℕ → ℕ → Bool → Option (List ℕ) → Option (List ℕ) → RacesVerdict → Type 0

@@ -2,8 +2,7 @@
 -- no such number.
 use Rattle.std.specs.Prelude.{◌≡◌, ℕ, ◌<◌, Option, List, [], length, take}
 use Rattle.std.specs.Io.KnownBytes.{Appends}
-use Rattle.job_tree.specs.Tree.{Tree}
-use Rattle.job_grammar.specs.Refusals.{Spells, IsRefused}
+use Rattle.job_grammar.specs.Refusals.{IsRefused}
 use Rattle.nursery_app.specs.declared.verdict.ServeFault.{ServeFault}
 use Rattle.nursery_app.specs.declared.verdict.ServeFault.TheVariants.{Send, NoMemory}
 use Rattle.job_edits.specs.declared.number.Target.{Target}
@@ -17,24 +16,18 @@ use Rattle.json_app.specs.Answers.{refusal_json}
 use Rattle.json_tables.specs.Sweeps.{sweep_json}
 
 -- these bytes are the document of the outcome of the job as it is, and for each value of the number that the target names
-pub record IsDocument (text : List ℕ) (job : Tree) (input : List ℕ) (limit : ℕ) (target : Target) (values bytes : List ℕ) : Type 0 where
+pub record IsDocument (text input : List ℕ) (limit : ℕ) (target : Target) (values bytes : List ℕ) : Type 0 where
   pub first : JobOutcome
   pub vs : List Value
-  pub vs_are : AreSweepValues text job input limit target values first vs
+  pub vs_are : AreSweepValues text input limit target values first vs
   pub document_is : bytes ≡ document (sweep_json limit first vs)
-
--- a verdict on a text that spells a job, and its bytes
-abbrev pub IsJobVerdict : List ℕ → Tree → List ℕ → ℕ → Target → List ℕ → SweepVerdict → List ℕ → Type 0
-IsJobVerdict text job input limit target values Told bytes = IsDocument text job input limit target values bytes
-IsJobVerdict text job input limit target values (JobRefused fault) bytes = ⊥
-IsJobVerdict text job input limit target values (NoTarget missing) bytes = IsWithoutTarget text target missing × (bytes ≡ [])
 
 -- a verdict and its bytes
 abbrev pub IsVerdict : List ℕ → List ℕ → ℕ → Target → List ℕ → SweepVerdict → List ℕ → Type 0
+IsVerdict text input limit target values Told bytes = IsDocument text input limit target values bytes
 IsVerdict text input limit target values (JobRefused fault) bytes =
     IsRefused text fault.kind fault.at × (bytes ≡ document (refusal_json text fault))
-IsVerdict text input limit target values verdict bytes =
-    (job : Tree) × Spells text job × IsJobVerdict text job input limit target values verdict bytes
+IsVerdict text input limit target values (NoTarget missing) bytes = IsWithoutTarget text target missing × (bytes ≡ [])
 
 -- All bytes of the verdict were sent.
 abbrev pub IsSent : List ℕ → List ℕ → ℕ → Target → List ℕ → Option (List ℕ) → Option (List ℕ) → SweepVerdict → Type 0

@@ -1,12 +1,12 @@
-ghost use Rattle.std.specs.Prelude.{◌≡◌, ◌<◌, ◌≤◌, length, IfOk, IfErr, OnOk};
+ghost use Rattle.std.specs.Prelude.{◌≡◌, ◌<◌, ◌≤◌, length, map, IfOk, IfErr, OnOk};
 ghost use Rattle.job_meaning.specs.declared.limits.TheConstants.{MAX_INPUT};
-ghost use Rattle.job_grammar.specs.Refusals.{Spells};
 ghost use Rattle.nursery_app.specs.Verdict.{CountsFailure};
-ghost use Rattle.json_tables_app.specs.Faults.{IsDocument, IsVerdict, IsSent, IsFaultsFault};
+ghost use Rattle.fault_text.specs.Views.{job_outcome_held, line_held};
+ghost use Rattle.json_tables_app.specs.Faults.{IsDocumentOf, IsVerdict, IsSent, IsFaultsFault};
 
-use fault_app::{FaultsVerdict, fault_lines};
+use fault_app::{FaultLines, FaultsVerdict, fault_lines};
 use fault_text::{Deny, denied};
-use job_grammar::{Job, Name, read_job};
+use job_grammar::Name;
 use job_report::{Out, send};
 use job_runner::Settings;
 use json_app::refusal;
@@ -54,6 +54,7 @@ pub fn faults_json<R: Threads + Sync, G: Gate + Sync, W: Out>(
 }
 
 // Returns the verdict and all its bytes.
+#[tactic(auto, using(crate::proofs::Documents::of_faults))]
 fn answer<R: Threads + Sync, G: Gate + Sync>(
     rt: &R,
     alloc: Global,
@@ -67,11 +68,9 @@ fn answer<R: Threads + Sync, G: Gate + Sync>(
     requires { length input.now ≤ MAX_INPUT }
     ensures { IfOk result (λ r. IsVerdict job_text.now input.now settings.limit name deny r.0 r.1.items) }
 {
-    match read_job(alloc, job_text) {
-        Ok(job) => {
-            let (denied, bytes) = document_and_denied(
-                rt, alloc, job_text, &job, input, settings, name, deny, gate,
-            )?;
+    match fault_lines(rt, alloc, job_text, input, settings, name, gate) {
+        Ok(told) => {
+            let (denied, bytes) = document_and_denied(alloc, settings.limit(), deny, &told)?;
             Ok((FaultsVerdict::Told { denied }, bytes))
         }
         Err(fault) => {
@@ -82,24 +81,16 @@ fn answer<R: Threads + Sync, G: Gate + Sync>(
 }
 
 // Returns the lines that are denied, and the bytes of the document.
-#[tactic(auto, using(crate::proofs::Documents::of_faults))]
-fn document_and_denied<R: Threads + Sync, G: Gate + Sync>(
-    rt: &R,
+#[tactic(auto, using(crate::proofs::Documents::of_fault_lines))]
+fn document_and_denied(
     alloc: Global,
-    job_text: &[u8],
-    job: &Job,
-    input: &[u8],
-    settings: Settings,
-    name: Name,
+    limit: u64,
     deny: Deny,
-    gate: &G,
+    told: &FaultLines,
 ) -> Result<(Vec<u8>, Vec<u8>), AllocError>
-    requires input { length input.now ≤ MAX_INPUT }
-    requires spells { Spells job_text.now job.now }
-    ensures { IfOk result (λ r. IsDocument job_text.now input.now settings.limit name deny r.1.items r.0.items) }
+    ensures { IfOk result (λ r. IsDocumentOf limit deny (job_outcome_held told.now.first) (map line_held told.now.lines.items)
+        r.1.items r.0.items) }
 {
-    let told = fault_lines(rt, alloc, job_text, job, input, settings, name, gate)?;
-    let limit = settings.limit();
     let bytes = faults_document(alloc, limit, &told.first, told.lines.as_slice())?;
     let denied = denied(alloc, limit, &told.first, told.lines.as_slice(), deny)?;
     Ok((denied, bytes))

@@ -1,11 +1,9 @@
 ghost use Rattle.std.specs.Prelude.{◌≡◌, ◌<◌, ◌≤◌, [], length, IfOk, IfErr, OnOk, map};
 ghost use Rattle.job_meaning.specs.declared.limits.TheConstants.{MAX_INPUT};
-ghost use Rattle.job_grammar.specs.Refusals.{Spells};
 ghost use Rattle.nursery_app.specs.Verdict.{CountsFailure};
 ghost use Rattle.race_text.specs.Views.{line_held};
-ghost use Rattle.json_tables_app.specs.Races.{IsDocumentOf, IsVerdict, IsJobVerdict, IsSent, IsRacesFault};
+ghost use Rattle.json_tables_app.specs.Races.{IsDocumentOf, IsVerdict, IsSent, IsRacesFault};
 
-use job_grammar::{Job, read_job};
 use job_report::{Out, send};
 use job_runner::Settings;
 use json_app::{past_limit, refusal};
@@ -66,40 +64,17 @@ fn answer<R: Threads + Sync, G: Gate + Sync>(
     requires { length input.now ≤ MAX_INPUT }
     ensures { IfOk result (λ r. IsVerdict job_text.now input.now settings.limit deny r.0 r.1.items) }
 {
-    match read_job(alloc, job_text) {
-        Ok(job) => {
-            let answer = answer_for_job(rt, alloc, job_text, &job, input, settings, deny, gate)?;
-            Ok(answer)
+    match race_lines(rt, alloc, job_text, input, settings, gate) {
+        Ok(RaceAnswer::Lines(told)) => {
+            let (denied, bytes) = document_and_denied(alloc, deny, &told)?;
+            Ok((RacesVerdict::Told { denied }, bytes))
         }
+        Ok(RaceAnswer::Limit) => Ok((RacesVerdict::Limit, past_limit(alloc, settings.limit())?)),
+        Ok(RaceAnswer::NoFinerTicks) => Ok((RacesVerdict::NoFinerTicks, Vec::new(alloc))),
         Err(fault) => {
             let bytes = refusal(alloc, job_text, fault)?;
             Ok((RacesVerdict::JobRefused(fault), bytes))
         }
-    }
-}
-
-// Returns the verdict on a text that spells a job, and all its bytes.
-fn answer_for_job<R: Threads + Sync, G: Gate + Sync>(
-    rt: &R,
-    alloc: Global,
-    job_text: &[u8],
-    job: &Job,
-    input: &[u8],
-    settings: Settings,
-    deny: bool,
-    gate: &G,
-) -> Result<(RacesVerdict, Vec<u8>), AllocError>
-    requires input { length input.now ≤ MAX_INPUT }
-    requires spells { Spells job_text.now job.now }
-    ensures { IfOk result (λ r. IsJobVerdict job_text.now job.now input.now settings.limit deny r.0 r.1.items) }
-{
-    match race_lines(rt, alloc, job_text, job, input, settings, gate)? {
-        RaceAnswer::Lines(told) => {
-            let (denied, bytes) = document_and_denied(alloc, deny, &told)?;
-            Ok((RacesVerdict::Told { denied }, bytes))
-        }
-        RaceAnswer::Limit => Ok((RacesVerdict::Limit, past_limit(alloc, settings.limit())?)),
-        RaceAnswer::NoFinerTicks => Ok((RacesVerdict::NoFinerTicks, Vec::new(alloc))),
     }
 }
 

@@ -1,11 +1,9 @@
 ghost use Rattle.std.specs.Prelude.{◌≡◌, ◌<◌, ◌≤◌, length, IfOk, IfErr, OnOk};
 ghost use Rattle.job_meaning.specs.declared.limits.TheConstants.{MAX_INPUT};
-ghost use Rattle.job_grammar.specs.Refusals.{Spells};
 ghost use Rattle.nursery_app.specs.Verdict.{CountsFailure};
-ghost use Rattle.json_tables_app.specs.Sweeps.{IsVerdict, IsJobVerdict, IsSent, IsSweepFault};
+ghost use Rattle.json_tables_app.specs.Sweeps.{IsVerdict, IsSent, IsSweepFault};
 
 use job_edits::Target;
-use job_grammar::{Job, read_job};
 use job_report::{Out, send};
 use job_runner::Settings;
 use json_app::refusal;
@@ -54,6 +52,7 @@ pub fn sweep_json<R: Threads + Sync, G: Gate + Sync, W: Out>(
 }
 
 // Returns the verdict and all its bytes.
+#[tactic(auto, using(crate::proofs::Documents::of_values))]
 fn answer<R: Threads + Sync, G: Gate + Sync>(
     rt: &R,
     alloc: Global,
@@ -67,45 +66,19 @@ fn answer<R: Threads + Sync, G: Gate + Sync>(
     requires { length input.now ≤ MAX_INPUT }
     ensures { IfOk result (λ r. IsVerdict job_text.now input.now settings.limit target values.now r.0 r.1.items) }
 {
-    match read_job(alloc, job_text) {
-        Ok(job) => {
-            let answer = answer_for_job(
-                rt, alloc, job_text, &job, input, settings, target, values, gate,
-            )?;
-            Ok(answer)
-        }
-        Err(fault) => {
-            let bytes = refusal(alloc, job_text, fault)?;
-            Ok((SweepVerdict::JobRefused(fault), bytes))
-        }
-    }
-}
-
-// Returns the verdict on a text that spells a job, and all its bytes.
-#[tactic(auto, using(crate::proofs::Documents::of_values))]
-fn answer_for_job<R: Threads + Sync, G: Gate + Sync>(
-    rt: &R,
-    alloc: Global,
-    job_text: &[u8],
-    job: &Job,
-    input: &[u8],
-    settings: Settings,
-    target: Target,
-    values: &[u64],
-    gate: &G,
-) -> Result<(SweepVerdict, Vec<u8>), AllocError>
-    requires input { length input.now ≤ MAX_INPUT }
-    requires spells { Spells job_text.now job.now }
-    ensures { IfOk result (λ r. IsJobVerdict job_text.now job.now input.now settings.limit target values.now r.0 r.1.items) }
-{
-    match sweep_values(
-        rt, alloc, job_text, job, input, settings, target, values, gate,
-    )? {
-        SweepAnswer::Values(told) => {
+    match sweep_values(rt, alloc, job_text, input, settings, target, values, gate) {
+        Ok(SweepAnswer::Values(told)) => {
             let limit = settings.limit();
             let bytes = sweep_document(alloc, limit, &told.first, told.values.as_slice())?;
             Ok((SweepVerdict::Told, bytes))
         }
-        SweepAnswer::NoTarget(missing) => Ok((SweepVerdict::NoTarget(missing), Vec::new(alloc))),
+        Ok(SweepAnswer::NoTarget(missing)) => Ok((
+            SweepVerdict::NoTarget(missing),
+            Vec::new(alloc),
+        )),
+        Err(fault) => {
+            let bytes = refusal(alloc, job_text, fault)?;
+            Ok((SweepVerdict::JobRefused(fault), bytes))
+        }
     }
 }

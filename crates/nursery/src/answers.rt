@@ -3,6 +3,8 @@ ghost use Rattle.std.specs.Option.{option_copied};
 ghost use Rattle.job_meaning.specs.declared.limits.TheConstants.{MAX_INPUT};
 ghost use Rattle.job_meaning.specs.Laws.{in_format_2};
 ghost use Rattle.nursery_app.specs.Checking.{as_it_is};
+ghost use Rattle.nursery_app.specs.Statuses.{status_of};
+ghost use Rattle.story_app.specs.Statuses.{story_status_of};
 ghost use Rattle.nursery.specs.Statuses.{TellsVerdict, TellsStory, TellsAnswer};
 
 use crate::documents::{explain_as_json, run_as_json};
@@ -26,8 +28,8 @@ use story_app::{StoryVerdict, explain, running_at_limit};
 const AWAITED: &str =
     "reading a feed: a job text, a line `%input`, the input, and Ctrl-D after it (see --help)\n";
 
-/// Serves standard input with the defaults, and returns the status. If that is a terminal, standard error says first what is
-/// waited for.
+// Serves standard input with the defaults, and returns the status. If that is a terminal, standard error says first what is
+// waited for.
 pub(crate) fn run_feed<R: Files + Input + Print + Eprint + Threads + Sync + AllocGlobal>(
     rt: &R,
 ) -> Result<u8, Stop>
@@ -78,46 +80,70 @@ pub(crate) fn read_both<R: Files + Input + AllocGlobal>(
     })
 }
 
-/// The word that a command was given, if it was given one.
+// Returns the word that a command was given, if it was given one.
 pub(crate) fn word_of(word: &Option<String>) -> Option<&str> {
     word.as_ref().map(|name| name.as_str())
 }
 
-/// Runs a job file over an input file, and returns the status.
+// Runs a job file over an input file, and returns the status.
 pub(crate) fn run_job<R: Files + Input + Print + Eprint + Threads + Sync + AllocGlobal>(
     rt: &R,
     args: &RunArgs,
 ) -> Result<u8, Stop> {
-    let (job, settings) = (args.job.as_str(), args.settings);
-    let given = read_both(rt, job, Some(args.input.as_str()))?;
-    if args.json {
-        return run_as_json(rt, job, &given, settings, args.order);
-    }
-    let (text, input) = (given.text.as_slice(), given.input.as_slice());
+    let given = read_both(rt, args.job.as_str(), Some(args.input.as_str()))?;
     match args.order {
-        Order::Forward => run_text(rt, job, text, input, settings, &mut Forward),
-        Order::Reverse => run_text(rt, job, text, input, settings, &mut Reverse),
-        Order::Turn => run_text(rt, job, text, input, settings, &mut Turn { calls: 0 }),
+        Order::Forward => run_given(rt, args, &given, &mut Forward),
+        Order::Reverse => run_given(rt, args, &given, &mut Reverse),
+        Order::Turn => run_given(rt, args, &given, &mut Turn { calls: 0 }),
     }
 }
 
-/// Writes the story of a job file over an input file, or over no input, and returns the status.
+// Does the same for files that were read, in the order of a picker: writes the report, as a text or as a JSON document.
+fn run_given<R: Print + Eprint + Threads + Sync + AllocGlobal, P: Pick>(
+    rt: &R,
+    args: &RunArgs,
+    given: &Given,
+    picker: &mut P,
+) -> Result<u8, Stop>
+    requires { length given.now.input.items ≤ MAX_INPUT }
+{
+    let (job, settings) = (args.job.as_str(), args.settings);
+    let (text, input) = (given.text.as_slice(), given.input.as_slice());
+    if args.json {
+        return run_as_json(rt, job, text, input, settings, picker);
+    }
+    run_text(rt, job, text, input, settings, picker)
+}
+
+// Writes the story of a job file over an input file, or over no input, and returns the status.
 pub(crate) fn explain_job<R: Files + Input + Print + Eprint + Threads + Sync + AllocGlobal>(
     rt: &R,
     args: &ExplainArgs,
 ) -> Result<u8, Stop> {
-    let (job, settings) = (args.job.as_str(), args.settings);
-    let task = word_of(&args.task);
-    let given = read_both(rt, job, word_of(&args.input))?;
-    if args.json {
-        return explain_as_json(rt, job, &given, task, settings, args.order);
-    }
-    let (text, input) = (given.text.as_slice(), given.input.as_slice());
+    let given = read_both(rt, args.job.as_str(), word_of(&args.input))?;
     match args.order {
-        Order::Forward => explain_text(rt, job, text, input, task, settings, &mut Forward),
-        Order::Reverse => explain_text(rt, job, text, input, task, settings, &mut Reverse),
-        Order::Turn => explain_text(rt, job, text, input, task, settings, &mut Turn { calls: 0 }),
+        Order::Forward => explain_given(rt, args, &given, &mut Forward),
+        Order::Reverse => explain_given(rt, args, &given, &mut Reverse),
+        Order::Turn => explain_given(rt, args, &given, &mut Turn { calls: 0 }),
     }
+}
+
+// Does the same for files that were read, in the order of a picker: writes the story, as a text or as a JSON document.
+fn explain_given<R: Print + Eprint + Threads + Sync + AllocGlobal, P: Pick>(
+    rt: &R,
+    args: &ExplainArgs,
+    given: &Given,
+    picker: &mut P,
+) -> Result<u8, Stop>
+    requires { length given.now.input.items ≤ MAX_INPUT }
+{
+    let (job, settings) = (args.job.as_str(), args.settings);
+    let (text, input) = (given.text.as_slice(), given.input.as_slice());
+    let task = word_of(&args.task);
+    if args.json {
+        return explain_as_json(rt, job, text, input, task, settings, picker);
+    }
+    explain_text(rt, job, text, input, task, settings, picker)
 }
 
 // Writes the story of a job text over an input, and returns the status.
@@ -133,29 +159,35 @@ fn explain_text<R: Print + Eprint + Threads + Sync + AllocGlobal, P: Pick>(
     requires { length input.now ≤ MAX_INPUT }
     ensures { IfOk result (TellsStory text.now input.now settings.limit (option_copied task.entry)) }
 {
+    let alloc = rt.alloc();
     let mut out = WriteOut::new(io::writer(rt));
     let asked = bytes_of(task);
     let verdict = explain(
-        rt,
-        rt.alloc(),
-        text,
-        input,
-        settings,
-        asked,
-        picker,
-        &NoGate,
-        &mut out,
+        rt, alloc, text, input, settings, asked, picker, &NoGate, &mut out,
     )?;
+    Ok(conclude_story(rt, job, text, task, verdict))
+}
+
+// Prints to standard error why the job text is refused, or that no task has the label that was requested, and returns the status.
+pub(crate) fn conclude_story<R: Eprint + AllocGlobal>(
+    rt: &R,
+    job: &str,
+    text: &[u8],
+    task: Option<&str>,
+    verdict: StoryVerdict,
+) -> u8
+    ensures { result ≡ story_status_of verdict }
+{
     let status = verdict.status();
     match verdict {
         StoryVerdict::JobRefused(fault) => tell_refusal(rt, job, text, fault),
         StoryVerdict::NoTask { nearest } => tell_no_task(rt, task, nearest),
         _ => {}
     }
-    Ok(status)
+    status
 }
 
-// The bytes of a label, if there is one.
+// Returns the bytes of a label, if there is one.
 pub(crate) fn bytes_of(label: Option<&str>) -> Option<&[u8]>
     ensures { option_copied result ≡ option_copied label.entry }
 {
@@ -191,26 +223,34 @@ fn run_text<R: Print + Eprint + Threads + Sync + AllocGlobal, P: Pick>(
     requires { length input.now ≤ MAX_INPUT }
     ensures { IfOk result (TellsVerdict text.now input.now settings.limit) }
 {
+    let alloc = rt.alloc();
     let mut out = WriteOut::new(io::writer(rt));
-    let verdict = serve(
-        rt,
-        rt.alloc(),
-        text,
-        input,
-        settings,
-        picker,
-        &NoGate,
-        &mut out,
-    )?;
+    let verdict = serve(rt, alloc, text, input, settings, picker, &NoGate, &mut out)?;
+    Ok(conclude_run(rt, job, text, input, settings, picker, verdict))
+}
+
+// Prints to standard error why the job text is refused, or which tasks have not ended, and returns the status.
+pub(crate) fn conclude_run<R: Eprint + Threads + Sync + AllocGlobal, P: Pick>(
+    rt: &R,
+    job: &str,
+    text: &[u8],
+    input: &[u8],
+    settings: Settings,
+    picker: &mut P,
+    verdict: Verdict,
+) -> u8
+    requires { length input.now ≤ MAX_INPUT }
+    ensures { result ≡ status_of verdict }
+{
     match verdict {
         Verdict::JobRefused(fault) => tell_refusal(rt, job, text, fault),
         Verdict::Limit => tell_running(rt, text, input, settings, picker),
         Verdict::Done | Verdict::Raised => {}
     }
-    Ok(verdict.status())
+    verdict.status()
 }
 
-/// Writes the canonical text of a job file, and returns the status.
+// Writes the canonical text of a job file, and returns the status.
 pub(crate) fn check_job<R: Files + Input + Print + Eprint + AllocGlobal>(
     rt: &R,
     job: &str,
@@ -231,7 +271,7 @@ fn check_text<R: Print + Eprint + AllocGlobal>(rt: &R, job: &str, text: &[u8]) -
     Ok(verdict.status())
 }
 
-/// Writes the canonical text of the same job in format 2, and returns the status.
+// Writes the canonical text of the same job in format 2, and returns the status.
 pub(crate) fn upgrade_job<R: Files + Input + Print + Eprint + AllocGlobal>(
     rt: &R,
     job: &str,
@@ -289,7 +329,7 @@ pub(crate) fn tell_refusal<R: Eprint + AllocGlobal>(
     }
 }
 
-/// Writes a text that was requested, and returns the status.
+// Writes a text that was requested, and returns the status.
 pub(crate) fn show_help<R: Print>(rt: &R, text: &str) -> Result<u8, Stop> {
     let mut out = WriteOut::new(io::writer(rt));
     match send(text.as_bytes(), &mut out) {

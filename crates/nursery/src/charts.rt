@@ -2,10 +2,10 @@ ghost use Rattle.std.specs.Prelude.{◌≤◌, length, IfOk};
 ghost use Rattle.job_meaning.specs.declared.limits.TheConstants.{MAX_INPUT};
 ghost use Rattle.nursery.specs.Statuses.{TellsChart};
 
-use crate::answers::{read_both, tell_refusal, tell_running, word_of};
+use crate::answers::{conclude_run, read_both, word_of};
 use crate::stop::Stop;
 use chart_app::{Form, chart};
-use nursery_app::{Forward, NoGate, Settings, Verdict, WriteOut};
+use nursery_app::{Forward, NoGate, Settings, WriteOut};
 use nursery_cli::{ChartArgs, LEAST_WIDTH, MAX_WIDTH};
 use std::rt::{Env, Files};
 use std::thread::Threads;
@@ -17,7 +17,7 @@ const USUAL_WIDTH: usize = 80;
 /// The width of an SVG document if none is requested, in columns of text.
 const USUAL_SVG_WIDTH: usize = 400;
 
-/// Draws the run of a job file over an input file, or over no input, and returns the status.
+// Draws the run of a job file over an input file, or over no input, and returns the status.
 pub(crate) fn chart_job<R: Files + Env + Input + Print + Eprint + Threads + Sync + AllocGlobal>(
     rt: &R,
     args: &ChartArgs,
@@ -29,7 +29,7 @@ pub(crate) fn chart_job<R: Files + Env + Input + Print + Eprint + Threads + Sync
     chart_text(rt, job, text, input, form, args.settings)
 }
 
-// The form of a chart, with the requested width, or else the usual one.
+// Returns the form of a chart, with the requested width, or else the usual one.
 fn form_of<R: Env + AllocGlobal>(rt: &R, width: Option<usize>, svg: bool) -> Form {
     if svg {
         return Form::Svg {
@@ -44,7 +44,7 @@ fn form_of<R: Env + AllocGlobal>(rt: &R, width: Option<usize>, svg: bool) -> For
     }
 }
 
-// The terminal's width in columns, from `COLUMNS` in the environment.
+// Returns the terminal's width in columns, from `COLUMNS` in the environment.
 fn terminal_width<R: Env + AllocGlobal>(rt: &R) -> usize {
     let Ok(columns) = env::var(rt, "COLUMNS") else {
         return USUAL_WIDTH;
@@ -79,10 +79,5 @@ fn chart_text<R: Print + Eprint + Threads + Sync + AllocGlobal>(
         &NoGate,
         &mut out,
     )?;
-    match verdict {
-        Verdict::JobRefused(fault) => tell_refusal(rt, job, text, fault),
-        Verdict::Limit => tell_running(rt, text, input, settings, &mut Forward),
-        Verdict::Done | Verdict::Raised => {}
-    }
-    Ok(verdict.status())
+    Ok(conclude_run(rt, job, text, input, settings, &mut Forward, verdict))
 }

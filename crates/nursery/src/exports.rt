@@ -8,14 +8,14 @@ use std::io;
 use std::rt::Files;
 use trio_text::program;
 
-/// Writes a job file as a Python program on Trio, or the line of its refusal, and returns the
-/// status.
+// Writes a job file as a Python program on Trio, or the line of its refusal, and returns the
+// status.
 pub(crate) fn trio_job<R: Files + Input + Print + Eprint + AllocGlobal>(
     rt: &R,
     job: &str,
 ) -> Result<u8, Stop> {
     let text = read_job_text(rt, job)?;
-    let (status, bytes) = match exported(rt.alloc(), text.as_slice()) {
+    let (status, bytes) = match trio_answer(rt.alloc(), text.as_slice()) {
         Ok(answer) => answer,
         Err(_) => return Err(Stop::NoMemory),
     };
@@ -31,8 +31,8 @@ pub(crate) fn trio_job<R: Files + Input + Print + Eprint + AllocGlobal>(
     Ok(status)
 }
 
-// The status and what is written.
-fn exported(alloc: Global, text: &[u8]) -> Result<(u8, Vec<u8>), AllocError> {
+// Returns the status and what is written.
+fn trio_answer(alloc: Global, text: &[u8]) -> Result<(u8, Vec<u8>), AllocError> {
     match read_job(alloc, text) {
         Ok(job) => Ok((0, program(alloc, &job)?)),
         Err(fault) if fault.kind == JobKind::NoMemory => Err(AllocError),

@@ -1,12 +1,13 @@
-ghost use Rattle.std.specs.Prelude.{◌≤◌, length, IfOk};
+ghost use Rattle.std.specs.Prelude.{◌≡◌, ◌≤◌, length, IfOk};
+ghost use Rattle.fault_app.specs.Statuses.{faults_status_of};
 ghost use Rattle.job_meaning.specs.declared.limits.TheConstants.{MAX_INPUT};
-ghost use Rattle.nursery.specs.Statuses.{TellsFaults};
+ghost use Rattle.nursery.specs.Statuses.{TellsFaults, TellsJsonFaults};
 
 use crate::answers::{read_both, tell_refusal, word_of};
 use crate::progress::Progress;
 use crate::stop::Stop;
-use crate::tables::faults_as_json;
 use fault_app::{FaultsVerdict, faults};
+use json_tables_app::faults_json;
 use nursery_app::WriteOut;
 use nursery_cli::FaultsArgs;
 use std::io;
@@ -14,8 +15,8 @@ use std::rt::Files;
 use std::thread::Threads;
 use std::time::Clock;
 
-/// Writes the outcome of a job file over an input file, or over no input, with each fault of it, and returns the status. The name
-/// is that of the exception that a faulty step raises. Progress is shown if standard error is a terminal.
+// Writes the outcome of a job file over an input file, or over no input, with each fault of it, and returns the status. The name
+// is that of the exception that a faulty step raises. Progress is shown if standard error is a terminal.
 pub(crate) fn faults_job<R: Files + Input + Print + Eprint + Clock + Threads + Sync + AllocGlobal>(
     rt: &R,
     args: &FaultsArgs,
@@ -41,36 +42,52 @@ fn faults_text<R: Print + Eprint + Clock + Threads + Sync + AllocGlobal>(
     requires { length input.now ≤ MAX_INPUT }
     ensures { IfOk result (TellsFaults text.now input.now args.now.settings.limit args.now.name args.now.deny) }
 {
+    let (alloc, settings) = (rt.alloc(), args.settings);
     let mut out = WriteOut::new(io::writer(rt));
-    let told = faults(
-        rt,
-        rt.alloc(),
-        text,
-        input,
-        args.settings,
-        args.name,
-        args.deny,
-        progress,
-        &mut out,
+    let written = faults(
+        rt, alloc, text, input, settings, args.name, args.deny, progress, &mut out,
     );
     progress.clear();
-    let verdict = told?;
-    let status = verdict.status();
-    conclude_faults(rt, args.job.as_str(), text, verdict);
-    Ok(status)
+    let verdict = written?;
+    Ok(conclude_faults(rt, args.job.as_str(), text, verdict))
 }
 
-// Prints to standard error why the job text is refused, or which lines are denied.
-pub(crate) fn conclude_faults<R: Eprint + AllocGlobal>(
+// Does the same, as a JSON document.
+fn faults_as_json<R: Print + Eprint + Clock + Threads + Sync + AllocGlobal>(
+    rt: &R,
+    args: &FaultsArgs,
+    text: &[u8],
+    input: &[u8],
+    progress: &Progress<'_, R>,
+) -> Result<u8, Stop>
+    requires { length input.now ≤ MAX_INPUT }
+    ensures { IfOk result (TellsJsonFaults text.now input.now args.now.settings.limit args.now.name args.now.deny) }
+{
+    let (alloc, settings) = (rt.alloc(), args.settings);
+    let mut out = WriteOut::new(io::writer(rt));
+    let written = faults_json(
+        rt, alloc, text, input, settings, args.name, args.deny, progress, &mut out,
+    );
+    progress.clear();
+    let verdict = written?;
+    Ok(conclude_faults(rt, args.job.as_str(), text, verdict))
+}
+
+// Prints to standard error why the job text is refused, or which lines are denied, and returns the status.
+fn conclude_faults<R: Eprint + AllocGlobal>(
     rt: &R,
     job: &str,
     text: &[u8],
     verdict: FaultsVerdict,
-) {
+) -> u8
+    ensures { result ≡ faults_status_of verdict }
+{
+    let status = verdict.status();
     match verdict {
         FaultsVerdict::JobRefused(fault) => tell_refusal(rt, job, text, fault),
         FaultsVerdict::Told { denied } => tell_denied(rt, denied),
     }
+    status
 }
 
 // Prints to standard error the lines that are denied, if there are any. They are on standard output already, so if a write fails

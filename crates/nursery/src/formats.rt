@@ -16,7 +16,7 @@ use std::rt::Files;
 /// What is printed about a job file that is not formatted.
 const NOT_FORMATTED: &str = "not formatted from here on";
 
-/// Formats a job file, and returns the status.
+// Formats a job file, and returns the status.
 pub(crate) fn format_job_file<R: Files + Input + Print + Eprint + AllocGlobal>(
     rt: &R,
     job: &str,

@@ -1,20 +1,20 @@
 ghost use Rattle.std.specs.Prelude.{IfOk};
-ghost use Rattle.nursery.specs.Statuses.{TellsLints};
+ghost use Rattle.nursery.specs.Statuses.{TellsLints, TellsJsonLints};
 
 use crate::answers::tell_refusal;
 use crate::sources::read_job_text;
 use crate::stop::Stop;
-use crate::tables::lints_as_json;
 use job_files::shown_name;
 use job_grammar::{JobFault, JobKind};
 use job_lint::{Warning, lints, sentence};
+use json_tables_app::{LintsVerdict, lints_json};
 use nursery_app::{WriteOut, refusal, send};
 use refusal_text::pointed_message;
 use std::alloc::{AllocError, Global};
 use std::io;
 use std::rt::Files;
 
-/// Writes the probable mistakes in a job file, or the line of its refusal, and returns the status.
+// Writes the probable mistakes in a job file, or the line of its refusal, and returns the status.
 pub(crate) fn lint_job<R: Files + Input + Print + Eprint + AllocGlobal>(
     rt: &R,
     job: &str,
@@ -27,7 +27,7 @@ pub(crate) fn lint_job<R: Files + Input + Print + Eprint + AllocGlobal>(
     lint_text(rt, job, text.as_slice())
 }
 
-// The same for a job text.
+// Does the same for a job text.
 fn lint_text<R: Print + Eprint + AllocGlobal>(rt: &R, job: &str, text: &[u8]) -> Result<u8, Stop>
     ensures { IfOk result (TellsLints text.now) }
 {
@@ -44,6 +44,23 @@ fn lint_text<R: Print + Eprint + AllocGlobal>(rt: &R, job: &str, text: &[u8]) ->
             Ok(2)
         }
     }
+}
+
+// Does the same, as a JSON document.
+fn lints_as_json<R: Print + Eprint + AllocGlobal>(
+    rt: &R,
+    job: &str,
+    text: &[u8],
+) -> Result<u8, Stop>
+    ensures { IfOk result (TellsJsonLints text.now) }
+{
+    let mut out = WriteOut::new(io::writer(rt));
+    let verdict = lints_json(rt.alloc(), text, &mut out)?;
+    let status = verdict.status();
+    if let LintsVerdict::JobRefused(fault) = verdict {
+        tell_refusal(rt, job, text, fault);
+    }
+    Ok(status)
 }
 
 // Writes the line of a refusal, and prints it to standard error.
@@ -81,7 +98,7 @@ fn show_warnings<R: Print + AllocGlobal>(
     Ok(())
 }
 
-// The text of warnings: for each its place and its sentence, the line of the job text, and a caret under the place.
+// Returns the text of warnings: for each its place and its sentence, the line of the job text, and a caret under the place.
 fn lines_of(
     alloc: Global,
     job: &str,

@@ -18,7 +18,6 @@ mod races;
 mod sources;
 mod stop;
 mod sweep;
-mod tables;
 mod texts;
 
 use crate::answers::{check_job, explain_job, run_feed, run_job, show_help, upgrade_job};
@@ -40,7 +39,7 @@ use std::rt::{Env, Files};
 use std::thread::Threads;
 use std::time::Clock;
 
-// The words after the program's name.
+// Returns the words after the program's name.
 fn words<R: Env + AllocGlobal>(rt: &R) -> Result<Vec<String>, Stop> {
     let mut words = match env::args(rt) {
         Ok(words) => words,

@@ -25,7 +25,7 @@ pub(crate) struct Progress<'r, R> {
 }
 
 impl<'r, R: Clock + Eprint> Progress<'r, R> {
-    /// Returns the progress of work that begins now, which is shown only at a terminal.
+    // Returns the progress of work that begins now, which is shown only at a terminal.
     pub(crate) fn new(rt: &'r R, at_terminal: bool) -> Progress<'r, R> {
         let start = if at_terminal {
             Instant::now(rt).ok()
@@ -40,7 +40,7 @@ impl<'r, R: Clock + Eprint> Progress<'r, R> {
         }
     }
 
-    /// Clears the line of progress, if one is shown.
+    // Clears the line of progress, if one is shown.
     pub(crate) fn clear(&self) {
         if self.next.load(Ordering::SeqCst) != BEFORE_SHOWN {
             let _ = self.rt.eprint(CLEAR);

@@ -1,13 +1,14 @@
-ghost use Rattle.std.specs.Prelude.{◌≤◌, length, IfOk};
+ghost use Rattle.std.specs.Prelude.{◌≡◌, ◌≤◌, length, IfOk};
 ghost use Rattle.job_meaning.specs.declared.limits.TheConstants.{MAX_INPUT};
-ghost use Rattle.nursery.specs.Statuses.{TellsRaces};
+ghost use Rattle.race_app.specs.Statuses.{races_status_of};
+ghost use Rattle.nursery.specs.Statuses.{TellsRaces, TellsJsonRaces};
 
 use crate::answers::{read_both, tell_refusal, tell_running, word_of};
 use crate::faults::tell_denied;
 use crate::progress::Progress;
 use crate::stop::Stop;
-use crate::tables::races_as_json;
-use nursery_app::{Forward, Settings, WriteOut};
+use json_tables_app::races_json;
+use nursery_app::{Forward, WriteOut};
 use nursery_cli::RacesArgs;
 use race_app::{RacesVerdict, races};
 use std::io;
@@ -19,8 +20,8 @@ use std::time::Clock;
 const NO_FINER_TICKS: &str =
     "error: a `sleep`, `after` or `at` of more than 100000000 ticks has no finer ticks: use a coarser unit of time\n";
 
-/// Writes the places of a job file, run over an input file or over no input, where a hair changes the outcome, and returns the
-/// status. Progress is shown if standard error is a terminal.
+// Writes the places of a job file, run over an input file or over no input, where a hair changes the outcome, and returns the
+// status. Progress is shown if standard error is a terminal.
 pub(crate) fn races_job<R: Files + Input + Print + Eprint + Clock + Threads + Sync + AllocGlobal>(
     rt: &R,
     args: &RacesArgs,
@@ -46,42 +47,57 @@ fn races_text<R: Print + Eprint + Clock + Threads + Sync + AllocGlobal>(
     requires { length input.now ≤ MAX_INPUT }
     ensures { IfOk result (TellsRaces text.now input.now args.now.settings.limit args.now.deny) }
 {
+    let (alloc, settings) = (rt.alloc(), args.settings);
     let mut out = WriteOut::new(io::writer(rt));
-    let told = races(
-        rt,
-        rt.alloc(),
-        text,
-        input,
-        args.settings,
-        args.deny,
-        progress,
-        &mut out,
+    let written = races(
+        rt, alloc, text, input, settings, args.deny, progress, &mut out,
     );
     progress.clear();
-    let verdict = told?;
-    let status = verdict.status();
-    conclude_races(rt, args.job.as_str(), text, input, args.settings, verdict);
-    Ok(status)
+    let verdict = written?;
+    Ok(conclude_races(rt, args, text, input, verdict))
+}
+
+// Does the same, as a JSON document.
+fn races_as_json<R: Print + Eprint + Clock + Threads + Sync + AllocGlobal>(
+    rt: &R,
+    args: &RacesArgs,
+    text: &[u8],
+    input: &[u8],
+    progress: &Progress<'_, R>,
+) -> Result<u8, Stop>
+    requires { length input.now ≤ MAX_INPUT }
+    ensures { IfOk result (TellsJsonRaces text.now input.now args.now.settings.limit args.now.deny) }
+{
+    let (alloc, settings) = (rt.alloc(), args.settings);
+    let mut out = WriteOut::new(io::writer(rt));
+    let written = races_json(
+        rt, alloc, text, input, settings, args.deny, progress, &mut out,
+    );
+    progress.clear();
+    let verdict = written?;
+    Ok(conclude_races(rt, args, text, input, verdict))
 }
 
 // Prints to standard error why the job text is refused, which lines are denied, which tasks have not ended, or that there are no
-// finer ticks.
-pub(crate) fn conclude_races<R: Eprint + Threads + Sync + AllocGlobal>(
+// finer ticks, and returns the status.
+fn conclude_races<R: Eprint + Threads + Sync + AllocGlobal>(
     rt: &R,
-    job: &str,
+    args: &RacesArgs,
     text: &[u8],
     input: &[u8],
-    settings: Settings,
     verdict: RacesVerdict,
-)
+) -> u8
     requires { length input.now ≤ MAX_INPUT }
+    ensures { result ≡ races_status_of verdict }
 {
+    let status = verdict.status();
     match verdict {
-        RacesVerdict::JobRefused(fault) => tell_refusal(rt, job, text, fault),
+        RacesVerdict::JobRefused(fault) => tell_refusal(rt, args.job.as_str(), text, fault),
         RacesVerdict::Told { denied } => tell_denied(rt, denied),
-        RacesVerdict::Limit => tell_running(rt, text, input, settings, &mut Forward),
+        RacesVerdict::Limit => tell_running(rt, text, input, args.settings, &mut Forward),
         RacesVerdict::NoFinerTicks => {
             let _ = rt.eprint(NO_FINER_TICKS);
         }
     }
+    status
 }

@@ -16,7 +16,7 @@ const MAX_FEED: usize = 16_842_759;
 /// one is refused.
 const MAX_JOB: usize = 65_537;
 
-/// Returns the input of that name, or standard input if the name is `-`.
+// Returns the input of that name, or standard input if the name is `-`.
 pub(crate) fn read_input<R: Files + Input + AllocGlobal>(
     rt: &R,
     name: &str,
@@ -40,7 +40,7 @@ pub(crate) fn read_input<R: Files + Input + AllocGlobal>(
     }
 }
 
-/// Returns the feed on standard input.
+// Returns the feed on standard input.
 pub(crate) fn read_feed<R: Files + Input + AllocGlobal>(rt: &R) -> Result<Vec<u8>, Stop>
     ensures { IfOk result (λ bytes. vec_len bytes ≤ 16842759) }
 {
@@ -50,7 +50,7 @@ pub(crate) fn read_feed<R: Files + Input + AllocGlobal>(rt: &R) -> Result<Vec<u8
     }
 }
 
-// Why the input of that name could not be read.
+// Returns why the input of that name could not be read.
 fn input_stop<R: Files + AllocGlobal>(rt: &R, name: &str, fault: ReadFault) -> Stop {
     match fault {
         ReadFault::TooLong => Stop::TooLong,
@@ -61,8 +61,8 @@ fn input_stop<R: Files + AllocGlobal>(rt: &R, name: &str, fault: ReadFault) -> S
     }
 }
 
-/// Returns the job text of that name, or of standard input if the name is `-`, cut off after the first byte too
-/// many.
+// Returns the job text of that name, or of standard input if the name is `-`, cut off after the first byte too
+// many.
 pub(crate) fn read_job_text<R: Files + Input + AllocGlobal>(
     rt: &R,
     name: &str,
@@ -89,7 +89,7 @@ pub(crate) fn read_job_text<R: Files + Input + AllocGlobal>(
     }
 }
 
-// The first bytes of a reader, as many as a job text may have and one more.
+// Returns the first bytes of a reader, as many as a job text may have and one more.
 fn read_front<R: Read + Drop>(alloc: Global, reader: R) -> Result<Vec<u8>, ReadFault>
     ensures { IfOk result (λ bytes. vec_len bytes ≤ 65537) }
 {

@@ -46,7 +46,7 @@ pub enum Stop {
 }
 
 impl Stop {
-    /// Returns the program's exit status.
+    // Returns the program's exit status.
     pub(crate) fn status(&self) -> u8
         ensures { result ≡ status_of self.now }
     {

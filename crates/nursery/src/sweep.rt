@@ -1,14 +1,15 @@
-ghost use Rattle.std.specs.Prelude.{◌≤◌, length, IfOk};
+ghost use Rattle.std.specs.Prelude.{◌≡◌, ◌≤◌, length, IfOk};
 ghost use Rattle.job_meaning.specs.declared.limits.TheConstants.{MAX_INPUT};
-ghost use Rattle.nursery.specs.Statuses.{TellsSweep};
+ghost use Rattle.sweep_app.specs.Statuses.{sweep_status_of};
+ghost use Rattle.nursery.specs.Statuses.{TellsSweep, TellsJsonSweep};
 
 use crate::answers::{read_both, tell_refusal, word_of};
 use crate::progress::Progress;
 use crate::stop::Stop;
-use crate::tables::sweep_as_json;
 use job_edits::Target;
 use job_files::shown_name;
 use job_tree::Name;
+use json_tables_app::sweep_json;
 use nursery_app::WriteOut;
 use nursery_cli::SweepArgs;
 use refusal_text::pointed_message;
@@ -19,8 +20,8 @@ use std::thread::Threads;
 use std::time::Clock;
 use sweep_app::{Missing, SweepVerdict, sweep};
 
-/// Writes the outcome of a job file over an input file, or over no input, for each of these values of one of its numbers, and
-/// returns the status. Progress is shown if standard error is a terminal.
+// Writes the outcome of a job file over an input file, or over no input, for each of these values of one of its numbers, and
+// returns the status. Progress is shown if standard error is a terminal.
 pub(crate) fn sweep_job<R: Files + Input + Print + Eprint + Clock + Threads + Sync + AllocGlobal>(
     rt: &R,
     args: &SweepArgs,
@@ -46,38 +47,57 @@ fn sweep_text<R: Print + Eprint + Clock + Threads + Sync + AllocGlobal>(
     requires { length input.now ≤ MAX_INPUT }
     ensures { IfOk result (TellsSweep text.now input.now args.now.settings.limit args.now.target args.now.values.items) }
 {
+    let (alloc, settings) = (rt.alloc(), args.settings);
+    let (target, values) = (args.target, args.values.as_slice());
     let mut out = WriteOut::new(io::writer(rt));
-    let told = sweep(
-        rt,
-        rt.alloc(),
-        text,
-        input,
-        args.settings,
-        args.target,
-        args.values.as_slice(),
-        progress,
-        &mut out,
+    let written = sweep(
+        rt, alloc, text, input, settings, target, values, progress, &mut out,
     );
     progress.clear();
-    let verdict = told?;
-    let status = verdict.status();
-    conclude_sweep(rt, args.job.as_str(), text, &args.target, verdict);
-    Ok(status)
+    let verdict = written?;
+    Ok(conclude_sweep(rt, args, text, verdict))
 }
 
-// Prints to standard error why the job text is refused, or why it does not have the number that is meant.
-pub(crate) fn conclude_sweep<R: Eprint + AllocGlobal>(
+// Does the same, as a JSON document.
+fn sweep_as_json<R: Print + Eprint + Clock + Threads + Sync + AllocGlobal>(
     rt: &R,
-    job: &str,
+    args: &SweepArgs,
     text: &[u8],
-    target: &Target,
+    input: &[u8],
+    progress: &Progress<'_, R>,
+) -> Result<u8, Stop>
+    requires { length input.now ≤ MAX_INPUT }
+    ensures { IfOk result (TellsJsonSweep text.now input.now args.now.settings.limit args.now.target args.now.values.items) }
+{
+    let (alloc, settings) = (rt.alloc(), args.settings);
+    let (target, values) = (args.target, args.values.as_slice());
+    let mut out = WriteOut::new(io::writer(rt));
+    let written = sweep_json(
+        rt, alloc, text, input, settings, target, values, progress, &mut out,
+    );
+    progress.clear();
+    let verdict = written?;
+    Ok(conclude_sweep(rt, args, text, verdict))
+}
+
+// Prints to standard error why the job text is refused, or why it does not have the number that is meant, and returns the status.
+fn conclude_sweep<R: Eprint + AllocGlobal>(
+    rt: &R,
+    args: &SweepArgs,
+    text: &[u8],
     verdict: SweepVerdict,
-) {
+) -> u8
+    ensures { result ≡ sweep_status_of verdict }
+{
+    let status = verdict.status();
     match verdict {
-        SweepVerdict::JobRefused(fault) => tell_refusal(rt, job, text, fault),
-        SweepVerdict::NoTarget(missing) => tell_missing(rt, job, text, target, &missing),
+        SweepVerdict::JobRefused(fault) => tell_refusal(rt, args.job.as_str(), text, fault),
+        SweepVerdict::NoTarget(missing) => {
+            tell_missing(rt, args.job.as_str(), text, &args.target, &missing)
+        }
         SweepVerdict::Told => {}
     }
+    status
 }
 
 // Prints to standard error why the text does not have the number that is meant. If memory or a write fails here nothing more is
@@ -94,7 +114,7 @@ fn tell_missing<R: Eprint + AllocGlobal>(
     }
 }
 
-// Why the text does not have the number that is meant.
+// Returns the message that says why the text does not have the number that is meant.
 fn missing_message(
     alloc: Global,
     job: &str,
@@ -110,7 +130,7 @@ fn missing_message(
     }
 }
 
-// That no number begins at a place, and what is there.
+// Returns the message that no number begins at a place, with what is there.
 fn no_number_message(
     alloc: Global,
     job: &str,
@@ -121,7 +141,7 @@ fn no_number_message(
     pointed_message(alloc, name.as_str(), text, at, "no number begins here")
 }
 
-// That the text has no such line and column.
+// Returns the message that the text has no such line and column.
 fn no_place_message(alloc: Global, target: &Target) -> Result<String, AllocError> {
     match target {
         Target::At { line, column } => format!(in alloc;
@@ -131,13 +151,13 @@ fn no_place_message(alloc: Global, target: &Target) -> Result<String, AllocError
     }
 }
 
-// That the scope or nursery has no deadline.
+// Returns the message that the scope or nursery has no deadline.
 fn no_deadline_message(alloc: Global, target: &Target) -> Result<String, AllocError> {
     let name = name_in(target);
     format!(in alloc; "error: `{name}` has no deadline that could be varied: give it `after N`\n")
 }
 
-// That no scope or nursery has the name, and which one is the nearest.
+// Returns the message that no scope or nursery has the name, with the nearest name.
 fn no_block_message(
     alloc: Global,
     target: &Target,
@@ -157,7 +177,7 @@ fn no_block_message(
     }
 }
 
-// The name of the scope or nursery whose deadline is meant, or nothing if none is.
+// Returns the name of the scope or nursery whose deadline is meant, or nothing if none is.
 fn name_in(target: &Target) -> &str {
     match target {
         Target::DeadlineOf(name) => shown_word(name.bytes()),
@@ -165,7 +185,7 @@ fn name_in(target: &Target) -> &str {
     }
 }
 
-// A name as text. Its bytes are ASCII.
+// Returns a name as text. Its bytes are ASCII.
 fn shown_word(word: &[u8]) -> &str {
     str::from_utf8(word).unwrap_or("?")
 }

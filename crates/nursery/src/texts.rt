@@ -3,7 +3,7 @@ use crate::stop::Stop;
 use cli_texts::{completions, man_page};
 use nursery_cli::Shell;
 
-/// Writes the script that completes the program's words in a shell, and returns the status.
+// Writes the script that completes the program's words in a shell, and returns the status.
 pub(crate) fn show_completions<R: Print + AllocGlobal>(rt: &R, shell: Shell) -> Result<u8, Stop> {
     match completions(rt.alloc(), shell) {
         Ok(text) => show_help(rt, text.as_str()),
@@ -11,7 +11,7 @@ pub(crate) fn show_completions<R: Print + AllocGlobal>(rt: &R, shell: Shell) -> 
     }
 }
 
-/// Writes the man page, and returns the status.
+// Writes the man page, and returns the status.
 pub(crate) fn show_man_page<R: Print + AllocGlobal>(rt: &R) -> Result<u8, Stop> {
     match man_page(rt.alloc()) {
         Ok(text) => show_help(rt, text.as_str()),

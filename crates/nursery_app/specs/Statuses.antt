@@ -3,7 +3,7 @@ use Rattle.std.specs.Prelude.{ℕ}
 use Rattle.nursery_app.specs.declared.verdict.Verdict.{Verdict}
 use Rattle.nursery_app.specs.declared.verdict.Verdict.TheVariants as verdict
 use Rattle.nursery_app.specs.declared.verdict.CheckVerdict.{CheckVerdict}
-use Rattle.nursery_app.specs.declared.verdict.CheckVerdict.TheVariants as checked
+use Rattle.nursery_app.specs.declared.verdict.CheckVerdict.TheVariants as checks
 
 abbrev pub status_of : Verdict → ℕ
 status_of verdict.Done = 0
@@ -12,5 +12,5 @@ status_of (verdict.JobRefused fault) = 2
 status_of verdict.Limit = 3
 
 abbrev pub check_status_of : CheckVerdict → ℕ
-check_status_of checked.Fine = 0
-check_status_of (checked.JobRefused fault) = 2
+check_status_of checks.Fine = 0
+check_status_of (checks.JobRefused fault) = 2

@@ -24,17 +24,17 @@ pub fn check<W: Out>(
     ensures fault { IfErr result (IsAnswerFault as_it_is job_text.now (W.contents out.old) (W.contents out.new)) }
     ensures counted { IfErr result (CountsFailure (W.failed out.old) (W.failed out.new)) }
 {
-    let (verdict, bytes) = checked(alloc, job_text)?;
+    let (verdict, bytes) = check_answer(alloc, job_text)?;
     send(bytes.as_slice(), out)?;
     Ok(verdict)
 }
 
-// The verdict and all its bytes.
-fn checked(alloc: Global, job_text: &[u8]) -> Result<(CheckVerdict, Vec<u8>), AllocError>
+// Returns the verdict and all its bytes.
+fn check_answer(alloc: Global, job_text: &[u8]) -> Result<(CheckVerdict, Vec<u8>), AllocError>
     ensures { IfOk result (λ r. IsAnswer as_it_is job_text.now r.0 r.1.items) }
 {
     match read_job(alloc, job_text) {
-        Ok(job) => Ok((CheckVerdict::Fine, canonical(alloc, &job)?)),
+        Ok(job) => Ok((CheckVerdict::Fine, canonical_text(alloc, &job)?)),
         Err(fault) => Ok((CheckVerdict::JobRefused(fault), refusal(alloc, fault)?)),
     }
 }
@@ -53,23 +53,26 @@ pub fn upgrade<W: Out>(
     ensures fault { IfErr result (IsAnswerFault in_format_2 job_text.now (W.contents out.old) (W.contents out.new)) }
     ensures counted { IfErr result (CountsFailure (W.failed out.old) (W.failed out.new)) }
 {
-    let (verdict, bytes) = upgraded(alloc, job_text)?;
+    let (verdict, bytes) = upgrade_answer(alloc, job_text)?;
     send(bytes.as_slice(), out)?;
     Ok(verdict)
 }
 
-// The verdict and all its bytes.
-fn upgraded(alloc: Global, job_text: &[u8]) -> Result<(CheckVerdict, Vec<u8>), AllocError>
+// Returns the verdict and all its bytes.
+fn upgrade_answer(alloc: Global, job_text: &[u8]) -> Result<(CheckVerdict, Vec<u8>), AllocError>
     ensures { IfOk result (λ r. IsAnswer in_format_2 job_text.now r.0 r.1.items) }
 {
     match read_job(alloc, job_text) {
-        Ok(job) => Ok((CheckVerdict::Fine, canonical(alloc, &to_format_2(job))?)),
+        Ok(job) => Ok((
+            CheckVerdict::Fine,
+            canonical_text(alloc, &to_format_2(job))?,
+        )),
         Err(fault) => Ok((CheckVerdict::JobRefused(fault), refusal(alloc, fault)?)),
     }
 }
 
-// The canonical text of a job and a newline.
-fn canonical(alloc: Global, job: &Job) -> Result<Vec<u8>, AllocError>
+// Returns the canonical text of a job and a newline.
+fn canonical_text(alloc: Global, job: &Job) -> Result<Vec<u8>, AllocError>
     ensures { IfOk result (λ text. text.items ≡ canon job.now ++ codes "\n") }
 {
     let mut text = write_job(alloc, job)?;

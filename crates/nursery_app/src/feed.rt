@@ -17,14 +17,14 @@ pub fn split_feed(feed: &[u8]) -> (&[u8], &[u8])
     (feed, &[])
 }
 
-// Whether the first line is the `%input` mark.
+// Returns whether the first line is the `%input` mark.
 fn has_mark(bytes: &[u8]) -> bool
     ensures { result ≡ begins_with_mark bytes.now }
 {
     bytes.starts_with(b"%input") && is_line_end(bytes)
 }
 
-// Whether a line of six bytes ends here.
+// Returns whether a line of six bytes ends here.
 fn is_line_end(bytes: &[u8]) -> bool
     requires { 6 ≤ length bytes.now }
     ensures { result ≡ ends_line (drop 6 bytes.now) }
@@ -36,7 +36,7 @@ fn is_line_end(bytes: &[u8]) -> bool
     }
 }
 
-// The bytes after the mark and its newline.
+// Returns the bytes after the mark and its newline.
 fn behind_mark(bytes: &[u8]) -> &[u8]
     ensures { result.now ≡ drop 7 bytes.now }
 {

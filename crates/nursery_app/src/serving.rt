@@ -41,7 +41,7 @@ pub fn serve<R: Threads + Sync, P: Pick, G: Gate + Sync, W: Out>(
     Ok(verdict)
 }
 
-// The verdict and all its bytes.
+// Returns the verdict and all its bytes.
 fn answer<R: Threads + Sync, P: Pick, G: Gate + Sync>(
     rt: &R,
     alloc: Global,
@@ -63,7 +63,7 @@ fn answer<R: Threads + Sync, P: Pick, G: Gate + Sync>(
     }
 }
 
-// The verdict on a job that was read.
+// Returns the verdict on a job that was read.
 fn run_answer<R: Threads + Sync, P: Pick, G: Gate + Sync>(
     rt: &R,
     alloc: Global,

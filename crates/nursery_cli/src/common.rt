@@ -31,7 +31,7 @@ pub(crate) fn settings_of(
 }
 
 // Returns an owned copy of a word, if there is one.
-pub(crate) fn owned(alloc: Global, word: Option<&str>) -> Result<Option<String>, AllocError> {
+pub(crate) fn owned_copy(alloc: Global, word: Option<&str>) -> Result<Option<String>, AllocError> {
     match word {
         Some(word) => Ok(Some(String::from_str(alloc, word)?)),
         None => Ok(None),

@@ -290,6 +290,7 @@ fn man_parser<'a>(alloc: Global) -> Command<'a> {
         .after_help(MAN_EXAMPLE)
 }
 
+// Returns the argument that names the job file.
 fn job_argument<'a>(alloc: Global) -> Arg<'a> {
     Arg::new(alloc, "job")
         .value_name("JOB")
@@ -297,12 +298,14 @@ fn job_argument<'a>(alloc: Global) -> Arg<'a> {
         .required(true)
 }
 
+// Returns the argument that names the input file, which may be missing.
 fn optional_input<'a>(alloc: Global) -> Arg<'a> {
     Arg::new(alloc, "input").value_name("INPUT").help(
         "The input file, or `-` for standard input; without one the input is empty",
     )
 }
 
+// Returns the option for the number of workers.
 fn workers_option<'a>(alloc: Global) -> Arg<'a> {
     Arg::new(alloc, "workers")
         .long("workers")
@@ -312,6 +315,7 @@ fn workers_option<'a>(alloc: Global) -> Arg<'a> {
         .default_value("1")
 }
 
+// Returns the option for the order of turns.
 fn order_option<'a>(alloc: Global) -> Arg<'a> {
     Arg::new(alloc, "order")
         .long("order")
@@ -321,6 +325,7 @@ fn order_option<'a>(alloc: Global) -> Arg<'a> {
         .default_value("forward")
 }
 
+// Returns the option for JSON.
 fn json_option<'a>(alloc: Global) -> Arg<'a> {
     Arg::new(alloc, "json")
         .long("json")
@@ -328,6 +333,7 @@ fn json_option<'a>(alloc: Global) -> Arg<'a> {
         .action(ArgAction::SetTrue)
 }
 
+// Returns the option for the last tick.
 fn limit_option<'a>(alloc: Global) -> Arg<'a> {
     Arg::new(alloc, "limit")
         .long("limit")

@@ -5,7 +5,7 @@ ghost use Rattle.nursery_cli.specs.Words.{IsFit, IsAsked, IsWidth, may_be_raised
 
 use crate::arguments::{ChartArgs, ExplainArgs, FaultsArgs, Order, RacesArgs, RunArgs, SweepArgs};
 use crate::command::{Command, CommandFault, FormatMode, Shell};
-use crate::common::{OUT_OF_RANGE, owned, refusal, settings_of};
+use crate::common::{OUT_OF_RANGE, owned_copy, refusal, settings_of};
 use crate::parser::{DEFAULT_FAULT, LEAST_WIDTH, MAX_WIDTH, command_line};
 use crate::sweeping::{target_of, values_of};
 use clap::ArgMatches;
@@ -33,7 +33,7 @@ pub fn read_command(alloc: Global, words: &[String]) -> Result<Command, CommandF
             return Err(path_refusal(alloc, word.as_str()));
         }
     }
-    asked(alloc, words)
+    command_of(alloc, words)
 }
 
 // Returns whether a word is the name of a file, and not a command or an option.
@@ -88,17 +88,17 @@ fn push_word(alloc: Global, words: &mut Vec<String>, word: &str) -> Result<(), A
 }
 
 // Returns the command of some words.
-fn asked(alloc: Global, words: &[String]) -> Result<Command, CommandFault>
+fn command_of(alloc: Global, words: &[String]) -> Result<Command, CommandFault>
     ensures { IfOk result IsAsked }
 {
     match command_line(alloc)?.try_get_matches_from(words) {
-        Ok(matches) => chosen(alloc, &matches),
-        Err(error) => unmatched(alloc, &error),
+        Ok(matches) => matched_command(alloc, &matches),
+        Err(error) => help_or_refusal(alloc, &error),
     }
 }
 
 // Returns the text that was asked for, or the refusal that says what is wrong.
-fn unmatched(alloc: Global, error: &clap::Error) -> Result<Command, CommandFault>
+fn help_or_refusal(alloc: Global, error: &clap::Error) -> Result<Command, CommandFault>
     ensures { IfOk result IsAsked }
 {
     match error.kind() {
@@ -113,7 +113,7 @@ fn unmatched(alloc: Global, error: &clap::Error) -> Result<Command, CommandFault
 }
 
 // Returns the command of words that the parser accepted.
-fn chosen(alloc: Global, matches: &ArgMatches<'_>) -> Result<Command, CommandFault>
+fn matched_command(alloc: Global, matches: &ArgMatches<'_>) -> Result<Command, CommandFault>
     ensures { IfOk result IsAsked }
 {
     let Some((name, inner)) = matches.subcommand() else {
@@ -189,8 +189,8 @@ fn explain_command(
     let settings = settings_of(alloc, job, input, matches)?;
     Ok(Command::Explain(ExplainArgs {
         job: String::from_str(alloc, job)?,
-        input: owned(alloc, input)?,
-        task: owned(alloc, matches.get_str("task"))?,
+        input: owned_copy(alloc, input)?,
+        task: owned_copy(alloc, matches.get_str("task"))?,
         settings,
         order: order_named(matches.get_str("order")),
         json: matches.get_flag("json"),
@@ -213,7 +213,7 @@ fn chart_command(
     }
     Ok(Command::Chart(ChartArgs {
         job: String::from_str(alloc, job)?,
-        input: owned(alloc, input)?,
+        input: owned_copy(alloc, input)?,
         width,
         svg: matches.get_flag("svg"),
         settings,
@@ -244,7 +244,7 @@ fn faults_command(
     let deny = denied_kinds(alloc, matches.get_str("deny").unwrap_or(""))?;
     Ok(Command::Faults(FaultsArgs {
         job: String::from_str(alloc, job)?,
-        input: owned(alloc, input)?,
+        input: owned_copy(alloc, input)?,
         name,
         deny,
         settings,
@@ -264,7 +264,7 @@ fn races_command(
     let settings = settings_of(alloc, job, input, matches)?;
     Ok(Command::Races(RacesArgs {
         job: String::from_str(alloc, job)?,
-        input: owned(alloc, input)?,
+        input: owned_copy(alloc, input)?,
         deny: matches.get_flag("deny"),
         settings,
         json: matches.get_flag("json"),
@@ -285,7 +285,7 @@ fn sweep_command(
     let values = values_of(alloc, matches.get_str("values").unwrap_or(""))?;
     Ok(Command::Sweep(SweepArgs {
         job: String::from_str(alloc, job)?,
-        input: owned(alloc, input)?,
+        input: owned_copy(alloc, input)?,
         target,
         values,
         settings,

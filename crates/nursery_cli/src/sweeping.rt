@@ -11,7 +11,7 @@ use std::alloc::{AllocError, Global};
 // The maximum number of values of a sweep.
 const MAX_VALUES: u32 = 100_000;
 
-/// Returns the number that a sweep varies, given the name of a scope or nursery, or a place.
+// Returns the number that a sweep varies, given the name of a scope or nursery, or a place.
 pub(crate) fn target_of(
     alloc: Global,
     of: Option<&str>,
@@ -57,8 +57,8 @@ struct Span {
     step: u32,
 }
 
-/// Returns the values of a text such as `1..60` or `1..60:5`: at least one and at most 100,000. The error refuses
-/// any other text, or is that memory was refused.
+// Returns the values of a text such as `1..60` or `1..60:5`: at least one and at most 100,000. The error refuses
+// any other text, or is that memory was refused.
 pub(crate) fn values_of(alloc: Global, text: &str) -> Result<Vec<u64>, CommandFault>
     ensures { IfOk result (λ values. AreValues values.items) }
 {

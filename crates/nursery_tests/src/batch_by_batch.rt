@@ -15,8 +15,8 @@ use std::alloc::{AllocError, Global};
 use std::test::Fail;
 use std::thread::Threads;
 
-// The run of a job at its beginning.
-fn opened<'a>(alloc: Global, job: &'a Job, input: &'a [u8]) -> Result<Runner<'a>, Fail>
+// Returns the run of a job at its beginning.
+fn open_run<'a>(alloc: Global, job: &'a Job, input: &'a [u8]) -> Result<Runner<'a>, Fail>
     ensures { IfOk result IsUnderway }
 {
     if input.len() > MAX_INPUT {
@@ -26,7 +26,7 @@ fn opened<'a>(alloc: Global, job: &'a Job, input: &'a [u8]) -> Result<Runner<'a>
     Ok(runner)
 }
 
-// The requests of a run. If memory is refused they are requested again.
+// Returns the requests of a run. If memory is refused they are requested again.
 fn requests_again<'a>(runner: &Runner<'a>) -> Result<Vec<Request<'a>>, AllocError> {
     if let Ok(requests) = runner.requests() {
         return Ok(requests);
@@ -34,7 +34,7 @@ fn requests_again<'a>(runner: &Runner<'a>) -> Result<Vec<Request<'a>>, AllocErro
     runner.requests()
 }
 
-// Whether a run is ready, and none of its tasks makes a request.
+// Returns whether a run is ready, and none of its tasks makes a request.
 fn asks_nothing(runner: &Runner<'_>) -> Result<bool, AllocError>
     requires { IsUnderway runner.now }
 {
@@ -42,7 +42,7 @@ fn asks_nothing(runner: &Runner<'_>) -> Result<bool, AllocError>
     Ok(requests.is_empty() && runner.phase() == Phase::Ready)
 }
 
-// Whether a request searches the whole of that input for a string.
+// Returns whether a request searches the whole of that input for a string.
 fn is_search(request: &Request<'_>, needle: &[u8], input: &[u8]) -> bool {
     let Kernel::Find(found) = request.kernel else {
         return false;
@@ -50,7 +50,7 @@ fn is_search(request: &Request<'_>, needle: &[u8], input: &[u8]) -> bool {
     found == needle && request.part.at() == 0 && request.part.text() == input
 }
 
-// Whether a run is ready, and one of its tasks searches the whole of that input for a string, and no other makes a
+// Returns whether a run is ready, and one of its tasks searches the whole of that input for a string, and no other makes a
 // request.
 fn asks_for(runner: &Runner<'_>, needle: &[u8], input: &[u8]) -> Result<bool, AllocError>
     requires { IsUnderway runner.now }
@@ -65,8 +65,8 @@ fn asks_for(runner: &Runner<'_>, needle: &[u8], input: &[u8]) -> Result<bool, Al
     }
 }
 
-// A run after the turns of its batch, which makes one request or none, as the caller says. A worker answers it.
-fn committed<'a, R: Threads + Sync + AllocGlobal>(
+// Returns a run after the turns of its batch, which makes one request or none, as the caller says. A worker answers it.
+fn commit_batch<'a, R: Threads + Sync + AllocGlobal>(
     rt: &R,
     runner: Runner<'a>,
     count: usize,
@@ -85,8 +85,8 @@ fn committed<'a, R: Threads + Sync + AllocGlobal>(
     Ok(runner)
 }
 
-// A run after the jump of its clock.
-fn jumped<'a>(runner: Runner<'a>) -> Result<Runner<'a>, Fail>
+// Returns a run after the jump of its clock.
+fn jump_clock<'a>(runner: Runner<'a>) -> Result<Runner<'a>, Fail>
     requires { IsUnderway runner }
     ensures { IfOk result IsUnderway }
 {
@@ -97,7 +97,7 @@ fn jumped<'a>(runner: Runner<'a>) -> Result<Runner<'a>, Fail>
     Ok(runner)
 }
 
-// The limit that the jump of a run's clock would pass, and 0 if it passes none.
+// Returns the limit that the jump of a run's clock would pass, and 0 if it passes none.
 fn limit_of_jump(runner: Runner<'_>) -> Result<u64, Fail>
     requires { IsUnderway runner }
 {
@@ -111,8 +111,8 @@ fn limit_of_jump(runner: Runner<'_>) -> Result<u64, Fail>
     }
 }
 
-// A run whose root has ended, finished.
-fn finished<'a>(runner: Runner<'a>) -> Result<Run<'a>, Fail>
+// Returns a run whose root has ended, finished.
+fn finish_run<'a>(runner: Runner<'a>) -> Result<Run<'a>, Fail>
     requires { IsUnderway runner }
 {
     let Phase::Over = runner.phase() else {
@@ -122,7 +122,7 @@ fn finished<'a>(runner: Runner<'a>) -> Result<Run<'a>, Fail>
     Ok(run)
 }
 
-// Whether an entry is that line.
+// Returns whether an entry is that line.
 fn is_line(entry: Option<&Entry<'_>>, at: usize, text: &[u8]) -> bool {
     match entry {
         Some(Entry::Line(line)) => line.at() == at && line.text() == text,
@@ -130,8 +130,8 @@ fn is_line(entry: Option<&Entry<'_>>, at: usize, text: &[u8]) -> bool {
     }
 }
 
-// Whether the first thing that the root of a run noted is that line.
-fn noted_line(run: &Run<'_>, at: usize, text: &[u8]) -> bool {
+// Returns whether the first thing that the root of a run noted is that line.
+fn has_noted_line(run: &Run<'_>, at: usize, text: &[u8]) -> bool {
     match run.records().first() {
         Some(root) => is_line(root.entries.first(), at, text),
         None => false,
@@ -141,23 +141,23 @@ fn noted_line(run: &Run<'_>, at: usize, text: &[u8]) -> bool {
 #[test]
 fn a_search_has_two_batches(rt: HostRuntime) -> Result<(), Fail> {
     let job = read_job(rt.alloc(), b"trio-job 1\njob main { find \"er\"; }")?;
-    let runner = opened(rt.alloc(), &job, TWO_LINES)?;
+    let runner = open_run(rt.alloc(), &job, TWO_LINES)?;
     assert!(rt; asks_nothing(&runner)?);
-    let runner = committed(&rt, runner, 0)?;
+    let runner = commit_batch(&rt, runner, 0)?;
     assert!(rt; asks_for(&runner, b"er", TWO_LINES)?);
-    let runner = committed(&rt, runner, 1)?;
+    let runner = commit_batch(&rt, runner, 1)?;
     assert!(rt; runner.turns() == 2);
-    let run = finished(runner)?;
+    let run = finish_run(runner)?;
     assert!(rt; run.turns() == 2);
-    assert!(rt; noted_line(&run, 0, b"error"));
+    assert!(rt; has_noted_line(&run, 0, b"error"));
     Ok(())
 }
 
 #[test]
 fn a_jump_past_the_limit_is_refused(rt: HostRuntime) -> Result<(), Fail> {
     let job = read_job(rt.alloc(), b"trio-job 1\njob main { sleep 101; }")?;
-    let runner = opened(rt.alloc(), &job, b"")?;
-    let runner = committed(&rt, runner, 0)?;
+    let runner = open_run(rt.alloc(), &job, b"")?;
+    let runner = commit_batch(&rt, runner, 0)?;
     assert!(rt; limit_of_jump(runner)? == 100);
     Ok(())
 }
@@ -165,10 +165,10 @@ fn a_jump_past_the_limit_is_refused(rt: HostRuntime) -> Result<(), Fail> {
 #[test]
 fn a_jump_to_the_limit_is_made(rt: HostRuntime) -> Result<(), Fail> {
     let job = read_job(rt.alloc(), b"trio-job 1\njob main { sleep 100; }")?;
-    let runner = opened(rt.alloc(), &job, b"")?;
-    let runner = committed(&rt, runner, 0)?;
-    let runner = jumped(runner)?;
-    let runner = committed(&rt, runner, 0)?;
-    assert!(rt; finished(runner)?.turns() == 2);
+    let runner = open_run(rt.alloc(), &job, b"")?;
+    let runner = commit_batch(&rt, runner, 0)?;
+    let runner = jump_clock(runner)?;
+    let runner = commit_batch(&rt, runner, 0)?;
+    assert!(rt; finish_run(runner)?.turns() == 2);
     Ok(())
 }

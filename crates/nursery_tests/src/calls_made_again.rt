@@ -53,7 +53,7 @@ fn cancel(tree: &mut ScopeTree, id: ScopeId, tick: u64)
     }
 }
 
-// The tick from which a task in a scope sees a cancellation, if the scope is open.
+// Returns the tick from which a task in a scope sees a cancellation, if the scope is open.
 fn seen_from(tree: &ScopeTree, id: ScopeId) -> Option<Option<u64>> {
     if !tree.is_open(id) {
         return None;
@@ -61,7 +61,7 @@ fn seen_from(tree: &ScopeTree, id: ScopeId) -> Option<Option<u64>> {
     Some(tree.seen_from(id))
 }
 
-// Whether a task in a scope sees a cancellation in that tick, if the scope is open.
+// Returns whether a task in a scope sees a cancellation in that tick, if the scope is open.
 fn seen_at(tree: &ScopeTree, id: ScopeId, tick: u64) -> Option<bool> {
     if !tree.is_open(id) {
         return None;
@@ -69,7 +69,7 @@ fn seen_at(tree: &ScopeTree, id: ScopeId, tick: u64) -> Option<bool> {
     Some(tree.seen(id, tick))
 }
 
-// Whether a scope catches a cancellation that leaves it in that tick, if the scope is open.
+// Returns whether a scope catches a cancellation that leaves it in that tick, if the scope is open.
 fn caught_at(tree: &ScopeTree, id: ScopeId, tick: u64) -> Option<bool> {
     if !tree.is_open(id) {
         return None;
@@ -77,14 +77,14 @@ fn caught_at(tree: &ScopeTree, id: ScopeId, tick: u64) -> Option<bool> {
     Some(tree.may_catch(id, tick))
 }
 
-// A scope with a deadline, and a shielded one inside it.
+// Returns a scope with a deadline, and a shielded one inside it.
 fn two_scopes(tree: &mut ScopeTree) -> Result<(ScopeId, ScopeId), AllocError> {
     let outer = open_outermost(tree, 3)?;
     let inner = open_shielded_again(tree, outer)?;
     Ok((outer, inner))
 }
 
-// What is seen in such scopes as first the inner and then the outer one is cancelled.
+// Returns what is seen in such scopes as first the inner and then the outer one is cancelled.
 fn seen_by_two(alloc: Global) -> Result<[Option<Option<u64>>; 3], AllocError> {
     let mut tree = ScopeTree::new(alloc);
     let (outer, inner) = two_scopes(&mut tree)?;
@@ -95,7 +95,7 @@ fn seen_by_two(alloc: Global) -> Result<[Option<Option<u64>>; 3], AllocError> {
     Ok([before, then, seen_from(&tree, outer)])
 }
 
-// Whether the outer of such scopes sees its deadline at 2 and at 3, and whether the inner one, cancelled, catches at 5.
+// Returns whether the outer of such scopes sees its deadline at 2 and at 3, and whether the inner one, cancelled, catches at 5.
 fn caught_by_two(alloc: Global) -> Result<[Option<bool>; 3], AllocError> {
     let mut tree = ScopeTree::new(alloc);
     let (outer, inner) = two_scopes(&mut tree)?;
@@ -151,8 +151,8 @@ fn close_again(book: &mut NurseryBook, id: NurseryId) -> Result<Option<Exc>, All
     book.close(id)
 }
 
-// What the task of that name raised, which has the name too.
-fn raised(alloc: Global, name: Name) -> Exc {
+// Returns what the task of that name raised, which has the name too.
+fn raised_exc(alloc: Global, name: Name) -> Exc {
     Exc::Raised {
         name,
         task: Label::new(alloc, name),
@@ -160,7 +160,7 @@ fn raised(alloc: Global, name: Name) -> Exc {
     }
 }
 
-// What a nursery raises if its second child ends before its first.
+// Returns what a nursery raises if its second child ends before its first.
 fn raised_by_two(
     alloc: Global,
     name: Name,
@@ -173,19 +173,19 @@ fn raised_by_two(
     if start_again(&mut book, id)? != 0 || start_again(&mut book, id)? != 1 {
         return Err("children have their places in the order of their starts")?;
     }
-    book.child_ended(id, 1, Some(raised(alloc, second)));
+    book.child_ended(id, 1, Some(raised_exc(alloc, second)));
     book.body_ended(id, None);
     if book.settled(id) {
         return Err("the first child has not ended")?;
     }
-    book.child_ended(id, 0, Some(raised(alloc, first)));
+    book.child_ended(id, 0, Some(raised_exc(alloc, first)));
     if !book.settled(id) {
         return Err("all members have ended")?;
     }
     Ok(close_again(&mut book, id)?)
 }
 
-// Whether an exception was raised with that name.
+// Returns whether an exception was raised with that name.
 fn is_raised(exc: Option<&Exc>, expected: &[u8]) -> bool {
     match exc {
         Some(Exc::Raised { name, .. }) => *name.bytes() == *expected,
@@ -193,7 +193,7 @@ fn is_raised(exc: Option<&Exc>, expected: &[u8]) -> bool {
     }
 }
 
-// Whether an exception is a group of two that were raised with these names.
+// Returns whether an exception is a group of two that were raised with these names.
 fn is_group_of(exc: &Option<Exc>, first: &[u8], second: &[u8]) -> bool {
     let Some(Exc::Group { parts, .. }) = exc else {
         return false;
@@ -202,15 +202,15 @@ fn is_group_of(exc: &Option<Exc>, first: &[u8], second: &[u8]) -> bool {
     parts.len() == 2 && is_raised(parts.first(), first) && is_raised(parts.last(), second)
 }
 
-// The name of these bytes.
-fn named(text: &[u8]) -> Result<Name, Fail> {
+// Returns the name of these bytes.
+fn name_of(text: &[u8]) -> Result<Name, Fail> {
     Ok(Name::new(text).ok_or("a name")?)
 }
 
 #[test]
 fn a_nursery_is_opened_and_closed_again(rt: HostRuntime) -> Result<(), Fail> {
-    let (first, second) = (named(b"A")?, named(b"B")?);
-    let exc = raised_by_two(rt.alloc(), named(b"n")?, first, second)?;
+    let (first, second) = (name_of(b"A")?, name_of(b"B")?);
+    let exc = raised_by_two(rt.alloc(), name_of(b"n")?, first, second)?;
     assert!(rt; is_group_of(&exc, b"A", b"B"));
     Ok(())
 }
@@ -256,7 +256,7 @@ fn place_none(alloc: Global, batch: &mut ReadyBatch<'static>) -> Result<(), Allo
     Ok(())
 }
 
-// The key of the task that has the next turn of a batch, and 0 if none is left.
+// Returns the key of the task that has the next turn of a batch, and 0 if none is left.
 fn key_of_next(batch: &mut ReadyBatch<'static>) -> usize
     requires { AllPlaced batch.old.current }
     ensures { AllPlaced batch.new.current }
@@ -267,7 +267,7 @@ fn key_of_next(batch: &mut ReadyBatch<'static>) -> usize
     }
 }
 
-// The keys of two tasks, which make no requests, as they have their turns, and the result when none is left.
+// Returns the keys of two tasks, which make no requests, as they have their turns, and the result when none is left.
 fn keys_of_two(alloc: Global) -> Result<[usize; 3], AllocError> {
     let mut batch = ReadyBatch::new(alloc);
     add_again(&mut batch, 1)?;

@@ -1,6 +1,6 @@
 //! The charts that `chart` writes of worked jobs: the same under each order of picks, by 1 and by 64 workers.
 
-use crate::fixtures::LIMIT;
+use crate::fixtures::{LIMIT, call_again};
 use chart_app::{Form, chart};
 use job_report::{MemOut, Out};
 use job_runner::{Forward, NoGate, Pick, Reverse, Settings};
@@ -9,8 +9,8 @@ use std::process::Abort;
 use std::test::Fail;
 use std::thread::Threads;
 
-// Calls `chart` with a writer that has not failed.
-fn charted_into<R: Abort + Threads + Sync + AllocGlobal, P: Pick>(
+// Calls `chart`, again if memory is refused.
+fn chart_again<R: Abort + Threads + Sync + AllocGlobal, P: Pick>(
     rt: &R,
     text: &[u8],
     form: Form,
@@ -18,39 +18,16 @@ fn charted_into<R: Abort + Threads + Sync + AllocGlobal, P: Pick>(
     picker: &mut P,
     out: &mut MemOut,
 ) -> Result<Verdict, ServeFault> {
-    assert!(rt; out.failures() == 0);
-    chart(
+    let alloc = rt.alloc();
+    call_again!(
         rt,
-        rt.alloc(),
-        text,
-        b"",
-        settings,
-        form,
-        picker,
-        &NoGate,
         out,
+        chart(rt, alloc, text, b"", settings, form, picker, &NoGate, out)
     )
 }
 
-// Calls `chart`. If memory is refused nothing was sent, and it is called again.
-fn charted<R: Abort + Threads + Sync + AllocGlobal, P: Pick>(
-    rt: &R,
-    text: &[u8],
-    form: Form,
-    settings: Settings,
-    picker: &mut P,
-    out: &mut MemOut,
-) -> Result<Verdict, ServeFault> {
-    let verdict = charted_into(rt, text, form, settings, picker, out);
-    if !matches!(verdict, Err(ServeFault::NoMemory)) {
-        return verdict;
-    }
-    assert!(rt; out.taken().is_empty());
-    charted_into(rt, text, form, settings, picker, out)
-}
-
-// The status and the chart of a job text.
-fn drawn<R: Abort + Threads + Sync + AllocGlobal, P: Pick>(
+// Returns the status and the chart of a job text.
+fn chart_of<R: Abort + Threads + Sync + AllocGlobal, P: Pick>(
     rt: &R,
     text: &[u8],
     form: Form,
@@ -59,7 +36,7 @@ fn drawn<R: Abort + Threads + Sync + AllocGlobal, P: Pick>(
 ) -> Result<(u8, MemOut), Fail> {
     let settings = Settings::new(workers, LIMIT).ok_or("settings")?;
     let mut out = MemOut::new(rt.alloc(), 1_000_000, 7, None)?;
-    let verdict = charted(rt, text, form, settings, picker, &mut out)?;
+    let verdict = chart_again(rt, text, form, settings, picker, &mut out)?;
     Ok((verdict.status(), out))
 }
 
@@ -114,17 +91,17 @@ const CHARTS: &[(&str, usize, u8, &[u8])] = &[
 fn a_chart_has_a_row_for_each_bar(rt: HostRuntime) -> Result<(), Fail> {
     for &(text, width, status, expected) in CHARTS {
         let form = Form::Text { width };
-        let (drawn_with, out) = drawn(&rt, text.as_bytes(), form, 1, &mut Forward)?;
+        let (drawn_with, out) = chart_of(&rt, text.as_bytes(), form, 1, &mut Forward)?;
         assert_eq!(rt; drawn_with, status);
         assert_eq!(rt; out.taken(), expected);
-        let (drawn_with, out) = drawn(&rt, text.as_bytes(), form, 64, &mut Reverse)?;
+        let (drawn_with, out) = chart_of(&rt, text.as_bytes(), form, 64, &mut Reverse)?;
         assert_eq!(rt; drawn_with, status);
         assert_eq!(rt; out.taken(), expected);
     }
     Ok(())
 }
 
-// Whether some bytes begin and end so.
+// Returns whether some bytes begin and end so.
 fn is_between(bytes: &[u8], first: &[u8], last: &[u8]) -> bool {
     bytes.starts_with(first) && bytes.ends_with(last)
 }
@@ -132,7 +109,7 @@ fn is_between(bytes: &[u8], first: &[u8], last: &[u8]) -> bool {
 #[test]
 fn a_drawing_is_an_svg_document(rt: HostRuntime) -> Result<(), Fail> {
     let form = Form::Svg { width: 80 };
-    let (status, out) = drawn(&rt, FAILS.as_bytes(), form, 1, &mut Forward)?;
+    let (status, out) = chart_of(&rt, FAILS.as_bytes(), form, 1, &mut Forward)?;
     assert_eq!(rt; status, 1);
     assert!(rt;
         is_between(
@@ -152,7 +129,7 @@ fn a_writer_that_fails_has_the_beginning_of_a_chart(rt: HostRuntime) -> Result<(
     let settings = Settings::new(1, LIMIT).ok_or("settings")?;
     let mut out = MemOut::new(rt.alloc(), 10, 7, None)?;
     let form = Form::Text { width: 80 };
-    let stopped = charted(
+    let stopped = chart_again(
         &rt,
         FAILS.as_bytes(),
         form,

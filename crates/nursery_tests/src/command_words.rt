@@ -4,7 +4,7 @@ use nursery_cli::{Command, CommandFault, Order, read_command};
 use std::alloc::{AllocError, Global};
 use std::test::Fail;
 
-// The words of a line, split at its spaces.
+// Returns the words of a line, split at its spaces.
 fn words_of(alloc: Global, line: &str) -> Result<Vec<String>, AllocError> {
     let mut words = Vec::new(alloc);
     for word in line.split_whitespace() {
@@ -21,13 +21,13 @@ fn push_word(words: &mut Vec<String>, word: String) -> Result<(), AllocError> {
     }
 }
 
-// What the words of a line request.
+// Returns what the words of a line request.
 fn command_of(alloc: Global, line: &str) -> Result<Command, CommandFault> {
     let words = words_of(alloc, line)?;
     read_command(alloc, words.as_slice())
 }
 
-// The text that refuses a line; empty if it is a command. It is an error if memory was refused.
+// Returns the text that refuses a line; empty if it is a command. It is an error if memory was refused.
 fn refusal_of(alloc: Global, line: &str) -> Result<String, AllocError> {
     match command_of(alloc, line) {
         Ok(_command) => Ok(String::new(alloc)),
@@ -36,7 +36,7 @@ fn refusal_of(alloc: Global, line: &str) -> Result<String, AllocError> {
     }
 }
 
-// The help that a line requests; empty if it requests something else.
+// Returns the help that a line requests; empty if it requests something else.
 fn help_of(alloc: Global, line: &str) -> Result<String, CommandFault> {
     match command_of(alloc, line)? {
         Command::Help { text } => Ok(text),
@@ -44,7 +44,7 @@ fn help_of(alloc: Global, line: &str) -> Result<String, CommandFault> {
     }
 }
 
-// The word of a command.
+// Returns the word of a command.
 fn word_of(command: &Command) -> &'static str {
     match command {
         Command::Feed => "feed",
@@ -66,7 +66,7 @@ fn word_of(command: &Command) -> &'static str {
     }
 }
 
-// The job that a command names, or the text that it writes.
+// Returns the job that a command names, or the text that it writes.
 fn text_of(command: &Command) -> &str {
     match command {
         Command::Feed => "",
@@ -88,7 +88,7 @@ fn text_of(command: &Command) -> &str {
     }
 }
 
-// The first of some words.
+// Returns the first of some words.
 fn first_of(words: &[String]) -> &str {
     match words.first() {
         Some(word) => word.as_str(),
@@ -151,7 +151,7 @@ fn words_are_read_as_a_command_and_its_job(rt: HostRuntime) -> Result<(), Fail> 
     Ok(())
 }
 
-// Whether a command runs the job `j` over the input `i` with these settings.
+// Returns whether a command runs the job `j` over the input `i` with these settings.
 fn is_run(command: &Command, wanted: (usize, Order, u64)) -> bool {
     match command {
         Command::Run(args) => {
@@ -182,7 +182,7 @@ fn runs_have_their_settings(rt: HostRuntime) -> Result<(), Fail> {
     Ok(())
 }
 
-// Whether a command varies a number of the job `j` by these values.
+// Returns whether a command varies a number of the job `j` by these values.
 fn is_sweep(command: &Command, wanted: &[u64]) -> bool {
     match command {
         Command::Sweep(args) => args.job.as_str() == "j" && args.values.as_slice() == wanted,

@@ -1,11 +1,10 @@
 //! What `faults` writes of worked jobs: the same by 1, 3 and 64 threads; and the lines of it that are denied.
 
-use crate::fixtures::LIMIT;
+use crate::fixtures::{LIMIT, call_again};
 use fault_app::{Deny, FaultsVerdict, faults};
 use job_report::{MemOut, Out};
 use job_runner::{NoGate, Settings};
 use job_tree::Name;
-use nursery_app::ServeFault;
 use std::process::Abort;
 use std::test::Fail;
 use std::thread::Threads;
@@ -17,20 +16,8 @@ const ALL: Deny = Deny {
     lost: true,
 };
 
-// Calls `faults` with a writer that has not failed.
-fn told_into<R: Abort + Threads + Sync + AllocGlobal>(
-    rt: &R,
-    text: &[u8],
-    settings: Settings,
-    name: Name,
-    out: &mut MemOut,
-) -> Result<FaultsVerdict, ServeFault> {
-    assert!(rt; out.failures() == 0);
-    faults(rt, rt.alloc(), text, b"", settings, name, ALL, &NoGate, out)
-}
-
-// Calls `faults`. If memory is refused nothing was sent, and it is called again.
-fn told<R: Abort + Threads + Sync + AllocGlobal>(
+// Calls `faults`, again if memory is refused.
+fn faults_again<R: Abort + Threads + Sync + AllocGlobal>(
     rt: &R,
     text: &[u8],
     workers: usize,
@@ -38,13 +25,13 @@ fn told<R: Abort + Threads + Sync + AllocGlobal>(
 ) -> Result<FaultsVerdict, Fail> {
     let settings = Settings::new(workers, LIMIT).ok_or("settings")?;
     let name = Name::new(b"Fault").ok_or("name")?;
-    match told_into(rt, text, settings, name, out) {
-        Err(ServeFault::NoMemory) => {
-            assert!(rt; out.taken().is_empty());
-            Ok(told_into(rt, text, settings, name, out)?)
-        }
-        verdict => Ok(verdict?),
-    }
+    let alloc = rt.alloc();
+    let answer = call_again!(
+        rt,
+        out,
+        faults(rt, alloc, text, b"", settings, name, ALL, &NoGate, out)
+    );
+    Ok(answer?)
 }
 
 const FAILS: &str = "trio-job 1\njob m { sleep 2; raise Boom; }";
@@ -93,7 +80,7 @@ fn faults_are_listed_in_the_order_of_their_places(rt: HostRuntime) -> Result<(),
     for &(text, status, expected) in TABLES {
         for workers in [1, 3, 64] {
             let mut out = MemOut::new(rt.alloc(), 100_000, 7, None)?;
-            let verdict = told(&rt, text.as_bytes(), workers, &mut out)?;
+            let verdict = faults_again(&rt, text.as_bytes(), workers, &mut out)?;
             assert_eq!(rt; verdict.status(), status);
             assert_eq!(rt; out.taken(), expected);
         }
@@ -104,12 +91,12 @@ fn faults_are_listed_in_the_order_of_their_places(rt: HostRuntime) -> Result<(),
 #[test]
 fn denied_lines_are_reported_unchanged(rt: HostRuntime) -> Result<(), Fail> {
     let mut out = MemOut::new(rt.alloc(), 100_000, 7, None)?;
-    let FaultsVerdict::Told { denied } = told(&rt, FAILS.as_bytes(), 1, &mut out)? else {
+    let FaultsVerdict::Told { denied } = faults_again(&rt, FAILS.as_bytes(), 1, &mut out)? else {
         return Err(Fail::from("a refusal"));
     };
     assert_eq!(rt; denied.as_slice(), HANGS);
     let mut out = MemOut::new(rt.alloc(), 100_000, 7, None)?;
-    let FaultsVerdict::Told { denied } = told(&rt, CLEANS.as_bytes(), 2, &mut out)? else {
+    let FaultsVerdict::Told { denied } = faults_again(&rt, CLEANS.as_bytes(), 2, &mut out)? else {
         return Err(Fail::from("a refusal"));
     };
     assert!(rt; denied.as_slice().starts_with(LOSES));

@@ -27,8 +27,8 @@ pub(crate) const HALVES: &[u8] = b"aa\nb\ncccc\n";
 /// The last tick at which the jobs of these tests may end.
 pub(crate) const LIMIT: u64 = 100;
 
-/// The pieces of a text, one after another.
-pub(crate) fn joined(alloc: Global, pieces: &[&[u8]]) -> Result<Vec<u8>, AllocError> {
+// Returns the pieces of a text, one after another.
+pub(crate) fn joined_text(alloc: Global, pieces: &[&[u8]]) -> Result<Vec<u8>, AllocError> {
     let mut text = Vec::new(alloc);
     for piece in pieces {
         text.extend_from_slice(piece)?;
@@ -36,16 +36,16 @@ pub(crate) fn joined(alloc: Global, pieces: &[&[u8]]) -> Result<Vec<u8>, AllocEr
     Ok(text)
 }
 
-/// The text of the job `main` of these steps, after the first line of its format.
+// Returns the text of the job `main` of these steps, after the first line of its format.
 pub(crate) fn job_text(
     alloc: Global,
     first_line: &[u8],
     steps: &[u8],
 ) -> Result<Vec<u8>, AllocError> {
-    joined(alloc, &[first_line, b"job main { ", steps, b" }"])
+    joined_text(alloc, &[first_line, b"job main { ", steps, b" }"])
 }
 
-/// The run of a job by some workers.
+// Returns the run of a job by some workers.
 pub(crate) fn run_of<'a, R: Abort + Threads + Sync + AllocGlobal, P: Pick, G: Gate + Sync>(
     rt: &R,
     job: &'a Job,
@@ -60,7 +60,7 @@ pub(crate) fn run_of<'a, R: Abort + Threads + Sync + AllocGlobal, P: Pick, G: Ga
     Ok(done)
 }
 
-/// Calls `serve` with a writer that has not failed.
+// Calls `serve` with a writer that has not failed.
 pub(crate) fn serve_into<R: Abort + Threads + Sync + AllocGlobal, P: Pick, G: Gate + Sync, W: Out>(
     rt: &R,
     text: &[u8],
@@ -75,7 +75,24 @@ pub(crate) fn serve_into<R: Abort + Threads + Sync + AllocGlobal, P: Pick, G: Ga
     serve(rt, rt.alloc(), text, input, settings, picker, gate, out)
 }
 
-/// Serves a text. If memory is refused nothing was sent, and the text is served again.
+// Makes a call that writes to `out`, which has not failed. If memory is refused nothing was sent, and the call is made again.
+macro_rules! call_again {
+    ($rt:ident, $out:ident, $call:expr) => {{
+        assert!($rt; $out.failures() == 0);
+        match $call {
+            Err(nursery_app::ServeFault::NoMemory) => {
+                assert!($rt; $out.taken().is_empty());
+                assert!($rt; $out.failures() == 0);
+                $call
+            }
+            answer => answer,
+        }
+    }};
+}
+
+pub(crate) use call_again;
+
+// Serves a text, again if memory is refused.
 pub(crate) fn serve_again<R: Abort + Threads + Sync + AllocGlobal, P: Pick>(
     rt: &R,
     text: &[u8],
@@ -84,16 +101,15 @@ pub(crate) fn serve_again<R: Abort + Threads + Sync + AllocGlobal, P: Pick>(
     picker: &mut P,
     out: &mut MemOut,
 ) -> Result<Verdict, ServeFault> {
-    let verdict = serve_into(rt, text, input, settings, picker, &NoGate, out);
-    if !matches!(verdict, Err(ServeFault::NoMemory)) {
-        return verdict;
-    }
-    assert!(rt; out.taken().is_empty());
-    serve_into(rt, text, input, settings, picker, &NoGate, out)
+    call_again!(
+        rt,
+        out,
+        serve_into(rt, text, input, settings, picker, &NoGate, out)
+    )
 }
 
-/// What `serve` writes for a text with these settings, and the status of its verdict, which is 5 for a fault.
-pub(crate) fn served<R: Abort + Threads + Sync + AllocGlobal, P: Pick>(
+// Returns what `serve` writes for a text with these settings, and the status of its verdict, which is 5 for a fault.
+pub(crate) fn serve_answer<R: Abort + Threads + Sync + AllocGlobal, P: Pick>(
     rt: &R,
     text: &[u8],
     input: &[u8],
@@ -118,52 +134,36 @@ pub(crate) enum Asked {
     Upgraded,
 }
 
-// Calls `check` or `upgrade` with a writer that has not failed.
-fn written_into(
+// Requests a job text, again if memory is refused.
+pub(crate) fn request_again(
     rt: &(impl Abort + AllocGlobal),
     asked: Asked,
     text: &[u8],
     out: &mut MemOut,
 ) -> Result<CheckVerdict, ServeFault> {
-    assert!(rt; out.failures() == 0);
     match asked {
-        Asked::Checked => check(rt.alloc(), text, out),
-        Asked::Upgraded => upgrade(rt.alloc(), text, out),
+        Asked::Checked => call_again!(rt, out, check(rt.alloc(), text, out)),
+        Asked::Upgraded => call_again!(rt, out, upgrade(rt.alloc(), text, out)),
     }
 }
 
-/// Requests a job text. If memory is refused nothing was sent, and it is requested again.
-pub(crate) fn written_again(
-    rt: &(impl Abort + AllocGlobal),
-    asked: Asked,
-    text: &[u8],
-    out: &mut MemOut,
-) -> Result<CheckVerdict, ServeFault> {
-    let verdict = written_into(rt, asked, text, out);
-    if !matches!(verdict, Err(ServeFault::NoMemory)) {
-        return verdict;
-    }
-    assert!(rt; out.taken().is_empty());
-    written_into(rt, asked, text, out)
-}
-
-/// What `check` or `upgrade` writes for a text, and the status of its verdict.
-pub(crate) fn written(
+// Returns what `check` or `upgrade` writes for a text, and the status of its verdict.
+pub(crate) fn text_answer(
     rt: &(impl Abort + AllocGlobal),
     asked: Asked,
     text: &[u8],
 ) -> Result<(u8, MemOut), Fail> {
     let mut out = MemOut::new(rt.alloc(), 65_537, 100, None)?;
-    let verdict = written_again(rt, asked, text, &mut out)?;
+    let verdict = request_again(rt, asked, text, &mut out)?;
     Ok((verdict.status(), out))
 }
 
-/// Checks what was written, with the name of what was requested.
+// Checks what was written, with the name of what was requested.
 pub(crate) fn assert_written(rt: &impl Abort, name: &str, out: &MemOut, expected: &[u8]) {
     assert_eq!(rt; out.taken(), expected, "{name}");
 }
 
-/// Checks what `serve` writes for a text with the limit 100, by 1 and 64 workers in each order of picks.
+// Checks what `serve` writes for a text with the limit 100, by 1 and 64 workers in each order of picks.
 pub(crate) fn assert_serves<R: Abort + Threads + Sync + AllocGlobal>(
     rt: &R,
     name: &str,
@@ -172,18 +172,18 @@ pub(crate) fn assert_serves<R: Abort + Threads + Sync + AllocGlobal>(
     expected: &[u8],
 ) -> Result<(), Fail> {
     for workers in [1, 64] {
-        let (forward, out) = served(rt, text, input, workers, &mut Forward)?;
+        let (forward, out) = serve_answer(rt, text, input, workers, &mut Forward)?;
         assert_written(rt, name, &out, expected);
-        let (reverse, out) = served(rt, text, input, workers, &mut Reverse)?;
+        let (reverse, out) = serve_answer(rt, text, input, workers, &mut Reverse)?;
         assert_written(rt, name, &out, expected);
-        let (turn, out) = served(rt, text, input, workers, &mut Turn { calls: 0 })?;
+        let (turn, out) = serve_answer(rt, text, input, workers, &mut Turn { calls: 0 })?;
         assert_written(rt, name, &out, expected);
         assert!(rt; forward < 4 && reverse < 4 && turn < 4, "{name}");
     }
     Ok(())
 }
 
-/// Checks the reports of worked jobs in a format.
+// Checks the reports of worked jobs in a format.
 pub(crate) fn assert_rows<R: Abort + Threads + Sync + AllocGlobal>(
     rt: &R,
     first_line: &[u8],
@@ -196,7 +196,7 @@ pub(crate) fn assert_rows<R: Abort + Threads + Sync + AllocGlobal>(
     Ok(())
 }
 
-/// Checks the reports of worked jobs, which are the same in both formats.
+// Checks the reports of worked jobs, which are the same in both formats.
 pub(crate) fn assert_rows_in_both_formats<R: Abort + Threads + Sync + AllocGlobal>(
     rt: &R,
     rows: &[Row],
@@ -205,7 +205,7 @@ pub(crate) fn assert_rows_in_both_formats<R: Abort + Threads + Sync + AllocGloba
     assert_rows(rt, FORMAT_2, rows)
 }
 
-/// Checks what `serve` writes for a text, and the status of its verdict.
+// Checks what `serve` writes for a text, and the status of its verdict.
 pub(crate) fn assert_answers<R: Abort + Threads + Sync + AllocGlobal>(
     rt: &R,
     text: &str,
@@ -213,7 +213,7 @@ pub(crate) fn assert_answers<R: Abort + Threads + Sync + AllocGlobal>(
     status: u8,
     expected: &[u8],
 ) -> Result<(), Fail> {
-    let (told, out) = served(rt, text.as_bytes(), input, 1, &mut Forward)?;
+    let (told, out) = serve_answer(rt, text.as_bytes(), input, 1, &mut Forward)?;
     assert_written(rt, text, &out, expected);
     assert_eq!(rt; told, status, "{text}");
     Ok(())

@@ -1,5 +1,6 @@
 //! The formatted texts of jobs: what `format_text` returns, and where `check_format` finds that a text differs.
 
+use crate::fixtures::call_again;
 use format_app::{FormatCheck, FormatFault, FormatVerdict, check_format, format, format_text};
 use job_grammar::JobKind;
 use job_report::{MemOut, Out};
@@ -38,8 +39,8 @@ const TEXTS: &[(&str, &str)] = &[
     ),
 ];
 
-// The formatted text of a job text.
-fn formatted(alloc: Global, text: &[u8]) -> Result<Vec<u8>, Fail> {
+// Returns the formatted text of a job text.
+fn formatted_text(alloc: Global, text: &[u8]) -> Result<Vec<u8>, Fail> {
     match format_text(alloc, text) {
         Ok(bytes) => Ok(bytes),
         Err(FormatFault::NoMemory) => match format_text(alloc, text) {
@@ -53,16 +54,16 @@ fn formatted(alloc: Global, text: &[u8]) -> Result<Vec<u8>, Fail> {
 #[test]
 fn each_step_has_its_line_and_short_blocks_one(rt: HostRuntime) -> Result<(), Fail> {
     for &(text, expected) in TEXTS {
-        let bytes = formatted(rt.alloc(), text.as_bytes())?;
+        let bytes = formatted_text(rt.alloc(), text.as_bytes())?;
         assert_eq!(rt; bytes.as_slice(), expected.as_bytes());
-        let again = formatted(rt.alloc(), expected.as_bytes())?;
+        let again = formatted_text(rt.alloc(), expected.as_bytes())?;
         assert_eq!(rt; again.as_slice(), expected.as_bytes());
     }
     Ok(())
 }
 
-// The result for a job text. If memory is refused it is computed again.
-fn checked(alloc: Global, text: &[u8]) -> Result<FormatCheck, Fail> {
+// Returns the result for a job text. If memory is refused it is computed again.
+fn format_check(alloc: Global, text: &[u8]) -> Result<FormatCheck, Fail> {
     match check_format(alloc, text) {
         Ok(check) => Ok(check),
         Err(_) => Ok(check_format(alloc, text)?),
@@ -84,17 +85,20 @@ const PLACES: &[(&str, FormatCheck)] = &[
 #[test]
 fn a_difference_has_its_place(rt: HostRuntime) -> Result<(), Fail> {
     for &(text, expected) in PLACES {
-        assert!(rt; checked(rt.alloc(), text.as_bytes())? == expected, "{text}");
+        assert!(rt;
+            format_check(rt.alloc(), text.as_bytes())? == expected,
+            "{text}"
+        );
     }
-    let found = checked(rt.alloc(), b"trio-job 1\njob a { slep 1; }")?;
+    let found = format_check(rt.alloc(), b"trio-job 1\njob a { slep 1; }")?;
     assert!(rt;
         matches!(found, FormatCheck::JobRefused(fault) if fault.at == 19 && fault.kind == JobKind::Syntax)
     );
     Ok(())
 }
 
-// A job text of 31 nested scopes, and the given number of steps in the innermost.
-fn deep(alloc: Global, steps: usize) -> Result<Vec<u8>, Fail> {
+// Returns a job text of 31 nested scopes, and the given number of steps in the innermost.
+fn nested_job(alloc: Global, steps: usize) -> Result<Vec<u8>, Fail> {
     let mut text = Vec::from_slice(alloc, b"trio-job 1\njob a{")?;
     for depth in 0..31u8 {
         text.extend_from_slice(b"scope s")?;
@@ -112,23 +116,22 @@ fn deep(alloc: Global, steps: usize) -> Result<Vec<u8>, Fail> {
 // The formatted text has 2,439 bytes without the innermost steps, and 76 for each of these.
 #[test]
 fn a_text_is_formatted_up_to_the_greatest_length(rt: HostRuntime) -> Result<(), Fail> {
-    let most = deep(rt.alloc(), 800)?;
-    let bytes = formatted(rt.alloc(), most.as_slice())?;
-    let long = deep(rt.alloc(), 900)?;
-    let found = checked(rt.alloc(), long.as_slice())?;
+    let most = nested_job(rt.alloc(), 800)?;
+    let bytes = formatted_text(rt.alloc(), most.as_slice())?;
+    let long = nested_job(rt.alloc(), 900)?;
+    let found = format_check(rt.alloc(), long.as_slice())?;
     assert_eq!(rt; bytes.len(), 2_439 + 800 * 76);
     assert!(rt; found == FormatCheck::TooLong(2_439 + 900 * 76));
     Ok(())
 }
 
-// Writes the formatted text of a job text, with a writer that has not failed.
-fn written<R: Abort + AllocGlobal>(
+// Calls `format`, again if memory is refused.
+fn format_again<R: Abort + AllocGlobal>(
     rt: &R,
     text: &[u8],
     out: &mut MemOut,
 ) -> Result<FormatVerdict, ServeFault> {
-    assert!(rt; out.failures() == 0);
-    format(rt.alloc(), text, out)
+    call_again!(rt, out, format(rt.alloc(), text, out))
 }
 
 // A job text, the status, and what is written.
@@ -141,10 +144,7 @@ const ANSWERS: &[(&str, u8, &str)] = &[
 fn the_formatted_text_or_the_refusal_is_written(rt: HostRuntime) -> Result<(), Fail> {
     for &(text, status, expected) in ANSWERS {
         let mut out = MemOut::new(rt.alloc(), 1_000_000, 7, None)?;
-        let verdict = match written(&rt, text.as_bytes(), &mut out) {
-            Err(ServeFault::NoMemory) => written(&rt, text.as_bytes(), &mut out)?,
-            answer => answer?,
-        };
+        let verdict = format_again(&rt, text.as_bytes(), &mut out)?;
         assert_eq!(rt; verdict.status(), status);
         assert_eq!(rt; out.taken(), expected.as_bytes());
     }

@@ -5,8 +5,8 @@ use job_grammar::{Body, Step, read_job};
 use std::alloc::{AllocError, Global};
 use std::test::Fail;
 
-// The size of the job of a text.
-fn size(alloc: Global, text: &[u8]) -> Result<u64, Fail> {
+// Returns the size of the job of a text.
+fn size_in(alloc: Global, text: &[u8]) -> Result<u64, Fail> {
     let job = read_job(alloc, text)?;
     Ok(job.size())
 }
@@ -30,13 +30,13 @@ const SIZES: &[(&str, u64)] = &[
 #[test]
 fn jobs_of_format_2_have_sizes_up_to_a_million(rt: HostRuntime) -> Result<(), Fail> {
     for &(text, expected) in SIZES {
-        assert!(rt; size(rt.alloc(), text.as_bytes())? == expected, "{text}");
+        assert!(rt; size_in(rt.alloc(), text.as_bytes())? == expected, "{text}");
     }
     Ok(())
 }
 
-// A block that repeats a block of these steps 1,000 times.
-fn thousand(alloc: Global, body: Body) -> Result<Body, AllocError> {
+// Returns a block that repeats a block of these steps 1,000 times.
+fn thousand_passes(alloc: Global, body: Body) -> Result<Body, AllocError> {
     let mut steps = Vec::with_capacity(alloc, 1)?;
     match steps.push(Step::Repeat { count: 1000, body }) {
         Ok(()) => Ok(Body::new(steps)),
@@ -46,8 +46,8 @@ fn thousand(alloc: Global, body: Body) -> Result<Body, AllocError> {
 
 #[test]
 fn a_thousand_times_a_thousand_passes_are_too_many(rt: HostRuntime) -> Result<(), Fail> {
-    let passes = thousand(rt.alloc(), Body::new(Vec::new(rt.alloc())))?;
-    let steps = thousand(rt.alloc(), passes)?;
+    let passes = thousand_passes(rt.alloc(), Body::new(Vec::new(rt.alloc())))?;
+    let steps = thousand_passes(rt.alloc(), passes)?;
     assert!(rt; size_of(steps.as_slice()) == 1_002_001);
     Ok(())
 }

@@ -47,7 +47,7 @@ const SWEEP: &[u8] =
     b"{\"as_it_is\":{\"result\":{\"cancelled\":[],\"cut\":[],\"end\":3,\"exception\":null,\"lost\":false,\"outcome\":\"done\"}},\"counts\":{\"cut\":0,\"refused\":0,\"stuck\":0,\"values\":2},\"lines\":[{\"result\":{\"cancelled\":[],\"cut\":[],\"end\":1,\"exception\":null,\"lost\":false,\"outcome\":\"done\"},\"value\":1},{\"result\":{\"cancelled\":[],\"cut\":[],\"end\":2,\"exception\":null,\"lost\":false,\"outcome\":\"done\"},\"value\":2}]}\n";
 
 // Calls `sweep_json` with a writer that has not failed, and returns the status.
-fn swept<R: Abort + Threads + Sync + AllocGlobal>(
+fn sweep_status<R: Abort + Threads + Sync + AllocGlobal>(
     rt: &R,
     target: Target,
     out: &mut MemOut,
@@ -70,7 +70,7 @@ fn swept<R: Abort + Threads + Sync + AllocGlobal>(
 
 const VALUES: &[u64] = &[1, 2];
 
-// The number of the job's sleep.
+// Returns the number of the job's sleep.
 fn ticks_of_the_sleep() -> Target {
     Target::At {
         line: 2,
@@ -81,7 +81,7 @@ fn ticks_of_the_sleep() -> Target {
 #[test]
 fn a_sweep_is_a_document(rt: HostRuntime) -> Result<(), Fail> {
     let mut out = MemOut::new(rt.alloc(), 100_000, 7, None)?;
-    let status = swept(&rt, ticks_of_the_sleep(), &mut out)?;
+    let status = sweep_status(&rt, ticks_of_the_sleep(), &mut out)?;
     assert!(rt; status == 0);
     assert!(rt; out.taken() == SWEEP);
     Ok(())

@@ -1,7 +1,7 @@
 //! Large jobs: blocks as deep as they are allowed, and thousands of tasks.
 
-use crate::fixtures::{FORMAT_1, FORMAT_2, assert_serves, job_text, served};
-use crate::nested_jobs::{nested, push_down, push_each, push_up};
+use crate::fixtures::{FORMAT_1, FORMAT_2, assert_serves, job_text, serve_answer};
+use crate::nested_jobs::{nested_steps, push_down, push_each, push_up};
 use job_report::Out;
 use job_runner::Forward;
 use std::process::Abort;
@@ -23,7 +23,7 @@ fn assert_reports<R: Abort + Threads + Sync + AllocGlobal>(
 
 #[test]
 fn thirty_one_nested_scopes(rt: HostRuntime) -> Result<(), Fail> {
-    let steps = nested(rt.alloc(), b"scope s", b"sleep 1;")?;
+    let steps = nested_steps(rt.alloc(), b"scope s", b"sleep 1;")?;
     let mut report = Vec::from_slice(rt.alloc(), b"job main 1\ntask main 0 1 done\n")?;
     push_down(&mut report, b"  scope s", b" 1 passed\n")?;
     assert_reports(&rt, "scopes", steps.as_slice(), report.as_slice())
@@ -31,7 +31,7 @@ fn thirty_one_nested_scopes(rt: HostRuntime) -> Result<(), Fail> {
 
 #[test]
 fn thirty_one_nested_nurseries_around_a_raise(rt: HostRuntime) -> Result<(), Fail> {
-    let steps = nested(rt.alloc(), b"nursery n", b"raise A;")?;
+    let steps = nested_steps(rt.alloc(), b"nursery n", b"raise A;")?;
     let mut report = Vec::from_slice(rt.alloc(), b"job main 0\ntask main 0 0 raised ")?;
     push_up(&mut report, b"n", b"[")?;
     report.extend_from_slice(b"A(main@0)")?;
@@ -41,7 +41,7 @@ fn thirty_one_nested_nurseries_around_a_raise(rt: HostRuntime) -> Result<(), Fai
     assert_reports(&rt, "nurseries", steps.as_slice(), report.as_slice())
 }
 
-// How many lines a report has.
+// Returns how many lines a report has.
 fn lines_of(report: &[u8]) -> u64 {
     let mut lines = 0u64;
     for byte in report {
@@ -55,7 +55,7 @@ fn four_thousand_tasks(rt: HostRuntime) -> Result<(), Fail> {
     let steps =
         b"nursery n { start a over 64 { nursery m { start b over 64 { sleep 1; sleep 1; sleep 1; } } } }";
     let text = job_text(rt.alloc(), FORMAT_1, steps)?;
-    let (status, out) = served(&rt, text.as_slice(), b"", 1, &mut Forward)?;
+    let (status, out) = serve_answer(&rt, text.as_slice(), b"", 1, &mut Forward)?;
     assert_eq!(rt; status, 0);
     let first = b"job main 3\ntask main 0 3 done\n  nursery n 3 passed\ntask a.0 0 3 done\n";
     assert!(rt; out.taken().starts_with(first));

@@ -124,17 +124,17 @@ fn push_line(alloc: Global, lines: &mut Vec<u8>, warning: &Warning) -> Result<()
     lines.extend_from_slice(b"\n")
 }
 
-// The warnings of a text. If memory is refused they are requested again.
-fn linted(alloc: Global, text: &[u8]) -> Result<Vec<Warning>, JobFault> {
+// Returns the warnings of a text. If memory is refused they are requested again.
+fn warnings_of(alloc: Global, text: &[u8]) -> Result<Vec<Warning>, JobFault> {
     match lints(alloc, text) {
         Err(fault) if fault.kind == JobKind::NoMemory => lints(alloc, text),
         answer => answer,
     }
 }
 
-// A line for each warning of a text.
+// Returns a line for each warning of a text.
 fn lines_of(alloc: Global, text: &[u8]) -> Result<Vec<u8>, Fail> {
-    let warnings = linted(alloc, text)?;
+    let warnings = warnings_of(alloc, text)?;
     let mut lines = Vec::new(alloc);
     for warning in warnings.as_slice() {
         push_line(alloc, &mut lines, warning)?;
@@ -143,7 +143,7 @@ fn lines_of(alloc: Global, text: &[u8]) -> Result<Vec<u8>, Fail> {
 }
 
 // Fails at the first row with other lines, and prints them.
-fn are_found(alloc: Global, rows: &[Row]) -> Result<(), Fail> {
+fn assert_lines(alloc: Global, rows: &[Row]) -> Result<(), Fail> {
     for i in 0..rows.len() {
         let (text, expected) = rows[i];
         let lines = lines_of(alloc, text)?;
@@ -159,42 +159,42 @@ fn are_found(alloc: Global, rows: &[Row]) -> Result<(), Fail> {
 
 #[test]
 fn steps_that_never_run(rt: HostRuntime) -> Result<(), Fail> {
-    are_found(rt.alloc(), UNREACHABLE)
+    assert_lines(rt.alloc(), UNREACHABLE)
 }
 
 #[test]
 fn cleanups_that_wait(rt: HostRuntime) -> Result<(), Fail> {
-    are_found(rt.alloc(), EXPOSED)
+    assert_lines(rt.alloc(), EXPOSED)
 }
 
 #[test]
 fn cleanups_that_raise(rt: HostRuntime) -> Result<(), Fail> {
-    are_found(rt.alloc(), RAISED)
+    assert_lines(rt.alloc(), RAISED)
 }
 
 #[test]
 fn shields_without_a_deadline(rt: HostRuntime) -> Result<(), Fail> {
-    are_found(rt.alloc(), SHIELDS)
+    assert_lines(rt.alloc(), SHIELDS)
 }
 
 #[test]
 fn scopes_that_nothing_cancels(rt: HostRuntime) -> Result<(), Fail> {
-    are_found(rt.alloc(), SCOPES)
+    assert_lines(rt.alloc(), SCOPES)
 }
 
 #[test]
 fn handlers_of_what_nothing_raises(rt: HostRuntime) -> Result<(), Fail> {
-    are_found(rt.alloc(), HANDLERS)
+    assert_lines(rt.alloc(), HANDLERS)
 }
 
 #[test]
 fn warnings_are_listed_in_the_order_of_the_text(rt: HostRuntime) -> Result<(), Fail> {
-    are_found(rt.alloc(), SEVERAL)
+    assert_lines(rt.alloc(), SEVERAL)
 }
 
-// The refusal of a text.
+// Returns the refusal of a text.
 fn refusal_of(alloc: Global, text: &[u8]) -> Result<JobFault, Fail> {
-    match linted(alloc, text) {
+    match warnings_of(alloc, text) {
         Ok(_) => Err("not refused")?,
         Err(fault) => Ok(fault),
     }

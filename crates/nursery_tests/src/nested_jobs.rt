@@ -18,7 +18,7 @@ fn push_numbered(
     out.extend_from_slice(behind)
 }
 
-/// Appends the numbers from 01 to 31, each between two texts.
+// Appends the numbers from 01 to 31, each between two texts.
 pub(crate) fn push_up(out: &mut Vec<u8>, front: &[u8], behind: &[u8]) -> Result<(), AllocError> {
     for i in 0..DEEPEST {
         push_numbered(out, front, i.wrapping_add(1), behind)?;
@@ -26,7 +26,7 @@ pub(crate) fn push_up(out: &mut Vec<u8>, front: &[u8], behind: &[u8]) -> Result<
     Ok(())
 }
 
-/// Appends the numbers from 31 down to 01, each between two texts.
+// Appends the numbers from 31 down to 01, each between two texts.
 pub(crate) fn push_down(out: &mut Vec<u8>, front: &[u8], behind: &[u8]) -> Result<(), AllocError> {
     for i in 0..DEEPEST {
         push_numbered(out, front, DEEPEST.wrapping_sub(i), behind)?;
@@ -34,7 +34,7 @@ pub(crate) fn push_down(out: &mut Vec<u8>, front: &[u8], behind: &[u8]) -> Resul
     Ok(())
 }
 
-/// Appends a text 31 times.
+// Appends a text 31 times.
 pub(crate) fn push_each(out: &mut Vec<u8>, text: &[u8]) -> Result<(), AllocError> {
     for _ in 0..DEEPEST {
         out.extend_from_slice(text)?;
@@ -42,8 +42,12 @@ pub(crate) fn push_each(out: &mut Vec<u8>, text: &[u8]) -> Result<(), AllocError
     Ok(())
 }
 
-/// The steps inside 31 blocks that begin so, each with a number after its name.
-pub(crate) fn nested(alloc: Global, block: &[u8], steps: &[u8]) -> Result<Vec<u8>, AllocError> {
+// Returns the steps inside 31 blocks that begin so, each with a number after its name.
+pub(crate) fn nested_steps(
+    alloc: Global,
+    block: &[u8],
+    steps: &[u8],
+) -> Result<Vec<u8>, AllocError> {
     let mut text = Vec::new(alloc);
     push_up(&mut text, block, b" { ")?;
     text.extend_from_slice(steps)?;

@@ -3,7 +3,7 @@
 ghost use Rattle.std.specs.Prelude.{◌<◌};
 
 use crate::fixtures::{FORMAT_1, HALVES, LIMIT, assert_written, job_text, run_of, serve_into};
-use crate::nested_jobs::nested;
+use crate::nested_jobs::nested_steps;
 use job_grammar::read_job;
 use job_report::MemOut;
 use job_runner::{
@@ -23,7 +23,7 @@ fn assert_ticks(rt: &impl Abort, records: &[Record<'_>], ticks: &[(u64, u64)]) {
     }
 }
 
-// The ticks in which a task started and ended.
+// Returns the ticks in which a task started and ended.
 fn ticks_of(record: Option<&Record<'_>>) -> (u64, u64) {
     match record {
         Some(record) => (record.from_tick, record.to_tick),
@@ -31,7 +31,7 @@ fn ticks_of(record: Option<&Record<'_>>) -> (u64, u64) {
     }
 }
 
-// Whether a task of that name with these indices ended without an exception.
+// Returns whether a task of that name with these indices ended without an exception.
 fn is_done(record: Option<&Record<'_>>, name: &[u8], indices: &[u64]) -> bool {
     match record {
         Some(record) => {
@@ -89,7 +89,7 @@ fn a_nursery_without_tasks_takes_two_turns(rt: HostRuntime) -> Result<(), Fail> 
 
 #[test]
 fn nested_scopes_take_no_turn(rt: HostRuntime) -> Result<(), Fail> {
-    let steps = nested(rt.alloc(), b"scope s", b"sleep 1;")?;
+    let steps = nested_steps(rt.alloc(), b"scope s", b"sleep 1;")?;
     let text = job_text(rt.alloc(), FORMAT_1, steps.as_slice())?;
     assert_turns(&rt, text.as_slice(), &mut Forward, 2, &[(0, 1)], MAIN)
 }
@@ -154,7 +154,7 @@ fn assert_froms(rt: &impl Abort, froms: &[ScopeFrom], wanted: &[(&[u8], Option<u
     }
 }
 
-// Whether a scope of that name was cancelled from that tick.
+// Returns whether a scope of that name was cancelled from that tick.
 fn is_from(from: Option<&ScopeFrom>, name: &[u8], seen: Option<u64>) -> bool {
     match from {
         Some(from) => *from.label.name().bytes() == *name && from.seen == seen,
@@ -205,7 +205,7 @@ impl Gate for Both {
             1 => self.second.store(1, Ordering::SeqCst),
             _ => (),
         }
-        if !self.both_begun() {
+        if !self.have_begun() {
             self.missed.store(1, Ordering::SeqCst);
         }
     }
@@ -222,13 +222,13 @@ impl Both {
         }
     }
 
-    // Whether both requests were begun, and neither waited in vain.
-    fn both_met(&self) -> bool {
-        self.both_begun() && self.missed.load(Ordering::SeqCst) == 0
+    // Returns whether both requests were begun, and neither waited in vain.
+    fn have_met(&self) -> bool {
+        self.have_begun() && self.missed.load(Ordering::SeqCst) == 0
     }
 
     // Checks until both requests were begun, or for a limited number of times.
-    fn both_begun(&self) -> bool {
+    fn have_begun(&self) -> bool {
         for _ in 0..LOOKS {
             if self.first.load(Ordering::SeqCst) == 1 && self.second.load(Ordering::SeqCst) == 1 {
                 return true;
@@ -253,7 +253,7 @@ fn two_workers_serve_at_once(rt: HostRuntime) -> Result<(), Fail> {
         &mut out,
     )?;
     assert_written(&rt, "two workers", &out, TWO_REPORTS);
-    assert!(rt; gate.both_met());
+    assert!(rt; gate.have_met());
     Ok(())
 }
 
@@ -288,7 +288,7 @@ impl Counting {
         }
     }
 
-    // How often it was called before and after a request.
+    // Returns how often it was called before and after a request.
     fn counts(&self) -> (u64, u64) {
         (
             self.before.load(Ordering::SeqCst),
@@ -338,7 +338,7 @@ job main { nursery n { start a { sleep 2; raise A; } start b { sleep 2; raise B;
 
 #[test]
 fn a_request_within_nested_scopes_is_gated_once(rt: HostRuntime) -> Result<(), Fail> {
-    let steps = nested(rt.alloc(), b"scope s", b"find \"a\"; sleep 1;")?;
+    let steps = nested_steps(rt.alloc(), b"scope s", b"find \"a\"; sleep 1;")?;
     let text = job_text(rt.alloc(), FORMAT_1, steps.as_slice())?;
     assert_goes(&rt, text.as_slice(), b"a", 111, 3, 1)
 }

@@ -1,50 +1,30 @@
 //! What `races` writes of worked jobs: the same by 1, 3 and 64 threads; the lines of it that are denied; and why nothing is
 //! written.
 
-use crate::fixtures::LIMIT;
+use crate::fixtures::{LIMIT, call_again};
 use job_report::{MemOut, Out};
 use job_runner::{NoGate, Settings};
-use nursery_app::ServeFault;
 use race_app::{RacesVerdict, races};
 use std::process::Abort;
 use std::test::Fail;
 use std::thread::Threads;
 
-// Calls `races` with a writer that has not failed. Races are denied.
-fn told_into<R: Abort + Threads + Sync + AllocGlobal>(
-    rt: &R,
-    text: &[u8],
-    settings: Settings,
-    out: &mut MemOut,
-) -> Result<RacesVerdict, ServeFault> {
-    assert!(rt; out.failures() == 0);
-    races(
-        rt,
-        rt.alloc(),
-        text,
-        b"GET /a\nGET /b\nGET /c\n",
-        settings,
-        true,
-        &NoGate,
-        out,
-    )
-}
-
-// Calls `races`. If memory is refused nothing was sent, and it is called again.
-fn told<R: Abort + Threads + Sync + AllocGlobal>(
+// Calls `races` over three lines, again if memory is refused. Races are denied.
+fn races_again<R: Abort + Threads + Sync + AllocGlobal>(
     rt: &R,
     text: &[u8],
     workers: usize,
     out: &mut MemOut,
 ) -> Result<RacesVerdict, Fail> {
     let settings = Settings::new(workers, LIMIT).ok_or("settings")?;
-    match told_into(rt, text, settings, out) {
-        Err(ServeFault::NoMemory) => {
-            assert!(rt; out.taken().is_empty());
-            Ok(told_into(rt, text, settings, out)?)
-        }
-        verdict => Ok(verdict?),
-    }
+    let input = b"GET /a\nGET /b\nGET /c\n";
+    let alloc = rt.alloc();
+    let answer = call_again!(
+        rt,
+        out,
+        races(rt, alloc, text, input, settings, true, &NoGate, out)
+    );
+    Ok(answer?)
 }
 
 const MEETS: &str =
@@ -121,7 +101,7 @@ fn races_are_listed_in_the_order_of_their_places(rt: HostRuntime) -> Result<(), 
     for &(text, status, expected) in TABLES {
         for workers in [1, 3, 64] {
             let mut out = MemOut::new(rt.alloc(), 100_000, 7, None)?;
-            let verdict = told(&rt, text.as_bytes(), workers, &mut out)?;
+            let verdict = races_again(&rt, text.as_bytes(), workers, &mut out)?;
             assert_eq!(rt; verdict.status(), status);
             assert_eq!(rt; out.taken(), expected);
         }
@@ -132,7 +112,7 @@ fn races_are_listed_in_the_order_of_their_places(rt: HostRuntime) -> Result<(), 
 #[test]
 fn denied_races_are_reported_without_the_counts(rt: HostRuntime) -> Result<(), Fail> {
     let mut out = MemOut::new(rt.alloc(), 100_000, 7, None)?;
-    let RacesVerdict::Told { denied } = told(&rt, MEETS.as_bytes(), 2, &mut out)? else {
+    let RacesVerdict::Told { denied } = races_again(&rt, MEETS.as_bytes(), 2, &mut out)? else {
         return Err(Fail::from("no table"));
     };
     let (lines, _) = OF_MEETS.split_at(OF_MEETS.len() - 17);

@@ -168,7 +168,7 @@ impl Read for Piecewise {
     }
 }
 
-// How many bytes were read from a reader, which may have at most `most`. It is an error of its own if memory was refused.
+// Returns how many bytes were read from a reader, which may have at most `most`. It is an error of its own if memory was refused.
 fn length_of<R: Read>(
     alloc: Global,
     reader: &mut R,

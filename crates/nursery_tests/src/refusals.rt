@@ -1,7 +1,7 @@
 //! Job texts that are refused: the line of the refusal, what `check` and `upgrade` write, and how `refusal_message` shows the
 //! place.
 
-use crate::fixtures::{Asked, assert_answers, assert_written, written, written_again};
+use crate::fixtures::{Asked, assert_answers, assert_written, request_again, text_answer};
 use crate::refusal_texts::{EXPECTED, HELPED, Row, WRONG};
 use job_grammar::{JobFault, JobKind, read_job};
 use job_report::MemOut;
@@ -87,7 +87,7 @@ const CHECKS: &[(&str, u8, &[u8], &[u8])] = &[
 #[test]
 fn check_writes_the_canonical_text(rt: HostRuntime) -> Result<(), Fail> {
     for &(text, status, checked, _upgraded) in CHECKS {
-        let (told, out) = written(&rt, Asked::Checked, text.as_bytes())?;
+        let (told, out) = text_answer(&rt, Asked::Checked, text.as_bytes())?;
         assert_written(&rt, text, &out, checked);
         assert!(rt; told == status, "{text}");
     }
@@ -97,7 +97,7 @@ fn check_writes_the_canonical_text(rt: HostRuntime) -> Result<(), Fail> {
 #[test]
 fn upgrade_writes_the_job_in_format_2(rt: HostRuntime) -> Result<(), Fail> {
     for &(text, status, _checked, upgraded) in CHECKS {
-        let (told, out) = written(&rt, Asked::Upgraded, text.as_bytes())?;
+        let (told, out) = text_answer(&rt, Asked::Upgraded, text.as_bytes())?;
         assert_written(&rt, text, &out, upgraded);
         assert!(rt; told == status, "{text}");
     }
@@ -107,7 +107,7 @@ fn upgrade_writes_the_job_in_format_2(rt: HostRuntime) -> Result<(), Fail> {
 #[test]
 fn check_reports_the_fault_of_a_refused_text(rt: HostRuntime) -> Result<(), Fail> {
     let mut out = MemOut::new(rt.alloc(), 100, 100, None)?;
-    let CheckVerdict::JobRefused(fault) = written_again(
+    let CheckVerdict::JobRefused(fault) = request_again(
         &rt,
         Asked::Checked,
         b"trio-job 1\njob main { sleep",
@@ -128,13 +128,13 @@ fn a_text_that_nests_thousands_deep_is_refused(rt: HostRuntime) -> Result<(), Fa
         text.extend_from_slice(b"try{")?;
     }
     let mut out = MemOut::new(rt.alloc(), 100, 100, None)?;
-    let verdict = written_again(&rt, Asked::Checked, text.as_slice(), &mut out)?;
+    let verdict = request_again(&rt, Asked::Checked, text.as_slice(), &mut out)?;
     assert!(rt; matches!(verdict, CheckVerdict::JobRefused(_)));
     Ok(())
 }
 
-// What `refusal_message` returns for a refused text. It is an error if memory was refused.
-fn told_of(alloc: Global, text: &[u8]) -> Result<String, Fail> {
+// Returns what `refusal_message` returns for a refused text. It is an error if memory was refused.
+fn message_of(alloc: Global, text: &[u8]) -> Result<String, Fail> {
     let fault = read_job(alloc, text).err().ok_or("a refusal")?;
     if matches!(fault.kind, JobKind::NoMemory) {
         Err(fault)?;
@@ -143,9 +143,9 @@ fn told_of(alloc: Global, text: &[u8]) -> Result<String, Fail> {
 }
 
 // Checks how refused texts are explained, where the file is named `f`.
-fn assert_told(rt: &(impl Abort + AllocGlobal), rows: &[Row]) -> Result<(), Fail> {
+fn assert_messages(rt: &(impl Abort + AllocGlobal), rows: &[Row]) -> Result<(), Fail> {
     for &(text, expected) in rows {
-        let told = told_of(rt.alloc(), text.as_bytes())?;
+        let told = message_of(rt.alloc(), text.as_bytes())?;
         assert_eq!(rt; told.as_str(), expected, "{text}");
     }
     Ok(())
@@ -153,18 +153,18 @@ fn assert_told(rt: &(impl Abort + AllocGlobal), rows: &[Row]) -> Result<(), Fail
 
 #[test]
 fn a_syntax_fault_says_what_was_expected(rt: HostRuntime) -> Result<(), Fail> {
-    assert_told(&rt, EXPECTED)
+    assert_messages(&rt, EXPECTED)
 }
 
 #[test]
 fn other_refusals_say_what_is_wrong(rt: HostRuntime) -> Result<(), Fail> {
-    assert_told(&rt, WRONG)
+    assert_messages(&rt, WRONG)
 }
 
 #[test]
 fn a_refusal_ends_with_a_hint(rt: HostRuntime) -> Result<(), Fail> {
     for &(text, last) in HELPED {
-        let told = told_of(rt.alloc(), text.as_bytes())?;
+        let told = message_of(rt.alloc(), text.as_bytes())?;
         assert!(rt; told.as_str().ends_with(last), "{text}");
     }
     Ok(())

@@ -2,7 +2,7 @@
 
 use crate::fixtures::{
     FORMAT_1, FORMAT_2, TWO_LINES, assert_answers, assert_rows, assert_rows_in_both_formats,
-    job_text, run_of, served,
+    job_text, run_of, serve_answer,
 };
 use crate::worked_jobs::{HANDLERS, NURSERIES, OF_FORMAT_2, PARTS, PLAIN, SCOPES};
 use job_grammar::read_job;
@@ -110,7 +110,7 @@ task a.10 0 1 raised A(a.10@1)
 #[test]
 fn a_cancelled_handler_is_shown_with_the_rest(rt: HostRuntime) -> Result<(), Fail> {
     let text = job_text(rt.alloc(), FORMAT_1, CANCELLED_HANDLERS)?;
-    let (status, out) = served(&rt, text.as_slice(), b"", 1, &mut Forward)?;
+    let (status, out) = serve_answer(&rt, text.as_slice(), b"", 1, &mut Forward)?;
     assert_eq!(rt; status, 1);
     assert!(rt; out.taken().ends_with(LAST_HANDLER));
     Ok(())

@@ -51,7 +51,7 @@ fn a_pattern_matches_a_whole_line(rt: HostRuntime) -> Result<(), Fail> {
     Ok(())
 }
 
-// The kind of a line of a file of expectations.
+// Returns the kind of a line of a file of expectations.
 fn word_of(line: &[u8]) -> &'static str {
     match read_expectation(line) {
         ExpectLine::Nothing => "nothing",
@@ -118,7 +118,7 @@ fn a_chart_has_a_row_for_the_task(rt: HostRuntime) -> Result<(), Fail> {
     Ok(())
 }
 
-// Whether an expectation of the job is met, in a word.
+// Returns whether an expectation of the job is met, in a word.
 fn met_word<R: Abort + Threads + Sync + AllocGlobal>(
     rt: &R,
     line: &[u8],

@@ -1,6 +1,6 @@
 //! The stories that `explain` writes of worked jobs: the same under each order of picks, by 1 and by 64 workers.
 
-use crate::fixtures::LIMIT;
+use crate::fixtures::{LIMIT, call_again};
 use job_report::{MemOut, Out};
 use job_runner::{Forward, NoGate, Pick, Reverse, Settings};
 use nursery_app::ServeFault;
@@ -9,8 +9,8 @@ use std::test::Fail;
 use std::thread::Threads;
 use story_app::{StoryVerdict, explain, running_at_limit};
 
-// Calls `explain` with a writer that has not failed.
-fn explained_into<R: Abort + Threads + Sync + AllocGlobal, P: Pick>(
+// Calls `explain`, again if memory is refused.
+fn explain_again<R: Abort + Threads + Sync + AllocGlobal, P: Pick>(
     rt: &R,
     text: &[u8],
     task: Option<&[u8]>,
@@ -18,39 +18,16 @@ fn explained_into<R: Abort + Threads + Sync + AllocGlobal, P: Pick>(
     picker: &mut P,
     out: &mut MemOut,
 ) -> Result<StoryVerdict, ServeFault> {
-    assert!(rt; out.failures() == 0);
-    explain(
+    let alloc = rt.alloc();
+    call_again!(
         rt,
-        rt.alloc(),
-        text,
-        b"",
-        settings,
-        task,
-        picker,
-        &NoGate,
         out,
+        explain(rt, alloc, text, b"", settings, task, picker, &NoGate, out)
     )
 }
 
-// Calls `explain`. If memory is refused nothing was sent, and it is called again.
-fn explained<R: Abort + Threads + Sync + AllocGlobal, P: Pick>(
-    rt: &R,
-    text: &[u8],
-    task: Option<&[u8]>,
-    settings: Settings,
-    picker: &mut P,
-    out: &mut MemOut,
-) -> Result<StoryVerdict, ServeFault> {
-    let verdict = explained_into(rt, text, task, settings, picker, out);
-    if !matches!(verdict, Err(ServeFault::NoMemory)) {
-        return verdict;
-    }
-    assert!(rt; out.taken().is_empty());
-    explained_into(rt, text, task, settings, picker, out)
-}
-
-// The status and the story of a job text, or of a task.
-fn story<R: Abort + Threads + Sync + AllocGlobal, P: Pick>(
+// Returns the status and the story of a job text, or of a task.
+fn story_of<R: Abort + Threads + Sync + AllocGlobal, P: Pick>(
     rt: &R,
     text: &[u8],
     task: Option<&[u8]>,
@@ -59,7 +36,7 @@ fn story<R: Abort + Threads + Sync + AllocGlobal, P: Pick>(
 ) -> Result<(u8, MemOut), Fail> {
     let settings = Settings::new(workers, LIMIT).ok_or("settings")?;
     let mut out = MemOut::new(rt.alloc(), 1_000_000, 7, None)?;
-    let verdict = explained(rt, text, task, settings, picker, &mut out)?;
+    let verdict = explain_again(rt, text, task, settings, picker, &mut out)?;
     Ok((verdict.status(), out))
 }
 
@@ -122,10 +99,10 @@ const STORIES: &[(&str, Option<&[u8]>, u8, &[u8])] = &[
 #[test]
 fn explain_writes_the_story(rt: HostRuntime) -> Result<(), Fail> {
     for &(text, task, status, expected) in STORIES {
-        let (told, out) = story(&rt, text.as_bytes(), task, 1, &mut Forward)?;
+        let (told, out) = story_of(&rt, text.as_bytes(), task, 1, &mut Forward)?;
         assert_eq!(rt; told, status);
         assert_eq!(rt; out.taken(), expected);
-        let (told, out) = story(&rt, text.as_bytes(), task, 64, &mut Reverse)?;
+        let (told, out) = story_of(&rt, text.as_bytes(), task, 64, &mut Reverse)?;
         assert_eq!(rt; told, status);
         assert_eq!(rt; out.taken(), expected);
     }
@@ -149,7 +126,7 @@ fn the_nearest_task_is_named(rt: HostRuntime) -> Result<(), Fail> {
     let settings = Settings::new(1, LIMIT).ok_or("settings")?;
     let mut out = MemOut::new(rt.alloc(), 1_000, 7, None)?;
     let text = b"trio-job 1\njob main { nursery n { start reader { } start p over 2 { } } }";
-    let verdict = explained(&rt, text, Some(b"raeder"), settings, &mut Forward, &mut out)?;
+    let verdict = explain_again(&rt, text, Some(b"raeder"), settings, &mut Forward, &mut out)?;
     let StoryVerdict::NoTask { nearest } = verdict else {
         return Err(Fail::from("a story"));
     };
@@ -161,7 +138,7 @@ fn the_nearest_task_is_named(rt: HostRuntime) -> Result<(), Fail> {
 fn a_writer_that_fails_has_the_beginning_of_a_story(rt: HostRuntime) -> Result<(), Fail> {
     let settings = Settings::new(1, LIMIT).ok_or("settings")?;
     let mut out = MemOut::new(rt.alloc(), 10, 7, None)?;
-    let stopped = explained(
+    let stopped = explain_again(
         &rt,
         FAILS.as_bytes(),
         None,

@@ -1,11 +1,11 @@
 //! What `sweep` writes of worked jobs: the same by 1, 3 and 64 threads; and why a text does not have the number that is meant.
 
-use crate::fixtures::LIMIT;
+use crate::fixtures::{LIMIT, call_again};
 use job_edits::Target;
 use job_report::{MemOut, Out};
 use job_runner::{NoGate, Settings};
 use job_tree::Name;
-use nursery_app::{ServeFault, place_at};
+use nursery_app::place_at;
 use refusal_text::pointed_message;
 use std::alloc::{AllocError, Global};
 use std::process::Abort;
@@ -13,31 +13,8 @@ use std::test::Fail;
 use std::thread::Threads;
 use sweep_app::{Missing, SweepVerdict, sweep};
 
-// Calls `sweep` with a writer that has not failed.
-fn told_into<R: Abort + Threads + Sync + AllocGlobal>(
-    rt: &R,
-    text: &[u8],
-    settings: Settings,
-    target: Target,
-    values: &[u64],
-    out: &mut MemOut,
-) -> Result<SweepVerdict, ServeFault> {
-    assert!(rt; out.failures() == 0);
-    sweep(
-        rt,
-        rt.alloc(),
-        text,
-        b"",
-        settings,
-        target,
-        values,
-        &NoGate,
-        out,
-    )
-}
-
-// Calls `sweep`. If memory is refused nothing was sent, and it is called again.
-fn told<R: Abort + Threads + Sync + AllocGlobal>(
+// Calls `sweep`, again if memory is refused.
+fn sweep_again<R: Abort + Threads + Sync + AllocGlobal>(
     rt: &R,
     text: &[u8],
     workers: usize,
@@ -46,13 +23,13 @@ fn told<R: Abort + Threads + Sync + AllocGlobal>(
     out: &mut MemOut,
 ) -> Result<SweepVerdict, Fail> {
     let settings = Settings::new(workers, LIMIT).ok_or("settings")?;
-    match told_into(rt, text, settings, target, values, out) {
-        Err(ServeFault::NoMemory) => {
-            assert!(rt; out.taken().is_empty());
-            Ok(told_into(rt, text, settings, target, values, out)?)
-        }
-        verdict => Ok(verdict?),
-    }
+    let alloc = rt.alloc();
+    let answer = call_again!(
+        rt,
+        out,
+        sweep(rt, alloc, text, b"", settings, target, values, &NoGate, out)
+    );
+    Ok(answer?)
 }
 
 // The number that is meant: the deadline of a scope or nursery, or the number at a line and a column.
@@ -62,7 +39,7 @@ enum Asked {
     At(usize, usize),
 }
 
-// The same as a target.
+// Returns the same as a target.
 fn target_of(asked: Asked) -> Result<Target, Fail> {
     match asked {
         Asked::Of(name) => {
@@ -73,7 +50,7 @@ fn target_of(asked: Asked) -> Result<Target, Fail> {
     }
 }
 
-// The status of a sweep, and the bytes that it writes.
+// Returns the status of a sweep, and the bytes that it writes.
 fn answer_of<R: Abort + Threads + Sync + AllocGlobal>(
     rt: &R,
     text: &str,
@@ -83,7 +60,7 @@ fn answer_of<R: Abort + Threads + Sync + AllocGlobal>(
 ) -> Result<(u8, Vec<u8>), Fail> {
     let mut out = MemOut::new(rt.alloc(), 100_000, 7, None)?;
     let target = target_of(asked)?;
-    let verdict = told(rt, text.as_bytes(), workers, target, values, &mut out)?;
+    let verdict = sweep_again(rt, text.as_bytes(), workers, target, values, &mut out)?;
     let mut bytes = Vec::new(rt.alloc());
     bytes.extend_from_slice(out.taken())?;
     Ok((verdict.status(), bytes))
@@ -136,14 +113,14 @@ fn a_refused_text_has_its_refusal(rt: HostRuntime) -> Result<(), Fail> {
     Ok(())
 }
 
-// Why the text does not have the number that is meant, in words. Nothing is written.
+// Returns why the text does not have the number that is meant, in words. Nothing is written.
 fn reason_of<R: Abort + Threads + Sync + AllocGlobal>(
     rt: &R,
     text: &str,
     asked: Asked,
 ) -> Result<String, Fail> {
     let mut out = MemOut::new(rt.alloc(), 100_000, 7, None)?;
-    let verdict = told(rt, text.as_bytes(), 1, target_of(asked)?, &[1], &mut out)?;
+    let verdict = sweep_again(rt, text.as_bytes(), 1, target_of(asked)?, &[1], &mut out)?;
     assert_eq!(rt; verdict.status(), 2);
     assert!(rt; out.taken().is_empty());
     match verdict {
@@ -152,7 +129,7 @@ fn reason_of<R: Abort + Threads + Sync + AllocGlobal>(
     }
 }
 
-// A reason in words.
+// Returns a reason in words.
 fn words_of(alloc: Global, missing: &Missing) -> Result<String, Fail> {
     match missing {
         Missing::NoBlock { nearest } => Ok(nearest_words(alloc, nearest)?),
@@ -162,7 +139,7 @@ fn words_of(alloc: Global, missing: &Missing) -> Result<String, Fail> {
     }
 }
 
-// The nearest name in words.
+// Returns the nearest name in words.
 fn nearest_words(alloc: Global, nearest: &Option<Name>) -> Result<String, AllocError> {
     match nearest {
         Some(name) => {

@@ -20,7 +20,7 @@ use Rattle.race_text.specs.Lines as told
 use Rattle.race_text.specs.Views.{line_held}
 use Rattle.race_text.specs.declared.line.Line.{Line}
 use Rattle.race_app.specs.declared.author.Author.{Author}
-use Rattle.race_app.specs.Ran.{Ran, refused, ran, ran_of, compared}
+use Rattle.race_app.specs.Ran.{Ran, refused, ran, ran_of, found_between}
 use Rattle.race_app.specs.Lines.{copies_lines}
 use Rattle.race_app.specs.Views.{IsMovedBy, AreLinesOf, AreLinesBeside, AreLinesFor, AreLinesOfRefused}
 
@@ -36,7 +36,7 @@ moves_seen author input before shifts lines is are =
 -- the lines of a text in finer ticks and of all hairs, given its run
 pub of_run : (author : Author) (input : List ℕ) (first : Ran) (shown rows : List Row) (end : ℕ) (found : told.Found)
     (moves lines : List told.Line) →
-    shown ≡ rows → end ≡ root_end rows → found ≡ compared first (ran (nat_le (root_end rows) author.limit) rows) →
+    shown ≡ rows → end ≡ root_end rows → found ≡ found_between first (ran (nat_le (root_end rows) author.limit) rows) →
     AreAnswers (IsMovedBy author input (ran (nat_le end author.limit) shown)) (shifts_of author.sites.now) moves →
     lines ≡ told.finer found ∷ moves →
     AreLinesBeside author input first (ran (nat_le (root_end rows) author.limit) rows) lines
@@ -67,7 +67,7 @@ with_copies author input first job rows lines all r are a =
           a
           ∙ ap
           (λ (ls : List told.Line). ls ++ copies_lines author.text.now author.limit author.finer (walked job input) author.starts.now)
-          (are.all ∙ ap (λ (before : Ran). told.finer (compared first before) ∷ are.moves) run);
+          (are.all ∙ ap (λ (before : Ran). told.finer (found_between first before) ∷ are.moves) run);
     }
 
 -- all lines of a text whose text in finer ticks spells a job
@@ -84,7 +84,7 @@ for_job author input first job text changes lines c t spells are =
       all = are.all;
     }
 
-refused_beside : (first : Ran) → told.refused ≡ compared first refused
+refused_beside : (first : Ran) → told.refused ≡ found_between first refused
 refused_beside refused = refl
 refused_beside (ran a rows) = refl
 
@@ -95,12 +95,12 @@ no_copies text limit f (c ∷ cs) = no_copies text limit f cs
 
 all_of_refused : (author : Author) (first : Ran) (moves : List told.Line) →
     told.finer told.refused ∷ moves
-    ≡ told.finer (compared first refused)
+    ≡ told.finer (found_between first refused)
     ∷ (moves ++ copies_lines author.text.now author.limit author.finer [] author.starts.now)
 all_of_refused author first moves =
     let none = no_copies author.text.now author.limit author.finer author.starts.now in
     ap (λ (found : told.Found). told.finer found ∷ moves) (refused_beside first)
-    ∙ ap (λ (ls : List told.Line). told.finer (compared first refused) ∷ ls)
+    ∙ ap (λ (ls : List told.Line). told.finer (found_between first refused) ∷ ls)
     (sym (append-nil moves) ∙ ap (λ (ls : List told.Line). moves ++ ls) (sym none))
 
 -- all lines of a text whose text in finer ticks is refused

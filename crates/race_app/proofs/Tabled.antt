@@ -5,7 +5,7 @@ use Rattle.std.proofs.lemmas.Bool.Decides.{nat_tests}
 use Rattle.std.specs.Io.Iter.{u64_saturate}
 use Rattle.job_tree.specs.Tree.{Tree}
 use Rattle.job_tokens.specs.declared.token.Token.{Token}
-use Rattle.job_grammar.specs.Refusals.{HasTokens}
+use Rattle.job_grammar.specs.Refusals.{Spells, HasTokens}
 use Rattle.job_meaning.specs.Meaning.{meaning_end}
 use Rattle.job_meaning.specs.Shown.{Row, meaning_rows}
 use Rattle.job_edits.specs.Sites.{sites_in}
@@ -20,7 +20,7 @@ use Rattle.race_text.specs.Views.{line_held}
 use Rattle.race_text.specs.declared.line.Line.{Line}
 use Rattle.race_app.specs.Ran.{Ran, ran, ran_of}
 use Rattle.race_app.specs.Lines.{AreLines}
-use Rattle.race_app.specs.Answers.{AreRaceLines, HasNoFiner}
+use Rattle.race_app.specs.Answers.{AreRaceLines, IsLate, HasNoFiner}
 use Rattle.race_app.specs.Verdicts.{IsTableOf}
 
 le_test : (m n : ℕ) → m ≤ n → nat_le m n ≡ true
@@ -37,18 +37,29 @@ ran_in_time job input limit rows same soon =
     ap (λ (rs : List Row). ran true rs) same
     ∙ ap (λ (b : Bool). ran b (meaning_rows job input)) (sym (le_test (meaning_end job input) limit soon))
 
+-- a job that ends after the limit
+pub is_late : (text input : List ℕ) (limit : ℕ) (job : Tree) → Spells text job → limit < meaning_end job input → IsLate text input limit
+is_late text input limit job spells late =
+    record {
+      job = job;
+      spells = spells;
+      late = late;
+    }
+
 -- the lines, if places and starts of copies are those of the text's tokens
 pub are_lines : (text input : List ℕ) (limit l : ℕ) (job : Tree) (tokens : List Token) (f : Finer)
     (sites : List Site) (starts : List CopiedStart) (first : Ran) (lines : List told.Line) (hairs : ℕ) →
-    meaning_end job input ≤ limit → HasTokens text tokens None → sites ≡ sites_in tokens → starts ≡ copied_in tokens →
+    Spells text job → meaning_end job input ≤ limit → HasTokens text tokens None → sites ≡ sites_in tokens → starts ≡ copied_in tokens →
     Some f ≡ finer_for sites → l ≡ u64_saturate (limit * f.factor) → first ≡ ran_of limit job input →
-    AreLines text input l f sites starts first lines → hairs ≡ length (shifts_of sites) → AreRaceLines text input limit job hairs lines
-are_lines text input limit l job tokens f sites starts first lines hairs soon has s c finer at same are h =
+    AreLines text input l f sites starts first lines → hairs ≡ length (shifts_of sites) → AreRaceLines text input limit hairs lines
+are_lines text input limit l job tokens f sites starts first lines hairs spells soon has s c finer at same are h =
     let by_limit = subst (λ (n : ℕ). AreLines text input n f sites starts first lines) at are in
     let by_sites = subst (λ (ss : List Site). AreLines text input (u64_saturate (limit * f.factor)) f ss starts first lines) s by_limit in
     let by_starts =
     subst (λ (cs : List CopiedStart). AreLines text input (u64_saturate (limit * f.factor)) f (sites_in tokens) cs first lines) c by_sites in
     record {
+      job = job;
+      spells = spells;
       in_time = soon;
       tokens = tokens;
       tokens_are = has;
@@ -61,10 +72,12 @@ are_lines text input limit l job tokens f sites starts first lines hairs soon ha
 
 -- a text whose numbers of ticks cannot be made finer
 pub has_no_finer : (text input : List ℕ) (limit : ℕ) (job : Tree) (tokens : List Token) (sites : List Site) →
-    meaning_end job input ≤ limit → HasTokens text tokens None → sites ≡ sites_in tokens → None ≡ finer_for sites →
-    HasNoFiner text input limit job
-has_no_finer text input limit job tokens sites soon has s none =
+    Spells text job → meaning_end job input ≤ limit → HasTokens text tokens None → sites ≡ sites_in tokens → None ≡ finer_for sites →
+    HasNoFiner text input limit
+has_no_finer text input limit job tokens sites spells soon has s none =
     record {
+      job = job;
+      spells = spells;
       in_time = soon;
       tokens = tokens;
       tokens_are = has;

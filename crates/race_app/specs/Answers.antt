@@ -1,9 +1,9 @@
--- The result of moving the places of a text that spells a job by a hair.
+-- The result of moving the places of a text by a hair.
 use Rattle.std.specs.Prelude.{◌≡◌, ℕ, ◌*◌, ◌<◌, ◌≤◌, Some, None, List, length, map}
 use Rattle.std.specs.Io.Iter.{u64_saturate}
 use Rattle.job_tree.specs.Tree.{Tree}
 use Rattle.job_tokens.specs.declared.token.Token.{Token}
-use Rattle.job_grammar.specs.Refusals.{HasTokens}
+use Rattle.job_grammar.specs.Refusals.{Spells, HasTokens}
 use Rattle.job_meaning.specs.Meaning.{meaning_end}
 use Rattle.job_edits.specs.Sites.{sites_in}
 use Rattle.job_edits.specs.Copied.{copied_in}
@@ -16,8 +16,10 @@ use Rattle.race_app.specs.Lines.{AreLines}
 use Rattle.race_app.specs.declared.told.RaceAnswer.{RaceAnswer}
 use Rattle.race_app.specs.declared.told.RaceAnswer.TheVariants.{Lines, Limit, NoFinerTicks}
 
--- the job ends by the limit, and these are the lines of all hairs of all places of its text, `hairs` of them
-pub record AreRaceLines (text input : List ℕ) (limit : ℕ) (job : Tree) (hairs : ℕ) (lines : List Line) : Type 0 where
+-- the job that the text spells ends by the limit, and these are the lines of all hairs of all places of the text, `hairs` of them
+pub record AreRaceLines (text input : List ℕ) (limit : ℕ) (hairs : ℕ) (lines : List Line) : Type 0 where
+  pub job : Tree
+  pub spells : Spells text job
   pub in_time : meaning_end job input ≤ limit
   pub tokens : List Token
   pub tokens_are : HasTokens text tokens None
@@ -27,8 +29,16 @@ pub record AreRaceLines (text input : List ℕ) (limit : ℕ) (job : Tree) (hair
       AreLines text input (u64_saturate (limit * f.factor)) f (sites_in tokens) (copied_in tokens) (ran_of limit job input) lines
   pub hairs_are : hairs ≡ length (shifts_of (sites_in tokens))
 
--- the job ends by the limit, and some number of its ticks is too large to be made finer
-pub record HasNoFiner (text input : List ℕ) (limit : ℕ) (job : Tree) : Type 0 where
+-- the job that the text spells does not end by the limit
+pub record IsLate (text input : List ℕ) (limit : ℕ) : Type 0 where
+  pub job : Tree
+  pub spells : Spells text job
+  pub late : limit < meaning_end job input
+
+-- the job that the text spells ends by the limit, and some number of its ticks is too large to be made finer
+pub record HasNoFiner (text input : List ℕ) (limit : ℕ) : Type 0 where
+  pub job : Tree
+  pub spells : Spells text job
   pub in_time : meaning_end job input ≤ limit
   pub tokens : List Token
   pub tokens_are : HasTokens text tokens None
@@ -36,7 +46,7 @@ pub record HasNoFiner (text input : List ℕ) (limit : ℕ) (job : Tree) : Type 
 
 -- ---- the values of the code
 
-abbrev pub IsRaceAnswer : List ℕ → Tree → List ℕ → ℕ → RaceAnswer → Type 0
-IsRaceAnswer text job input limit (Lines told) = AreRaceLines text input limit job told.hairs (map line_held told.lines.items)
-IsRaceAnswer text job input limit Limit = limit < meaning_end job input
-IsRaceAnswer text job input limit NoFinerTicks = HasNoFiner text input limit job
+abbrev pub IsRaceAnswer : List ℕ → List ℕ → ℕ → RaceAnswer → Type 0
+IsRaceAnswer text input limit (Lines told) = AreRaceLines text input limit told.hairs (map line_held told.lines.items)
+IsRaceAnswer text input limit Limit = IsLate text input limit
+IsRaceAnswer text input limit NoFinerTicks = HasNoFiner text input limit

@@ -11,7 +11,7 @@ use Rattle.nursery_app.specs.Places.{line_of, column_of}
 use Rattle.slot_work.specs.Answers.{AreAnswers}
 use Rattle.race_copies.specs.Copies.{Meeting, meeting_in}
 use Rattle.race_text.specs.Lines.{Found, Line, finer, moved, copies}
-use Rattle.race_app.specs.Ran.{Ran, IsRan, IsBeside, compared}
+use Rattle.race_app.specs.Ran.{Ran, IsRan, IsBeside, found_between}
 
 -- ---- one place moved by a hair
 
@@ -48,4 +48,4 @@ pub record AreLines (text input : List ℕ) (limit : ℕ) (f : Finer) (sites : L
   pub before_is : IsRan (changed text (finer_changes f sites)) input limit before events
   pub moves : List Line
   pub moves_are : AreAnswers (IsMoved text input limit f sites before) (shifts_of sites) moves
-  pub all : lines ≡ finer (compared first before) ∷ (moves ++ copies_lines text limit f events starts)
+  pub all : lines ≡ finer (found_between first before) ∷ (moves ++ copies_lines text limit f events starts)

@@ -27,13 +27,13 @@ IsRan text input limit r events =
     ⊎ ((fault : JobFault) × IsRefused text fault.kind fault.at × (r ≡ refused) × (events ≡ []))
 
 -- what a run shows that another one does not show, apart from ticks
-abbrev pub compared : Ran → Ran → Found
-compared refused r = told.refused
-compared (ran a before) refused = told.refused
-compared (ran a before) (ran b after) = told.differs (of_runs a before b after)
+abbrev pub found_between : Ran → Ran → Found
+found_between refused r = told.refused
+found_between (ran a before) refused = told.refused
+found_between (ran a before) (ran b after) = told.differs (of_runs a before b after)
 
 -- what the job that a text spells shows that a run does not show; or that the text is refused
 abbrev pub IsBeside : List ℕ → List ℕ → ℕ → Ran → Found → Type 0
 IsBeside text input limit before found =
-    ((job : Tree) × Spells text job × (found ≡ compared before (ran_of limit job input)))
+    ((job : Tree) × Spells text job × (found ≡ found_between before (ran_of limit job input)))
     ⊎ ((fault : JobFault) × IsRefused text fault.kind fault.at × (found ≡ told.refused))

@@ -14,7 +14,7 @@ use Rattle.race_rows.specs.declared.runs.Ran as held
 use Rattle.race_text.specs.Lines as told
 use Rattle.race_text.specs.Views.{line_held}
 use Rattle.race_text.specs.declared.line.Line.{Line}
-use Rattle.race_app.specs.Ran.{Ran, refused, ran, ran_of, compared}
+use Rattle.race_app.specs.Ran.{Ran, refused, ran, ran_of, found_between}
 use Rattle.race_app.specs.Lines.{IsMoved, copies_lines, AreLines}
 use Rattle.race_app.specs.declared.author.Author.{Author}
 use Rattle.race_app.specs.declared.moves.Moves.{Moves}
@@ -52,14 +52,14 @@ AreLinesOf author input first lines =
 pub record AreLinesBeside (author : Author) (input : List ℕ) (first before : Ran) (lines : List told.Line) : Type 0 where
   pub moves : List told.Line
   pub moves_are : AreAnswers (IsMovedBy author input before) (shifts_of author.sites.now) moves
-  pub all : lines ≡ told.finer (compared first before) ∷ moves
+  pub all : lines ≡ told.finer (found_between first before) ∷ moves
 
 -- all lines of a text whose text in finer ticks spells this job
 pub record AreLinesFor (author : Author) (input : List ℕ) (first : Ran) (job : Tree) (lines : List told.Line) : Type 0 where
   pub moves : List told.Line
   pub moves_are : AreAnswers (IsMovedBy author input (ran_of author.limit job input)) (shifts_of author.sites.now) moves
   pub all :
-      lines ≡ told.finer (compared first (ran_of author.limit job input))
+      lines ≡ told.finer (found_between first (ran_of author.limit job input))
       ∷ (moves ++ copies_lines author.text.now author.limit author.finer (walked job input) author.starts.now)
 
 -- all lines of a text whose text in finer ticks is refused

@@ -1,7 +1,7 @@
 ghost use Rattle.std.specs.Prelude.{◌≡◌, ◌≤◌, length, IfOk};
 ghost use Rattle.job_meaning.specs.declared.limits.TheConstants.{MAX_INPUT};
 ghost use Rattle.race_text.specs.Views.{found_held};
-ghost use Rattle.race_app.specs.Ran.{ran_of, compared, IsBeside};
+ghost use Rattle.race_app.specs.Ran.{ran_of, found_between, IsBeside};
 ghost use Rattle.race_app.specs.Views.{ran_by, ran_held, ran_seen};
 
 use job_grammar::{Job, JobKind, read_job};
@@ -47,7 +47,7 @@ fn found_in_job<R: Threads + Sync>(
     limit: u64,
 ) -> Result<Found, AllocError>
     requires { length input.now ≤ MAX_INPUT }
-    ensures { IfOk result (λ found. found_held found ≡ compared (ran_held before.entry) (ran_of limit job.now input.now)) }
+    ensures { IfOk result (λ found. found_held found ≡ found_between (ran_held before.entry) (ran_of limit job.now input.now)) }
 {
     let Some(before) = before else {
         return Ok(Found::Refused);
@@ -63,7 +63,7 @@ pub(crate) fn found_in_run(
     run: &Run<'_>,
     limit: u64,
 ) -> Result<Found, AllocError>
-    ensures { IfOk result (λ found. found_held found ≡ compared (ran_seen before.now) (ran_by limit run.now)) }
+    ensures { IfOk result (λ found. found_held found ≡ found_between (ran_seen before.now) (ran_by limit run.now)) }
 {
     let after = Ran {
         records: run.records(),

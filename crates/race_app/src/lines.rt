@@ -24,7 +24,7 @@ use race_text::{Found, Line};
 use slot_work::answers_for;
 use std::alloc::{AllocError, Global};
 use std::thread::Threads;
-use story_app::told_until;
+use story_app::events_until;
 
 // Returns all lines of a text, given its own run, which ended by the limit.
 #[tactic(auto, using(crate::proofs::Gathered::for_job, crate::proofs::Gathered::for_refused))]
@@ -177,6 +177,6 @@ fn push_copies_of<R: Threads + Sync>(
         return Ok(());
     }
     let summary = summary_of(rt, alloc, job, input)?;
-    let walked = told_until(alloc, summary.events.as_slice(), None)?;
+    let walked = events_until(alloc, summary.events.as_slice(), None)?;
     push_copies(alloc, lines, author, walked.as_slice())
 }

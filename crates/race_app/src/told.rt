@@ -1,6 +1,6 @@
-ghost use Rattle.std.specs.Prelude.{◌≡◌, ◌<◌, ◌≤◌, length, IfOk};
+ghost use Rattle.std.specs.Prelude.{◌≡◌, ◌<◌, ◌≤◌, length, IfOk, IfErr};
 ghost use Rattle.job_meaning.specs.declared.limits.TheConstants.{MAX_INPUT};
-ghost use Rattle.job_grammar.specs.Refusals.{Spells};
+ghost use Rattle.job_grammar.specs.Refusals.{Spells, IsFair};
 ghost use Rattle.job_edits.specs.Finer.{shifts_of};
 ghost use Rattle.race_app.specs.Answers.{IsRaceAnswer};
 
@@ -8,7 +8,7 @@ use crate::author::Author;
 use crate::lines::lines_for;
 use fault_app::tokens_of;
 use job_edits::{Finer, Site, copied_starts, shifts, sites};
-use job_grammar::Job;
+use job_grammar::{Job, JobFault, read_job};
 use job_runner::{Forward, NoGate, Settings, run_to_end};
 use nursery_app::Gate;
 use race_text::Line;
@@ -36,16 +36,34 @@ pub enum RaceAnswer {
     NoFinerTicks,
 }
 
-/// Returns how the outcome of a job over an input changes if a single place of its text takes a hair more or less time: the
-/// text in finer ticks compared with the original text, then each hair of each place compared with the text in finer ticks, and
-/// the copies of one `start .. over` that meet. The caller must ensure that the text spells the job, and that the input has at
-/// most 16,777,216 bytes.
+/// Returns how the outcome of the job that a text spells over an input changes if a single place of the text takes a hair more or
+/// less time: the text in finer ticks compared with the original text, then each hair of each place compared with the text in
+/// finer ticks, and the copies of one `start .. over` that meet. If the text is refused, the error is the refusal, as `read_job`
+/// returns it. If memory was refused, the error has the kind `NoMemory`. The caller must ensure that the input has at most
+/// 16,777,216 bytes.
 ///
 /// The number of workers in `settings` is the number of threads that run the hairs. The gate is called before and after each
-/// hair, with the place of the hair among them, by the thread that runs it. Neither changes a line. The only error is that
-/// memory was refused.
-#[tactic(auto, using(crate::proofs::Tabled::some_ticks, crate::proofs::Tabled::has_no_finer))]
+/// hair, with the place of the hair among them, by the thread that runs it. Neither changes a line.
 pub fn race_lines<R: Threads + Sync, G: Gate + Sync>(
+    rt: &R,
+    alloc: Global,
+    job_text: &[u8],
+    input: &[u8],
+    settings: Settings,
+    gate: &G,
+) -> Result<RaceAnswer, JobFault>
+    requires { length input.now ≤ MAX_INPUT }
+    ensures lines { IfOk result (IsRaceAnswer job_text.now input.now settings.limit) }
+    ensures refused { IfErr result (IsFair job_text.now) }
+{
+    let job = read_job(alloc, job_text)?;
+    let answer = answer_for_job(rt, alloc, job_text, &job, input, settings, gate)?;
+    Ok(answer)
+}
+
+// Returns the same for a text that spells a job.
+#[tactic(auto, using(crate::proofs::Tabled::some_ticks, crate::proofs::Tabled::is_late, crate::proofs::Tabled::has_no_finer))]
+fn answer_for_job<R: Threads + Sync, G: Gate + Sync>(
     rt: &R,
     alloc: Global,
     job_text: &[u8],
@@ -56,7 +74,7 @@ pub fn race_lines<R: Threads + Sync, G: Gate + Sync>(
 ) -> Result<RaceAnswer, AllocError>
     requires input { length input.now ≤ MAX_INPUT }
     requires spells { Spells job_text.now job.now }
-    ensures { IfOk result (IsRaceAnswer job_text.now job.now input.now settings.limit) }
+    ensures { IfOk result (IsRaceAnswer job_text.now input.now settings.limit) }
 {
     let limit = settings.limit();
     let run = run_to_end(rt, alloc, job, input, 1, &mut Forward, &NoGate)?;

@@ -32,9 +32,9 @@ copy_at name None e = if starts_copy name e then Some e.task else None
 copy_at name (Some copy) e = Some copy
 
 -- the copy, if it has not ended after an event of it
-abbrev pub still_open : Option Label → Event → Option Label
-still_open None e = None
-still_open (Some copy) e = if ends_copy copy e then None else Some copy
+abbrev pub open_copy : Option Label → Event → Option Label
+open_copy None e = None
+open_copy (Some copy) e = if ends_copy copy e then None else Some copy
 
 abbrev pub with_sight : Option Label → Event → List Sight → List Sight
 with_sight None e others = others
@@ -46,7 +46,7 @@ with_sight (Some copy) e others = sight copy e ∷ others
 abbrev pub sights_from : List ℕ → Option Label → List Event → List Sight
 sights_from name current [] = []
 sights_from name current (e ∷ es) =
-    with_sight (copy_at name current e) e (sights_from name (still_open (copy_at name current e) e) es)
+    with_sight (copy_at name current e) e (sights_from name (open_copy (copy_at name current e) e) es)
 
 abbrev pub sights_of : List ℕ → List Event → List Sight
 sights_of name es = sights_from name None es
@@ -84,12 +84,12 @@ differ_last (i ∷ is) (j ∷ js) = i == j && differ_last is js
 differ_last _ _ = false
 
 -- two ticks are at most a hair apart
-abbrev pub within : ℕ → ℕ → ℕ → Bool
-within hair t u = nat_le (t - hair) u && nat_le (u - hair) t
+abbrev pub is_within : ℕ → ℕ → ℕ → Bool
+is_within hair t u = nat_le (t - hair) u && nat_le (u - hair) t
 
 -- two copies that were started together: one cancels something, and the other acts within a hair of that
 abbrev pub meets : ℕ → Sight → Sight → Bool
-meets hair a b = cancels_some a.what && (acts b.what && (differ_last a.copy.indices b.copy.indices && within hair a.tick b.tick))
+meets hair a b = cancels_some a.what && (acts b.what && (differ_last a.copy.indices b.copy.indices && is_within hair a.tick b.tick))
 
 -- ---- the first meeting
 
@@ -100,21 +100,21 @@ pub record Meeting : Type 0 where
   pub tick : ℕ
 
 -- the first of these events that an event meets
-abbrev pub first_met : ℕ → Sight → List Sight → Option Meeting
-first_met hair a [] = None
-first_met hair a (b ∷ bs) =
-    if meets hair a b then Some (record { one = a.copy; other = b.copy; tick = a.tick }) else first_met hair a bs
+abbrev pub first_meeting : ℕ → Sight → List Sight → Option Meeting
+first_meeting hair a [] = None
+first_meeting hair a (b ∷ bs) =
+    if meets hair a b then Some (record { one = a.copy; other = b.copy; tick = a.tick }) else first_meeting hair a bs
 
 -- the earlier of two meetings, or the first if both are at the same tick
-abbrev pub earlier : Option Meeting → Option Meeting → Option Meeting
-earlier None m = m
-earlier (Some m) None = Some m
-earlier (Some m) (Some n) = if nat_le m.tick n.tick then Some m else Some n
+abbrev pub earlier_meeting : Option Meeting → Option Meeting → Option Meeting
+earlier_meeting None m = m
+earlier_meeting (Some m) None = Some m
+earlier_meeting (Some m) (Some n) = if nat_le m.tick n.tick then Some m else Some n
 
-abbrev pub first_among : ℕ → List Sight → List Sight → Option Meeting
-first_among hair all [] = None
-first_among hair all (a ∷ others) = earlier (first_met hair a all) (first_among hair all others)
+abbrev pub first_meeting_among : ℕ → List Sight → List Sight → Option Meeting
+first_meeting_among hair all [] = None
+first_meeting_among hair all (a ∷ others) = earlier_meeting (first_meeting hair a all) (first_meeting_among hair all others)
 
 -- the earliest meeting of copies with this name, given the events of a story in the order of the walk
 abbrev pub meeting_in : ℕ → List ℕ → List Event → Option Meeting
-meeting_in hair name es = first_among hair (sights_of name es) (sights_of name es)
+meeting_in hair name es = first_meeting_among hair (sights_of name es) (sights_of name es)

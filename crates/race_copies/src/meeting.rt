@@ -1,7 +1,7 @@
 ghost use Rattle.std.specs.Prelude.{◌≡◌, IfOk, map};
 ghost use Rattle.std.specs.Option.{option_map};
 ghost use Rattle.story_causes.specs.Seen.{seen};
-ghost use Rattle.race_copies.specs.Copies.{differ_last, within, meets, first_met, earlier, first_among, meeting_in};
+ghost use Rattle.race_copies.specs.Copies.{differ_last, is_within, meets, first_meeting, earlier_meeting, first_meeting_among, meeting_in};
 ghost use Rattle.race_copies.specs.Views.{sight_held, met_held, meeting_held};
 
 use crate::acts::{acts, cancels_some};
@@ -44,7 +44,7 @@ pub fn meeting_of(
     ensures { IfOk result (λ found. option_map meeting_held found ≡ meeting_in hair name (map seen walked.now)) }
 {
     let sights = sights_of(alloc, name, walked)?;
-    let Some(met) = first_among(hair, sights.as_slice()) else {
+    let Some(met) = first_meeting_among(hair, sights.as_slice()) else {
         return Ok(None);
     };
     Ok(Some(Meeting {
@@ -55,21 +55,21 @@ pub fn meeting_of(
 }
 
 // Returns the first meeting among the events of copies.
-fn first_among<'e>(hair: u64, sights: &[Sight<'e>]) -> Option<Met<'e>>
-    ensures { option_map met_held result ≡ first_among hair (map sight_held sights.now) (map sight_held sights.now) }
+fn first_meeting_among<'e>(hair: u64, sights: &[Sight<'e>]) -> Option<Met<'e>>
+    ensures { option_map met_held result ≡ first_meeting_among hair (map sight_held sights.now) (map sight_held sights.now) }
 {
     let mut found = None;
     let mut left = sights.len();
     'sights: while left > 0 {
         left -= 1;
-        found = earlier(first_met(hair, sights[left], sights), found);
+        found = earlier_meeting(first_meeting(hair, sights[left], sights), found);
     }
     found
 }
 
 // Returns the first of these events that an event of a copy meets.
-fn first_met<'e>(hair: u64, one: Sight<'e>, sights: &[Sight<'e>]) -> Option<Met<'e>>
-    ensures { option_map met_held result ≡ first_met hair (sight_held one.entry) (map sight_held sights.now) }
+fn first_meeting<'e>(hair: u64, one: Sight<'e>, sights: &[Sight<'e>]) -> Option<Met<'e>>
+    ensures { option_map met_held result ≡ first_meeting hair (sight_held one.entry) (map sight_held sights.now) }
 {
     if !cancels_some(&one.event.what) {
         return None;
@@ -87,8 +87,8 @@ fn first_met<'e>(hair: u64, one: Sight<'e>, sights: &[Sight<'e>]) -> Option<Met<
 }
 
 // Returns the earlier of two meetings, or the first if both are at the same tick.
-fn earlier<'e>(first: Option<Met<'e>>, second: Option<Met<'e>>) -> Option<Met<'e>>
-    ensures { option_map met_held result ≡ earlier (option_map met_held first.entry) (option_map met_held second.entry) }
+fn earlier_meeting<'e>(first: Option<Met<'e>>, second: Option<Met<'e>>) -> Option<Met<'e>>
+    ensures { option_map met_held result ≡ earlier_meeting (option_map met_held first.entry) (option_map met_held second.entry) }
 {
     let Some(met) = first else {
         return second;
@@ -110,12 +110,12 @@ fn meets(hair: u64, one: Sight<'_>, other: Sight<'_>) -> bool
     cancels_some(&one.event.what)
         && acts(&other.event.what)
         && differ_last(one.copy.indices(), other.copy.indices())
-        && within(hair, one.event.tick, other.event.tick)
+        && is_within(hair, one.event.tick, other.event.tick)
 }
 
 // Returns whether two ticks are at most a hair apart.
-fn within(hair: u64, t: u64, u: u64) -> bool
-    ensures { result ≡ within hair t u }
+fn is_within(hair: u64, t: u64, u: u64) -> bool
+    ensures { result ≡ is_within hair t u }
 {
     t.saturating_sub(hair) <= u && u.saturating_sub(hair) <= t
 }

@@ -4,7 +4,7 @@ ghost use Rattle.job_meaning.specs.Log.{same_label};
 ghost use Rattle.job_story.specs.Held.{event_of};
 ghost use Rattle.story_causes.specs.Seen.{seen};
 ghost use Rattle.race_copies.specs.Copies as told;
-ghost use Rattle.race_copies.specs.Copies.{starts_copy, ends_copy, copy_at, still_open, with_sight, sights_of};
+ghost use Rattle.race_copies.specs.Copies.{starts_copy, ends_copy, copy_at, open_copy, with_sight, sights_of};
 ghost use Rattle.race_copies.specs.Views.{label_seen, sight_held};
 
 use exc_groups::Label;
@@ -33,7 +33,7 @@ pub(crate) fn sights_of<'e>(
     'events: for event in walked {
         let copy = copy_at(name, current, event);
         push_sight(&mut sights, copy, event)?;
-        current = still_open(copy, event);
+        current = open_copy(copy, event);
     }
     Ok(sights)
 }
@@ -71,8 +71,8 @@ fn copy_at<'e>(name: Name, current: Option<&'e Label>, event: &'e Event) -> Opti
 }
 
 // Returns the copy, if it has not ended after an event of it.
-fn still_open<'e>(copy: Option<&'e Label>, event: &Event) -> Option<&'e Label>
-    ensures { label_seen result ≡ still_open (label_seen copy.entry) (event_of event.now) }
+fn open_copy<'e>(copy: Option<&'e Label>, event: &Event) -> Option<&'e Label>
+    ensures { label_seen result ≡ open_copy (label_seen copy.entry) (event_of event.now) }
 {
     let copy = copy?;
     if ends_copy(copy, event) {

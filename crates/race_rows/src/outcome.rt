@@ -21,7 +21,7 @@ pub fn push_outcome(out: &mut Vec<u8>, outcome: &Outcome) -> Result<(), AllocErr
     }
 }
 
-// How a task ended, as a text.
+// Returns how a task ended, as a text.
 pub(crate) fn outcome_of(alloc: Global, outcome: &Outcome) -> Result<Vec<u8>, AllocError>
     ensures { IfOk result (λ text. text.items ≡ outcome_text (ending_in outcome.now)) }
 {

@@ -37,7 +37,7 @@ pub fn run_differences(
     root_difference(alloc, before, after)
 }
 
-// How the roots of two runs differ, of which one ended by the limit.
+// Returns how the roots of two runs differ, of which one ended by the limit.
 fn root_difference(
     alloc: Global,
     before: &Ran<'_>,
@@ -59,7 +59,7 @@ fn root_difference(
     Ok(found)
 }
 
-// How a root ended, or that it did not end by the limit.
+// Returns how a root ended, or that it did not end by the limit.
 fn root_text(alloc: Global, in_time: bool, root: &Record<'_>) -> Result<Vec<u8>, AllocError>
     ensures { IfOk result (λ text. text.items ≡ root_text in_time (row_in root.now)) }
 {

@@ -7,7 +7,7 @@ ghost use Rattle.race_rows.specs.Same.{same_entry, same_entries};
 use exc_groups::Label;
 use task_machine::Entry;
 
-// Whether two entries are the same line, or exits of the same scope or nursery that both caught or
+// Returns whether two entries are the same line, or exits of the same scope or nursery that both caught or
 // both did not.
 fn is_same_entry(a: &Entry<'_>, b: &Entry<'_>) -> bool
     ensures { result ≡ same_entry (entry_of a.now) (entry_of b.now) }
@@ -34,14 +34,14 @@ fn is_same_entry(a: &Entry<'_>, b: &Entry<'_>) -> bool
     }
 }
 
-// Whether two exits are of the same scope or nursery, and both caught or both did not.
+// Returns whether two exits are of the same scope or nursery, and both caught or both did not.
 fn is_same_exit(label: &Label, caught: bool, other: &Label, also: bool) -> bool
     ensures { result ≡ (same_label label.now other.now && beq caught also) }
 {
     *label == *other && caught == also
 }
 
-// Whether these are the same entries in the same order.
+// Returns whether these are the same entries in the same order.
 pub(crate) fn are_same_entries(a: &[Entry<'_>], b: &[Entry<'_>]) -> bool
     ensures { result ≡ same_entries (map entry_of a.now) (map entry_of b.now) }
 {

@@ -78,7 +78,7 @@ fn push_of_new_rows(
     Ok(())
 }
 
-// The first record of a task.
+// Returns the first record of a task.
 fn row_of<'r, 'a>(task: &Label, rows: &'r [Record<'a>]) -> Option<&'r Record<'a>>
     ensures { option_map (λ r. row_in r.now) result ≡ row_of task.now (map row_in rows.now) }
 {

@@ -3,7 +3,7 @@ use Rattle.std.proofs.Common.{◌≡◌, List, ◌+◌, arith, refl, cond, lengt
 use Rattle.std.proofs.lemmas.List.Recursion.{is_count_by}
 use Rattle.std.specs.Prelude.{Bool, true, false, ◌∷◌, count_by, map, if◌then◌else◌}
 use Rattle.race_text.specs.Lines as told
-use Rattle.race_text.specs.Table.{only}
+use Rattle.race_text.specs.Table.{lines_that}
 use Rattle.race_text.specs.Views.{line_held}
 use Rattle.race_text.specs.declared.line.Line.{Line}
 
@@ -11,7 +11,7 @@ one_more : (b : Bool) (l : told.Line) (ls : List told.Line) → length (if b the
 one_more true l ls = omega arith
 one_more false l ls = refl
 
-pub counted : (test : told.Line → Bool) (ls : List Line) → length (only test (map line_held ls)) ≡ count_by (λ l. test (line_held l)) ls
+pub counted : (test : told.Line → Bool) (ls : List Line) → length (lines_that test (map line_held ls)) ≡ count_by (λ l. test (line_held l)) ls
 counted test ls =
-    is_count_by (λ xs. length (only test (map line_held xs))) (λ l. test (line_held l)) refl
-    (λ x xs. one_more (test (line_held x)) (line_held x) (only test (map line_held xs))) ls
+    is_count_by (λ xs. length (lines_that test (map line_held xs))) (λ l. test (line_held l)) refl
+    (λ x xs. one_more (test (line_held x)) (line_held x) (lines_that test (map line_held xs))) ls

@@ -57,9 +57,9 @@ abbrev pub lines_text : Widths → List Line → List ℕ
 lines_text w [] = []
 lines_text w (l ∷ ls) = line_text w l ++ lines_text w ls
 
-abbrev pub only : (Line → Bool) → List Line → List Line
-only test [] = []
-only test (l ∷ ls) = if test l then l ∷ only test ls else only test ls
+abbrev pub lines_that : (Line → Bool) → List Line → List Line
+lines_that test [] = []
+lines_that test (l ∷ ls) = if test l then l ∷ lines_that test ls else lines_that test ls
 
 abbrev pub races_text : ℕ → List ℕ
 races_text n = if n == 0 then codes "no race" else decimal n ++ codes " races"
@@ -67,12 +67,12 @@ races_text n = if n == 0 then codes "no race" else decimal n ++ codes " races"
 -- how many hairs were tried, and how many lines are races
 abbrev pub counts_text : ℕ → List Line → List ℕ
 counts_text hairs ls =
-    decimal hairs ++ codes " hairs: " ++ races_text (length (only is_race ls)) ++ refused_text (length (only is_refused ls)) ++ codes "\n"
+    decimal hairs ++ codes " hairs: " ++ races_text (length (lines_that is_race ls)) ++ refused_text (length (lines_that is_refused ls)) ++ codes "\n"
 
 -- the lines that are shown, in columns as wide as their longest text, and the counts
 abbrev pub table_text : ℕ → List Line → List ℕ
-table_text hairs ls = lines_text (widths_of (only is_shown ls)) (only is_shown ls) ++ counts_text hairs ls
+table_text hairs ls = lines_text (widths_of (lines_that is_shown ls)) (lines_that is_shown ls) ++ counts_text hairs ls
 
 -- the lines of it that are races, as they are in the table
 abbrev pub denied_text : List Line → List ℕ
-denied_text ls = lines_text (widths_of (only is_shown ls)) (only is_race (only is_shown ls))
+denied_text ls = lines_text (widths_of (lines_that is_shown ls)) (lines_that is_race (lines_that is_shown ls))

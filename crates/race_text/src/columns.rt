@@ -24,7 +24,7 @@ fn push_at(out: &mut Vec<u8>, line: usize, column: usize) -> Result<(), AllocErr
     push_number(out, column as u64)
 }
 
-// The place of a line, or nothing if it is about the whole job.
+// Returns the place of a line, or nothing if it is about the whole job.
 pub(crate) fn place_of(alloc: Global, line: &Line) -> Result<Vec<u8>, AllocError>
     ensures { IfOk result (λ text. text.items ≡ place_text (line_held line.now)) }
 {
@@ -60,7 +60,7 @@ pub fn step_of(alloc: Global, line: &Line) -> Result<Vec<u8>, AllocError>
     Ok(text)
 }
 
-// What is done to the place of a line.
+// Returns what is done to the place of a line.
 pub(crate) fn hair_of(line: &Line) -> &'static [u8]
     ensures { result.now ≡ hair_text (line_held line.now) }
 {

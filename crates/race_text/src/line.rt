@@ -17,7 +17,7 @@ pub enum Found {
 }
 
 impl Found {
-    // Whether there is something to show.
+    // Returns whether there is something to show.
     fn is_some(&self) -> bool
         ensures { result ≡ is_some_found (found_held self.now) }
     {
@@ -27,7 +27,7 @@ impl Found {
         }
     }
 
-    // Whether something differs.
+    // Returns whether something differs.
     fn is_race(&self) -> bool
         ensures { result ≡ is_race_found (found_held self.now) }
     {
@@ -94,7 +94,7 @@ impl Line {
         }
     }
 
-    // Whether the line is a race.
+    // Returns whether the line is a race.
     pub(crate) fn is_race(&self) -> bool
         ensures { result ≡ is_race (line_held self.now) }
     {
@@ -104,7 +104,7 @@ impl Line {
         }
     }
 
-    // Whether the line's text is refused.
+    // Returns whether the line's text is refused.
     pub(crate) fn is_refused(&self) -> bool
         ensures { result ≡ is_refused (line_held self.now) }
     {

@@ -1,6 +1,6 @@
 ghost use Rattle.std.specs.Prelude.{◌≡◌, ◌++◌, IfOk, OnOk, length, map};
 ghost use Rattle.race_text.specs.Lines.{is_shown, is_race, is_refused};
-ghost use Rattle.race_text.specs.Table.{only, widths_of, line_text, lines_text, races_text, counts_text, table_text, denied_text};
+ghost use Rattle.race_text.specs.Table.{lines_that, widths_of, line_text, lines_text, races_text, counts_text, table_text, denied_text};
 ghost use Rattle.race_text.specs.Views.{line_held};
 
 use crate::columns::{Widths, hair_of, place_of, step_of};
@@ -40,9 +40,9 @@ pub fn race_denied(alloc: Global, lines: &[Line]) -> Result<Vec<u8>, AllocError>
     Ok(out)
 }
 
-// The widths of the columns: of the lines that are shown.
+// Returns the widths of the columns: of the lines that are shown.
 fn widths_of(alloc: Global, lines: &[Line]) -> Result<Widths, AllocError>
-    ensures { IfOk result (λ widths. widths ≡ widths_of (only is_shown (map line_held lines.now))) }
+    ensures { IfOk result (λ widths. widths ≡ widths_of (lines_that is_shown (map line_held lines.now))) }
 {
     let mut widths = Widths {
         place: 0,
@@ -92,14 +92,14 @@ fn push_counts(out: &mut Vec<u8>, hairs: usize, lines: &[Line]) -> Result<(), Al
 
 /// Returns how many lines are races.
 pub fn races_in(lines: &[Line]) -> usize
-    ensures { result ≡ length (only is_race (map line_held lines.now)) }
+    ensures { result ≡ length (lines_that is_race (map line_held lines.now)) }
 {
     lines.iter().filter(|line| line.is_race()).count()
 }
 
 /// Returns how many texts are refused.
 pub fn refused_in(lines: &[Line]) -> usize
-    ensures { result ≡ length (only is_refused (map line_held lines.now)) }
+    ensures { result ≡ length (lines_that is_refused (map line_held lines.now)) }
 {
     lines.iter().filter(|line| line.is_refused()).count()
 }

@@ -13,7 +13,7 @@ use Rattle.job_checks.specs.Cancels.{Cancel, cancels_of}
 use Rattle.refusal_text.specs.declared.hinting.Hint.{Hint}
 use Rattle.refusal_text.specs.declared.hinting.Hint.TheVariants as hint
 use Rattle.refusal_text.specs.Hinting.{size_hint}
-use Rattle.refusal_text.specs.Scopes.{around_stray, cancellable, names_held, or_names}
+use Rattle.refusal_text.specs.Scopes.{around_stray, cancellable_names, names_held, or_names}
 
 or_none : (found : Option (List (List ℕ))) → or_names found None ≡ found
 or_none None = refl
@@ -57,9 +57,9 @@ some_read view x found read gives is = subst (λ (y : Option _). Gives view y re
 -- what could be cancelled in a job that is read, given its steps
 pub names_in : (names : Option (List (List ℕ))) (steps own : Steps) (name : List ℕ) (format : Format) (read : Option Tree) →
     read ≡ Some (record { format = format; name = name; steps = own }) → steps ≡ own → names ≡ around_stray (cancels_of [] steps)
-    → names ≡ cancellable read
+    → names ≡ cancellable_names read
 names_in names steps own name format read is same found =
-    found ∙ ap (λ (s : Steps). around_stray (cancels_of [] s)) same ∙ sym (ap cancellable is)
+    found ∙ ap (λ (s : Steps). around_stray (cancels_of [] s)) same ∙ sym (ap cancellable_names is)
 
 -- the size of a job that is read, given its steps
 pub size_in : (size : ℕ) (steps own : Steps) (name : List ℕ) (format : Format) (read : Option Tree) →

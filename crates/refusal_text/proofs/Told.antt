@@ -13,17 +13,17 @@ use Rattle.job_grammar.specs.Refusals.{HasTokens, format_of}
 use Rattle.nursery_app.specs.Places.{column_of}
 use Rattle.refusal_text.specs.declared.advice.Advice.{Advice}
 use Rattle.refusal_text.specs.declared.hinting.Hint.{Hint}
-use Rattle.refusal_text.specs.Expecting.{expected_in, IsExpected}
+use Rattle.refusal_text.specs.Expecting.{expected_nonterminal, IsExpected}
 use Rattle.refusal_text.specs.Scanning.{shape_at, last_before}
-use Rattle.refusal_text.specs.Hinting.{advised, reserved_advice, syntax_hint, twice_hint, IsSyntaxHint, IsTwiceHint}
-use Rattle.refusal_text.specs.Explaining.{headed, shown_byte, is_newline, last_of, width_before, before, after, most_before, most_after}
+use Rattle.refusal_text.specs.Hinting.{advice_hint, reserved_advice, syntax_hint, twice_hint, IsSyntaxHint, IsTwiceHint}
+use Rattle.refusal_text.specs.Explaining.{heading, shown_byte, is_newline, last_of, width_before, shown_before, shown_after, most_before, most_after}
 
 -- what the grammar expects after the tokens is what it expects in the text
 pub expects : (format : Format) (text : List ℕ) (tokens given : List Token) (fault : Option ℕ) (asked : Option Nonterminal) →
-    format ≡ format_of text → HasTokens text tokens fault → given ≡ tokens → asked ≡ expected_in format whole_job given
+    format ≡ format_of text → HasTokens text tokens fault → given ≡ tokens → asked ≡ expected_nonterminal format whole_job given
     → IsExpected text asked
 expects format text tokens given fault asked of has same is =
-    (tokens, fault, has, is ∙ ap (expected_in format whole_job) same ∙ ap (λ (f : Format). expected_in f whole_job tokens) of)
+    (tokens, fault, has, is ∙ ap (expected_nonterminal format whole_job) same ∙ ap (λ (f : Format). expected_nonterminal f whole_job tokens) of)
 
 -- the first bytes, cut at a place that may lie after the end
 pub cut_front : (bytes front : List ℕ) (n m : ℕ) → front ≡ take m bytes → m ≡ min n (length bytes) → front ≡ take n bytes
@@ -40,13 +40,13 @@ width_is text at column shown column_is is = is ∙ ap (λ (x : ℕ). min (x - 1
 
 -- what is shown before a place, cut from the bytes up to it
 pub before_is : (text front last : List ℕ) (at shown : ℕ) → front ≡ take at text → shown ≡ width_before text at →
-    last ≡ last_of shown front → map shown_byte last ≡ before text at
+    last ≡ last_of shown front → map shown_byte last ≡ shown_before text at
 before_is text front last at shown front_is width is =
     ap (map shown_byte) (is ∙ ap (λ (x : ℕ). last_of x front) width ∙ ap (last_of (width_before text at)) front_is)
 
 -- what is shown from a place on, cut from the bytes after it
 pub after_is : (text rest first line : List ℕ) (at : ℕ) → rest ≡ drop at text → first ≡ take most_after rest →
-    line ≡ before_first is_newline first → map shown_byte line ≡ after text at
+    line ≡ before_first is_newline first → map shown_byte line ≡ shown_after text at
 after_is text rest first line at rest_is first_is is =
     ap (map shown_byte) (is ∙ ap (before_first is_newline) (first_is ∙ ap (take most_after) rest_is))
 
@@ -62,10 +62,10 @@ first_at text rest at is = ap (λ (x : List ℕ). slice_get x 0) is ∙ get_drop
 
 -- the first line of the message, given the line, the column and the sentence
 pub headed_same : (job sentence wanted : List ℕ) (line line' column column' : ℕ) → line ≡ line' → column ≡ column' → sentence ≡ wanted →
-    headed job line column sentence ≡ headed job line' column' wanted
+    heading job line column sentence ≡ heading job line' column' wanted
 headed_same job sentence wanted line line' column column' line_is column_is is =
-    ap (λ (x : ℕ). headed job x column sentence) line_is ∙ ap (λ (x : ℕ). headed job line' x sentence) column_is
-    ∙ ap (headed job line' column') is
+    ap (λ (x : ℕ). heading job x column sentence) line_is ∙ ap (λ (x : ℕ). heading job line' x sentence) column_is
+    ∙ ap (heading job line' column') is
 
 -- three pieces, one after the other
 pub three_pieces : (old a b c h1 h2 h3 : List ℕ) → h1 ≡ old ++ a → h2 ≡ h1 ++ b → h3 ≡ h2 ++ c → h3 ≡ old ++ ((a ++ b) ++ c)
@@ -115,10 +115,10 @@ helps_text format text at tokens fault h of has is =
 
 -- the hint where a name is reserved
 pub helps_reserved : (at : ℕ) (given : List Token) (before shape : Option Shape) (a : Option Advice) (h : Option Hint) →
-    before ≡ last_before at None given → shape ≡ shape_at at given → a ≡ reserved_advice before shape → h ≡ advised a
-    → h ≡ advised (reserved_advice (last_before at None given) (shape_at at given))
+    before ≡ last_before at None given → shape ≡ shape_at at given → a ≡ reserved_advice before shape → h ≡ advice_hint a
+    → h ≡ advice_hint (reserved_advice (last_before at None given) (shape_at at given))
 helps_reserved at given before shape a h before_is shape_is a_is is =
-    is ∙ ap advised (a_is ∙ ap (reserved_advice before) shape_is
+    is ∙ ap advice_hint (a_is ∙ ap (reserved_advice before) shape_is
     ∙ ap (λ (b : Option Shape). reserved_advice b (shape_at at given)) before_is)
 
 -- the hint where a name is given twice, found by the tokens of the text and their roles

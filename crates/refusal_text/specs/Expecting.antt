@@ -15,15 +15,15 @@ or_nonterminal None s others = Some s
 or_nonterminal (Some more) s others = others more
 
 -- the first nonterminal for which no token is read, or `None` if tokens are left over or none is missing
-abbrev pub expected_in : Format → List Nonterminal → List Token → Option Nonterminal
-expected_in format [] ts = None
-expected_in format (s ∷ ss) [] = Some s
-expected_in format (s ∷ ss) (t ∷ ts) = or_nonterminal (next format s t.shape) s (λ more. expected_in format (more ++ ss) ts)
+abbrev pub expected_nonterminal : Format → List Nonterminal → List Token → Option Nonterminal
+expected_nonterminal format [] ts = None
+expected_nonterminal format (s ∷ ss) [] = Some s
+expected_nonterminal format (s ∷ ss) (t ∷ ts) = or_nonterminal (next format s t.shape) s (λ more. expected_nonterminal format (more ++ ss) ts)
 
 -- what the grammar expects where the tokens of a text leave it, as far as tokens can be read
 abbrev pub IsExpected : List ℕ → Option Nonterminal → Type 0
 IsExpected text nonterminal = (tokens : List Token) × (fault : Option ℕ) × HasTokens text tokens fault
-    × (nonterminal ≡ expected_in (format_of text) whole_job tokens)
+    × (nonterminal ≡ expected_nonterminal (format_of text) whole_job tokens)
 
 -- what the sentence of a refusal says is expected: for a syntax fault, what the grammar expects; for any other refusal,
 -- nothing

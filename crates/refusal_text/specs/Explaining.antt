@@ -35,24 +35,24 @@ abbrev pub width_before : List ℕ → ℕ → ℕ
 width_before text at = min (column_of text at - 1) most_before
 
 -- what is shown of the line before a place
-abbrev pub before : List ℕ → ℕ → List ℕ
-before text at = map shown_byte (last_of (width_before text at) (take at text))
+abbrev pub shown_before : List ℕ → ℕ → List ℕ
+shown_before text at = map shown_byte (last_of (width_before text at) (take at text))
 
 -- what is shown of the line from a place on
-abbrev pub after : List ℕ → ℕ → List ℕ
-after text at = map shown_byte (before_first is_newline (take most_after (drop at text)))
+abbrev pub shown_after : List ℕ → ℕ → List ℕ
+shown_after text at = map shown_byte (before_first is_newline (take most_after (drop at text)))
 
 -- the place as `JOB:LINE:COLUMN`, and the sentence
-abbrev pub headed : List ℕ → ℕ → ℕ → List ℕ → List ℕ
-headed job line column sentence = job ++ codes ":" ++ decimal line ++ codes ":" ++ decimal column ++ codes ": " ++ sentence ++ codes "\n"
+abbrev pub heading : List ℕ → ℕ → ℕ → List ℕ → List ℕ
+heading job line column sentence = job ++ codes ":" ++ decimal line ++ codes ":" ++ decimal column ++ codes ": " ++ sentence ++ codes "\n"
 
 -- the line of the job text, and a caret under the place
-abbrev pub pointed : List ℕ → ℕ → List ℕ
-pointed text at = before text at ++ after text at ++ codes "\n" ++ replicate (width_before text at) 32 ++ codes "^\n"
+abbrev pub pointed_line : List ℕ → ℕ → List ℕ
+pointed_line text at = shown_before text at ++ shown_after text at ++ codes "\n" ++ replicate (width_before text at) 32 ++ codes "^\n"
 
 -- the message about a place
 abbrev pub pointed_message : List ℕ → List ℕ → ℕ → List ℕ → List ℕ
-pointed_message job text at sentence = headed job (line_of text at) (column_of text at) sentence ++ pointed text at
+pointed_message job text at sentence = heading job (line_of text at) (column_of text at) sentence ++ pointed_line text at
 
 abbrev pub meant_line : List ℕ → List ℕ
 meant_line bytes = codes "did you mean `" ++ map shown_byte bytes ++ codes "`?\n"
@@ -80,17 +80,17 @@ hint_of job text None = []
 hint_of job text (Some h) = hint_line job text h
 
 -- a name between back quotes
-abbrev pub quoted : List ℕ → List ℕ
-quoted name = codes "`" ++ map shown_byte name ++ codes "`"
+abbrev pub quoted_name : List ℕ → List ℕ
+quoted_name name = codes "`" ++ map shown_byte name ++ codes "`"
 
-abbrev pub more_quoted : List (List ℕ) → List ℕ
-more_quoted [] = []
-more_quoted (n ∷ ns) = codes ", " ++ quoted n ++ more_quoted ns
+abbrev pub more_quoted_names : List (List ℕ) → List ℕ
+more_quoted_names [] = []
+more_quoted_names (n ∷ ns) = codes ", " ++ quoted_name n ++ more_quoted_names ns
 
 -- the line that lists what could be cancelled at a place, if it is to be listed
 abbrev pub names_line : List (List ℕ) → List ℕ
 names_line [] = codes "no scope or nursery is around this `cancel`\n"
-names_line (n ∷ ns) = codes "what can be cancelled here: " ++ quoted n ++ more_quoted ns ++ codes "\n"
+names_line (n ∷ ns) = codes "what can be cancelled here: " ++ quoted_name n ++ more_quoted_names ns ++ codes "\n"
 
 abbrev pub names_of : Option (List (List ℕ)) → List ℕ
 names_of None = []

@@ -25,13 +25,13 @@ use Rattle.refusal_text.specs.declared.hinting.Hint.{Hint}
 use Rattle.refusal_text.specs.declared.hinting.Hint.TheVariants as hint
 use Rattle.refusal_text.specs.Advice.{trio_advice}
 use Rattle.refusal_text.specs.ByBytes.{feed_advice, ascii_advice, version_advice, byte_advice}
-use Rattle.refusal_text.specs.Expecting.{expected_in}
+use Rattle.refusal_text.specs.Expecting.{expected_nonterminal}
 use Rattle.refusal_text.specs.Nearness.{words_for, first_near}
-use Rattle.refusal_text.specs.Scanning.{shape_at, last_before, open_in, first_given}
+use Rattle.refusal_text.specs.Scanning.{shape_at, last_before, open_blocks, first_given_place}
 
-abbrev pub advised : Option Advice → Option Hint
-advised None = None
-advised (Some a) = Some (hint.Advice a)
+abbrev pub advice_hint : Option Advice → Option Hint
+advice_hint None = None
+advice_hint (Some a) = Some (hint.Advice a)
 
 abbrev pub or_advice : Option Advice → Option Advice → Option Advice
 or_advice None other = other
@@ -77,17 +77,17 @@ gives_name shape = if_keyword is_named (keyword_in shape)
 
 -- given the token before the place, the byte before it and the byte there: the hint for a word of Trio that is called, or
 -- otherwise for the bytes
-abbrev pub called_or_byte : Option Shape → Option ℕ → Option ℕ → Option Advice
-called_or_byte word before None = byte_advice before None
-called_or_byte word before (Some b) =
+abbrev pub call_or_byte_advice : Option Shape → Option ℕ → Option ℕ → Option Advice
+call_or_byte_advice word before None = byte_advice before None
+call_or_byte_advice word before (Some b) =
     if b == 40 then or_advice (word_advice word) (byte_advice before (Some b)) else byte_advice before (Some b)
 
 abbrev pub token_advice : List ℕ → ℕ → Option Shape → Option Advice
-token_advice text at word = or_advice (feed_advice text at) (called_or_byte word (slice_get text (at - 1)) (slice_get text at))
+token_advice text at word = or_advice (feed_advice text at) (call_or_byte_advice word (slice_get text (at - 1)) (slice_get text at))
 
 abbrev pub IsTokenHint : List ℕ → ℕ → Option Hint → Type 0
 IsTokenHint text at h = (tokens : List Token) × (fault : Option ℕ) × HasTokens text tokens fault
-    × (h ≡ advised (token_advice text at (last_before at None tokens)))
+    × (h ≡ advice_hint (token_advice text at (last_before at None tokens)))
 
 -- ---- the hint where tokens leave the grammar
 
@@ -97,12 +97,12 @@ is_newer One rest = is_some rest
 is_newer Two rest = false
 
 -- the keyword that a token nearly is, among those that may be read for the nonterminal
-abbrev pub nearly : Format → Nonterminal → Shape → Option Hint
-nearly format nonterminal shape = word_in shape >>= λ bytes. first_near (words_for format nonterminal) bytes >>= λ k. Some (hint.Meant k)
+abbrev pub near_hint : Format → Nonterminal → Shape → Option Hint
+near_hint format nonterminal shape = word_in shape >>= λ bytes. first_near (words_for format nonterminal) bytes >>= λ k. Some (hint.Meant k)
 
 -- after a name that is a word of a head, the name is missing
-abbrev pub unnamed_after : Option Shape → Option Advice
-unnamed_after before = if is_head_word before then Some advice.Unnamed else None
+abbrev pub unnamed_advice : Option Shape → Option Advice
+unnamed_advice before = if is_head_word before then Some advice.Unnamed else None
 
 -- a word of a head that comes too late in it
 abbrev pub order_advice : Shape → Option Advice
@@ -111,9 +111,9 @@ order_advice shape = if is_head_word (Some shape) then Some advice.HeadOrder els
 -- the sentence for a token that cannot be read for the nonterminal, after another token
 abbrev pub nonterminal_advice : Nonterminal → Option Shape → Shape → Option Advice
 nonterminal_advice nonterminal.Given before shape = Some advice.Unnamed
-nonterminal_advice nonterminal.Scope before shape = unnamed_after before
-nonterminal_advice nonterminal.Nursery before shape = unnamed_after before
-nonterminal_advice nonterminal.Over before shape = unnamed_after before
+nonterminal_advice nonterminal.Scope before shape = unnamed_advice before
+nonterminal_advice nonterminal.Nursery before shape = unnamed_advice before
+nonterminal_advice nonterminal.Over before shape = unnamed_advice before
 nonterminal_advice nonterminal.Shield before shape = order_advice shape
 nonterminal_advice nonterminal.Fail before shape = order_advice shape
 nonterminal_advice nonterminal.NurseryShield before shape = order_advice shape
@@ -124,22 +124,22 @@ nonterminal_advice nonterminal.StepsCleanup before shape = word_advice (Some sha
 nonterminal_advice nonterminal.ItemsCleanup before shape = word_advice (Some shape)
 nonterminal_advice _ before shape = None
 
-abbrev pub or_nearly : Option Advice → Format → Nonterminal → Shape → Option Hint
-or_nearly None format nonterminal shape = nearly format nonterminal shape
-or_nearly (Some a) format nonterminal shape = Some (hint.Advice a)
+abbrev pub or_near_hint : Option Advice → Format → Nonterminal → Shape → Option Hint
+or_near_hint None format nonterminal shape = near_hint format nonterminal shape
+or_near_hint (Some a) format nonterminal shape = Some (hint.Advice a)
 
 -- the hint that a token is allowed in format 2, or a sentence, or the keyword that the token nearly is, among those that may be
 -- read for the nonterminal
-abbrev pub meant_by : Format → Option Nonterminal → Option Shape → Shape → Option Hint
-meant_by format nonterminal before shape = nonterminal >>= λ s.
+abbrev pub nonterminal_hint : Format → Option Nonterminal → Option Shape → Shape → Option Hint
+nonterminal_hint format nonterminal before shape = nonterminal >>= λ s.
     if is_newer format (next Two s shape) then Some (hint.Advice advice.NewerFormat)
-    else or_nearly (nonterminal_advice s before shape) format s shape
+    else or_near_hint (nonterminal_advice s before shape) format s shape
 
 -- the hint where tokens leave the grammar: for a token at that place, what was meant; at the end of the text, the block that is
 -- open
 abbrev pub syntax_hint : Format → List Token → Option Shape → Option Shape → Option Hint
-syntax_hint format tokens before None = slice_get (open_in [] tokens) 0 >>= λ at. Some (hint.OpenSince at)
-syntax_hint format tokens before (Some shape) = meant_by format (expected_in format whole_job tokens) before shape
+syntax_hint format tokens before None = slice_get (open_blocks [] tokens) 0 >>= λ at. Some (hint.OpenSince at)
+syntax_hint format tokens before (Some shape) = nonterminal_hint format (expected_nonterminal format whole_job tokens) before shape
 
 abbrev pub IsSyntaxHint : List ℕ → ℕ → Option Hint → Type 0
 IsSyntaxHint text at h = (tokens : List Token) × (fault : Option ℕ) × HasTokens text tokens fault
@@ -153,7 +153,7 @@ reserved_advice before shape = if gives_name before && is_head_word shape then S
 
 abbrev pub IsReservedHint : List ℕ → ℕ → Option Hint → Type 0
 IsReservedHint text at h = (tokens : List Token) × (fault : Option ℕ) × HasTokens text tokens fault
-    × (h ≡ advised (reserved_advice (last_before at None tokens) (shape_at at tokens)))
+    × (h ≡ advice_hint (reserved_advice (last_before at None tokens) (shape_at at tokens)))
 
 -- ---- the hint where a job is too large
 
@@ -170,7 +170,7 @@ IsSizeHint text h = (tokens : List Token) × (fault : Option ℕ) × HasTokens t
 
 -- where the name at a place was first given
 abbrev pub twice_hint : List Token → List Role → Option Shape → Option Hint
-twice_hint tokens roles shape = shape >>= λ s. word_in s >>= λ name. first_given name tokens roles >>= λ at. Some (hint.GivenAt at)
+twice_hint tokens roles shape = shape >>= λ s. word_in s >>= λ name. first_given_place name tokens roles >>= λ at. Some (hint.GivenAt at)
 
 abbrev pub IsTwiceHint : List ℕ → ℕ → Option Hint → Type 0
 IsTwiceHint text at h =
@@ -180,9 +180,9 @@ IsTwiceHint text at h =
 
 -- the hint for a refusal of this kind at a place, if there is one
 abbrev pub IsHint : JobKind → List ℕ → ℕ → Option Hint → Type 0
-IsHint kind.TooLong text at h = h ≡ advised (feed_advice text at)
-IsHint kind.NotAscii text at h = h ≡ advised (ascii_advice text at)
-IsHint kind.Version text at h = h ≡ advised (version_advice text)
+IsHint kind.TooLong text at h = h ≡ advice_hint (feed_advice text at)
+IsHint kind.NotAscii text at h = h ≡ advice_hint (ascii_advice text at)
+IsHint kind.Version text at h = h ≡ advice_hint (version_advice text)
 IsHint kind.Token text at h = IsTokenHint text at h
 IsHint kind.Syntax text at h = IsSyntaxHint text at h
 IsHint kind.Twice text at h = IsTwiceHint text at h

@@ -20,16 +20,16 @@ last_before at found [] = found
 last_before at found (t ∷ ts) = if nat_lt t.at at then last_before at (Some t.shape) ts else found
 
 -- the places of the open blocks, innermost first, after a token at a place
-abbrev pub open_after : List ℕ → ℕ → Option Mark → List ℕ
-open_after places at None = places
-open_after places at (Some mark.Open) = at ∷ places
-open_after places at (Some mark.Close) = drop 1 places
-open_after places at (Some mark.Semicolon) = places
+abbrev pub open_blocks_after : List ℕ → ℕ → Option Mark → List ℕ
+open_blocks_after places at None = places
+open_blocks_after places at (Some mark.Open) = at ∷ places
+open_blocks_after places at (Some mark.Close) = drop 1 places
+open_blocks_after places at (Some mark.Semicolon) = places
 
 -- the same after tokens
-abbrev pub open_in : List ℕ → List Token → List ℕ
-open_in places [] = places
-open_in places (t ∷ ts) = open_in (open_after places t.at (mark_in t.shape)) ts
+abbrev pub open_blocks : List ℕ → List Token → List ℕ
+open_blocks places [] = places
+open_blocks places (t ∷ ts) = open_blocks (open_blocks_after places t.at (mark_in t.shape)) ts
 
 -- a token gives this name
 abbrev pub gives : Role → Option (List ℕ) → List ℕ → Bool
@@ -38,7 +38,7 @@ gives role.Given (Some word) name = bytes_eq word name
 gives _ word name = false
 
 -- the place of the first token that gives this name
-abbrev pub first_given : List ℕ → List Token → List Role → Option ℕ
-first_given name [] roles = None
-first_given name (t ∷ ts) [] = None
-first_given name (t ∷ ts) (r ∷ rs) = if gives r (word_in t.shape) name then Some t.at else first_given name ts rs
+abbrev pub first_given_place : List ℕ → List Token → List Role → Option ℕ
+first_given_place name [] roles = None
+first_given_place name (t ∷ ts) [] = None
+first_given_place name (t ∷ ts) (r ∷ rs) = if gives r (word_in t.shape) name then Some t.at else first_given_place name ts rs

@@ -19,14 +19,14 @@ around_stray [] = None
 around_stray (c ∷ cs) = if is_among c.round c.name then around_stray cs else Some c.round
 
 -- the same in a job, where there is one
-abbrev pub cancellable : Option Tree → Option (List (List ℕ))
-cancellable None = None
-cancellable (Some job) = around_stray (cancels_of [] job.steps)
+abbrev pub cancellable_names : Option Tree → Option (List (List ℕ))
+cancellable_names None = None
+cancellable_names (Some job) = around_stray (cancels_of [] job.steps)
 
 -- the same in the job that the tokens of a text spell
 abbrev pub IsCancellable : List ℕ → Option (List (List ℕ)) → Type 0
 IsCancellable text names = (tokens : List Token) × (fault : Option ℕ) × HasTokens text tokens fault
-    × (names ≡ cancellable (job_at (format_of text) (shapes_of tokens)))
+    × (names ≡ cancellable_names (job_at (format_of text) (shapes_of tokens)))
 
 -- what is listed with a refusal of this kind, if anything
 abbrev pub IsListed : JobKind → List ℕ → Option (List (List ℕ)) → Type 0

@@ -56,7 +56,7 @@ pub(crate) enum Advice {
 
 impl Advice {
     // Returns the sentence, with its newline.
-    pub fn text(self) -> &'static str
+    pub(crate) fn text(self) -> &'static str
         ensures { result.now ≡ advice_text self }
     {
         match self {

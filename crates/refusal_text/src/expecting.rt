@@ -1,6 +1,6 @@
 ghost use Rattle.std.specs.Prelude.{◌≡◌, IfOk};
 ghost use Rattle.job_syntax.specs.Syntax.{whole_job};
-ghost use Rattle.refusal_text.specs.Expecting.{expected_in};
+ghost use Rattle.refusal_text.specs.Expecting.{expected_nonterminal};
 
 use job_grammar::Format;
 use job_syntax::Nonterminal;
@@ -9,12 +9,12 @@ use std::alloc::{AllocError, Global};
 
 // Returns what the grammar of a format expects at the place where tokens leave it, or `None` if it expects the end of the
 // text.
-pub(crate) fn expected_at(
+pub(crate) fn expected_nonterminal(
     alloc: Global,
     format: Format,
     tokens: &[Token],
 ) -> Result<Option<Nonterminal>, AllocError>
-    ensures { IfOk result (λ nonterminal. nonterminal ≡ expected_in format whole_job tokens.now) }
+    ensures { IfOk result (λ nonterminal. nonterminal ≡ expected_nonterminal format whole_job tokens.now) }
 {
     let mut stack = Vec::new(alloc);
     stack.push(Nonterminal::Job)?;

@@ -1,7 +1,7 @@
 ghost use Rattle.std.specs.Prelude.{◌≡◌, ◌∷◌, ◌++◌, ◌<◌, ◌≤◌, length, take, map, replicate, codes, decimal, IfOk, OnOk};
 ghost use Rattle.std.specs.List.{before_first};
 ghost use Rattle.std.specs.String.{string_bytes};
-ghost use Rattle.refusal_text.specs.Explaining.{Tells, pointed_message, headed, shown_byte, is_newline, last_of, most_after, hint_of, hint_line, meant_line, place_line, size_line, quoted, more_quoted, names_line, names_of};
+ghost use Rattle.refusal_text.specs.Explaining.{Tells, pointed_message, heading, shown_byte, is_newline, last_of, most_after, hint_of, hint_line, meant_line, place_line, size_line, quoted_name, more_quoted_names, names_line, names_of};
 ghost use Rattle.job_syntax.specs.Keywords.{spelling_of};
 ghost use Rattle.refusal_text.specs.Scopes.{names_held};
 ghost use Rattle.nursery_app.specs.Places.{line_of, column_of};
@@ -58,7 +58,7 @@ pub fn pointed_message(
     let line = line_of(text, at);
     let column = column_of(text, at);
     let (front, rest) = text.split_at(at.min(text.len()));
-    let mut message = headed(alloc, job, line, column, sentence)?;
+    let mut message = heading(alloc, job, line, column, sentence)?;
     let shown = (column - 1).min(MAX_BEFORE);
     push_shown(&mut message, last_bytes(front, shown))?;
     push_shown(&mut message, first_line(first_bytes(rest)))?;
@@ -69,14 +69,14 @@ pub fn pointed_message(
 }
 
 // Returns the place and the sentence.
-fn headed(
+fn heading(
     alloc: Global,
     job: &str,
     line: usize,
     column: usize,
     sentence: &str,
 ) -> Result<String, AllocError>
-    ensures { IfOk result (λ message. string_bytes message ≡ headed job.now line column sentence.now) }
+    ensures { IfOk result (λ message. string_bytes message ≡ heading job.now line column sentence.now) }
 {
     let mut message = String::from_str(alloc, job)?;
     push_place(&mut message, line)?;
@@ -136,6 +136,7 @@ fn push_shown(message: &mut String, bytes: &[u8]) -> Result<(), AllocError>
     Ok(())
 }
 
+// Appends this many spaces.
 fn push_spaces(message: &mut String, count: usize) -> Result<(), AllocError>
     ensures { OnOk result (string_bytes message.new ≡ string_bytes message.old ++ replicate count 32) }
 {
@@ -219,6 +220,7 @@ fn push_names(message: &mut String, names: &Option<Vec<Name>>) -> Result<(), All
     }
 }
 
+// Appends the line that lists what could be cancelled.
 fn push_list(message: &mut String, names: &[Name]) -> Result<(), AllocError>
     ensures { OnOk result (string_bytes message.new ≡ string_bytes message.old ++ names_line names.now) }
 {
@@ -229,7 +231,7 @@ fn push_list(message: &mut String, names: &[Name]) -> Result<(), AllocError>
     Ok(())
 }
 
-// The same for at least one name.
+// Does the same for at least one name.
 fn push_some(message: &mut String, first: Name, others: &[Name]) -> Result<(), AllocError>
     ensures { OnOk result (string_bytes message.new ≡ string_bytes message.old ++ names_line (first ∷ others.now)) }
 {
@@ -242,7 +244,7 @@ fn push_some(message: &mut String, first: Name, others: &[Name]) -> Result<(), A
 
 // Appends each of these names after a comma.
 fn push_more(message: &mut String, names: &[Name]) -> Result<(), AllocError>
-    ensures { OnOk result (string_bytes message.new ≡ string_bytes message.old ++ more_quoted names.now) }
+    ensures { OnOk result (string_bytes message.new ≡ string_bytes message.old ++ more_quoted_names names.now) }
 {
     'names: for name in names {
         message.push_str(", ")?;
@@ -253,7 +255,7 @@ fn push_more(message: &mut String, names: &[Name]) -> Result<(), AllocError>
 
 // Appends a name between back quotes.
 fn push_quoted(message: &mut String, name: Name) -> Result<(), AllocError>
-    ensures { OnOk result (string_bytes message.new ≡ string_bytes message.old ++ quoted name) }
+    ensures { OnOk result (string_bytes message.new ≡ string_bytes message.old ++ quoted_name name) }
 {
     message.push_str("`")?;
     push_shown(message, name.bytes())?;
@@ -261,6 +263,7 @@ fn push_quoted(message: &mut String, name: Name) -> Result<(), AllocError>
     Ok(())
 }
 
+// Appends the line that asks whether a keyword was meant.
 fn push_meant(message: &mut String, keyword: Keyword) -> Result<(), AllocError>
     ensures { OnOk result (string_bytes message.new ≡ string_bytes message.old ++ meant_line (spelling_of keyword)) }
 {
@@ -270,6 +273,7 @@ fn push_meant(message: &mut String, keyword: Keyword) -> Result<(), AllocError>
     Ok(())
 }
 
+// Appends a line of some words and a place, as `JOB:LINE:COLUMN`.
 fn push_at(
     message: &mut String,
     what: &str,

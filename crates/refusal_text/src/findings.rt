@@ -4,10 +4,10 @@ ghost use Rattle.refusal_text.specs.Hinting.{IsHint, IsSyntaxHint};
 ghost use Rattle.refusal_text.specs.Scopes.{IsListed, names_held};
 
 use crate::by_bytes::{ascii_advice, feed_advice, version_advice};
-use crate::expecting::expected_at;
-use crate::hinting::{Hint, advised, reserved_hint, syntax_hint, token_hint, twice_hint};
+use crate::expecting::expected_nonterminal;
+use crate::hinting::{Hint, advice_hint, reserved_hint, syntax_hint, token_hint, twice_hint};
 use crate::lexed_text::LexedText;
-use crate::scopes::cancellable;
+use crate::scopes::cancellable_names;
 use crate::size::size_hint;
 use job_grammar::{JobFault, JobKind};
 use job_syntax::Nonterminal;
@@ -54,16 +54,16 @@ pub(crate) fn findings_of(
 {
     let at = fault.at;
     match fault.kind {
-        JobKind::TooLong => Ok(Findings::with_hint(advised(feed_advice(text, at)))),
-        JobKind::NotAscii => Ok(Findings::with_hint(advised(ascii_advice(text, at)))),
-        JobKind::Version => Ok(Findings::with_hint(advised(version_advice(text)))),
+        JobKind::TooLong => Ok(Findings::with_hint(advice_hint(feed_advice(text, at)))),
+        JobKind::NotAscii => Ok(Findings::with_hint(advice_hint(ascii_advice(text, at)))),
+        JobKind::Version => Ok(Findings::with_hint(advice_hint(version_advice(text)))),
         JobKind::Token => Ok(Findings::with_hint(token_hint(alloc, text, at)?)),
         JobKind::Syntax => syntax_findings(alloc, text, at),
         JobKind::Twice => Ok(Findings::with_hint(twice_hint(alloc, text, at)?)),
         JobKind::NotEnclosing => Ok(Findings {
             asked: None,
             hint: None,
-            names: cancellable(alloc, text)?,
+            names: cancellable_names(alloc, text)?,
         }),
         JobKind::Reserved => Ok(Findings::with_hint(reserved_hint(alloc, text, at)?)),
         JobKind::TooLarge => Ok(Findings::with_hint(size_hint(alloc, text)?)),
@@ -78,7 +78,7 @@ fn syntax_findings(alloc: Global, text: &[u8], at: usize) -> Result<Findings, Al
     ensures names { IfOk result (λ found. names_held found.names ≡ None) }
 {
     let lexed = LexedText::new(alloc, text)?;
-    let asked = expected_at(alloc, lexed.format, lexed.tokens.as_slice())?;
+    let asked = expected_nonterminal(alloc, lexed.format, lexed.tokens.as_slice())?;
     let hint = syntax_hint(alloc, &lexed, asked, at)?;
     Ok(Findings {
         asked,

@@ -1,7 +1,7 @@
 ghost use Rattle.std.specs.Prelude.{◌≡◌, ◌-◌, None, IfOk, slice_get};
-ghost use Rattle.refusal_text.specs.Expecting.{expected_in};
+ghost use Rattle.refusal_text.specs.Expecting.{expected_nonterminal};
 ghost use Rattle.refusal_text.specs.Scanning.{last_before, shape_at};
-ghost use Rattle.refusal_text.specs.Hinting.{IsTokenHint, IsTwiceHint, IsReservedHint, advised, token_advice, called_or_byte, nearly, meant_by, is_newer, or_nearly, nonterminal_advice, unnamed_after, order_advice, word_advice, keyword_in, is_head_word, is_head, is_named, gives_name, reserved_advice, syntax_hint, twice_hint};
+ghost use Rattle.refusal_text.specs.Hinting.{IsTokenHint, IsTwiceHint, IsReservedHint, advice_hint, token_advice, call_or_byte_advice, near_hint, nonterminal_hint, is_newer, or_near_hint, nonterminal_advice, unnamed_advice, order_advice, word_advice, keyword_in, is_head_word, is_head, is_named, gives_name, reserved_advice, syntax_hint, twice_hint};
 ghost use Rattle.job_tree.specs.declared.format.Format.TheVariants.{Two};
 ghost use Rattle.job_syntax.specs.Nonterminals.{next};
 ghost use Rattle.job_syntax.specs.Syntax.{whole_job};
@@ -9,8 +9,8 @@ ghost use Rattle.job_syntax.specs.Syntax.{whole_job};
 use crate::advice::{Advice, trio_advice};
 use crate::by_bytes::{byte_advice, feed_advice};
 use crate::lexed_text::LexedText;
-use crate::nearness::meant;
-use crate::scanning::{first_given, innermost_open, last_before, shape_at};
+use crate::nearness::near_keyword;
+use crate::scanning::{first_given_place, innermost_open_block, last_before, shape_at};
 use job_grammar::Format;
 use job_syntax::{Keyword, Nonterminal, Role, check_grammar};
 use job_tokens::{Shape, Token};
@@ -32,8 +32,8 @@ pub(crate) enum Hint {
 }
 
 // Returns a sentence as a hint.
-pub(crate) fn advised(advice: Option<Advice>) -> Option<Hint>
-    ensures { result ≡ advised advice }
+pub(crate) fn advice_hint(advice: Option<Advice>) -> Option<Hint>
+    ensures { result ≡ advice_hint advice }
 {
     match advice {
         Some(advice) => Some(Hint::Advice(advice)),
@@ -47,17 +47,17 @@ pub(crate) fn token_hint(alloc: Global, text: &[u8], at: usize) -> Result<Option
 {
     let lexed = LexedText::new(alloc, text)?;
     let before = last_before(lexed.tokens.as_slice(), at);
-    Ok(advised(token_advice(text, at, before)))
+    Ok(advice_hint(token_advice(text, at, before)))
 }
 
-// The same, given the token before the place.
+// Returns the same, given the token before the place.
 fn token_advice(text: &[u8], at: usize, before: Option<Shape>) -> Option<Advice>
     ensures { result ≡ token_advice text.now at before }
 {
     if let Some(advice) = feed_advice(text, at) {
         return Some(advice);
     }
-    called_or_byte(before, byte_before(text, at), text.get(at).copied())
+    call_or_byte_advice(before, byte_before(text, at), text.get(at).copied())
 }
 
 // Returns the byte before a place.
@@ -68,8 +68,8 @@ fn byte_before(text: &[u8], at: usize) -> Option<u8>
 }
 
 // Returns the hint for a byte after another one: for a word of Trio that is called, or otherwise for the bytes.
-fn called_or_byte(word: Option<Shape>, before: Option<u8>, byte: Option<u8>) -> Option<Advice>
-    ensures { result ≡ called_or_byte word before byte }
+fn call_or_byte_advice(word: Option<Shape>, before: Option<u8>, byte: Option<u8>) -> Option<Advice>
+    ensures { result ≡ call_or_byte_advice word before byte }
 {
     if byte == Some(b'(') {
         if let Some(advice) = word_advice(word) {
@@ -95,7 +95,7 @@ pub(crate) fn syntax_hint(
     asked: Option<Nonterminal>,
     at: usize,
 ) -> Result<Option<Hint>, AllocError>
-    requires { asked ≡ expected_in lexed.now.format whole_job lexed.now.tokens.items }
+    requires { asked ≡ expected_nonterminal lexed.now.format whole_job lexed.now.tokens.items }
     ensures { IfOk result (λ hint. hint ≡ syntax_hint lexed.now.format lexed.now.tokens.items
         (last_before at None lexed.now.tokens.items) (shape_at at lexed.now.tokens.items)) }
 {
@@ -112,7 +112,7 @@ pub(crate) fn syntax_hint(
     Ok(hint)
 }
 
-// The same for given tokens, with the token at the place where they leave the grammar and the token before it.
+// Returns the same for given tokens, with the token at the place where they leave the grammar and the token before it.
 fn hint_at(
     alloc: Global,
     format: Format,
@@ -121,29 +121,29 @@ fn hint_at(
     before: Option<Shape>,
     shape: Option<Shape>,
 ) -> Result<Option<Hint>, AllocError>
-    requires { asked ≡ expected_in format whole_job tokens.now }
+    requires { asked ≡ expected_nonterminal format whole_job tokens.now }
     ensures { IfOk result (λ hint. hint ≡ syntax_hint format tokens.now before shape) }
 {
     match shape {
-        Some(shape) => Ok(meant_by(format, asked, before, &shape)),
-        None => Ok(innermost_open(alloc, tokens)?.map(Hint::OpenSince)),
+        Some(shape) => Ok(nonterminal_hint(format, asked, before, &shape)),
+        None => Ok(innermost_open_block(alloc, tokens)?.map(Hint::OpenSince)),
     }
 }
 
 // Returns the hint for a token that cannot be read for the nonterminal.
-fn meant_by(
+fn nonterminal_hint(
     format: Format,
     nonterminal: Option<Nonterminal>,
     before: Option<Shape>,
     shape: &Shape,
 ) -> Option<Hint>
-    ensures { result ≡ meant_by format nonterminal before shape.now }
+    ensures { result ≡ nonterminal_hint format nonterminal before shape.now }
 {
     let nonterminal = nonterminal?;
     if is_newer(format, nonterminal, shape) {
         return Some(Hint::Advice(Advice::NewerFormat));
     }
-    or_nearly(
+    or_near_hint(
         nonterminal_advice(nonterminal, before, shape),
         format,
         nonterminal,
@@ -152,17 +152,17 @@ fn meant_by(
 }
 
 // Returns a sentence, or otherwise the keyword that a token nearly is.
-fn or_nearly(
+fn or_near_hint(
     advice: Option<Advice>,
     format: Format,
     nonterminal: Nonterminal,
     shape: &Shape,
 ) -> Option<Hint>
-    ensures { result ≡ or_nearly advice format nonterminal shape.now }
+    ensures { result ≡ or_near_hint advice format nonterminal shape.now }
 {
     match advice {
         Some(advice) => Some(Hint::Advice(advice)),
-        None => nearly(format, nonterminal, shape),
+        None => near_hint(format, nonterminal, shape),
     }
 }
 
@@ -177,11 +177,11 @@ fn is_newer(format: Format, nonterminal: Nonterminal, shape: &Shape) -> bool
 }
 
 // Returns the keyword that a token nearly is, among those that may be read for the nonterminal.
-fn nearly(format: Format, nonterminal: Nonterminal, shape: &Shape) -> Option<Hint>
-    ensures { result ≡ nearly format nonterminal shape.now }
+fn near_hint(format: Format, nonterminal: Nonterminal, shape: &Shape) -> Option<Hint>
+    ensures { result ≡ near_hint format nonterminal shape.now }
 {
     let word = shape.word()?;
-    let keyword = meant(format, nonterminal, word.bytes())?;
+    let keyword = near_keyword(format, nonterminal, word.bytes())?;
     Some(Hint::Meant(keyword))
 }
 
@@ -195,7 +195,7 @@ fn nonterminal_advice(
 {
     match nonterminal {
         Nonterminal::Given => Some(Advice::Unnamed),
-        Nonterminal::Scope | Nonterminal::Nursery | Nonterminal::Over => unnamed_after(before),
+        Nonterminal::Scope | Nonterminal::Nursery | Nonterminal::Over => unnamed_advice(before),
         Nonterminal::Shield | Nonterminal::Fail | Nonterminal::NurseryShield | Nonterminal::Open =>
             order_advice(shape),
         Nonterminal::Steps
@@ -215,8 +215,8 @@ fn nonterminal_advice(
 }
 
 // Returns the sentence after a name that is a word of a head: the name is missing.
-fn unnamed_after(before: Option<Shape>) -> Option<Advice>
-    ensures { result ≡ unnamed_after before }
+fn unnamed_advice(before: Option<Shape>) -> Option<Advice>
+    ensures { result ≡ unnamed_advice before }
 {
     if is_head_word(before) {
         return Some(Advice::Unnamed);
@@ -252,6 +252,7 @@ fn keyword_in(shape: Option<Shape>) -> Option<Keyword>
     Keyword::of(word)
 }
 
+// Returns whether a keyword may follow the name of a scope, a nursery or a start.
 fn is_head(keyword: Keyword) -> bool
     ensures { result ≡ is_head keyword }
 {
@@ -271,6 +272,7 @@ fn gives_name(shape: Option<Shape>) -> bool
     }
 }
 
+// Returns whether a name follows a keyword.
 fn is_named(keyword: Keyword) -> bool
     ensures { result ≡ is_named keyword }
 {
@@ -290,7 +292,7 @@ pub(crate) fn reserved_hint(
 {
     let lexed = LexedText::new(alloc, text)?;
     let tokens = lexed.tokens.as_slice();
-    Ok(advised(reserved_advice(last_before(tokens, at), shape_at(tokens, at))))
+    Ok(advice_hint(reserved_advice(last_before(tokens, at), shape_at(tokens, at))))
 }
 
 // Returns the hint for a word of a head where a name is to be given.
@@ -310,13 +312,14 @@ pub(crate) fn twice_hint(alloc: Global, text: &[u8], at: usize) -> Result<Option
     let lexed = LexedText::new(alloc, text)?;
     let tokens = lexed.tokens.as_slice();
     let checked = check_grammar(alloc, lexed.format, tokens, text.len())?;
-    Ok(given_first(tokens, checked.roles.as_slice(), shape_at(tokens, at)))
+    Ok(first_given_hint(tokens, checked.roles.as_slice(), shape_at(tokens, at)))
 }
 
-fn given_first(tokens: &[Token], roles: &[Role], shape: Option<Shape>) -> Option<Hint>
+// Returns the same, given the tokens, what each token means, and the token at the place.
+fn first_given_hint(tokens: &[Token], roles: &[Role], shape: Option<Shape>) -> Option<Hint>
     ensures { result ≡ twice_hint tokens.now roles.now shape }
 {
     let name = shape?.word()?;
-    let at = first_given(tokens, roles, name)?;
+    let at = first_given_place(tokens, roles, name)?;
     Some(Hint::GivenAt(at))
 }

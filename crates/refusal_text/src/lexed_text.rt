@@ -18,7 +18,7 @@ pub(crate) struct LexedText {
 
 impl LexedText {
     // Lexes a text. The only error is that memory was refused.
-    pub fn new(alloc: Global, text: &[u8]) -> Result<LexedText, AllocError>
+    pub(crate) fn new(alloc: Global, text: &[u8]) -> Result<LexedText, AllocError>
         ensures tokens { IfOk result (λ lexed. HasTokens text.now lexed.tokens.items lexed.fault) }
         ensures format { IfOk result (λ lexed. lexed.format ≡ format_of text.now) }
     {

@@ -1,5 +1,5 @@
 ghost use Rattle.std.specs.Prelude.{◌≡◌, [], None, IfOk, slice_get};
-ghost use Rattle.refusal_text.specs.Scanning.{shape_at, last_before, open_in, gives, first_given};
+ghost use Rattle.refusal_text.specs.Scanning.{shape_at, last_before, open_blocks, gives, first_given_place};
 
 use job_syntax::Role;
 use job_tokens::{Mark, Shape, Token};
@@ -33,8 +33,11 @@ pub(crate) fn last_before(tokens: &[Token], at: usize) -> Option<Shape>
 }
 
 // Returns the place of the innermost `{` that is not closed.
-pub(crate) fn innermost_open(alloc: Global, tokens: &[Token]) -> Result<Option<usize>, AllocError>
-    ensures { IfOk result (λ at. at ≡ slice_get (open_in [] tokens.now) 0) }
+pub(crate) fn innermost_open_block(
+    alloc: Global,
+    tokens: &[Token],
+) -> Result<Option<usize>, AllocError>
+    ensures { IfOk result (λ at. at ≡ slice_get (open_blocks [] tokens.now) 0) }
 {
     let mut open = Vec::new(alloc);
     'tokens: for token in tokens {
@@ -50,8 +53,8 @@ pub(crate) fn innermost_open(alloc: Global, tokens: &[Token]) -> Result<Option<u
 }
 
 // Returns the place of the first token that gives this name.
-pub(crate) fn first_given(tokens: &[Token], roles: &[Role], name: Name) -> Option<usize>
-    ensures { result ≡ first_given name tokens.now roles.now }
+pub(crate) fn first_given_place(tokens: &[Token], roles: &[Role], name: Name) -> Option<usize>
+    ensures { result ≡ first_given_place name tokens.now roles.now }
 {
     let mut left = roles;
     'tokens: for token in tokens {
@@ -64,6 +67,7 @@ pub(crate) fn first_given(tokens: &[Token], roles: &[Role], name: Name) -> Optio
     None
 }
 
+// Returns whether a token with this role and this word gives a name.
 fn gives(role: Role, word: Option<Name>, name: Name) -> bool
     ensures { result ≡ gives role word name }
 {

@@ -10,7 +10,7 @@ use job_tree::{Body, Handler, Name, Step};
 use std::alloc::{AllocError, Global};
 
 // Returns the names that enclose the first `cancel` of a text that names none of them.
-pub(crate) fn cancellable(alloc: Global, text: &[u8]) -> Result<Option<Vec<Name>>, AllocError>
+pub(crate) fn cancellable_names(alloc: Global, text: &[u8]) -> Result<Option<Vec<Name>>, AllocError>
     ensures { IfOk result (λ names. IsCancellable text.now (names_held names)) }
 {
     let lexed = LexedText::new(alloc, text)?;
@@ -22,7 +22,7 @@ pub(crate) fn cancellable(alloc: Global, text: &[u8]) -> Result<Option<Vec<Name>
     Ok(names)
 }
 
-// The same for the steps of a job.
+// Returns the same for the steps of a job.
 fn names_around_stray(alloc: Global, steps: &[Step]) -> Result<Option<Vec<Name>>, AllocError>
     ensures { IfOk result (λ names. names_held names ≡ around_stray (cancels_of [] (steps_of steps.now))) }
 {
@@ -56,6 +56,7 @@ fn search_steps(
     Ok(None)
 }
 
+// Searches a step.
 #[cycle(search)]
 fn search_step(alloc: Global, step: &Step, around: &Around) -> Result<Option<Vec<Name>>, AllocError>
     ensures { IfOk result (λ found. (more : List Cancel) → around_stray (cancels_in (names_around around.now) (step_of step.now) ++ more)
@@ -80,6 +81,7 @@ fn search_step(alloc: Global, step: &Step, around: &Around) -> Result<Option<Vec
     }
 }
 
+// Searches the parts of a `try`.
 #[cycle(search)]
 fn search_try(
     alloc: Global,
@@ -104,6 +106,7 @@ fn search_try(
     Ok(found)
 }
 
+// Searches the handler of a `try`, if it has one.
 #[cycle(search)]
 fn search_handler(
     alloc: Global,
@@ -119,6 +122,7 @@ fn search_handler(
     }
 }
 
+// Searches the cleanup of a `try`, if it has one.
 #[cycle(search)]
 fn search_cleanup(
     alloc: Global,

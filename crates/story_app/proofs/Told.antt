@@ -18,9 +18,9 @@ use Rattle.story_app.specs.declared.about.About.{About}
 use Rattle.story_app.specs.declared.about.About.TheVariants.{All, Task, NoTask}
 use Rattle.story_app.specs.declared.verdict.StoryVerdict.{StoryVerdict}
 use Rattle.story_app.specs.declared.verdict.StoryVerdict.TheVariants as verdict
-use Rattle.story_app.specs.declared.telling.Ending.{Ending}
-use Rattle.story_app.specs.declared.telling.Ending.TheVariants.{Done, Raised, Late}
-use Rattle.story_app.specs.Stories.{told, told_if, story_if, meaning_story, written, IsAbout, IsAboutNone, IsJobVerdict}
+use Rattle.story_app.specs.declared.meaning.Ending.{Ending}
+use Rattle.story_app.specs.declared.meaning.Ending.TheVariants.{Done, Raised, Late}
+use Rattle.story_app.specs.Stories.{story_events, story_events_if, story_if, until_if, meaning_story, label_or_nothing, IsAbout, IsAboutNone, IsJobVerdict}
 use Rattle.story_app.specs.Tellings.{IsEnding, IsAsked, IsTold, ending_by, verdict_of, until_of, events_until, story_told}
 
 le_test : (m n : ℕ) → m ≤ n → nat_le m n ≡ true
@@ -62,32 +62,39 @@ is_ending job input limit rows ending same is =
 
 -- the events of the story are those of the meaning's story
 pub told_is : (job : Tree) (input : List ℕ) (limit : ℕ) (ending : Ending) → IsEnding job input limit ending →
-    events_until (until_of ending limit) (events_of (root_label job.name) (story_by (meaning_table job input) job input)) ≡ told limit job input
-told_is job input limit Done h = ap (λ (b : Bool). told_if b limit job input) (sym (le_test (meaning_end job input) limit h.0))
-told_is job input limit Raised h = ap (λ (b : Bool). told_if b limit job input) (sym (le_test (meaning_end job input) limit h.0))
-told_is job input limit Late h = ap (λ (b : Bool). told_if b limit job input) (sym (gt_test (meaning_end job input) limit h))
+    events_until (until_of ending limit) (events_of (root_label job.name) (story_by (meaning_table job input) job input)) ≡ story_events limit job input
+told_is job input limit Done h = ap (λ (b : Bool). story_events_if b limit job input) (sym (le_test (meaning_end job input) limit h.0))
+told_is job input limit Raised h = ap (λ (b : Bool). story_events_if b limit job input) (sym (le_test (meaning_end job input) limit h.0))
+told_is job input limit Late h = ap (λ (b : Bool). story_events_if b limit job input) (sym (gt_test (meaning_end job input) limit h))
+
+-- and they are cut off where the meaning ends later than the limit
+pub cut_is : (job : Tree) (input : List ℕ) (limit : ℕ) (ending : Ending) → IsEnding job input limit ending →
+    until_of ending limit ≡ until_if (nat_le (meaning_end job input) limit) limit
+cut_is job input limit Done h = ap (λ (b : Bool). until_if b limit) (sym (le_test (meaning_end job input) limit h.0))
+cut_is job input limit Raised h = ap (λ (b : Bool). until_if b limit) (sym (le_test (meaning_end job input) limit h.0))
+cut_is job input limit Late h = ap (λ (b : Bool). until_if b limit) (sym (gt_test (meaning_end job input) limit h))
 
 whole_is : (job : Tree) (input : List ℕ) (limit : ℕ) (task : Option Label) →
-    story_told (meaning_table job input) None task (told_if true limit job input) ≡ story_if true limit job input task
+    story_told (meaning_table job input) None task (story_events_if true limit job input) ≡ story_if true limit job input task
 whole_is job input limit None = refl
 whole_is job input limit (Some task) = refl
 
 front_is : (job : Tree) (input : List ℕ) (limit : ℕ) (task : Option Label) →
-    story_told (meaning_table job input) (Some limit) task (told_if false limit job input) ≡ story_if false limit job input task
+    story_told (meaning_table job input) (Some limit) task (story_events_if false limit job input) ≡ story_if false limit job input task
 front_is job input limit None = refl
 front_is job input limit (Some task) = refl
 
 -- and so is their text
 pub story_is : (job : Tree) (input : List ℕ) (limit : ℕ) (ending : Ending) (task : Option Label) → IsEnding job input limit ending →
-    story_told (meaning_table job input) (until_of ending limit) task (told limit job input) ≡ meaning_story limit job input task
+    story_told (meaning_table job input) (until_of ending limit) task (story_events limit job input) ≡ meaning_story limit job input task
 story_is job input limit Done task h =
-    subst (λ (b : Bool). story_told (meaning_table job input) None task (told_if b limit job input) ≡ story_if b limit job input task)
+    subst (λ (b : Bool). story_told (meaning_table job input) None task (story_events_if b limit job input) ≡ story_if b limit job input task)
     (sym (le_test (meaning_end job input) limit h.0)) (whole_is job input limit task)
 story_is job input limit Raised task h =
-    subst (λ (b : Bool). story_told (meaning_table job input) None task (told_if b limit job input) ≡ story_if b limit job input task)
+    subst (λ (b : Bool). story_told (meaning_table job input) None task (story_events_if b limit job input) ≡ story_if b limit job input task)
     (sym (le_test (meaning_end job input) limit h.0)) (whole_is job input limit task)
 story_is job input limit Late task h =
-    subst (λ (b : Bool). story_told (meaning_table job input) (Some limit) task (told_if b limit job input) ≡ story_if b limit job input task)
+    subst (λ (b : Bool). story_told (meaning_table job input) (Some limit) task (story_events_if b limit job input) ≡ story_if b limit job input task)
     (sym (gt_test (meaning_end job input) limit h)) (front_is job input limit task)
 
 -- ---- which task was asked for
@@ -102,7 +109,7 @@ about_task asked es label text e found =
     subst (λ (o : Option (List ℕ)). IsAbout o es (Some label)) (sym e) (refl, sym found)
 
 about_none : (asked : Option (List ℕ)) (es : List Event) (nearest text : List ℕ) → asked ≡ Some text → task_named text es ≡ None →
-    nearest ≡ written (nearest_in text es) → IsAboutNone asked es nearest
+    nearest ≡ label_or_nothing (nearest_in text es) → IsAboutNone asked es nearest
 about_none asked es nearest text e none is = subst (λ (o : Option (List ℕ)). IsAboutNone o es nearest) (sym e) (none, is)
 
 pub told_of_all : (table : Table) (until : Option ℕ) (ending : Ending) (asked : Option (List ℕ)) (walked : List Event) (about : About)
@@ -127,7 +134,7 @@ told_of_none table until ending asked walked about nearest given bytes h e is te
 -- ---- the verdict on a job
 
 verdict_is : (job : Tree) (input : List ℕ) (limit : ℕ) (asked : Option (List ℕ)) (ending : Ending) (task : Option Label)
-    (bytes : List ℕ) → IsEnding job input limit ending → IsAbout asked (told limit job input) task →
+    (bytes : List ℕ) → IsEnding job input limit ending → IsAbout asked (story_events limit job input) task →
     bytes ≡ meaning_story limit job input task → IsJobVerdict job input limit asked (verdict_of ending) bytes
 verdict_is job input limit asked Done task bytes h about is = (record { task = task; about = about; story = is }, h.0, h.1)
 verdict_is job input limit asked Raised task bytes h about is = (record { task = task; about = about; story = is }, h.0, h.1)
@@ -135,7 +142,7 @@ verdict_is job input limit asked Late task bytes h about is = (record { task = t
 
 by_told : (job : Tree) (input : List ℕ) (limit : ℕ) (asked : Option (List ℕ)) (ending : Ending) (given : StoryVerdict) (bytes : List ℕ) →
     IsEnding job input limit ending →
-    IsTold (meaning_table job input) (until_of ending limit) ending asked (told limit job input) given bytes →
+    IsTold (meaning_table job input) (until_of ending limit) ending asked (story_events limit job input) given bytes →
     IsJobVerdict job input limit asked given bytes
 by_told job input limit asked ending given bytes h (inl t) =
     subst (λ (v : StoryVerdict). IsJobVerdict job input limit asked v bytes) (sym t.2)
@@ -154,7 +161,7 @@ job_told job input limit asked ending table until events walked given bytes h sa
     (subst (λ (u : Option ℕ). IsTold (meaning_table job input) u ending asked walked given bytes) until_is
     (subst (λ (k : Table). IsTold k until ending asked walked given bytes) same t)))
   where
-    all : walked ≡ told limit job input
+    all : walked ≡ story_events limit job input
     all =
         walked_is ∙ ap (events_until until) (events_are ∙ ap (λ (k : Table). events_of (root_label job.name) (story_by k job input)) same)
         ∙ ap (λ (u : Option ℕ). events_until u (events_of (root_label job.name) (story_by (meaning_table job input) job input))) until_is

@@ -12,11 +12,11 @@ use Rattle.job_story.specs.Sentences.{kept_text}
 use Rattle.job_story.specs.Limit.{by_limit, kept_text_to}
 use Rattle.job_story.specs.Focus.{concerned, of_tasks, task_named}
 use Rattle.story_focus.specs.Nearest.{nearest_in}
-use Rattle.story_app.specs.Stories.{written, IsAbout, IsAboutNone}
+use Rattle.story_app.specs.Stories.{label_or_nothing, IsAbout, IsAboutNone}
 use Rattle.story_app.specs.declared.verdict.StoryVerdict.{StoryVerdict}
 use Rattle.story_app.specs.declared.verdict.StoryVerdict.TheVariants as verdict
-use Rattle.story_app.specs.declared.telling.Ending.{Ending}
-use Rattle.story_app.specs.declared.telling.Ending.TheVariants.{Done, Raised, Late}
+use Rattle.story_app.specs.declared.meaning.Ending.{Ending}
+use Rattle.story_app.specs.declared.meaning.Ending.TheVariants.{Done, Raised, Late}
 use Rattle.story_app.specs.declared.about.About.{About}
 use Rattle.story_app.specs.declared.about.About.TheVariants.{All, Task, NoTask}
 
@@ -70,7 +70,7 @@ abbrev pub IsAsked : Option (List ℕ) → List Event → About → Type 0
 IsAsked asked es All = asked ≡ None
 IsAsked asked es (Task label) = (text : List ℕ) × (asked ≡ Some text) × (task_named text es ≡ Some label.now)
 IsAsked asked es (NoTask nearest) =
-    (text : List ℕ) × (asked ≡ Some text) × (task_named text es ≡ None) × (nearest.items ≡ written (nearest_in text es))
+    (text : List ℕ) × (asked ≡ Some text) × (task_named text es ≡ None) × (nearest.items ≡ label_or_nothing (nearest_in text es))
 
 -- a verdict on a story with these events, and its text: of all tasks, or of those that concern one task, or nothing where no task
 -- has the label

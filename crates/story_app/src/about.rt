@@ -3,7 +3,7 @@ ghost use Rattle.std.specs.Option.{option_copied};
 ghost use Rattle.story_causes.specs.Seen.{seen};
 ghost use Rattle.story_focus.specs.Holds.{label_seen};
 ghost use Rattle.story_app.specs.Tellings.{IsAsked};
-ghost use Rattle.story_app.specs.Stories.{written};
+ghost use Rattle.story_app.specs.Stories.{label_or_nothing};
 
 use exc_groups::Label;
 use job_story::Event;
@@ -25,8 +25,8 @@ pub enum About<'e> {
     },
 }
 
-/// Returns what a story with these events covers, if a task is asked for by the text of its label, or none is.
-pub(crate) fn asked_for<'e>(
+// Returns what a story with these events covers, if a task is asked for by the text of its label, or none is.
+pub(crate) fn about_of<'e>(
     alloc: Global,
     events: &[&'e Event],
     task: Option<&[u8]>,
@@ -45,7 +45,7 @@ pub(crate) fn asked_for<'e>(
 
 // Returns the text of a label, or nothing if there is no label.
 fn text_of(alloc: Global, label: Option<&Label>) -> Result<Vec<u8>, AllocError>
-    ensures { IfOk result (λ text. text.items ≡ written (label_seen label.entry)) }
+    ensures { IfOk result (λ text. text.items ≡ label_or_nothing (label_seen label.entry)) }
 {
     let mut text = Vec::new(alloc);
     if let Some(label) = label {

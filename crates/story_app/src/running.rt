@@ -2,7 +2,8 @@ ghost use Rattle.std.specs.Prelude.{◌≤◌, length, IfOk};
 ghost use Rattle.job_meaning.specs.declared.limits.TheConstants.{MAX_INPUT};
 ghost use Rattle.story_app.specs.Running.{AreRunning, IsJobRunning};
 
-use crate::telling::{Ending, meaning_of, told_until};
+use crate::meaning::{Ending, meaning_of};
+use crate::telling::events_until;
 use job_grammar::{Job, JobKind, read_job};
 use job_runner::{Gate, Pick, Settings};
 use job_teller::tell;
@@ -56,7 +57,7 @@ fn running_of<R: Threads + Sync, P: Pick, G: Gate + Sync>(
         Ending::Done | Ending::Raised => Ok(Vec::new(alloc)),
         Ending::Late => {
             let events = tell(alloc, job, input, &meaning.table)?;
-            let walked = told_until(alloc, events.as_slice(), Some(settings.limit()))?;
+            let walked = events_until(alloc, events.as_slice(), Some(settings.limit()))?;
             let sorted = in_order(alloc, walked.as_slice())?;
             let lines = still_running(alloc, sorted.as_slice(), walked.as_slice())?;
             Ok(lines)

@@ -2,7 +2,7 @@
 use Rattle.std.proofs.Common.{◌≡◌, ℕ, None, List, map, ap, subst, ◌∙◌}
 use Rattle.job_tree.specs.Tree.{Tree}
 use Rattle.job_tokens.specs.declared.token.Token.{Token}
-use Rattle.job_grammar.specs.Refusals.{HasTokens}
+use Rattle.job_grammar.specs.Refusals.{Spells, HasTokens}
 use Rattle.job_edits.specs.declared.number.Number.{Number}
 use Rattle.job_edits.specs.declared.number.Target.{Target}
 use Rattle.fault_text.specs.JobOutcomes.{JobOutcome}
@@ -33,10 +33,12 @@ are_seen text input limit number job values first vs f are =
 -- given the tokens and the limit, as they were passed on
 pub are_values : (text : List ℕ) (job : Tree) (input : List ℕ) (limit l : ℕ) (target : Target) (values : List ℕ) (tokens ts : List Token)
     (number : Number) (first : JobOutcome) (vs : List told.Value) →
-    HasTokens text tokens None → ts ≡ tokens → IsNumber text ts target number → l ≡ limit →
-    AreValues text input l number job values first vs → AreSweepValues text job input limit target values first vs
-are_values text job input limit l target values tokens ts number first vs has same is at told =
+    Spells text job → HasTokens text tokens None → ts ≡ tokens → IsNumber text ts target number → l ≡ limit →
+    AreValues text input l number job values first vs → AreSweepValues text input limit target values first vs
+are_values text job input limit l target values tokens ts number first vs spells has same is at told =
     record {
+      job = job;
+      spells = spells;
       tokens = tokens;
       tokens_are = has;
       number = number;
@@ -44,21 +46,22 @@ are_values text job input limit l target values tokens ts number first vs has sa
       told = subst (λ (n : ℕ). AreValues text input n number job values first vs) at told;
     }
 
-pub is_without_target : (text : List ℕ) (target : Target) (missing : Missing) (tokens ts : List Token) →
-    HasTokens text tokens None → ts ≡ tokens → IsMissing text ts target missing → IsWithoutTarget text target missing
-is_without_target text target missing tokens ts has same is =
+pub is_without_target : (text : List ℕ) (job : Tree) (target : Target) (missing : Missing) (tokens ts : List Token) →
+    Spells text job → HasTokens text tokens None → ts ≡ tokens → IsMissing text ts target missing → IsWithoutTarget text target missing
+is_without_target text job target missing tokens ts spells has same is =
     record {
+      job = job;
+      spells = spells;
       tokens = tokens;
       tokens_are = has;
       reason = subst (λ (xs : List Token). IsMissing text xs target missing) same is;
     }
 
 -- given the limit and the values, as they were passed on
-pub is_sweep : (text : List ℕ) (job : Tree) (input : List ℕ) (limit l : ℕ) (target : Target) (values bytes : List ℕ) (first : JobOutcome)
-    (vs us : List Value) →
-    AreSweepValues text job input limit target values first (map value_held vs) → l ≡ limit → us ≡ vs →
-    bytes ≡ sweep_text l first (map value_held us) → IsSweep text job input limit target values bytes
-is_sweep text job input limit l target values bytes first vs us are at same b =
+pub is_sweep : (text input : List ℕ) (limit l : ℕ) (target : Target) (values bytes : List ℕ) (first : JobOutcome) (vs us : List Value) →
+    AreSweepValues text input limit target values first (map value_held vs) → l ≡ limit → us ≡ vs →
+    bytes ≡ sweep_text l first (map value_held us) → IsSweep text input limit target values bytes
+is_sweep text input limit l target values bytes first vs us are at same b =
     record {
       first = first;
       vs = map value_held vs;

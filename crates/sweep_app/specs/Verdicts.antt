@@ -2,8 +2,7 @@
 -- number.
 use Rattle.std.specs.Prelude.{◌≡◌, ℕ, ◌<◌, Option, List, [], length, take}
 use Rattle.std.specs.Io.KnownBytes.{Appends}
-use Rattle.job_tree.specs.Tree.{Tree}
-use Rattle.job_grammar.specs.Refusals.{Spells, IsRefused}
+use Rattle.job_grammar.specs.Refusals.{IsRefused}
 use Rattle.nursery_app.specs.Verdict.{refusal_line}
 use Rattle.nursery_app.specs.declared.verdict.ServeFault.{ServeFault}
 use Rattle.nursery_app.specs.declared.verdict.ServeFault.TheVariants.{Send, NoMemory}
@@ -16,24 +15,17 @@ use Rattle.sweep_app.specs.declared.verdict.SweepVerdict.{SweepVerdict}
 use Rattle.sweep_app.specs.declared.verdict.SweepVerdict.TheVariants.{Told, JobRefused, NoTarget}
 
 -- these bytes are the text of the outcomes of the job with its own value, and with each value of the number that is meant
-pub record IsSweep (text : List ℕ) (job : Tree) (input : List ℕ) (limit : ℕ) (target : Target) (values bytes : List ℕ) : Type 0 where
+pub record IsSweep (text input : List ℕ) (limit : ℕ) (target : Target) (values bytes : List ℕ) : Type 0 where
   pub first : JobOutcome
   pub vs : List Value
-  pub told : AreSweepValues text job input limit target values first vs
+  pub told : AreSweepValues text input limit target values first vs
   pub text_is : bytes ≡ sweep_text limit first vs
-
--- a verdict for a text that spells a job, and its bytes
-abbrev pub IsJobVerdict : List ℕ → Tree → List ℕ → ℕ → Target → List ℕ → SweepVerdict → List ℕ → Type 0
-IsJobVerdict text job input limit target values Told bytes = IsSweep text job input limit target values bytes
-IsJobVerdict text job input limit target values (JobRefused fault) bytes = ⊥
-IsJobVerdict text job input limit target values (NoTarget missing) bytes =
-    IsWithoutTarget text target missing × (bytes ≡ [])
 
 -- a verdict and its bytes
 abbrev pub IsVerdict : List ℕ → List ℕ → ℕ → Target → List ℕ → SweepVerdict → List ℕ → Type 0
+IsVerdict text input limit target values Told bytes = IsSweep text input limit target values bytes
 IsVerdict text input limit target values (JobRefused fault) bytes = IsRefused text fault.kind fault.at × (bytes ≡ refusal_line fault)
-IsVerdict text input limit target values verdict bytes =
-    (job : Tree) × Spells text job × IsJobVerdict text job input limit target values verdict bytes
+IsVerdict text input limit target values (NoTarget missing) bytes = IsWithoutTarget text target missing × (bytes ≡ [])
 
 -- All bytes of the verdict were sent.
 abbrev pub IsSent : List ℕ → List ℕ → ℕ → Target → List ℕ → Option (List ℕ) → Option (List ℕ) → SweepVerdict → Type 0

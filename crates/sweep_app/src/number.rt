@@ -19,7 +19,7 @@ pub enum Found {
     Missing(Missing),
 }
 
-/// Returns the number that is meant, in a text with these tokens.
+// Returns the number that is meant, in a text with these tokens.
 pub(crate) fn number_for(
     alloc: Global,
     text: &[u8],

@@ -1,6 +1,6 @@
-ghost use Rattle.std.specs.Prelude.{◌≡◌, ◌≤◌, length, IfOk};
+ghost use Rattle.std.specs.Prelude.{◌≡◌, ◌≤◌, length, IfOk, IfErr};
 ghost use Rattle.job_meaning.specs.declared.limits.TheConstants.{MAX_INPUT};
-ghost use Rattle.job_grammar.specs.Refusals.{Spells};
+ghost use Rattle.job_grammar.specs.Refusals.{Spells, IsFair};
 ghost use Rattle.sweep_app.specs.Answers.{AreValuesOf, IsSweepAnswer};
 
 use crate::number::{Found, number_for};
@@ -9,7 +9,7 @@ use crate::verdict::Missing;
 use fault_app::{outcome_of_job, tokens_of};
 use fault_text::JobOutcome;
 use job_edits::Target;
-use job_grammar::Job;
+use job_grammar::{Job, JobFault, read_job};
 use job_runner::Settings;
 use nursery_app::Gate;
 use slot_work::answers_for;
@@ -35,15 +35,37 @@ pub enum SweepAnswer {
     NoTarget(Missing),
 }
 
-/// Returns the outcome of a job over an input, with its own value and with each of these values of one of its numbers, in their
-/// order; or why the text does not have the number that is meant. A value that the text cannot have there counts as refused.
-/// The caller must ensure that the text spells the job, and that the input has at most 16,777,216 bytes.
+/// Returns the outcome of the job that a text spells over an input, with its own value and with each of these values of one of its
+/// numbers, in their order; or why the text does not have the number that is meant. A value that the text cannot have there counts
+/// as refused. If the text is refused, the error is the refusal, as `read_job` returns it. If memory was refused, the error has the
+/// kind `NoMemory`. The caller must ensure that the input has at most 16,777,216 bytes.
 ///
 /// The number of workers in `settings` is the number of threads that run the values. The gate is called before and after each
-/// value, with the place of the value among them, by the thread that runs it. Neither changes a result. The only error is that
-/// memory was refused.
-#[tactic(auto, using(crate::proofs::Tabled::are_values, crate::proofs::Tabled::is_without_target))]
+/// value, with the place of the value among them, by the thread that runs it. Neither changes a result.
 pub fn sweep_values<R: Threads + Sync, G: Gate + Sync>(
+    rt: &R,
+    alloc: Global,
+    job_text: &[u8],
+    input: &[u8],
+    settings: Settings,
+    target: Target,
+    values: &[u64],
+    gate: &G,
+) -> Result<SweepAnswer, JobFault>
+    requires { length input.now ≤ MAX_INPUT }
+    ensures values { IfOk result (IsSweepAnswer job_text.now input.now settings.limit target values.now) }
+    ensures refused { IfErr result (IsFair job_text.now) }
+{
+    let job = read_job(alloc, job_text)?;
+    let answer = answer_for_job(
+        rt, alloc, job_text, &job, input, settings, target, values, gate,
+    )?;
+    Ok(answer)
+}
+
+// Returns the same for a text that spells a job.
+#[tactic(auto, using(crate::proofs::Tabled::are_values, crate::proofs::Tabled::is_without_target))]
+fn answer_for_job<R: Threads + Sync, G: Gate + Sync>(
     rt: &R,
     alloc: Global,
     job_text: &[u8],
@@ -56,7 +78,7 @@ pub fn sweep_values<R: Threads + Sync, G: Gate + Sync>(
 ) -> Result<SweepAnswer, AllocError>
     requires input { length input.now ≤ MAX_INPUT }
     requires spells { Spells job_text.now job.now }
-    ensures { IfOk result (IsSweepAnswer job_text.now job.now input.now settings.limit target values.now) }
+    ensures { IfOk result (IsSweepAnswer job_text.now input.now settings.limit target values.now) }
 {
     let tokens = tokens_of(alloc, job_text, job)?;
     match number_for(alloc, job_text, tokens.as_slice(), target)? {

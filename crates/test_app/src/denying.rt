@@ -37,7 +37,7 @@ pub(crate) fn no_races<R: Threads + Sync>(
     match races(
         rt, alloc, job_text, input, settings, true, &NoGate, &mut out,
     ) {
-        Ok(RacesVerdict::Told { denied }) => Ok(denied_or_yes(denied)),
+        Ok(RacesVerdict::Told { denied }) => Ok(denial_or_yes(denied)),
         Ok(RacesVerdict::JobRefused(_) | RacesVerdict::Limit | RacesVerdict::NoFinerTicks) => {
             Ok(Met::Untold)
         }
@@ -62,14 +62,14 @@ pub(crate) fn no_faults<R: Threads + Sync>(
     match faults(
         rt, alloc, job_text, input, settings, name, kinds, &NoGate, &mut out,
     ) {
-        Ok(FaultsVerdict::Told { denied }) => Ok(denied_or_yes(denied)),
+        Ok(FaultsVerdict::Told { denied }) => Ok(denial_or_yes(denied)),
         Ok(FaultsVerdict::JobRefused(_)) => Ok(Met::Untold),
         Err(ServeFault::Send { .. } | ServeFault::NoMemory) => Err(AllocError),
     }
 }
 
 // Returns that these lines are denied, or that the expectation is met if there are none.
-fn denied_or_yes(denied: Vec<u8>) -> Met
+fn denial_or_yes(denied: Vec<u8>) -> Met
     ensures { answer_of result ≡ denied_answer denied.items }
 {
     if denied.is_empty() {

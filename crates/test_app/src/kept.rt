@@ -11,11 +11,11 @@ pub(crate) struct Kept {
 }
 
 impl Kept {
-    ghost use Rattle.test_app.specs.Kepts.{faults_of, held_by};
+    ghost use Rattle.test_app.specs.Kepts.{faults_of, kept_bytes};
 
     // Creates a writer that has no bytes yet.
     pub(crate) fn new(alloc: Global) -> Kept
-        ensures empty { held_by result ≡ [] }
+        ensures empty { kept_bytes result ≡ [] }
         ensures well { faults_of result ≡ 0 }
     {
         Kept {
@@ -26,7 +26,7 @@ impl Kept {
 
     // Returns the bytes that were written.
     pub(crate) fn into_bytes(self) -> Vec<u8>
-        ensures { result.items ≡ held_by self }
+        ensures { result.items ≡ kept_bytes self }
     {
         self.bytes
     }
@@ -34,11 +34,11 @@ impl Kept {
 
 impl Out for Kept {
     ghost use Rattle.std.specs.Prelude.{Some};
-    ghost use Rattle.test_app.specs.Kepts.{faults_of, held_by};
+    ghost use Rattle.test_app.specs.Kepts.{faults_of, kept_bytes};
 
     ghost failed = { faults_of };
 
-    ghost contents = { λ out. Some (held_by out) };
+    ghost contents = { λ out. Some (kept_bytes out) };
 
     fn put(&mut self, bytes: &[u8]) -> Result<usize, PutFault> {
         match self.bytes.extend_from_slice(bytes) {

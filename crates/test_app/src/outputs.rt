@@ -1,4 +1,5 @@
-ghost use Rattle.std.specs.Prelude.{◌≡◌};
+ghost use Rattle.std.specs.Prelude.{◌≡◌, Contains};
+ghost use Rattle.test_app.specs.declared.outputs.Output.{Output};
 ghost use Rattle.test_app.specs.Outputs.{all_outputs, extension_text};
 
 /// An output of a feed that can be kept and compared.
@@ -18,8 +19,10 @@ pub enum Output {
 
 impl Output {
     /// Returns every kind of output, in the order in which `nursery test` compares them.
+    #[tactic(auto, using(crate::proofs::Kinds::each_kind))]
     pub fn all() -> [Output; 5]
-        ensures { result ≡ all_outputs }
+        ensures kinds { result ≡ all_outputs }
+        ensures each { (kind : Output) → Contains result kind }
     {
         [
             Output::Report,

@@ -29,12 +29,41 @@ pub fn output_of<R: Threads + Sync>(
     requires { length input.now ≤ MAX_INPUT }
     ensures { IfOk result (λ bytes. IsOutput job_text.now input.now settings.limit output bytes.items) }
 {
+    let asked = Asked {
+        text: job_text,
+        input,
+        settings,
+    };
+    match output_bytes(rt, alloc, &asked, output) {
+        Ok(bytes) => Ok(bytes),
+        Err(ServeFault::Send { .. } | ServeFault::NoMemory) => Err(AllocError),
+    }
+}
+
+// A job text, its input, and its settings.
+#[derive(Clone, Copy)]
+struct Asked<'a> {
+    text: &'a [u8],
+    input: &'a [u8],
+    settings: Settings,
+}
+
+// Returns the bytes that a command writes. A writer that keeps them fails only if memory is refused.
+fn output_bytes<R: Threads + Sync>(
+    rt: &R,
+    alloc: Global,
+    asked: &Asked<'_>,
+    output: Output,
+) -> Result<Vec<u8>, ServeFault>
+    requires { length asked.now.input.now ≤ MAX_INPUT }
+    ensures { IfOk result (λ bytes. IsOutput asked.now.text.now asked.now.input.now asked.now.settings.limit output bytes.items) }
+{
     match output {
-        Output::Report => report_of(rt, alloc, job_text, input, settings),
-        Output::Story => story_of(rt, alloc, job_text, input, settings),
-        Output::Chart => chart_of(rt, alloc, job_text, input, settings),
-        Output::Faults => faults_of(rt, alloc, job_text, input, settings),
-        Output::Races => races_of(rt, alloc, job_text, input, settings),
+        Output::Report => report_of(rt, alloc, asked),
+        Output::Story => story_of(rt, alloc, asked),
+        Output::Chart => chart_of(rt, alloc, asked),
+        Output::Faults => faults_of(rt, alloc, asked),
+        Output::Races => races_of(rt, alloc, asked),
     }
 }
 
@@ -42,97 +71,64 @@ pub fn output_of<R: Threads + Sync>(
 fn report_of<R: Threads + Sync>(
     rt: &R,
     alloc: Global,
-    job_text: &[u8],
-    input: &[u8],
-    settings: Settings,
-) -> Result<Vec<u8>, AllocError>
-    requires { length input.now ≤ MAX_INPUT }
-    ensures { IfOk result (λ bytes. IsReport job_text.now input.now settings.limit bytes.items) }
+    asked: &Asked<'_>,
+) -> Result<Vec<u8>, ServeFault>
+    requires { length asked.now.input.now ≤ MAX_INPUT }
+    ensures { IfOk result (λ bytes. IsReport asked.now.text.now asked.now.input.now asked.now.settings.limit bytes.items) }
 {
-    let mut out = Kept::new(alloc);
-    match serve(
-        rt,
-        alloc,
-        job_text,
-        input,
-        settings,
-        &mut Forward,
-        &NoGate,
-        &mut out,
-    ) {
-        Ok(_) => Ok(out.into_bytes()),
-        Err(ServeFault::Send { .. } | ServeFault::NoMemory) => Err(AllocError),
-    }
+    let (text, input, settings) = (asked.text, asked.input, asked.settings);
+    let (mut out, mut order) = (Kept::new(alloc), Forward);
+    serve(
+        rt, alloc, text, input, settings, &mut order, &NoGate, &mut out,
+    )?;
+    Ok(out.into_bytes())
 }
 
 // Returns the bytes that `explain` writes of all tasks.
 fn story_of<R: Threads + Sync>(
     rt: &R,
     alloc: Global,
-    job_text: &[u8],
-    input: &[u8],
-    settings: Settings,
-) -> Result<Vec<u8>, AllocError>
-    requires { length input.now ≤ MAX_INPUT }
-    ensures { IfOk result (λ bytes. IsStory job_text.now input.now settings.limit bytes.items) }
+    asked: &Asked<'_>,
+) -> Result<Vec<u8>, ServeFault>
+    requires { length asked.now.input.now ≤ MAX_INPUT }
+    ensures { IfOk result (λ bytes. IsStory asked.now.text.now asked.now.input.now asked.now.settings.limit bytes.items) }
 {
-    let mut out = Kept::new(alloc);
-    match explain(
-        rt,
-        alloc,
-        job_text,
-        input,
-        settings,
-        None,
-        &mut Forward,
-        &NoGate,
-        &mut out,
-    ) {
-        Ok(_) => Ok(out.into_bytes()),
-        Err(ServeFault::Send { .. } | ServeFault::NoMemory) => Err(AllocError),
-    }
+    let (text, input, settings) = (asked.text, asked.input, asked.settings);
+    let (mut out, mut order) = (Kept::new(alloc), Forward);
+    explain(
+        rt, alloc, text, input, settings, None, &mut order, &NoGate, &mut out,
+    )?;
+    Ok(out.into_bytes())
 }
 
 // Returns the bytes that `chart` writes as a text of 80 columns.
 fn chart_of<R: Threads + Sync>(
     rt: &R,
     alloc: Global,
-    job_text: &[u8],
-    input: &[u8],
-    settings: Settings,
-) -> Result<Vec<u8>, AllocError>
-    requires { length input.now ≤ MAX_INPUT }
-    ensures { IfOk result (λ bytes. IsChart job_text.now input.now settings.limit bytes.items) }
+    asked: &Asked<'_>,
+) -> Result<Vec<u8>, ServeFault>
+    requires { length asked.now.input.now ≤ MAX_INPUT }
+    ensures { IfOk result (λ bytes. IsChart asked.now.text.now asked.now.input.now asked.now.settings.limit bytes.items) }
 {
-    let mut out = Kept::new(alloc);
+    let (text, input, settings) = (asked.text, asked.input, asked.settings);
+    let (mut out, mut order) = (Kept::new(alloc), Forward);
     let form = Form::Text { width: 80 };
-    match chart(
-        rt,
-        alloc,
-        job_text,
-        input,
-        settings,
-        form,
-        &mut Forward,
-        &NoGate,
-        &mut out,
-    ) {
-        Ok(_) => Ok(out.into_bytes()),
-        Err(ServeFault::Send { .. } | ServeFault::NoMemory) => Err(AllocError),
-    }
+    chart(
+        rt, alloc, text, input, settings, form, &mut order, &NoGate, &mut out,
+    )?;
+    Ok(out.into_bytes())
 }
 
 // Returns the bytes that `faults` writes if nothing is denied.
 fn faults_of<R: Threads + Sync>(
     rt: &R,
     alloc: Global,
-    job_text: &[u8],
-    input: &[u8],
-    settings: Settings,
-) -> Result<Vec<u8>, AllocError>
-    requires { length input.now ≤ MAX_INPUT }
-    ensures { IfOk result (λ bytes. IsFaults job_text.now input.now settings.limit bytes.items) }
+    asked: &Asked<'_>,
+) -> Result<Vec<u8>, ServeFault>
+    requires { length asked.now.input.now ≤ MAX_INPUT }
+    ensures { IfOk result (λ bytes. IsFaults asked.now.text.now asked.now.input.now asked.now.settings.limit bytes.items) }
 {
+    let (text, input, settings) = (asked.text, asked.input, asked.settings);
     let mut out = Kept::new(alloc);
     let name = fault_name();
     let deny = Deny {
@@ -140,30 +136,23 @@ fn faults_of<R: Threads + Sync>(
         cut: false,
         lost: false,
     };
-    match faults(
-        rt, alloc, job_text, input, settings, name, deny, &NoGate, &mut out,
-    ) {
-        Ok(_) => Ok(out.into_bytes()),
-        Err(ServeFault::Send { .. } | ServeFault::NoMemory) => Err(AllocError),
-    }
+    faults(
+        rt, alloc, text, input, settings, name, deny, &NoGate, &mut out,
+    )?;
+    Ok(out.into_bytes())
 }
 
 // Returns the bytes that `races` writes if nothing is denied.
 fn races_of<R: Threads + Sync>(
     rt: &R,
     alloc: Global,
-    job_text: &[u8],
-    input: &[u8],
-    settings: Settings,
-) -> Result<Vec<u8>, AllocError>
-    requires { length input.now ≤ MAX_INPUT }
-    ensures { IfOk result (λ bytes. IsRaces job_text.now input.now settings.limit bytes.items) }
+    asked: &Asked<'_>,
+) -> Result<Vec<u8>, ServeFault>
+    requires { length asked.now.input.now ≤ MAX_INPUT }
+    ensures { IfOk result (λ bytes. IsRaces asked.now.text.now asked.now.input.now asked.now.settings.limit bytes.items) }
 {
+    let (text, input, settings) = (asked.text, asked.input, asked.settings);
     let mut out = Kept::new(alloc);
-    match races(
-        rt, alloc, job_text, input, settings, false, &NoGate, &mut out,
-    ) {
-        Ok(_) => Ok(out.into_bytes()),
-        Err(ServeFault::Send { .. } | ServeFault::NoMemory) => Err(AllocError),
-    }
+    races(rt, alloc, text, input, settings, false, &NoGate, &mut out)?;
+    Ok(out.into_bytes())
 }
