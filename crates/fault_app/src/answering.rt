@@ -6,7 +6,7 @@ ghost use Rattle.fault_app.specs.Verdicts.{IsVerdict, IsTable, IsSent, IsFaultsF
 
 use crate::told::fault_lines;
 use crate::verdict::FaultsVerdict;
-use fault_text::{Deny, denied, table};
+use fault_text::{Deny, denied_text, table};
 use job_grammar::{FIRST_LINE_LENGTH, Job, Name, read_job};
 use job_report::{Out, send};
 use job_runner::Settings;
@@ -95,7 +95,7 @@ fn table_and_denied<R: Threads + Sync, G: Gate + Sync>(
     let told = fault_lines(rt, alloc, job_text, job, input, settings, name, gate)?;
     let limit = settings.limit();
     let bytes = table(alloc, limit, &told.first, told.lines.as_slice())?;
-    let denied = denied(alloc, limit, &told.first, told.lines.as_slice(), deny)?;
+    let denied = denied_text(alloc, limit, &told.first, told.lines.as_slice(), deny)?;
     Ok((denied, bytes))
 }
 

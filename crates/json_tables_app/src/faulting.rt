@@ -5,7 +5,7 @@ ghost use Rattle.nursery_app.specs.Verdict.{CountsFailure};
 ghost use Rattle.json_tables_app.specs.Faults.{IsDocument, IsVerdict, IsSent, IsFaultsFault};
 
 use fault_app::{FaultsVerdict, fault_lines};
-use fault_text::{Deny, denied};
+use fault_text::{Deny, denied_text};
 use job_grammar::{Job, Name, read_job};
 use job_report::{Out, send};
 use job_runner::Settings;
@@ -101,6 +101,6 @@ fn document_and_denied<R: Threads + Sync, G: Gate + Sync>(
     let told = fault_lines(rt, alloc, job_text, job, input, settings, name, gate)?;
     let limit = settings.limit();
     let bytes = faults_document(alloc, limit, &told.first, told.lines.as_slice())?;
-    let denied = denied(alloc, limit, &told.first, told.lines.as_slice(), deny)?;
+    let denied = denied_text(alloc, limit, &told.first, told.lines.as_slice(), deny)?;
     Ok((denied, bytes))
 }
