@@ -5,7 +5,7 @@ ghost use Rattle.job_meaning.specs.Meaning.{meaning_table};
 ghost use Rattle.job_runner.specs.Runs.{rows_of};
 ghost use Rattle.job_story.specs.Froms.{table_in};
 ghost use Rattle.job_story.specs.Held.{event_of};
-ghost use Rattle.story_causes.specs.Seen.{seen};
+ghost use Rattle.story_causes.specs.Seen.{event_in};
 ghost use Rattle.story_app.specs.Stories.{IsJobVerdict};
 ghost use Rattle.story_app.specs.Tellings.{IsEnding, IsTold, ending_by, verdict_of, until_of, is_until, events_until};
 
@@ -95,7 +95,7 @@ fn told_about(
     task: Option<&[u8]>,
 ) -> Result<(StoryVerdict, Vec<u8>), AllocError>
     ensures { IfOk result (λ r. IsTold (table_in meaning.now.table) until meaning.now.ending (option_copied task.entry)
-        (map seen walked.now) r.0 r.1.items) }
+        (map event_in walked.now) r.0 r.1.items) }
 {
     match asked_for(alloc, walked, task)? {
         About::All => {
@@ -153,7 +153,7 @@ pub fn told_until<'e>(
     events: &'e [Event],
     until: Option<u64>,
 ) -> Result<Vec<&'e Event>, AllocError>
-    ensures { IfOk result (λ told. map seen told.items ≡ events_until until (map event_of events.now)) }
+    ensures { IfOk result (λ told. map event_in told.items ≡ events_until until (map event_of events.now)) }
 {
     let mut told = Vec::new(alloc);
     'events: for event in events {
