@@ -98,7 +98,7 @@ impl MockClock {
         ensures { Jumps self.old next_cancel result self.new }
     {
         let (due, _) = self.timers.first().unwrap();
-        let next = earlier(due, next_cancel);
+        let next = earlier_of(due, next_cancel);
         if next > self.limit {
             return Jump::Limit;
         }
@@ -123,7 +123,7 @@ impl MockClock {
 }
 
 // Returns the earlier of a tick and the tick of the next cancellation.
-fn earlier(due: u64, next_cancel: Option<u64>) -> u64
+fn earlier_of(due: u64, next_cancel: Option<u64>) -> u64
     ensures { result ≡ earlier_of next_cancel due }
 {
     next_cancel.map_or(due, |cancel| due.min(cancel))

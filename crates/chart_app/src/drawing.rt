@@ -1,6 +1,6 @@
 ghost use Rattle.std.specs.Prelude.{◌≡◌, IfOk, map};
 ghost use Rattle.job_story.specs.Froms.{table_in};
-ghost use Rattle.story_causes.specs.Seen.{seen};
+ghost use Rattle.story_causes.specs.Seen.{event_in};
 ghost use Rattle.chart_bars.specs.Held.{bar_of};
 ghost use Rattle.svg_text.specs.Content.{IsDocument};
 ghost use Rattle.chart_svg.specs.Drawing as svg;
@@ -23,7 +23,7 @@ pub(crate) fn chart_of(
     froms: &Froms,
     until: Option<u64>,
 ) -> Result<Vec<u8>, AllocError>
-    ensures chart { IfOk result (λ bytes. bytes.items ≡ chart_of form (table_in froms.now) until (map seen walked.now)) }
+    ensures chart { IfOk result (λ bytes. bytes.items ≡ chart_of form (table_in froms.now) until (map event_in walked.now)) }
     ensures well { IfOk result (λ bytes. IsInForm form bytes.items) }
 {
     let index = StoryIndex::of(alloc, walked)?;
@@ -44,7 +44,7 @@ fn svg<'e>(
     bars: &[Bar<'_, 'e>],
 ) -> Result<Vec<u8>, AllocError>
     ensures chart { IfOk result (λ bytes. bytes.items
-        ≡ svg.chart_svg width (table_in froms.entry.now) until (map seen walked.now) (map bar_of bars.now)) }
+        ≡ svg.chart_svg width (table_in froms.entry.now) until (map event_in walked.now) (map bar_of bars.now)) }
     ensures well { IfOk result (λ bytes. IsDocument bytes.items) }
 {
     let sorted = in_order(alloc, walked)?;

@@ -8,17 +8,17 @@ use Rattle.exc_groups.specs.Exceptions.{Label}
 use Rattle.job_meaning.specs.Log.{same_label}
 use Rattle.job_story.specs.Events as told
 use Rattle.job_story.specs.declared.event.Event.{Event}
-use Rattle.story_causes.specs.Seen.{seen}
+use Rattle.story_causes.specs.Seen.{event_in}
 use Rattle.chart_bars.specs.Bars as bars
 use Rattle.chart_bars.specs.declared.bar.Bar.{Bar}
 
 -- a borrowed event, if there is one
 abbrev pub event_seen : Option (Bor Event) → Option told.Event
-event_seen e = option_map seen e
+event_seen e = option_map event_in e
 
 abbrev pub bar_of : Bar → bars.Bar
 bar_of bar =
-    record { first = seen bar.first; last = event_seen bar.last; own = map seen bar.own.now; cancelled = bar.cancelled }
+    record { first = event_in bar.first; last = event_seen bar.last; own = map event_in bar.own.now; cancelled = bar.cancelled }
 
 -- the events of a task in a map, or no events where it has no entry
 abbrev pub items_of : Option (Vec (Bor Event)) → List (Bor Event)
@@ -26,7 +26,7 @@ items_of None = []
 items_of (Some events) = events.items
 
 abbrev pub events_at : {S : Type 0} → IndexMap (Bor Label) (Vec (Bor Event)) S → Label → List told.Event
-events_at map_ l = map seen (items_of (get_by (λ k. same_label l k.now) map_))
+events_at map_ l = map event_in (items_of (get_by (λ k. same_label l k.now) map_))
 
 -- the event of a label in a map
 abbrev pub event_at : {S : Type 0} → IndexMap (Bor Label) (Bor Event) S → Label → Option told.Event

@@ -1,7 +1,7 @@
 ghost use Rattle.std.specs.Prelude.{◌≡◌, ◌++◌, [], IfOk, OnOk, map};
 ghost use Rattle.job_story.specs.Froms.{table_in};
 ghost use Rattle.job_story.specs.Held.{event_of};
-ghost use Rattle.story_causes.specs.Seen.{seen};
+ghost use Rattle.story_causes.specs.Seen.{event_in};
 ghost use Rattle.chart_bars.specs.Bars.{end_in, bars_at, bars_of};
 ghost use Rattle.chart_bars.specs.Held.{bar_of, event_seen};
 ghost use Rattle.chart_bars.specs.Indexed.{walked_in};
@@ -47,7 +47,7 @@ fn push_bars<'i, 'e>(
     if !is_start(&event.what) {
         return Ok(());
     }
-    let own = index.own(&event.task);
+    let own = index.events_of(&event.task);
     bars.push(Bar {
         first: event,
         last: end_in(own),
@@ -59,7 +59,7 @@ fn push_bars<'i, 'e>(
 
 // Returns the first event that is the end of a task.
 fn end_in<'e>(events: &[&'e Event]) -> Option<&'e Event>
-    ensures { event_seen result ≡ end_in (map seen events.now) }
+    ensures { event_seen result ≡ end_in (map event_in events.now) }
 {
     'events: for event in events {
         if is_end(&event.what) {

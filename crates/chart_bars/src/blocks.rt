@@ -1,7 +1,7 @@
 ghost use Rattle.std.specs.Prelude.{◌≡◌, ◌++◌, ◌∷◌, List, OnOk, map};
 ghost use Rattle.job_story.specs.Froms.{table_in};
 ghost use Rattle.job_story.specs.Held.{event_of, what_of};
-ghost use Rattle.story_causes.specs.Seen.{seen};
+ghost use Rattle.story_causes.specs.Seen.{event_in};
 ghost use Rattle.chart_bars.specs.Bars as chart;
 ghost use Rattle.chart_bars.specs.Bars.{is_by, tick_between, with_block, block_bars};
 ghost use Rattle.chart_bars.specs.Held.{bar_of, event_seen};
@@ -22,7 +22,7 @@ pub(crate) fn push_blocks<'i, 'e>(
     events: &[&'e Event],
 ) -> Result<(), AllocError>
     ensures { OnOk result (map bar_of bars.new.items ≡ map bar_of bars.old.items
-        ++ block_bars (table_in froms.now) until (walked_in index.entry.now) (map seen events.now)) }
+        ++ block_bars (table_in froms.now) until (walked_in index.entry.now) (map event_in events.now)) }
 {
     'events: for event in events {
         push_block(bars, index, froms, until, event)?;
@@ -44,7 +44,7 @@ fn push_block<'i, 'e>(
     let What::Happens(Happening::Enters { label, .. }) = &event.what else {
         return Ok(());
     };
-    let last = index.left(label);
+    let last = index.leaving_of(label);
     bars.push(Bar {
         first: event,
         last,

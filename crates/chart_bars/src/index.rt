@@ -4,7 +4,7 @@ ghost use Rattle.std.proofs.Props.{props};
 ghost use Rattle.exc_groups.specs.Exceptions as tree;
 ghost use Rattle.exc_groups.specs.Exceptions.{Excs, cancelled, no_parts, part};
 ghost use Rattle.exc_groups.specs.ExcCode.{excs_code};
-ghost use Rattle.story_causes.specs.Seen.{seen};
+ghost use Rattle.story_causes.specs.Seen.{event_in};
 ghost use Rattle.chart_bars.specs.Bars.{of_task, left_in};
 ghost use Rattle.chart_bars.specs.Held.{events_at, event_at};
 
@@ -20,6 +20,6 @@ pub struct StoryIndex<'s, 'e> {
     pub(crate) tasks: IndexMap<&'e Label, Vec<&'e Event>>,
     pub(crate) left: IndexMap<&'e Label, &'e Event>,
     // Each fact has at most one proof, since events have an encoding: an exception in one is stored as the one part of a group.
-    ghost own: { (l : tree.Label) → events_at tasks l ≡ of_task l (map seen walked.now) } by { Prim.hlevel (props, code_by Excs excs_code (λ exc. part exc no_parts) (elim [ no_parts ↦ cancelled | part exc parts ↦ exc ]) (λ exc. refl)) },
-    ghost leaving: { (l : tree.Label) → event_at left l ≡ left_in l (map seen walked.now) } by { Prim.hlevel (props, code_by Excs excs_code (λ exc. part exc no_parts) (elim [ no_parts ↦ cancelled | part exc parts ↦ exc ]) (λ exc. refl)) },
+    ghost own: { (l : tree.Label) → events_at tasks l ≡ of_task l (map event_in walked.now) } by { Prim.hlevel (props, code_by Excs excs_code (λ exc. part exc no_parts) (elim [ no_parts ↦ cancelled | part exc parts ↦ exc ]) (λ exc. refl)) },
+    ghost leaving: { (l : tree.Label) → event_at left l ≡ left_in l (map event_in walked.now) } by { Prim.hlevel (props, code_by Excs excs_code (λ exc. part exc no_parts) (elim [ no_parts ↦ cancelled | part exc parts ↦ exc ]) (λ exc. refl)) },
 }

@@ -3,7 +3,7 @@ ghost use Rattle.std.specs.Option.{option_or};
 ghost use Rattle.exc_groups.specs.Exceptions as tree;
 ghost use Rattle.job_meaning.specs.Log.{same_label};
 ghost use Rattle.job_story.specs.Held.{event_of, what_of};
-ghost use Rattle.story_causes.specs.Seen.{seen};
+ghost use Rattle.story_causes.specs.Seen.{event_in};
 ghost use Rattle.chart_bars.specs.Bars.{of_task, is_left, left_in};
 ghost use Rattle.chart_bars.specs.Held.{events_at, event_at, event_seen};
 ghost use Rattle.chart_bars.specs.Indexed.{walked_in};
@@ -19,7 +19,7 @@ impl<'s, 'e> StoryIndex<'s, 'e> {
     /// Creates the index of these events, which are in the order of the walk. Each event takes constant time. Returns
     /// `AllocError` if memory is refused.
     pub fn of(alloc: Global, walked: &'s [&'e Event]) -> Result<StoryIndex<'s, 'e>, AllocError>
-        ensures { IfOk result (λ index. walked_in index ≡ map seen walked.entry.now) }
+        ensures { IfOk result (λ index. walked_in index ≡ map event_in walked.entry.now) }
     {
         let tasks = events_by_task(alloc, walked)?;
         let left = leavings(alloc, walked)?;
@@ -31,8 +31,8 @@ impl<'s, 'e> StoryIndex<'s, 'e> {
     }
 
     // Returns the events of a task.
-    pub(crate) fn own<'i>(&'i self, task: &'i Label) -> &'i [&'e Event]
-        ensures { map seen result.now ≡ of_task task.now (walked_in self.now) }
+    pub(crate) fn events_of<'i>(&'i self, task: &'i Label) -> &'i [&'e Event]
+        ensures { map event_in result.now ≡ of_task task.now (walked_in self.now) }
     {
         let Some(events) = self.tasks.get(&task) else {
             return no_events();
@@ -41,7 +41,7 @@ impl<'s, 'e> StoryIndex<'s, 'e> {
     }
 
     // Returns the event with which a scope or nursery was first left.
-    pub(crate) fn left(&self, label: &Label) -> Option<&'e Event>
+    pub(crate) fn leaving_of(&self, label: &Label) -> Option<&'e Event>
         ensures { event_seen result ≡ left_in label.now (walked_in self.now) }
     {
         self.left.get(&label).copied()
@@ -60,7 +60,7 @@ fn events_by_task<'e>(
     alloc: Global,
     walked: &[&'e Event],
 ) -> Result<IndexMap<&'e Label, Vec<&'e Event>>, AllocError>
-    ensures { IfOk result (λ tasks. (l : tree.Label) → events_at tasks l ≡ of_task l (map seen walked.now)) }
+    ensures { IfOk result (λ tasks. (l : tree.Label) → events_at tasks l ≡ of_task l (map event_in walked.now)) }
 {
     let mut tasks = IndexMap::new(alloc);
     'events: for event in walked {
@@ -93,7 +93,7 @@ fn leavings<'e>(
     alloc: Global,
     walked: &[&'e Event],
 ) -> Result<IndexMap<&'e Label, &'e Event>, AllocError>
-    ensures { IfOk result (λ left. (l : tree.Label) → event_at left l ≡ left_in l (map seen walked.now)) }
+    ensures { IfOk result (λ left. (l : tree.Label) → event_at left l ≡ left_in l (map event_in walked.now)) }
 {
     let mut left = IndexMap::new(alloc);
     'events: for event in walked {

@@ -1,5 +1,5 @@
 ghost use Rattle.std.specs.Prelude.{◌≡◌, ◌++◌, [], IfOk, OnOk, map};
-ghost use Rattle.story_causes.specs.Seen.{seen};
+ghost use Rattle.story_causes.specs.Seen.{event_in};
 ghost use Rattle.chart_bars.specs.Ticks.{if_tick, ticks_of_events, all_ticks};
 
 use job_story::Event;
@@ -12,7 +12,7 @@ pub fn all_ticks(
     events: &[&Event],
     until: Option<u64>,
 ) -> Result<Vec<u64>, AllocError>
-    ensures { IfOk result (λ ticks. ticks.items ≡ all_ticks (map seen events.now) until) }
+    ensures { IfOk result (λ ticks. ticks.items ≡ all_ticks (map event_in events.now) until) }
 {
     let mut ticks = Vec::new(alloc);
     push_events(&mut ticks, events)?;
@@ -22,7 +22,7 @@ pub fn all_ticks(
 
 // Appends the tick of each event.
 fn push_events(ticks: &mut Vec<u64>, events: &[&Event]) -> Result<(), AllocError>
-    ensures { OnOk result (ticks.new.items ≡ ticks.old.items ++ ticks_of_events (map seen events.now) []) }
+    ensures { OnOk result (ticks.new.items ≡ ticks.old.items ++ ticks_of_events (map event_in events.now) []) }
 {
     'events: for event in events {
         ticks.push(event.tick)?;

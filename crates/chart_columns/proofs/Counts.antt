@@ -4,7 +4,7 @@ use Rattle.std.specs.Prelude.{Bool, true, false, ◌==◌, if◌then◌else◌, 
 use Rattle.std.proofs.lemmas.Bool.{cond-true}
 use Rattle.std.proofs.lemmas.List.{map-append}
 use Rattle.chart_columns.specs.Columns as columns
-use Rattle.chart_columns.specs.Columns.{counted, columns_in}
+use Rattle.chart_columns.specs.Columns.{with_tick, columns_in}
 use Rattle.chart_columns.specs.Held.{column_of}
 use Rattle.chart_columns.specs.declared.column.Column.{Column}
 use Rattle.chart_columns.proofs.Lists.{reverse_push}
@@ -20,7 +20,7 @@ few_if : (n t : ℕ) (b : Bool) (c : columns.Column) (cs : List columns.Column) 
 few_if n t true c cs few = omega (arith, few)
 few_if n t false c cs few = omega arith
 
-few_counted : (n t : ℕ) (cs : List columns.Column) → FewFirst n cs → FewFirst (suc n) (counted t cs)
+few_counted : (n t : ℕ) (cs : List columns.Column) → FewFirst n cs → FewFirst (suc n) (with_tick t cs)
 few_counted n t [] few = omega arith
 few_counted n t (c ∷ cs) few = few_if n t (c.tick == t) c cs few
 
@@ -39,7 +39,7 @@ reverse_held rest c = ap reverse (map-append column_of rest (c ∷ [])) ∙ reve
 -- one more thing that happens at the first column's tick
 pub counted_again : (ts : List ℕ) (t n : ℕ) (old rest new : List Column) (c : Column) → length ts < 2 ^ 63 →
     columns_in ts ≡ reverse (map column_of old) → old ≡ rest ++ c ∷ [] → c.tick ≡ t → n ≡ min (c.count + 1) (2 ^ 64 - 1) →
-    new ≡ rest ++ record { tick = t; count = n } ∷ [] → reverse (map column_of new) ≡ counted t (columns_in ts)
+    new ≡ rest ++ record { tick = t; count = n } ∷ [] → reverse (map column_of new) ≡ with_tick t (columns_in ts)
 counted_again ts t n old rest new c short held parts here adds pushed =
     let before : columns_in ts ≡ column_of c ∷ reverse (map column_of rest) =
     held ∙ ap (λ l. reverse (map column_of l)) parts ∙ reverse_held rest c in
@@ -47,4 +47,4 @@ counted_again ts t n old rest new c short held parts here adds pushed =
     let more : n ≡ c.count + 1 = omega (arith, few) in
     ap (λ l. reverse (map column_of l)) pushed ∙ reverse_held rest (record { tick = t; count = n })
     ∙ ap (λ m. record { tick = t; count = m } ∷ reverse (map column_of rest)) more
-    ∙ sym (cond-true _ _ _ (eq-eqb c.tick t here)) ∙ ap (counted t) (sym before)
+    ∙ sym (cond-true _ _ _ (eq-eqb c.tick t here)) ∙ ap (with_tick t) (sym before)

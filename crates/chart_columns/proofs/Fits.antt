@@ -5,7 +5,7 @@ use Rattle.std.proofs.lemmas.Bool.{cases_Bool}
 use Rattle.std.proofs.lemmas.Bool.Decides.{nat_tests}
 use Rattle.std.proofs.lemmas.List.{at_drop_more, length-append, length-map}
 use Rattle.chart_columns.specs.Columns as columns
-use Rattle.chart_columns.specs.Columns.{gap, fits_from, fits, framed, tick_of}
+use Rattle.chart_columns.specs.Columns.{gap, fits_from, fits, framed_columns, tick_of}
 use Rattle.chart_columns.specs.Held.{column_of}
 use Rattle.chart_columns.specs.Sorting.{put_by, sorted_by}
 use Rattle.chart_columns.specs.declared.column.Column.{Column}
@@ -55,15 +55,15 @@ length-sorted_by : {X : Type 0} (key : X → ℕ) (xs : List X) → length (sort
 length-sorted_by key [] = refl
 length-sorted_by key (x ∷ xs) = length-put_by key x (sorted_by key xs) ∙ ap suc (length-sorted_by key xs)
 
-length-framed : (first last : columns.Column) (between : List columns.Column) → length (framed first last between) ≡ length between + 2
+length-framed : (first last : columns.Column) (between : List columns.Column) → length (framed_columns first last between) ≡ length between + 2
 length-framed first last between =
     omega (arith, length-append (sorted_by tick_of between) (last ∷ []), length-sorted_by tick_of between)
 
 -- too many columns do not fit
 pub too_many : (room : ℕ) (first last : Column) (between : List Column) → room / 2 < length between + 2 →
-    fits room (framed (column_of first) (column_of last) (map column_of between)) ≡ false
+    fits room (framed_columns (column_of first) (column_of last) (map column_of between)) ≡ false
 too_many room first last between many =
-    let all = framed (column_of first) (column_of last) (map column_of between) in
+    let all = framed_columns (column_of first) (column_of last) (map column_of between) in
     let long = length-framed (column_of first) (column_of last) (map column_of between) in
     let held = length-map between column_of in
     let test : nat_le (2 * length all) room ≡ false = test_false (2 * length all) room (omega (arith, long, held, many)) in

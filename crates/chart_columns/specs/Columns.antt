@@ -16,20 +16,20 @@ count_of c = c.count
 -- ---- all columns
 
 -- the columns with one more thing at the tick t, which is not later than theirs
-abbrev pub counted : ℕ → List Column → List Column
-counted t [] = record { tick = t; count = 1 } ∷ []
-counted t (c ∷ cs) =
+abbrev pub with_tick : ℕ → List Column → List Column
+with_tick t [] = record { tick = t; count = 1 } ∷ []
+with_tick t (c ∷ cs) =
     if c.tick == t then record { tick = t; count = c.count + 1 } ∷ cs else record { tick = t; count = 1 } ∷ c ∷ cs
 
 abbrev pub columns_in : List ℕ → List Column
 columns_in [] = []
-columns_in (t ∷ ts) = counted t (columns_in ts)
+columns_in (t ∷ ts) = with_tick t (columns_in ts)
 
-abbrev pub same : ℕ → ℕ
-same t = t
+abbrev pub identity : ℕ → ℕ
+identity t = t
 
 abbrev pub columns_of : List ℕ → List Column
-columns_of ts = columns_in (sorted_by same ts)
+columns_of ts = columns_in (sorted_by identity ts)
 
 -- ---- the room that they take
 
@@ -59,18 +59,18 @@ fits room (c ∷ cs) = nat_le (2 * length (c ∷ cs)) room && fits_from room c.t
 -- ---- the columns for which there is room
 
 -- the first column, some of those between, and the last
-abbrev pub framed : Column → Column → List Column → List Column
-framed first last between = first ∷ (sorted_by tick_of between ++ last ∷ [])
+abbrev pub framed_columns : Column → Column → List Column → List Column
+framed_columns first last between = first ∷ (sorted_by tick_of between ++ last ∷ [])
 
 -- the columns that fit, where those between are dropped from the front
-abbrev pub fitting : ℕ → Column → Column → List Column → List Column
-fitting room first last [] = framed first last []
-fitting room first last (c ∷ cs) =
-    if fits room (framed first last (c ∷ cs)) then framed first last (c ∷ cs) else fitting room first last cs
+abbrev pub fitting_columns : ℕ → Column → Column → List Column → List Column
+fitting_columns room first last [] = framed_columns first last []
+fitting_columns room first last (c ∷ cs) =
+    if fits room (framed_columns first last (c ∷ cs)) then framed_columns first last (c ∷ cs) else fitting_columns room first last cs
 
 -- the columns with the least counts are dropped first, but never the first and the last column
 abbrev pub dropped_to_fit : ℕ → Column → List Column → Column → List Column
-dropped_to_fit room first between last = fitting room first last (sorted_by count_of between)
+dropped_to_fit room first between last = fitting_columns room first last (sorted_by count_of between)
 
 -- applies a function to the first column of a list, those between, and the last
 abbrev pub with_last : (Column → List Column → Column → List Column) → Column → List Column → Column → List Column → List Column
@@ -83,8 +83,8 @@ dropped_in room (c ∷ []) = c ∷ []
 dropped_in room (c ∷ d ∷ cs) = with_last (dropped_to_fit room) c [] d cs
 
 -- the columns that are shown
-abbrev pub shown : ℕ → List Column → List Column
-shown room cs = if fits room cs then cs else dropped_in room cs
+abbrev pub shown_columns : ℕ → List Column → List Column
+shown_columns room cs = if fits room cs then cs else dropped_in room cs
 
 -- ---- where something is shown
 

@@ -1,5 +1,5 @@
 ghost use Rattle.std.specs.Prelude.{◌≡◌, true, false, IfOk, MatchOption, map};
-ghost use Rattle.chart_columns.specs.Columns.{fits_from, fits, framed, fitting, dropped_to_fit, dropped_in, shown};
+ghost use Rattle.chart_columns.specs.Columns.{fits_from, fits, framed_columns, fitting_columns, dropped_to_fit, dropped_in, shown_columns};
 ghost use Rattle.chart_columns.specs.Held.{column_of};
 
 use crate::column::Column;
@@ -10,8 +10,12 @@ use std::alloc::{AllocError, Global};
 /// Returns the columns that are shown in `room` characters: all of them if they fit. Otherwise the columns with the least counts are
 /// dropped, as many as must be. The first and the last column are always kept, even if they do not fit. Returns `AllocError` if memory
 /// is refused.
-pub fn shown(alloc: Global, room: usize, columns: &[Column]) -> Result<Vec<Column>, AllocError>
-    ensures { IfOk result (λ kept. map column_of kept.items ≡ shown room (map column_of columns.now)) }
+pub fn shown_columns(
+    alloc: Global,
+    room: usize,
+    columns: &[Column],
+) -> Result<Vec<Column>, AllocError>
+    ensures { IfOk result (λ kept. map column_of kept.items ≡ shown_columns room (map column_of columns.now)) }
 {
     if fits(room, columns) {
         return Vec::from_slice(alloc, columns);
@@ -45,11 +49,11 @@ fn dropped_to_fit(
 {
     let mut by_count = Vec::from_slice(alloc, between)?;
     sort_by_count(alloc, by_count.as_mut_slice())?;
-    fitting(alloc, room, first, last, by_count.as_slice())
+    fitting_columns(alloc, room, first, last, by_count.as_slice())
 }
 
 // Drops the columns between from the front, one after the other, until the rest fits.
-fn fitting(
+fn fitting_columns(
     alloc: Global,
     room: usize,
     first: Column,
@@ -57,7 +61,7 @@ fn fitting(
     between: &[Column],
 ) -> Result<Vec<Column>, AllocError>
     ensures { IfOk result (λ kept. map column_of kept.items
-        ≡ fitting room (column_of first) (column_of last) (map column_of between.now)) }
+        ≡ fitting_columns room (column_of first) (column_of last) (map column_of between.now)) }
 {
     let mut rest = between;
     'columns: while let Some((_, others)) = rest.split_first() {
@@ -66,7 +70,7 @@ fn fitting(
         }
         rest = others;
     }
-    framed(alloc, first, last, &[])
+    framed_columns(alloc, first, last, &[])
 }
 
 // Returns the first column, those between by tick, and the last, or `None` if they do not fit. If there are too many, they are not sorted.
@@ -78,14 +82,14 @@ fn framed_if_fits(
     between: &[Column],
 ) -> Result<Option<Vec<Column>>, AllocError>
     ensures { IfOk result (λ fitted. MatchOption fitted
-        (fits room (framed (column_of first) (column_of last) (map column_of between.now)) ≡ false)
-        (λ kept. (fits room (framed (column_of first) (column_of last) (map column_of between.now)) ≡ true)
-        × (map column_of kept.items ≡ framed (column_of first) (column_of last) (map column_of between.now)))) }
+        (fits room (framed_columns (column_of first) (column_of last) (map column_of between.now)) ≡ false)
+        (λ kept. (fits room (framed_columns (column_of first) (column_of last) (map column_of between.now)) ≡ true)
+        × (map column_of kept.items ≡ framed_columns (column_of first) (column_of last) (map column_of between.now)))) }
 {
     if between.len() + 2 > room / 2 {
         return Ok(None);
     }
-    let kept = framed(alloc, first, last, between)?;
+    let kept = framed_columns(alloc, first, last, between)?;
     if fits(room, kept.as_slice()) {
         return Ok(Some(kept));
     }
@@ -93,14 +97,14 @@ fn framed_if_fits(
 }
 
 // Returns the first column, those between by tick, and the last.
-fn framed(
+fn framed_columns(
     alloc: Global,
     first: Column,
     last: Column,
     between: &[Column],
 ) -> Result<Vec<Column>, AllocError>
     ensures { IfOk result (λ kept. map column_of kept.items
-        ≡ framed (column_of first) (column_of last) (map column_of between.now)) }
+        ≡ framed_columns (column_of first) (column_of last) (map column_of between.now)) }
 {
     let mut sorted = Vec::from_slice(alloc, between)?;
     sort_by_tick(alloc, sorted.as_mut_slice())?;

@@ -1,6 +1,6 @@
 //! The columns of a chart: one for each tick at which something happens, or as many of them as there is room for.
 //!
-//! The layer promises that `columns_of` returns each of the ticks at which something happens once and in order, and that `shown` drops
+//! The layer promises that `columns_of` returns each of the ticks at which something happens once and in order, and that `shown_columns` drops
 //! those at which the fewest things happen, and no more than it must (`specs/Columns.antt`). The gap from a column to the next grows
 //! with the logarithm of the time between them. What happens at a tick that is not shown is drawn at the last column before it
 //! (`column_at`). It uses `itoa`.
@@ -14,7 +14,7 @@ mod sorting;
 mod ticks;
 
 pub use column::Column;
-pub use fitting::shown;
+pub use fitting::shown_columns;
 pub use gaps::{gap, gap_to};
 pub use places::{column_at, column_by, last_tick};
 pub use ticks::columns_of;

@@ -1,6 +1,6 @@
 ghost use Rattle.std.specs.Prelude.{◌≡◌, OnOk, map};
 ghost use Rattle.chart_columns.specs.Sorting.{sorted_by};
-ghost use Rattle.chart_columns.specs.Columns.{same, tick_of, count_of};
+ghost use Rattle.chart_columns.specs.Columns.{identity, tick_of, count_of};
 ghost use Rattle.chart_columns.specs.Held.{column_of};
 
 use crate::column::Column;
@@ -8,7 +8,7 @@ use std::alloc::{AllocError, Global};
 
 // Sorts ticks.
 pub(crate) fn sort_ticks(alloc: Global, ticks: &mut [u64]) -> Result<(), AllocError>
-    ensures { OnOk result (ticks.new ≡ sorted_by same ticks.old) }
+    ensures { OnOk result (ticks.new ≡ sorted_by identity ticks.old) }
 {
     ticks.sort_by_key(alloc, |tick| *tick)
 }

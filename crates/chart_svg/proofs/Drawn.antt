@@ -10,7 +10,7 @@ use Rattle.chart_bars.specs.Bars.{Bar}
 use Rattle.chart_bars.specs.Ticks.{all_ticks}
 use Rattle.chart_columns.specs.Columns.{Column, columns_of}
 use Rattle.chart_text.specs.Text.{longest_name, columns_for}
-use Rattle.svg_text.specs.Content.{Content, nothing, text, element, written, start_tag, end_tag}
+use Rattle.svg_text.specs.Content.{Content, nothing, text, element, content_text, start_tag, end_tag}
 use Rattle.svg_text.specs.declared.names.Tag.TheVariants as tags
 use Rattle.chart_svg.specs.declared.layout.TheConstants.{ROW, MAX_ROWS}
 use Rattle.chart_svg.specs.Sheets.{Sheet}
@@ -21,10 +21,10 @@ use Rattle.chart_svg.proofs.Pieces.{element_is}
 
 -- the three notes, one after the other
 pub notes_drawn : {T E : Type 0} (result : Result T E) (until : Tick) (bottom shown all n : ℕ) (old a b new : List ℕ) →
-    ((rest : Content) → a ++ written rest ≡ old ++ written (note (bottom + ROW) (limit_note until) rest)) →
-    ((rest : Content) → b ++ written rest ≡ a ++ written (note (bottom + ROW * 2) (columns_note shown all) rest)) →
-    OnOk result ((rest : Content) → new ++ written rest ≡ b ++ written (note (bottom + ROW * 3) (rows_note n) rest)) →
-    OnOk result (new ≡ old ++ written (notes until bottom shown all n))
+    ((rest : Content) → a ++ content_text rest ≡ old ++ content_text (note (bottom + ROW) (limit_note until) rest)) →
+    ((rest : Content) → b ++ content_text rest ≡ a ++ content_text (note (bottom + ROW * 2) (columns_note shown all) rest)) →
+    OnOk result ((rest : Content) → new ++ content_text rest ≡ b ++ content_text (note (bottom + ROW * 3) (rows_note n) rest)) →
+    OnOk result (new ≡ old ++ content_text (notes until bottom shown all n))
 notes_drawn result until bottom shown all n old a b new first second third =
     let last = note (bottom + ROW * 3) (rows_note n) nothing in
     on_ok_weaker result
@@ -33,26 +33,26 @@ notes_drawn result until bottom shown all n old a b new first second third =
 -- the content of the document: its head, the lines, the rows that are shown with their arrows, and the notes
 pub inside_drawn : {T E : Type 0} (result : Result T E) (sheet : Sheet) (until : Tick) (all : ℕ) (bars shown : List Bar) (old a b c new : List ℕ) →
     shown ≡ take MAX_ROWS bars →
-    ((rest : Content) → a ++ written rest ≡ old ++ written (element tags.Title [] (text (title_bytes bars) nothing) (style (definitions rest)))) →
-    ((rest : Content) → b ++ written rest ≡ a ++ written (tick_lines sheet (bottom_of bars) sheet.columns rest)) →
-    ((rest : Content) → c ++ written rest ≡ b ++ written (rows sheet 0 shown (arrows sheet shown 0 shown rest))) →
-    OnOk result (new ≡ c ++ written (notes until (bottom_of bars) (length sheet.columns) all (length bars))) →
-    OnOk result (new ≡ old ++ written (inside_of sheet until all bars))
+    ((rest : Content) → a ++ content_text rest ≡ old ++ content_text (element tags.Title [] (text (title_bytes bars) nothing) (style (definitions rest)))) →
+    ((rest : Content) → b ++ content_text rest ≡ a ++ content_text (tick_lines sheet (bottom_of bars) sheet.columns rest)) →
+    ((rest : Content) → c ++ content_text rest ≡ b ++ content_text (rows sheet 0 shown (arrows sheet shown 0 shown rest))) →
+    OnOk result (new ≡ c ++ content_text (notes until (bottom_of bars) (length sheet.columns) all (length bars))) →
+    OnOk result (new ≡ old ++ content_text (inside_of sheet until all bars))
 inside_drawn result sheet until all bars shown old a b c new same first second third fourth =
     let cut = take MAX_ROWS bars in
     let last = notes until (bottom_of bars) (length sheet.columns) all (length bars) in
     let drawn = rows sheet 0 cut (arrows sheet cut 0 cut last) in
     on_ok_weaker result
     (λ h.
-    h ∙ third last ∙ ap (λ z. b ++ written (rows sheet 0 z (arrows sheet z 0 z last))) same ∙ second drawn
+    h ∙ third last ∙ ap (λ z. b ++ content_text (rows sheet 0 z (arrows sheet z 0 z last))) same ∙ second drawn
     ∙ first (tick_lines sheet (bottom_of bars) sheet.columns drawn)) fourth
 
 -- the document: its start tag, its content, and its end tag
 pub document_drawn : (sheet : Sheet) (until : Tick) (all : ℕ) (bars : List Bar) (width height : ℕ) (empty a b new : List ℕ) → empty ≡ [] →
     width ≡ width_of sheet bars → height ≡ height_of bars → a ≡ empty ++ start_tag tags.Svg (svg_attributes width height) →
-    b ≡ a ++ written (inside_of sheet until all bars) → new ≡ b ++ end_tag tags.Svg → new ≡ written (document sheet until all bars)
+    b ≡ a ++ content_text (inside_of sheet until all bars) → new ≡ b ++ end_tag tags.Svg → new ≡ content_text (document sheet until all bars)
 document_drawn sheet until all bars width height empty a b new none w h p q r =
-    let whole = λ (x : ℕ) (y : ℕ). written (element tags.Svg (svg_attributes x y) (inside_of sheet until all bars) nothing) in
+    let whole = λ (x : ℕ) (y : ℕ). content_text (element tags.Svg (svg_attributes x y) (inside_of sheet until all bars) nothing) in
     sym (append-nil new)
     ∙ element_is tags.Svg (svg_attributes width height) (inside_of sheet until all bars) empty a b new p q r nothing
     ∙ ap (λ z. z ++ whole width height) none
@@ -64,11 +64,11 @@ pub drawing_is : (width : ℕ) (table : Table) (until : Tick) (walked : List Eve
     (names count : ℕ) (ticks : List ℕ) (all columns : List Column) (known : Table) (events sorted : List Event) (svg : List ℕ) →
     ticks ≡ all_ticks walked until → all ≡ columns_of ticks → columns ≡ columns_for width all bars → names ≡ longest_name bars →
     known ≡ table → events ≡ sorted → sorted ≡ in_order walked → count ≡ length all →
-    svg ≡ written (document (record { names = names; columns = columns; table = known; events = events }) until count bars) →
+    svg ≡ content_text (document (record { names = names; columns = columns; table = known; events = events }) until count bars) →
     svg ≡ chart_svg width table until walked bars
 drawing_is width table until walked bars names count ticks all columns known events sorted svg t a c n k e s l p =
     let drawn = λ (n : ℕ) (cs : List Column) (k : Table) (es : List Event) (m : ℕ).
-    written (document (record { names = n; columns = cs; table = k; events = es }) until m bars) in
+    content_text (document (record { names = n; columns = cs; table = k; events = es }) until m bars) in
     let every : all ≡ columns_of (all_ticks walked until) = a ∙ ap columns_of t in
     p
     ∙ ap (λ n. drawn n columns known events count) n

@@ -3,8 +3,8 @@ use Rattle.std.proofs.Common.{◌≡◌, ℕ, List, [], ◌∷◌, ◌++◌, ap,
 use Rattle.std.specs.Prelude.{Result, OnOk, codes}
 use Rattle.std.proofs.lemmas.List.{append-nil}
 use Rattle.std.proofs.lemmas.Result.{on_ok_weaker}
-use Rattle.svg_text.specs.Escaping.{escaped}
-use Rattle.svg_text.specs.Content.{Content, nothing, text, element, Attribute, attribute_text, attributes_text, written, tag_name, start_tag, end_tag}
+use Rattle.svg_text.specs.Escaping.{escaped_text}
+use Rattle.svg_text.specs.Content.{Content, nothing, text, element, Attribute, attribute_text, attributes_text, content_text, tag_name, start_tag, end_tag}
 use Rattle.svg_text.specs.declared.names.Tag.{Tag}
 
 regrouped : (old start inside end w : List ℕ) → (((old ++ start) ++ inside) ++ end) ++ w ≡ old ++ (((start ++ inside) ++ end) ++ w)
@@ -20,15 +20,15 @@ closed old start inside end a b new w p q r =
 
 -- an element: its start tag, its content, and its end tag
 pub element_is : (tag : Tag) (attributes : List Attribute) (inside : Content) (old a b new : List ℕ) →
-    a ≡ old ++ start_tag tag attributes → b ≡ a ++ written inside → new ≡ b ++ end_tag tag →
-    (rest : Content) → new ++ written rest ≡ old ++ written (element tag attributes inside rest)
+    a ≡ old ++ start_tag tag attributes → b ≡ a ++ content_text inside → new ≡ b ++ end_tag tag →
+    (rest : Content) → new ++ content_text rest ≡ old ++ content_text (element tag attributes inside rest)
 element_is tag attributes inside old a b new p q r rest =
-    closed old (start_tag tag attributes) (written inside) (end_tag tag) a b new (written rest) p q r
+    closed old (start_tag tag attributes) (content_text inside) (end_tag tag) a b new (content_text rest) p q r
 
 -- the same where the result of the last call is returned as it is
 pub element_ok : {T E : Type 0} (result : Result T E) (tag : Tag) (attributes : List Attribute) (inside : Content) (old a b new : List ℕ) →
-    a ≡ old ++ start_tag tag attributes → b ≡ a ++ written inside → OnOk result (new ≡ b ++ end_tag tag) →
-    OnOk result ((rest : Content) → new ++ written rest ≡ old ++ written (element tag attributes inside rest))
+    a ≡ old ++ start_tag tag attributes → b ≡ a ++ content_text inside → OnOk result (new ≡ b ++ end_tag tag) →
+    OnOk result ((rest : Content) → new ++ content_text rest ≡ old ++ content_text (element tag attributes inside rest))
 element_ok result tag attributes inside old a b new p q =
     on_ok_weaker result (λ r rest. element_is tag attributes inside old a b new p q r rest)
 
@@ -40,14 +40,14 @@ begun tag old a b p q =
 
 -- the same where the content is appended before any rest
 pub element_around : {T E : Type 0} (result : Result T E) (tag : Tag) (attributes : List Attribute) (inside : Content) (old a b new : List ℕ) →
-    a ≡ old ++ start_tag tag attributes → b ++ [] ≡ a ++ written inside → OnOk result (new ≡ b ++ end_tag tag) →
-    OnOk result ((rest : Content) → new ++ written rest ≡ old ++ written (element tag attributes inside rest))
+    a ≡ old ++ start_tag tag attributes → b ++ [] ≡ a ++ content_text inside → OnOk result (new ≡ b ++ end_tag tag) →
+    OnOk result ((rest : Content) → new ++ content_text rest ≡ old ++ content_text (element tag attributes inside rest))
 element_around result tag attributes inside old a b new p q =
     element_ok result tag attributes inside old a b new p (sym (append-nil b) ∙ q)
 
 -- a text inside
-pub text_is : (a b bytes : List ℕ) → b ≡ a ++ escaped bytes → b ≡ a ++ written (text bytes nothing)
-text_is a b bytes p = p ∙ ap (λ x. a ++ x) (sym (append-nil (escaped bytes)))
+pub text_is : (a b bytes : List ℕ) → b ≡ a ++ escaped_text bytes → b ≡ a ++ content_text (text bytes nothing)
+text_is a b bytes p = p ∙ ap (λ x. a ++ x) (sym (append-nil (escaped_text bytes)))
 
 -- ---- start tags
 
@@ -115,8 +115,8 @@ start_of_seven result old tag p q r s t u v o a b c d e f g new begun ap_ bp cp 
     (λ h. ended old tag (p ∷ q ∷ r ∷ s ∷ t ∷ u ∷ v ∷ []) g new (next old tag (p ∷ q ∷ r ∷ s ∷ t ∷ u ∷ []) v f g begun_six gp) h)
 
 -- a text before what follows
-pub text_before : (a bytes new : List ℕ) → new ≡ a ++ escaped bytes → (rest : Content) → new ++ written rest ≡ a ++ written (text bytes rest)
-text_before a bytes new p rest = ap (λ x. x ++ written rest) p ∙ append_assoc a (escaped bytes) (written rest)
+pub text_before : (a bytes new : List ℕ) → new ≡ a ++ escaped_text bytes → (rest : Content) → new ++ content_text rest ≡ a ++ content_text (text bytes rest)
+text_before a bytes new p rest = ap (λ x. x ++ content_text rest) p ∙ append_assoc a (escaped_text bytes) (content_text rest)
 
 -- the start tag of an element at a place, from equal numbers
 pub at_place : (shape : ℕ → ℕ → List Attribute) (tag : Tag) (old new : List ℕ) (x i y j : ℕ) → new ≡ old ++ start_tag tag (shape x y) →

@@ -11,7 +11,7 @@ use Rattle.job_story.specs.Causes.{cause_of}
 use Rattle.chart_bars.specs.Bars.{Bar}
 use Rattle.chart_columns.specs.Columns.{Column}
 use Rattle.chart_text.specs.Marks.{is_cross, is_dot}
-use Rattle.svg_text.specs.Content.{Content, nothing, written, is_well_formed, IsDocument}
+use Rattle.svg_text.specs.Content.{Content, nothing, content_text, is_well_formed, IsDocument}
 use Rattle.svg_text.specs.declared.names.Tag.TheVariants as tags
 use Rattle.chart_svg.specs.Sheets.{Sheet}
 use Rattle.chart_svg.specs.Rows.{cancelled_part, mark, marks, row, rows}
@@ -117,7 +117,7 @@ inside_well sheet until all bars =
     ∙ notes_well until (bottom_of bars) (length sheet.columns) all (length bars)
 
 -- What is written of a drawing is a well-formed document.
-pub is_document : (sheet : Sheet) (until : Tick) (all : ℕ) (bars : List Bar) (svg : List ℕ) → svg ≡ written (document sheet until all bars) →
+pub is_document : (sheet : Sheet) (until : Tick) (all : ℕ) (bars : List Bar) (svg : List ℕ) → svg ≡ content_text (document sheet until all bars) →
     IsDocument svg
 is_document sheet until all bars svg written_so =
     record {

@@ -11,7 +11,7 @@ use Rattle.chart_columns.specs.Columns.{column_by}
 use Rattle.svg_text.specs.Content.{Content, element, Attribute, attribute}
 use Rattle.svg_text.specs.declared.names.Tag.TheVariants as tags
 use Rattle.svg_text.specs.declared.names.Attr.TheVariants as attrs
-use Rattle.chart_svg.specs.Sheets.{Sheet, x_at, x_of, middle_of, told}
+use Rattle.chart_svg.specs.Sheets.{Sheet, x_at, x_of, middle_of, events_title}
 
 -- the task that cancelled something, and the tick in which it did
 pub record Source : Type 0 where
@@ -45,7 +45,7 @@ segment class x1 y1 x2 y2 =
 abbrev pub arrow : Sheet → ℕ → ℕ → Source → ℕ → List Event → Content → Content
 arrow sheet i t source j own rest =
     element tags.Line (segment (codes "arrow") (x_of sheet source.tick) (middle_of j) (x_at sheet (column_by sheet.columns t)) (middle_of i))
-    (told sheet (at_tick source.tick own)) rest
+    (events_title sheet (at_tick source.tick own)) rest
 
 -- an arrow from the first of these rows that is the task's, if there is one
 abbrev pub arrow_from : Sheet → ℕ → ℕ → Source → ℕ → List Bar → Content → Content

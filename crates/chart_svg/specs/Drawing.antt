@@ -6,8 +6,8 @@ use Rattle.job_story.specs.Events.{Event, in_order}
 use Rattle.chart_bars.specs.Bars.{Bar}
 use Rattle.chart_bars.specs.Ticks.{all_ticks}
 use Rattle.chart_columns.specs.Columns.{Column, columns_of, last_tick}
-use Rattle.chart_text.specs.Text.{name_of, longest_name, longest_outcome, columns_for, left_out}
-use Rattle.svg_text.specs.Content.{Content, nothing, text, element, Attribute, attribute, written}
+use Rattle.chart_text.specs.Text.{name_of, longest_name, longest_outcome, columns_for, left_out_note}
+use Rattle.svg_text.specs.Content.{Content, nothing, text, element, Attribute, attribute, content_text}
 use Rattle.svg_text.specs.declared.names.Tag.TheVariants as tags
 use Rattle.svg_text.specs.declared.names.Attr.TheVariants as attrs
 use Rattle.chart_svg.specs.Sheets.{Sheet, x_at, y_of}
@@ -90,7 +90,7 @@ limit_note (Some limit) = codes "limit " ++ decimal limit
 
 -- the note that says how many of all columns are not shown, if there are any
 abbrev pub columns_note : ℕ → ℕ → List ℕ
-columns_note shown all = if shown == all then [] else left_out shown all
+columns_note shown all = if shown == all then [] else left_out_note shown all
 
 -- the note that says how many rows are not shown, if there are any
 abbrev pub rows_note : ℕ → List ℕ
@@ -147,10 +147,10 @@ sheet_of width table sorted all bars =
     record { names = longest_name bars; columns = columns_for width all bars; table = table; events = sorted }
 
 -- the drawing of a story, from its events in the order of the walk and their bars
-abbrev pub drawing : ℕ → Table → Tick → List Event → List Bar → Content
-drawing width table until walked bars =
+abbrev pub drawing_of : ℕ → Table → Tick → List Event → List Bar → Content
+drawing_of width table until walked bars =
     let all = columns_of (all_ticks walked until) in
     document (sheet_of width table (in_order walked) all bars) until (length all) bars
 
 abbrev pub chart_svg : ℕ → Table → Tick → List Event → List Bar → List ℕ
-chart_svg width table until walked bars = written (drawing width table until walked bars)
+chart_svg width table until walked bars = content_text (drawing_of width table until walked bars)

@@ -12,7 +12,7 @@ use Rattle.chart_text.specs.Text.{name_of, outcome_of}
 use Rattle.svg_text.specs.Content.{Content, nothing, text, element, Attribute, attribute}
 use Rattle.svg_text.specs.declared.names.Tag.TheVariants as tags
 use Rattle.svg_text.specs.declared.names.Attr.TheVariants as attrs
-use Rattle.chart_svg.specs.Sheets.{Sheet, x_at, x_of, y_of, middle_of, told}
+use Rattle.chart_svg.specs.Sheets.{Sheet, x_at, x_of, y_of, middle_of, events_title}
 use Rattle.chart_svg.specs.declared.layout.TheConstants.{LEFT, LETTER, MAX_TOLD}
 
 -- ---- words for the style sheet
@@ -130,8 +130,8 @@ dot x y =
 
 abbrev pub mark : Sheet → ℕ → Event → Content → Content
 mark sheet i e rest =
-    if is_cross e.what then element tags.Use (cross (x_of sheet e.tick) (middle_of i)) (told sheet (e ∷ [])) rest
-    else (if is_dot e.what then element tags.Circle (dot (x_of sheet e.tick) (middle_of i)) (told sheet (e ∷ [])) rest
+    if is_cross e.what then element tags.Use (cross (x_of sheet e.tick) (middle_of i)) (events_title sheet (e ∷ [])) rest
+    else (if is_dot e.what then element tags.Circle (dot (x_of sheet e.tick) (middle_of i)) (events_title sheet (e ∷ [])) rest
     else rest)
 
 abbrev pub marks : Sheet → ℕ → List Event → Content → Content

@@ -38,5 +38,5 @@ abbrev pub middle_of : ℕ → ℕ
 middle_of i = y_of i + 12
 
 -- what the story says of these events, as a title
-abbrev pub told : Sheet → List Event → Content
-told sheet es = element tags.Title [] (text (kept_text sheet.table sheet.events es) nothing) nothing
+abbrev pub events_title : Sheet → List Event → Content
+events_title sheet es = element tags.Title [] (text (kept_text sheet.table sheet.events es) nothing) nothing

@@ -7,10 +7,10 @@ ghost use Rattle.job_story.specs.Limit.{is_start};
 ghost use Rattle.job_story.specs.Causes.{cause_of};
 ghost use Rattle.story_causes.specs.Found.{cause_in_code};
 ghost use Rattle.story_causes.specs.Knows.{Knows};
-ghost use Rattle.story_causes.specs.Seen.{seen};
+ghost use Rattle.story_causes.specs.Seen.{event_in};
 ghost use Rattle.story_text.specs.Told.{events_in, froms_in};
 ghost use Rattle.chart_bars.specs.Held.{bar_of};
-ghost use Rattle.svg_text.specs.Content.{Content, written};
+ghost use Rattle.svg_text.specs.Content.{Content, content_text};
 ghost use Rattle.chart_svg.specs.Arrows.{source_of, at_tick, arrow, arrow_from, arrow_by, arrow_at, arrows};
 ghost use Rattle.chart_svg.specs.Held.{sheet_held, source_held};
 
@@ -39,8 +39,8 @@ pub(crate) fn push_arrows(
     bars: &[Bar<'_, '_>],
 ) -> Result<(), AllocError>
     requires { Knows causes.now (froms_in sheet.now.known.now) (events_in sheet.now.known.now) }
-    ensures { OnOk result ((rest : Content) → out.new.items ++ written rest
-        ≡ out.old.items ++ written (arrows (sheet_held sheet.now) (map bar_of bars.now) 0 (map bar_of bars.now) rest)) }
+    ensures { OnOk result ((rest : Content) → out.new.items ++ content_text rest
+        ≡ out.old.items ++ content_text (arrows (sheet_held sheet.now) (map bar_of bars.now) 0 (map bar_of bars.now) rest)) }
 {
     let mut row = 0;
     'bars: for bar in bars {
@@ -61,8 +61,8 @@ fn push_arrow_to(
     bar: &Bar<'_, '_>,
 ) -> Result<(), AllocError>
     requires { Knows causes.now (froms_in sheet.now.known.now) (events_in sheet.now.known.now) }
-    ensures { OnOk result ((rest : Content) → out.new.items ++ written rest ≡ out.old.items
-        ++ written (arrow_at (sheet_held sheet.now) (map bar_of bars.now) row (what_of bar.now.first.now.what) bar.now.cancelled rest)) }
+    ensures { OnOk result ((rest : Content) → out.new.items ++ content_text rest ≡ out.old.items
+        ++ content_text (arrow_at (sheet_held sheet.now) (map bar_of bars.now) row (what_of bar.now.first.now.what) bar.now.cancelled rest)) }
 {
     let What::Happens(Happening::Enters { label, .. }) = &bar.first.what else {
         return Ok(());
@@ -101,8 +101,8 @@ fn push_arrow_from(
     tick: u64,
     source: Source<'_>,
 ) -> Result<(), AllocError>
-    ensures { OnOk result ((rest : Content) → out.new.items ++ written rest ≡ out.old.items
-        ++ written (arrow_from (sheet_held sheet.now) row tick (source_held source.entry) 0 (map bar_of bars.now) rest)) }
+    ensures { OnOk result ((rest : Content) → out.new.items ++ content_text rest ≡ out.old.items
+        ++ content_text (arrow_from (sheet_held sheet.now) row tick (source_held source.entry) 0 (map bar_of bars.now) rest)) }
 {
     let mut from = 0;
     'bars: for bar in bars {
@@ -135,8 +135,8 @@ fn push_arrow(
     from: usize,
     own: &[&Event],
 ) -> Result<(), AllocError>
-    ensures { OnOk result ((rest : Content) → out.new.items ++ written rest ≡ out.old.items
-        ++ written (arrow (sheet_held sheet.now) row tick (source_held source.entry) from (map seen own.now) rest)) }
+    ensures { OnOk result ((rest : Content) → out.new.items ++ content_text rest ≡ out.old.items
+        ++ content_text (arrow (sheet_held sheet.now) row tick (source_held source.entry) from (map event_in own.now) rest)) }
 {
     let events = at_tick(alloc, source.tick, own)?;
     let (x1, x2) = (sheet.x_of(source.tick), sheet.x_by(tick));
@@ -147,7 +147,7 @@ fn push_arrow(
 
 // Returns the events in a tick.
 fn at_tick<'e>(alloc: Global, tick: u64, events: &[&'e Event]) -> Result<Vec<&'e Event>, AllocError>
-    ensures { IfOk result (λ found. map seen found.items ≡ at_tick tick (map seen events.now)) }
+    ensures { IfOk result (λ found. map event_in found.items ≡ at_tick tick (map event_in events.now)) }
 {
     let mut found = Vec::new(alloc);
     'events: for event in events {

@@ -5,11 +5,11 @@ ghost use Rattle.cancel_scopes.specs.Sight.{Tick};
 ghost use Rattle.job_story.specs.Story.{enters};
 ghost use Rattle.job_story.specs.Events as told;
 ghost use Rattle.job_story.specs.Sentences.{kept_text};
-ghost use Rattle.job_story.specs.Held.{boxed, kind_of};
-ghost use Rattle.story_causes.specs.Seen.{seen};
+ghost use Rattle.job_story.specs.Held.{unboxed_exc, kind_of};
+ghost use Rattle.story_causes.specs.Seen.{event_in};
 ghost use Rattle.story_text.specs.Told.{events_in, froms_in};
 ghost use Rattle.chart_bars.specs.Held.{bar_of, event_seen};
-ghost use Rattle.svg_text.specs.Content.{written};
+ghost use Rattle.svg_text.specs.Content.{content_text};
 ghost use Rattle.chart_svg.specs.Rows.{exc_word, end_word, class_by, class_of, size_of, told_of, more_told, bar_title};
 ghost use Rattle.chart_svg.specs.Held.{sheet_held, size_held};
 ghost use Rattle.chart_svg.specs.declared.layout.TheConstants.{MAX_TOLD};
@@ -86,7 +86,7 @@ fn task_class(last: Option<&Event>) -> &'static [u8]
 
 // Returns the class of the bar of a task that ended.
 fn ended_class(exc: &Option<Box<Exc>>) -> &'static [u8]
-    ensures { result.now ≡ codes "task " ++ exc_word (boxed exc.now) }
+    ensures { result.now ≡ codes "task " ++ exc_word (unboxed_exc exc.now) }
 {
     let Some(exc) = exc else {
         return b"task done";
@@ -111,7 +111,7 @@ pub(crate) fn push_bar_title(
     sheet: &Sheet<'_, '_, '_>,
     bar: &Bar<'_, '_>,
 ) -> Result<(), AllocError>
-    ensures { OnOk result (out.new.items ≡ out.old.items ++ written (bar_title (sheet_held sheet.now) (bar_of bar.now))) }
+    ensures { OnOk result (out.new.items ≡ out.old.items ++ content_text (bar_title (sheet_held sheet.now) (bar_of bar.now))) }
 {
     let events = told_of(alloc, bar)?;
     let told = told_text(alloc, sheet, events.as_slice())?;
@@ -128,7 +128,7 @@ fn told_text(
     events: &[&Event],
 ) -> Result<Vec<u8>, AllocError>
     ensures { IfOk result (λ told. told.items ≡ kept_text (froms_in sheet.now.known.now) (events_in sheet.now.known.now)
-        (take MAX_TOLD (map seen events.now)) ++ more_told (length (map seen events.now))) }
+        (take MAX_TOLD (map event_in events.now)) ++ more_told (length (map event_in events.now))) }
 {
     let mut told = kept_text(alloc, first_of(events), sheet.known)?;
     push_more(&mut told, events.len())?;
@@ -137,7 +137,7 @@ fn told_text(
 
 // Returns the first of these events, as many as a title shows.
 fn first_of<'s, 'e>(events: &'s [&'e Event]) -> &'s [&'e Event]
-    ensures { map seen result.now ≡ take MAX_TOLD (map seen events.now) }
+    ensures { map event_in result.now ≡ take MAX_TOLD (map event_in events.now) }
 {
     let (first, _) = events.split_at(MAX_TOLD.min(events.len()));
     first
@@ -145,7 +145,7 @@ fn first_of<'s, 'e>(events: &'s [&'e Event]) -> &'s [&'e Event]
 
 // Returns the events that the title of a bar shows.
 fn told_of<'e>(alloc: Global, bar: &Bar<'_, 'e>) -> Result<Vec<&'e Event>, AllocError>
-    ensures { IfOk result (λ events. map seen events.items ≡ told_of (bar_of bar.now)) }
+    ensures { IfOk result (λ events. map event_in events.items ≡ told_of (bar_of bar.now)) }
 {
     if let What::Starts { .. } = bar.first.what {
         return Vec::from_slice(alloc, bar.own);

@@ -1,5 +1,5 @@
 ghost use Rattle.std.specs.Prelude.{◌≡◌, [], ◌∷◌, ◌++◌, OnOk, codes};
-ghost use Rattle.svg_text.specs.Content.{Content, attribute, written, start_tag};
+ghost use Rattle.svg_text.specs.Content.{Content, attribute, content_text, start_tag};
 ghost use Rattle.svg_text.specs.declared.names.Tag.TheVariants as tags;
 ghost use Rattle.svg_text.specs.declared.names.Attr.TheVariants as attrs;
 ghost use Rattle.chart_svg.specs.Drawing.{style, path, arrow_head, fill, cross_path, definitions};
@@ -10,7 +10,7 @@ use svg_text::{Attr, Tag, attribute, begin, end, inside, text};
 
 // Appends the style sheet.
 pub(crate) fn push_style(out: &mut Vec<u8>) -> Result<(), AllocError>
-    ensures { OnOk result ((rest : Content) → out.new.items ++ written rest ≡ out.old.items ++ written (style rest)) }
+    ensures { OnOk result ((rest : Content) → out.new.items ++ content_text rest ≡ out.old.items ++ content_text (style rest)) }
 {
     begin(out, Tag::Style)?;
     inside(out)?;
@@ -20,7 +20,7 @@ pub(crate) fn push_style(out: &mut Vec<u8>) -> Result<(), AllocError>
 
 // Appends the definitions that are used elsewhere: the head of an arrow, the patterns that fill bars, and the cross.
 pub(crate) fn push_definitions(out: &mut Vec<u8>) -> Result<(), AllocError>
-    ensures { OnOk result ((rest : Content) → out.new.items ++ written rest ≡ out.old.items ++ written (definitions rest)) }
+    ensures { OnOk result ((rest : Content) → out.new.items ++ content_text rest ≡ out.old.items ++ content_text (definitions rest)) }
 {
     begin(out, Tag::Defs)?;
     inside(out)?;
@@ -30,7 +30,7 @@ pub(crate) fn push_definitions(out: &mut Vec<u8>) -> Result<(), AllocError>
 
 // Appends the definitions one after the other.
 fn push_each(out: &mut Vec<u8>) -> Result<(), AllocError>
-    ensures { OnOk result ((rest : Content) → out.new.items ++ written rest ≡ out.old.items ++ written (arrow_head
+    ensures { OnOk result ((rest : Content) → out.new.items ++ content_text rest ≡ out.old.items ++ content_text (arrow_head
         (fill (codes "slanted") (codes "M0 6 6 0") (fill (codes "crossed") (codes "M0 6 6 0M0 0 6 6") (cross_path rest))))) }
 {
     push_arrow_head(out)?;
@@ -41,7 +41,7 @@ fn push_each(out: &mut Vec<u8>) -> Result<(), AllocError>
 
 // Appends the head of an arrow.
 fn push_arrow_head(out: &mut Vec<u8>) -> Result<(), AllocError>
-    ensures { OnOk result ((rest : Content) → out.new.items ++ written rest ≡ out.old.items ++ written (arrow_head rest)) }
+    ensures { OnOk result ((rest : Content) → out.new.items ++ content_text rest ≡ out.old.items ++ content_text (arrow_head rest)) }
 {
     begin_arrow_head(out)?;
     push_path(out, b"head", b"M0 0 8 4 0 8z")?;
@@ -68,7 +68,7 @@ fn begin_arrow_head(out: &mut Vec<u8>) -> Result<(), AllocError>
 
 // Appends a pattern that fills a bar.
 fn push_fill(out: &mut Vec<u8>, id: &[u8], steps: &[u8]) -> Result<(), AllocError>
-    ensures { OnOk result ((rest : Content) → out.new.items ++ written rest ≡ out.old.items ++ written (fill id.now steps.now rest)) }
+    ensures { OnOk result ((rest : Content) → out.new.items ++ content_text rest ≡ out.old.items ++ content_text (fill id.now steps.now rest)) }
 {
     begin_fill(out, id)?;
     push_path(out, id, steps)?;
@@ -91,7 +91,7 @@ fn begin_fill(out: &mut Vec<u8>, id: &[u8]) -> Result<(), AllocError>
 
 // Appends a path.
 fn push_path(out: &mut Vec<u8>, class: &[u8], steps: &[u8]) -> Result<(), AllocError>
-    ensures { OnOk result ((rest : Content) → out.new.items ++ written rest ≡ out.old.items ++ written (path class.now steps.now rest)) }
+    ensures { OnOk result ((rest : Content) → out.new.items ++ content_text rest ≡ out.old.items ++ content_text (path class.now steps.now rest)) }
 {
     begin(out, Tag::Path)?;
     attribute(out, Attr::Class, class)?;
@@ -102,7 +102,7 @@ fn push_path(out: &mut Vec<u8>, class: &[u8], steps: &[u8]) -> Result<(), AllocE
 
 // Appends the cross, with the point where it is used at its centre.
 fn push_cross_path(out: &mut Vec<u8>) -> Result<(), AllocError>
-    ensures { OnOk result ((rest : Content) → out.new.items ++ written rest ≡ out.old.items ++ written (cross_path rest)) }
+    ensures { OnOk result ((rest : Content) → out.new.items ++ content_text rest ≡ out.old.items ++ content_text (cross_path rest)) }
 {
     begin(out, Tag::Path)?;
     attribute(out, Attr::Id, b"cross")?;

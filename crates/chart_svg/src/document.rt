@@ -2,10 +2,10 @@ ghost use Rattle.std.specs.Prelude.{◌≡◌, ◌≤◌, ◌++◌, [], IfOk, On
 ghost use Rattle.job_story.specs.Events.{in_order};
 ghost use Rattle.job_story.specs.Froms.{table_in};
 ghost use Rattle.story_causes.specs.Knows.{Knows};
-ghost use Rattle.story_causes.specs.Seen.{seen};
+ghost use Rattle.story_causes.specs.Seen.{event_in};
 ghost use Rattle.story_text.specs.Told.{events_in, froms_in};
 ghost use Rattle.chart_bars.specs.Held.{bar_of};
-ghost use Rattle.svg_text.specs.Content.{Content, nothing, text, element, written, start_tag, IsDocument};
+ghost use Rattle.svg_text.specs.Content.{Content, nothing, text, element, content_text, start_tag, IsDocument};
 ghost use Rattle.svg_text.specs.declared.names.Tag.TheVariants as tags;
 ghost use Rattle.chart_svg.specs.Drawing.{title_bytes, style, definitions, tick_lines, notes, bottom_of, width_of, height_of, svg_attributes, inside_of, document, chart_svg};
 ghost use Rattle.chart_svg.specs.Rows.{rows};
@@ -47,10 +47,10 @@ pub fn chart_svg<'e>(
     causes: &Causes<'e>,
     bars: &[Bar<'_, 'e>],
 ) -> Result<Vec<u8>, AllocError>
-    requires knows { Knows causes.now (table_in froms.now) (map seen sorted.now) }
-    requires sorted { map seen sorted.now ≡ in_order (map seen walked.now) }
+    requires knows { Knows causes.now (table_in froms.now) (map event_in sorted.now) }
+    requires sorted { map event_in sorted.now ≡ in_order (map event_in walked.now) }
     ensures drawing { IfOk result (λ svg. svg.items
-        ≡ chart_svg width (table_in froms.now) until (map seen walked.now) (map bar_of bars.now)) }
+        ≡ chart_svg width (table_in froms.now) until (map event_in walked.now) (map bar_of bars.now)) }
     ensures well_formed { IfOk result (λ svg. IsDocument svg.items) }
 {
     let ticks = all_ticks(alloc, walked, until)?;
@@ -75,7 +75,7 @@ fn document(
     bars: &[Bar<'_, '_>],
 ) -> Result<Vec<u8>, AllocError>
     requires { Knows causes.now (froms_in sheet.now.known.now) (events_in sheet.now.known.now) }
-    ensures drawing { IfOk result (λ svg. svg.items ≡ written (document (sheet_held sheet.now) until all (map bar_of bars.now))) }
+    ensures drawing { IfOk result (λ svg. svg.items ≡ content_text (document (sheet_held sheet.now) until all (map bar_of bars.now))) }
     ensures well_formed { IfOk result (λ svg. IsDocument svg.items) }
 {
     let mut out = Vec::new(alloc);
@@ -114,7 +114,7 @@ fn push_inside(
     bars: &[Bar<'_, '_>],
 ) -> Result<(), AllocError>
     requires { Knows causes.now (froms_in sheet.now.known.now) (events_in sheet.now.known.now) }
-    ensures { OnOk result (out.new.items ≡ out.old.items ++ written (inside_of (sheet_held sheet.now) until all (map bar_of bars.now))) }
+    ensures { OnOk result (out.new.items ≡ out.old.items ++ content_text (inside_of (sheet_held sheet.now) until all (map bar_of bars.now))) }
 {
     push_head(alloc, out, bars)?;
     push_lines(alloc, out, sheet, bars)?;
@@ -124,8 +124,8 @@ fn push_inside(
 
 // Appends the title, the style sheet and the definitions.
 fn push_head(alloc: Global, out: &mut Vec<u8>, bars: &[Bar<'_, '_>]) -> Result<(), AllocError>
-    ensures { OnOk result ((rest : Content) → out.new.items ++ written rest ≡ out.old.items
-        ++ written (element tags.Title [] (text (title_bytes (map bar_of bars.now)) nothing) (style (definitions rest)))) }
+    ensures { OnOk result ((rest : Content) → out.new.items ++ content_text rest ≡ out.old.items
+        ++ content_text (element tags.Title [] (text (title_bytes (map bar_of bars.now)) nothing) (style (definitions rest)))) }
 {
     push_title(alloc, out, bars)?;
     push_style(out)?;
@@ -139,8 +139,8 @@ fn push_lines(
     sheet: &Sheet<'_, '_, '_>,
     bars: &[Bar<'_, '_>],
 ) -> Result<(), AllocError>
-    ensures { OnOk result ((rest : Content) → out.new.items ++ written rest ≡ out.old.items
-        ++ written (tick_lines (sheet_held sheet.now) (bottom_of (map bar_of bars.now)) (sheet_held sheet.now).columns rest)) }
+    ensures { OnOk result ((rest : Content) → out.new.items ++ content_text rest ≡ out.old.items
+        ++ content_text (tick_lines (sheet_held sheet.now) (bottom_of (map bar_of bars.now)) (sheet_held sheet.now).columns rest)) }
 {
     push_tick_lines(alloc, out, sheet, bottom_of(bars), sheet.columns)
 }
@@ -154,8 +154,8 @@ fn push_shown(
     shown: &[Bar<'_, '_>],
 ) -> Result<(), AllocError>
     requires { Knows causes.now (froms_in sheet.now.known.now) (events_in sheet.now.known.now) }
-    ensures { OnOk result ((rest : Content) → out.new.items ++ written rest ≡ out.old.items
-        ++ written (rows (sheet_held sheet.now) 0 (map bar_of shown.now)
+    ensures { OnOk result ((rest : Content) → out.new.items ++ content_text rest ≡ out.old.items
+        ++ content_text (rows (sheet_held sheet.now) 0 (map bar_of shown.now)
         (arrows (sheet_held sheet.now) (map bar_of shown.now) 0 (map bar_of shown.now) rest))) }
 {
     push_rows(alloc, out, sheet, shown)?;
@@ -171,7 +171,7 @@ fn push_missing(
     all: usize,
     bars: &[Bar<'_, '_>],
 ) -> Result<(), AllocError>
-    ensures { OnOk result (out.new.items ≡ out.old.items ++ written (notes until (bottom_of (map bar_of bars.now))
+    ensures { OnOk result (out.new.items ≡ out.old.items ++ content_text (notes until (bottom_of (map bar_of bars.now))
         (length (sheet_held sheet.now).columns) all (length (map bar_of bars.now)))) }
 {
     let missing = Missing {
@@ -185,8 +185,8 @@ fn push_missing(
 
 // Appends the title of the document: the name of the job.
 fn push_title(alloc: Global, out: &mut Vec<u8>, bars: &[Bar<'_, '_>]) -> Result<(), AllocError>
-    ensures { OnOk result ((rest : Content) → out.new.items ++ written rest
-        ≡ out.old.items ++ written (element tags.Title [] (text (title_bytes (map bar_of bars.now)) nothing) rest)) }
+    ensures { OnOk result ((rest : Content) → out.new.items ++ content_text rest
+        ≡ out.old.items ++ content_text (element tags.Title [] (text (title_bytes (map bar_of bars.now)) nothing) rest)) }
 {
     let mut name = Vec::new(alloc);
     if let Some(bar) = bars.first() {

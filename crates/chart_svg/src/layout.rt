@@ -10,7 +10,7 @@ pub const ROW: u64 = 24;
 /// The maximum width of a letter, in pixels.
 pub const LETTER: u64 = 8;
 
-/// The width of a place of text between columns, in pixels.
+/// The width of a character between columns, in pixels.
 pub const PLACE: u64 = 14;
 
 /// The maximum distance from the first column, in characters. Nothing is drawn further to the right.

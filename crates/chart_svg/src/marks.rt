@@ -1,9 +1,9 @@
 ghost use Rattle.std.specs.Prelude.{◌≡◌, [], ◌∷◌, ◌++◌, OnOk, map};
 ghost use Rattle.job_story.specs.Held.{event_of};
-ghost use Rattle.story_causes.specs.Seen.{seen};
-ghost use Rattle.svg_text.specs.Content.{Content, element, written};
+ghost use Rattle.story_causes.specs.Seen.{event_in};
+ghost use Rattle.svg_text.specs.Content.{Content, element, content_text};
 ghost use Rattle.svg_text.specs.declared.names.Tag.TheVariants as tags;
-ghost use Rattle.chart_svg.specs.Sheets.{x_of, middle_of, told};
+ghost use Rattle.chart_svg.specs.Sheets.{x_of, middle_of, events_title};
 ghost use Rattle.chart_svg.specs.Rows.{cross, dot, mark, marks};
 ghost use Rattle.chart_svg.specs.Held.{sheet_held};
 
@@ -22,8 +22,8 @@ pub(crate) fn push_marks(
     row: usize,
     events: &[&Event],
 ) -> Result<(), AllocError>
-    ensures { OnOk result ((rest : Content) → out.new.items ++ written rest
-        ≡ out.old.items ++ written (marks (sheet_held sheet.now) row (map seen events.now) rest)) }
+    ensures { OnOk result ((rest : Content) → out.new.items ++ content_text rest
+        ≡ out.old.items ++ content_text (marks (sheet_held sheet.now) row (map event_in events.now) rest)) }
 {
     'events: for event in events {
         push_mark(alloc, out, sheet, row, event)?;
@@ -39,8 +39,8 @@ fn push_mark(
     row: usize,
     event: &Event,
 ) -> Result<(), AllocError>
-    ensures { OnOk result ((rest : Content) → out.new.items ++ written rest
-        ≡ out.old.items ++ written (mark (sheet_held sheet.now) row (event_of event.now) rest)) }
+    ensures { OnOk result ((rest : Content) → out.new.items ++ content_text rest
+        ≡ out.old.items ++ content_text (mark (sheet_held sheet.now) row (event_of event.now) rest)) }
 {
     if is_cross(&event.what) {
         return push_cross(alloc, out, sheet, row, event);
@@ -59,9 +59,9 @@ fn push_cross(
     row: usize,
     event: &Event,
 ) -> Result<(), AllocError>
-    ensures { OnOk result ((rest : Content) → out.new.items ++ written rest ≡ out.old.items
-        ++ written (element tags.Use (cross (x_of (sheet_held sheet.now) event.now.tick) (middle_of row))
-        (told (sheet_held sheet.now) (event_of event.now ∷ [])) rest)) }
+    ensures { OnOk result ((rest : Content) → out.new.items ++ content_text rest ≡ out.old.items
+        ++ content_text (element tags.Use (cross (x_of (sheet_held sheet.now) event.now.tick) (middle_of row))
+        (events_title (sheet_held sheet.now) (event_of event.now ∷ [])) rest)) }
 {
     begin_cross(out, sheet.x_of(event.tick), middle_of(row))?;
     push_told(alloc, out, sheet, &[event])?;
@@ -76,9 +76,9 @@ fn push_dot(
     row: usize,
     event: &Event,
 ) -> Result<(), AllocError>
-    ensures { OnOk result ((rest : Content) → out.new.items ++ written rest ≡ out.old.items
-        ++ written (element tags.Circle (dot (x_of (sheet_held sheet.now) event.now.tick) (middle_of row))
-        (told (sheet_held sheet.now) (event_of event.now ∷ [])) rest)) }
+    ensures { OnOk result ((rest : Content) → out.new.items ++ content_text rest ≡ out.old.items
+        ++ content_text (element tags.Circle (dot (x_of (sheet_held sheet.now) event.now.tick) (middle_of row))
+        (events_title (sheet_held sheet.now) (event_of event.now ∷ [])) rest)) }
 {
     begin_dot(out, sheet.x_of(event.tick), middle_of(row))?;
     push_told(alloc, out, sheet, &[event])?;

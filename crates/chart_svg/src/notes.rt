@@ -1,5 +1,5 @@
 ghost use Rattle.std.specs.Prelude.{◌≡◌, ◌+◌, ◌*◌, ◌≤◌, ◌++◌, IfOk, OnOk, codes, decimal};
-ghost use Rattle.svg_text.specs.Content.{Content, nothing, written};
+ghost use Rattle.svg_text.specs.Content.{Content, nothing, content_text};
 ghost use Rattle.chart_svg.specs.Drawing.{note, limit_note, columns_note, rows_note, notes};
 ghost use Rattle.chart_svg.specs.declared.layout.TheConstants.{ROW};
 
@@ -30,7 +30,7 @@ pub(crate) fn push_notes(
 ) -> Result<(), AllocError>
     requires { bottom ≤ 1000000 }
     ensures { OnOk result (out.new.items ≡ out.old.items
-        ++ written (notes missing.until bottom missing.shown missing.columns missing.rows)) }
+        ++ content_text (notes missing.until bottom missing.shown missing.columns missing.rows)) }
 {
     push_limit_note(alloc, out, bottom, missing.until)?;
     push_columns_note(alloc, out, bottom, missing.shown, missing.columns)?;
@@ -45,8 +45,8 @@ fn push_limit_note(
     until: Option<u64>,
 ) -> Result<(), AllocError>
     requires { bottom ≤ 1000000 }
-    ensures { OnOk result ((rest : Content) → out.new.items ++ written rest
-        ≡ out.old.items ++ written (note (bottom + ROW) (limit_note until) rest)) }
+    ensures { OnOk result ((rest : Content) → out.new.items ++ content_text rest
+        ≡ out.old.items ++ content_text (note (bottom + ROW) (limit_note until) rest)) }
 {
     let bytes = limit_note(alloc, until)?;
     push_note(out, bottom + ROW, bytes.as_slice())
@@ -61,8 +61,8 @@ fn push_columns_note(
     all: usize,
 ) -> Result<(), AllocError>
     requires { bottom ≤ 1000000 }
-    ensures { OnOk result ((rest : Content) → out.new.items ++ written rest
-        ≡ out.old.items ++ written (note (bottom + ROW * 2) (columns_note shown all) rest)) }
+    ensures { OnOk result ((rest : Content) → out.new.items ++ content_text rest
+        ≡ out.old.items ++ content_text (note (bottom + ROW * 2) (columns_note shown all) rest)) }
 {
     let bytes = columns_note(alloc, shown, all)?;
     push_note(out, bottom + ROW * 2, bytes.as_slice())
@@ -76,8 +76,8 @@ fn push_rows_note(
     rows: usize,
 ) -> Result<(), AllocError>
     requires { bottom ≤ 1000000 }
-    ensures { OnOk result ((rest : Content) → out.new.items ++ written rest
-        ≡ out.old.items ++ written (note (bottom + ROW * 3) (rows_note rows) rest)) }
+    ensures { OnOk result ((rest : Content) → out.new.items ++ content_text rest
+        ≡ out.old.items ++ content_text (note (bottom + ROW * 3) (rows_note rows) rest)) }
 {
     let bytes = rows_note(alloc, rows)?;
     push_note(out, bottom + ROW * 3, bytes.as_slice())
@@ -85,7 +85,7 @@ fn push_rows_note(
 
 // Appends a note, if it is not empty.
 fn push_note(out: &mut Vec<u8>, y: u64, bytes: &[u8]) -> Result<(), AllocError>
-    ensures { OnOk result ((rest : Content) → out.new.items ++ written rest ≡ out.old.items ++ written (note y bytes.now rest)) }
+    ensures { OnOk result ((rest : Content) → out.new.items ++ content_text rest ≡ out.old.items ++ content_text (note y bytes.now rest)) }
 {
     if bytes.is_empty() {
         return Ok(());

@@ -1,7 +1,7 @@
 ghost use Rattle.std.specs.Prelude.{◌≡◌, ◌≤◌, ◌+◌, ◌*◌, ◌++◌, OnOk, map, codes};
 ghost use Rattle.chart_bars.specs.Held.{bar_of, event_seen};
 ghost use Rattle.chart_text.specs.Text.{name_of, outcome_of};
-ghost use Rattle.svg_text.specs.Content.{Content, written, element};
+ghost use Rattle.svg_text.specs.Content.{Content, content_text, element};
 ghost use Rattle.svg_text.specs.declared.names.Tag.TheVariants as tags;
 ghost use Rattle.chart_svg.specs.Sheets.{x_at, y_of};
 ghost use Rattle.chart_svg.specs.Rows as drawn;
@@ -27,8 +27,8 @@ pub(crate) fn push_rows(
     sheet: &Sheet<'_, '_, '_>,
     bars: &[Bar<'_, '_>],
 ) -> Result<(), AllocError>
-    ensures { OnOk result ((rest : Content) → out.new.items ++ written rest
-        ≡ out.old.items ++ written (rows (sheet_held sheet.now) 0 (map bar_of bars.now) rest)) }
+    ensures { OnOk result ((rest : Content) → out.new.items ++ content_text rest
+        ≡ out.old.items ++ content_text (rows (sheet_held sheet.now) 0 (map bar_of bars.now) rest)) }
 {
     let mut row = 0;
     'bars: for bar in bars {
@@ -46,8 +46,8 @@ fn push_row(
     row: usize,
     bar: &Bar<'_, '_>,
 ) -> Result<(), AllocError>
-    ensures { OnOk result ((rest : Content) → out.new.items ++ written rest
-        ≡ out.old.items ++ written (drawn.row (sheet_held sheet.now) row (bar_of bar.now) rest)) }
+    ensures { OnOk result ((rest : Content) → out.new.items ++ content_text rest
+        ≡ out.old.items ++ content_text (drawn.row (sheet_held sheet.now) row (bar_of bar.now) rest)) }
 {
     push_row_name(alloc, out, row, bar)?;
     push_row_bar(alloc, out, sheet, row, bar)?;
@@ -64,8 +64,8 @@ fn push_row_name(
     row: usize,
     bar: &Bar<'_, '_>,
 ) -> Result<(), AllocError>
-    ensures { OnOk result ((rest : Content) → out.new.items ++ written rest ≡ out.old.items
-        ++ written (words (codes "name") (LEFT + LETTER * (size_of (bar_of bar.now)).indent) (y_of row + 16) (name_of (bar_of bar.now)) rest)) }
+    ensures { OnOk result ((rest : Content) → out.new.items ++ content_text rest ≡ out.old.items
+        ++ content_text (words (codes "name") (LEFT + LETTER * (size_of (bar_of bar.now)).indent) (y_of row + 16) (name_of (bar_of bar.now)) rest)) }
 {
     let mut name = Vec::new(alloc);
     push_name(&mut name, bar)?;
@@ -81,8 +81,8 @@ fn push_row_bar(
     row: usize,
     bar: &Bar<'_, '_>,
 ) -> Result<(), AllocError>
-    ensures { OnOk result ((rest : Content) → out.new.items ++ written rest ≡ out.old.items
-        ++ written (element tags.Rect (rectangle row (size_of (bar_of bar.now)) (class_of (bar_of bar.now))
+    ensures { OnOk result ((rest : Content) → out.new.items ++ content_text rest ≡ out.old.items
+        ++ content_text (element tags.Rect (rectangle row (size_of (bar_of bar.now)) (class_of (bar_of bar.now))
         (start_x (sheet_held sheet.now) (bar_of bar.now)) (end_x (sheet_held sheet.now) (bar_of bar.now)))
         (bar_title (sheet_held sheet.now) (bar_of bar.now)) rest)) }
 {
@@ -110,8 +110,8 @@ fn push_cancelled(
     row: usize,
     bar: &Bar<'_, '_>,
 ) -> Result<(), AllocError>
-    ensures { OnOk result ((rest : Content) → out.new.items ++ written rest ≡ out.old.items
-        ++ written (cancelled_part (sheet_held sheet.now) row (bar_of bar.now) bar.now.cancelled rest)) }
+    ensures { OnOk result ((rest : Content) → out.new.items ++ content_text rest ≡ out.old.items
+        ++ content_text (cancelled_part (sheet_held sheet.now) row (bar_of bar.now) bar.now.cancelled rest)) }
 {
     let Some(tick) = bar.cancelled else {
         return Ok(());
@@ -135,8 +135,8 @@ fn push_row_outcome(
     row: usize,
     bar: &Bar<'_, '_>,
 ) -> Result<(), AllocError>
-    ensures { OnOk result ((rest : Content) → out.new.items ++ written rest ≡ out.old.items
-        ++ written (words (codes "outcome") (end_x (sheet_held sheet.now) (bar_of bar.now) + LETTER) (y_of row + 16)
+    ensures { OnOk result ((rest : Content) → out.new.items ++ content_text rest ≡ out.old.items
+        ++ content_text (words (codes "outcome") (end_x (sheet_held sheet.now) (bar_of bar.now) + LETTER) (y_of row + 16)
         (outcome_of (bar_of bar.now)) rest)) }
 {
     let mut outcome = Vec::new(alloc);

@@ -1,5 +1,5 @@
 ghost use Rattle.std.specs.Prelude.{◌≡◌, ◌≤◌, [], ◌∷◌, ◌++◌, OnOk, codes, decimal};
-ghost use Rattle.svg_text.specs.Content.{Content, attribute, written, start_tag};
+ghost use Rattle.svg_text.specs.Content.{Content, attribute, content_text, start_tag};
 ghost use Rattle.svg_text.specs.declared.names.Tag.TheVariants as tags;
 ghost use Rattle.svg_text.specs.declared.names.Attr.TheVariants as attrs;
 ghost use Rattle.chart_svg.specs.Rows.{width_to, rectangle, words, cross, dot};
@@ -72,8 +72,8 @@ pub(crate) fn push_words(
     y: u64,
     bytes: &[u8],
 ) -> Result<(), AllocError>
-    ensures { OnOk result ((rest : Content) → out.new.items ++ written rest
-        ≡ out.old.items ++ written (words class.now x y bytes.now rest)) }
+    ensures { OnOk result ((rest : Content) → out.new.items ++ content_text rest
+        ≡ out.old.items ++ content_text (words class.now x y bytes.now rest)) }
 {
     begin_words(out, class, x, y)?;
     text(out, bytes)?;

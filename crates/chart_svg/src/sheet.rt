@@ -1,9 +1,9 @@
 ghost use Rattle.std.specs.Prelude.{◌≡◌, ◌≤◌, ◌++◌, OnOk, map};
-ghost use Rattle.story_causes.specs.Seen.{seen};
+ghost use Rattle.story_causes.specs.Seen.{event_in};
 ghost use Rattle.chart_columns.specs.Columns.{column_by};
 ghost use Rattle.chart_columns.specs.Held.{column_of};
-ghost use Rattle.svg_text.specs.Content.{written};
-ghost use Rattle.chart_svg.specs.Sheets.{place, x_at, x_of, y_of, middle_of, told};
+ghost use Rattle.svg_text.specs.Content.{content_text};
+ghost use Rattle.chart_svg.specs.Sheets.{place, x_at, x_of, y_of, middle_of, events_title};
 ghost use Rattle.chart_svg.specs.Held.{sheet_held};
 
 use crate::layout::{FARTHEST, LEFT, LETTER, MAX_NAME, MAX_ROWS, PLACE, ROW, TOP};
@@ -84,7 +84,7 @@ pub(crate) fn push_told(
     sheet: &Sheet<'_, '_, '_>,
     events: &[&Event],
 ) -> Result<(), AllocError>
-    ensures { OnOk result (out.new.items ≡ out.old.items ++ written (told (sheet_held sheet.now) (map seen events.now))) }
+    ensures { OnOk result (out.new.items ≡ out.old.items ++ content_text (events_title (sheet_held sheet.now) (map event_in events.now))) }
 {
     let told = kept_text(alloc, events, sheet.known)?;
     begin(out, Tag::Title)?;

@@ -1,6 +1,6 @@
 ghost use Rattle.std.specs.Prelude.{◌≡◌, ◌-◌, ◌++◌, OnOk, map, codes, decimal};
 ghost use Rattle.chart_columns.specs.Held.{column_of};
-ghost use Rattle.svg_text.specs.Content.{Content, nothing, element, written};
+ghost use Rattle.svg_text.specs.Content.{Content, nothing, element, content_text};
 ghost use Rattle.svg_text.specs.declared.names.Tag.TheVariants as tags;
 ghost use Rattle.chart_svg.specs.Arrows.{segment};
 ghost use Rattle.chart_svg.specs.Rows.{words};
@@ -24,8 +24,8 @@ pub(crate) fn push_tick_lines(
     bottom: u64,
     columns: &[Column],
 ) -> Result<(), AllocError>
-    ensures { OnOk result ((rest : Content) → out.new.items ++ written rest
-        ≡ out.old.items ++ written (tick_lines (sheet_held sheet.now) bottom (map column_of columns.now) rest)) }
+    ensures { OnOk result ((rest : Content) → out.new.items ++ content_text rest
+        ≡ out.old.items ++ content_text (tick_lines (sheet_held sheet.now) bottom (map column_of columns.now) rest)) }
 {
     'columns: for column in columns {
         push_tick_line(alloc, out, sheet, bottom, column)?;
@@ -41,8 +41,8 @@ fn push_tick_line(
     bottom: u64,
     column: &Column,
 ) -> Result<(), AllocError>
-    ensures { OnOk result ((rest : Content) → out.new.items ++ written rest
-        ≡ out.old.items ++ written (tick_line (sheet_held sheet.now) bottom (column_of column.now) rest)) }
+    ensures { OnOk result ((rest : Content) → out.new.items ++ content_text rest
+        ≡ out.old.items ++ content_text (tick_line (sheet_held sheet.now) bottom (column_of column.now) rest)) }
 {
     let x = sheet.x_at(column.tick);
     push_line(out, x, bottom)?;
@@ -52,8 +52,8 @@ fn push_tick_line(
 
 // Appends a line down to the bottom.
 fn push_line(out: &mut Vec<u8>, x: u64, bottom: u64) -> Result<(), AllocError>
-    ensures { OnOk result ((rest : Content) → out.new.items ++ written rest
-        ≡ out.old.items ++ written (element tags.Line (segment (codes "tick") x TOP x bottom) nothing rest)) }
+    ensures { OnOk result ((rest : Content) → out.new.items ++ content_text rest
+        ≡ out.old.items ++ content_text (element tags.Line (segment (codes "tick") x TOP x bottom) nothing rest)) }
 {
     begin_line(out, b"tick", x, TOP, x, bottom)?;
     end(out, Tag::Line)
@@ -61,8 +61,8 @@ fn push_line(out: &mut Vec<u8>, x: u64, bottom: u64) -> Result<(), AllocError>
 
 // Appends a tick above its line.
 fn push_tick(alloc: Global, out: &mut Vec<u8>, x: u64, tick: u64) -> Result<(), AllocError>
-    ensures { OnOk result ((rest : Content) → out.new.items ++ written rest
-        ≡ out.old.items ++ written (words (codes "tick") x (TOP - 6) (decimal tick) rest)) }
+    ensures { OnOk result ((rest : Content) → out.new.items ++ content_text rest
+        ≡ out.old.items ++ content_text (words (codes "tick") x (TOP - 6) (decimal tick) rest)) }
 {
     let mut bytes = Vec::new(alloc);
     push_number(&mut bytes, tick)?;

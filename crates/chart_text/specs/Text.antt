@@ -4,10 +4,10 @@ use Rattle.exc_groups.specs.Exceptions.{Label}
 use Rattle.cancel_scopes.specs.Sight.{Tick}
 use Rattle.job_story.specs.Story.{enters, leaves}
 use Rattle.job_story.specs.Events.{What, starts, happens, ends, Event}
-use Rattle.job_story.specs.Sentences.{label_text, kind_text, end_text, padded}
+use Rattle.job_story.specs.Sentences.{label_text, kind_text, end_text, padded_text}
 use Rattle.chart_bars.specs.Bars.{Bar}
 use Rattle.chart_bars.specs.Ticks.{all_ticks}
-use Rattle.chart_columns.specs.Columns.{Column, columns_of, shown, gap_to}
+use Rattle.chart_columns.specs.Columns.{Column, columns_of, shown_columns, gap_to}
 use Rattle.chart_text.specs.Marks.{row_of, cells}
 use Rattle.chart_text.specs.declared.widths.TheConstants.{MAX_OUTCOME}
 
@@ -55,45 +55,45 @@ abbrev pub room_for : ℕ → ℕ → List Bar → ℕ
 room_for width names bars = width - (names + 2) - (min MAX_OUTCOME (longest_outcome bars) + 1)
 
 -- a line with its newline, cut where it is longer than a width, which is at least 2
-abbrev pub cut : ℕ → List ℕ → List ℕ
-cut width line = (if nat_le (length line) width then line else take (width - 2) line ++ codes "..") ++ codes "\n"
+abbrev pub cut_line : ℕ → List ℕ → List ℕ
+cut_line width line = (if nat_le (length line) width then line else take (width - 2) line ++ codes "..") ++ codes "\n"
 
 -- ---- lines
 
 abbrev pub header : List Column → List ℕ
 header [] = []
-header (c ∷ cs) = padded (gap_to c cs) (decimal c.tick) ++ header cs
+header (c ∷ cs) = padded_text (gap_to c cs) (decimal c.tick) ++ header cs
 
 abbrev pub row_text : List Column → ℕ → Bar → List ℕ
 row_text cols names bar =
-    padded names (name_of bar) ++ codes "  " ++ cells (row_of cols bar) cols ++ codes " " ++ outcome_of bar
+    padded_text names (name_of bar) ++ codes "  " ++ cells (row_of cols bar) cols ++ codes " " ++ outcome_of bar
 
 abbrev pub rows_text : ℕ → List Column → ℕ → List Bar → List ℕ
 rows_text width cols names [] = []
-rows_text width cols names (b ∷ bs) = cut width (row_text cols names b) ++ rows_text width cols names bs
+rows_text width cols names (b ∷ bs) = cut_line width (row_text cols names b) ++ rows_text width cols names bs
 
 -- the line that says that a story is cut off at a limit, if it is
 abbrev pub limit_text : ℕ → Tick → List ℕ
 limit_text width None = []
-limit_text width (Some limit) = cut width (codes "limit " ++ decimal limit)
+limit_text width (Some limit) = cut_line width (codes "limit " ++ decimal limit)
 
 -- how many columns of all are not shown
-abbrev pub left_out : ℕ → ℕ → List ℕ
-left_out shown all =
+abbrev pub left_out_note : ℕ → ℕ → List ℕ
+left_out_note shown all =
     decimal (all - shown) ++ codes " of " ++ decimal all ++ codes " ticks are left out, and their events shown at the tick before"
 
 abbrev pub left_text : ℕ → ℕ → ℕ → List ℕ
-left_text width shown all = if shown == all then [] else cut width (left_out shown all)
+left_text width shown all = if shown == all then [] else cut_line width (left_out_note shown all)
 
 -- the text with these columns, of `all` columns
 abbrev pub text_with : ℕ → Tick → ℕ → List Column → ℕ → List Bar → List ℕ
 text_with width until all cols names bars =
-    cut width (replicate (names + 2) 32 ++ header cols)
+    cut_line width (replicate (names + 2) 32 ++ header cols)
     ++ rows_text width cols names bars ++ limit_text width until ++ left_text width (length cols) all
 
 -- the columns for which there is room
 abbrev pub columns_for : ℕ → List Column → List Bar → List Column
-columns_for width all bars = shown (room_for width (longest_name bars) bars) all
+columns_for width all bars = shown_columns (room_for width (longest_name bars) bars) all
 
 -- the text of a chart with these events and bars, not wider than a width, of a story that is whole or cut off at a limit
 abbrev pub chart_text : ℕ → Tick → List Event → List Bar → List ℕ

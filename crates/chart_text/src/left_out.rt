@@ -1,12 +1,12 @@
 ghost use Rattle.std.specs.Prelude.{◌≡◌, ◌++◌, OnOk};
-ghost use Rattle.chart_text.specs.Text.{left_out};
+ghost use Rattle.chart_text.specs.Text.{left_out_note};
 
 use std::alloc::AllocError;
 use story_text::push_number;
 
 /// Appends how many of `all` columns are not shown, if `shown` columns are. Returns `AllocError` if memory is refused.
 pub fn push_left_out(out: &mut Vec<u8>, shown: usize, all: usize) -> Result<(), AllocError>
-    ensures { OnOk result (out.new.items ≡ out.old.items ++ left_out shown all) }
+    ensures { OnOk result (out.new.items ≡ out.old.items ++ left_out_note shown all) }
 {
     push_number(out, all.saturating_sub(shown) as u64)?;
     out.extend_from_slice(b" of ")?;

@@ -1,8 +1,8 @@
 ghost use Rattle.std.specs.Prelude.{◌≡◌, ◌+◌, ◌++◌, ◌==◌, IfOk, OnOk, map, decimal, replicate, length};
-ghost use Rattle.job_story.specs.Sentences.{padded};
+ghost use Rattle.job_story.specs.Sentences.{padded_text};
 ghost use Rattle.chart_bars.specs.Held.{bar_of};
 ghost use Rattle.chart_columns.specs.Held.{column_of};
-ghost use Rattle.chart_text.specs.Text.{cut, header, row_text, rows_text, limit_text, left_text};
+ghost use Rattle.chart_text.specs.Text.{cut_line, header, row_text, rows_text, limit_text, left_text};
 
 use crate::cells::{push_cells, push_times};
 use crate::left_out::push_left_out;
@@ -15,7 +15,7 @@ use story_text::push_number;
 
 // Appends a line and a newline. A line that is longer than the width is cut, and ends in `..`.
 pub(crate) fn push_cut(out: &mut Vec<u8>, width: usize, line: &[u8]) -> Result<(), AllocError>
-    ensures { OnOk result (out.new.items ≡ out.old.items ++ cut width line.now) }
+    ensures { OnOk result (out.new.items ≡ out.old.items ++ cut_line width line.now) }
 {
     if line.len() <= width {
         out.extend_from_slice(line)?;
@@ -33,7 +33,7 @@ pub(crate) fn push_header(
     names: usize,
     columns: &[Column],
 ) -> Result<(), AllocError>
-    ensures { OnOk result (out.new.items ≡ out.old.items ++ cut width (replicate (names + 2) 32 ++ header (map column_of columns.now))) }
+    ensures { OnOk result (out.new.items ≡ out.old.items ++ cut_line width (replicate (names + 2) 32 ++ header (map column_of columns.now))) }
 {
     let mut line = Vec::new(alloc);
     push_margin(&mut line, names)?;
@@ -65,7 +65,7 @@ fn push_ticks(line: &mut Vec<u8>, columns: &[Column]) -> Result<(), AllocError>
 
 // Appends a number, and spaces up to a width.
 fn push_padded_number(line: &mut Vec<u8>, width: usize, n: u64) -> Result<(), AllocError>
-    ensures { OnOk result (line.new.items ≡ line.old.items ++ padded width (decimal n)) }
+    ensures { OnOk result (line.new.items ≡ line.old.items ++ padded_text width (decimal n)) }
 {
     let start = line.len();
     push_number(line, n)?;

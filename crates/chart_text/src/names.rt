@@ -1,6 +1,6 @@
 ghost use Rattle.std.specs.Prelude.{◌≡◌, ◌++◌, Some, OnOk, codes, if◌then◌else◌};
 ghost use Rattle.exc_groups.specs.Held.{exc_of};
-ghost use Rattle.job_story.specs.Held.{boxed, kind_of, what_of};
+ghost use Rattle.job_story.specs.Held.{unboxed_exc, kind_of, what_of};
 ghost use Rattle.job_story.specs.Sentences.{label_text, kind_text, end_text};
 ghost use Rattle.chart_bars.specs.Held.{bar_of};
 ghost use Rattle.chart_text.specs.Text.{name_by, name_of, ended_text, open_text, outcome_of};
@@ -79,7 +79,7 @@ fn push_open(out: &mut Vec<u8>, what: &What) -> Result<(), AllocError>
 
 // Appends how a task ended.
 fn push_end(out: &mut Vec<u8>, exc: &Option<Box<Exc>>) -> Result<(), AllocError>
-    ensures { OnOk result (out.new.items ≡ out.old.items ++ end_text (boxed exc.now)) }
+    ensures { OnOk result (out.new.items ≡ out.old.items ++ end_text (unboxed_exc exc.now)) }
 {
     let Some(exc) = exc else {
         return out.extend_from_slice(b"done");

@@ -1,6 +1,6 @@
 ghost use Rattle.std.specs.Prelude.{◌≡◌, ◌++◌, ℕ, List, ◌∷◌, IfOk, OnOk, map, if◌then◌else◌};
 ghost use Rattle.job_story.specs.Held.{what_of};
-ghost use Rattle.story_causes.specs.Seen.{seen};
+ghost use Rattle.story_causes.specs.Seen.{event_in};
 ghost use Rattle.chart_bars.specs.Held.{bar_of, event_seen};
 ghost use Rattle.chart_columns.specs.Held.{column_of};
 ghost use Rattle.chart_text.specs.Marks.{strokes_of, is_cross, is_dot, columns_where, with_cancelled, end_column, row_of};
@@ -106,7 +106,7 @@ fn push_crosses(
     events: &[&Event],
 ) -> Result<(), AllocError>
     ensures { OnOk result (ticks.new.items
-        ≡ ticks.old.items ++ columns_where is_cross (map column_of columns.now) (map seen events.now)) }
+        ≡ ticks.old.items ++ columns_where is_cross (map column_of columns.now) (map event_in events.now)) }
 {
     'events: for event in events {
         push_if(ticks, is_cross(&event.what), column_at(columns, event.tick))?;
@@ -117,7 +117,7 @@ fn push_crosses(
 // Appends the column of each event with which a task raises an exception.
 fn push_dots(ticks: &mut Vec<u64>, columns: &[Column], events: &[&Event]) -> Result<(), AllocError>
     ensures { OnOk result (ticks.new.items
-        ≡ ticks.old.items ++ columns_where is_dot (map column_of columns.now) (map seen events.now)) }
+        ≡ ticks.old.items ++ columns_where is_dot (map column_of columns.now) (map event_in events.now)) }
 {
     'events: for event in events {
         push_if(ticks, is_dot(&event.what), column_at(columns, event.tick))?;

@@ -1,5 +1,5 @@
 ghost use Rattle.std.specs.Prelude.{◌≡◌, IfOk, map};
-ghost use Rattle.story_causes.specs.Seen.{seen};
+ghost use Rattle.story_causes.specs.Seen.{event_in};
 ghost use Rattle.chart_bars.specs.Held.{bar_of};
 ghost use Rattle.chart_columns.specs.Held.{column_of};
 ghost use Rattle.chart_text.specs.Text.{text_with, chart_text};
@@ -24,7 +24,7 @@ pub fn chart_text(
     walked: &[&Event],
     bars: &[Bar<'_, '_>],
 ) -> Result<Vec<u8>, AllocError>
-    ensures { IfOk result (λ text. text.items ≡ chart_text width until (map seen walked.now) (map bar_of bars.now)) }
+    ensures { IfOk result (λ text. text.items ≡ chart_text width until (map event_in walked.now) (map bar_of bars.now)) }
 {
     let ticks = all_ticks(alloc, walked, until)?;
     let all = columns_of(alloc, ticks.as_slice())?;

@@ -5,7 +5,7 @@ ghost use Rattle.chart_text.specs.Text.{name_of, outcome_of, longest_name, longe
 
 use crate::names::{push_name, push_outcome};
 use chart_bars::Bar;
-use chart_columns::{Column, shown};
+use chart_columns::{Column, shown_columns};
 use std::alloc::{AllocError, Global};
 
 /// The maximum room that is kept for outcomes, in bytes. A longer outcome is cut if it does not fit.
@@ -28,7 +28,7 @@ pub fn columns_for(
         .saturating_sub(2)
         .saturating_sub(outcomes)
         .saturating_sub(1);
-    shown(alloc, room, all)
+    shown_columns(alloc, room, all)
 }
 
 /// Returns the length of the longest name of these bars, in bytes, or 0 if there are no bars. Returns `AllocError` if memory is

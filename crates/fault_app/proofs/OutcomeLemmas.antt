@@ -11,7 +11,7 @@ use Rattle.job_story.specs.Held.{event_of}
 use Rattle.job_story.specs.Events.{in_order}
 use Rattle.job_story.specs.Limit.{by_limit}
 use Rattle.fault_notes.specs.Notes.{sleeping_in, cut_in, is_raised}
-use Rattle.fault_text.specs.JobOutcomes.{JobOutcome, stuck, ended, cancelled_in, walked, loses, job_outcome_by, job_outcome_of, reaches}
+use Rattle.fault_text.specs.JobOutcomes.{JobOutcome, stuck, ended, cancelled_in, walked_events, loses, job_outcome_by, job_outcome_of, reaches}
 use Rattle.fault_app.specs.declared.summary.Summary.{Summary}
 use Rattle.fault_app.specs.Held.{IsSummary}
 
@@ -27,7 +27,7 @@ pub stuck_is : (job : Tree) (input : List ℕ) (limit : ℕ) (name : Option (Lis
     stuck sleeping ≡ job_outcome_of limit name job input
 stuck_is job input limit name s sleeping is late tasks =
     ap stuck (tasks ∙ ap (λ es. sleeping_in (by_limit limit es)) is.events)
-    ∙ ap (λ b. job_outcome_by b limit name (meaning_end job input) (meaning job input).exc (meaning_rows job input) (walked job input))
+    ∙ ap (λ b. job_outcome_by b limit name (meaning_end job input) (meaning job input).exc (meaning_rows job input) (walked_events job input))
     (sym (gt_test (meaning_end job input) limit (subst (λ n. limit < n) is.end late)))
 
 -- any other job ends
@@ -37,7 +37,7 @@ pub ended_is : (job : Tree) (input : List ℕ) (limit : ℕ) (name : Option (Lis
     (loses name (map event_of s.events.items)) → job_outcome ≡ job_outcome_of limit name job input
 ended_is job input limit name s job_outcome is soon same =
     same ∙ rw (is.end, is.exc, is.cancelled, is.events) refl
-    ∙ ap (λ b. job_outcome_by b limit name (meaning_end job input) (meaning job input).exc (meaning_rows job input) (walked job input))
+    ∙ ap (λ b. job_outcome_by b limit name (meaning_end job input) (meaning job input).exc (meaning_rows job input) (walked_events job input))
     (sym (le_test (meaning_end job input) limit (subst (λ n. n ≤ limit) is.end soon)))
 
 pub reaches_is : (job : Tree) (input : List ℕ) (limit : ℕ) (name : List ℕ) (s : Summary) (reached : Bool) →

@@ -7,7 +7,7 @@ use Rattle.job_meaning.specs.Meaning.{meaning, meaning_end}
 use Rattle.job_meaning.specs.Shown.{Ending, well, Row, meaning_rows}
 use Rattle.job_meaning.specs.declared.limits.TheConstants.{MAX_INPUT}
 use Rattle.job_story.specs.Held.{event_of}
-use Rattle.fault_text.specs.JobOutcomes.{cancelled_in, walked}
+use Rattle.fault_text.specs.JobOutcomes.{cancelled_in, walked_events}
 use Rattle.fault_text.specs.Views.{line_held}
 use Rattle.fault_app.specs.JobOutcomes.{IsLine}
 use Rattle.fault_text.specs.declared.line.Line.{Line}
@@ -20,7 +20,7 @@ pub record IsSummary (job : Tree) (input : List ℕ) (s : Summary) : Type 0 wher
   pub end : s.end ≡ meaning_end job input
   pub exc : option_map exc_of s.exc ≡ (meaning job input).exc
   pub cancelled : s.cancelled.items ≡ cancelled_in (meaning_rows job input)
-  pub events : map event_of s.events.items ≡ walked job input
+  pub events : map event_of s.events.items ≡ walked_events job input
 
 -- how the root task ended; its row is the first
 abbrev pub root_ending : List Row → Ending

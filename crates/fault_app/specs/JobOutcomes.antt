@@ -4,7 +4,7 @@ use Rattle.job_tree.specs.Tree.{Tree}
 use Rattle.job_grammar.specs.declared.fault.JobFault.{JobFault}
 use Rattle.job_grammar.specs.Refusals.{Spells, IsRefused}
 use Rattle.nursery_app.specs.Places.{line_of, column_of}
-use Rattle.job_edits.specs.Changes.{changed}
+use Rattle.job_edits.specs.Changes.{changed_text}
 use Rattle.job_edits.specs.Faults.{changes_of, probe_of, raised_by}
 use Rattle.job_edits.specs.declared.fault.Variant.{Variant}
 use Rattle.job_edits.specs.declared.plan.Plan.{Plan}
@@ -29,5 +29,5 @@ pub record IsLine (text input : List ℕ) (limit : ℕ) (plan : Plan) (variant :
   pub told : l.variant ≡ variant
   pub line : l.line ≡ line_of text variant.step.from
   pub column : l.column ≡ column_of text variant.step.from
-  pub job_outcome : IsJobOutcome (changed text (changes_of plan variant)) input limit (raised_by plan variant.fault) l.job_outcome
-  pub reached : IsReached (changed text (probe_of plan variant ∷ [])) input limit plan.reached l.reached
+  pub job_outcome : IsJobOutcome (changed_text text (changes_of plan variant)) input limit (raised_by plan variant.fault) l.job_outcome
+  pub reached : IsReached (changed_text text (probe_of plan variant ∷ [])) input limit plan.reached l.reached

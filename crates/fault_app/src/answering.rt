@@ -87,7 +87,7 @@ fn table_and_denied(
         r.1.items r.0.items) }
 {
     let bytes = table(alloc, limit, &told.first, told.lines.as_slice())?;
-    let denied = denied(alloc, limit, &told.first, told.lines.as_slice(), deny)?;
+    let denied = denied_text(alloc, limit, &told.first, told.lines.as_slice(), deny)?;
     Ok((denied, bytes))
 }
 

@@ -1,6 +1,6 @@
 ghost use Rattle.std.specs.Prelude.{◌≡◌, ◌≤◌, ◌∷◌, [], length, IfOk};
 ghost use Rattle.job_meaning.specs.declared.limits.TheConstants.{MAX_INPUT};
-ghost use Rattle.job_edits.specs.Changes.{changed};
+ghost use Rattle.job_edits.specs.Changes.{changed_text};
 ghost use Rattle.job_edits.specs.Faults.{changes_of, probe_of, raised_by};
 ghost use Rattle.fault_text.specs.Views.{job_outcome_held};
 ghost use Rattle.fault_app.specs.JobOutcomes.{IsJobOutcome, IsReached};
@@ -69,7 +69,7 @@ fn twin(variant: &Variant) -> Variant
 fn raised_with(plan: &Plan, variant: &Variant) -> Option<Name>
     ensures { result ≡ raised_by plan.now variant.now.fault }
 {
-    plan.raised(variant.fault)
+    plan.raised_name(variant.fault)
 }
 
 // Returns the outcome of the job with a fault, which raises an exception with this name or none.
@@ -81,7 +81,7 @@ fn job_outcome_with<R: Threads + Sync>(
     raised: Option<Name>,
 ) -> Result<JobOutcome, AllocError>
     requires { length author.now.input.now ≤ MAX_INPUT }
-    ensures { IfOk result (λ job_outcome. IsJobOutcome (changed author.now.text.now (changes_of author.now.plan variant.now)) author.now.input.now
+    ensures { IfOk result (λ job_outcome. IsJobOutcome (changed_text author.now.text.now (changes_of author.now.plan variant.now)) author.now.input.now
         author.now.limit raised (job_outcome_held job_outcome)) }
 {
     let changes = author.plan.changes(alloc, twin(variant))?;
@@ -104,7 +104,7 @@ fn reached_with<R: Threads + Sync>(
     variant: &Variant,
 ) -> Result<bool, AllocError>
     requires { length author.now.input.now ≤ MAX_INPUT }
-    ensures { IfOk result (IsReached (changed author.now.text.now (probe_of author.now.plan variant.now ∷ [])) author.now.input.now
+    ensures { IfOk result (IsReached (changed_text author.now.text.now (probe_of author.now.plan variant.now ∷ [])) author.now.input.now
         author.now.limit author.now.plan.reached) }
 {
     let probe = changed_text(alloc, author.text, &[author.plan.probe(twin(variant))])?;

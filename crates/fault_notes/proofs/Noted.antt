@@ -12,7 +12,7 @@ use Rattle.job_meaning.specs.Log.{same_label}
 use Rattle.job_story.specs.Held.{what_of}
 use Rattle.job_story.specs.declared.event.Event.{Event}
 use Rattle.job_story.specs.Focus.{is_among}
-use Rattle.fault_notes.specs.Notes.{noted}
+use Rattle.fault_notes.specs.Notes.{with_label}
 use Rattle.fault_notes.specs.Lasts.{what_in, what_at, labels_in}
 
 -- a label as a borrowed label, at some place
@@ -48,7 +48,7 @@ if_noted false ks k = map-append (λ l. l.now) ks (k ∷ [])
 
 -- the labels of a set after an insertion
 pub noted_more : (old new : List (Bor Label)) (k : Bor Label) →
-    new ≡ insert_key (λ (a b : Bor Label). same_label a.now b.now) old k → labels_in new ≡ noted k.now (labels_in old)
+    new ≡ insert_key (λ (a b : Bor Label). same_label a.now b.now) old k → labels_in new ≡ with_label k.now (labels_in old)
 noted_more old new k same =
     ap labels_in same ∙ if_noted (list_any (λ l. same_label k.now l.now) old) old k
     ∙ ap (λ b. if b then labels_in old else labels_in old ++ k.now ∷ []) (among_by k.now old)

@@ -38,13 +38,13 @@ cuts (happens (is_cancelled by since in_cleanup)) = in_cleanup
 cuts _ = false
 
 -- a label added at the end of others, if it is not among them
-abbrev pub noted : Label → List Label → List Label
-noted l ls = if is_among l ls then ls else ls ++ l ∷ []
+abbrev pub with_label : Label → List Label → List Label
+with_label l ls = if is_among l ls then ls else ls ++ l ∷ []
 
 -- the tasks that were cancelled in a cleanup, in the order of the events, each once
 abbrev pub cut_after : List Label → List Event → List Label
 cut_after ls [] = ls
-cut_after ls (e ∷ es) = cut_after (if cuts e.what then noted e.task ls else ls) es
+cut_after ls (e ∷ es) = cut_after (if cuts e.what then with_label e.task ls else ls) es
 
 abbrev pub cut_in : List Event → List Label
 cut_in es = cut_after [] es

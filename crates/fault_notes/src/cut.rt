@@ -1,7 +1,7 @@
 ghost use Rattle.std.specs.Prelude.{◌≡◌, IfOk, OnOk, map, if◌then◌else◌};
 ghost use Rattle.job_story.specs.Held.{what_of};
-ghost use Rattle.story_causes.specs.Seen.{seen};
-ghost use Rattle.fault_notes.specs.Notes.{cuts, noted, cut_in};
+ghost use Rattle.story_causes.specs.Seen.{event_in};
+ghost use Rattle.fault_notes.specs.Notes.{cuts, with_label, cut_in};
 ghost use Rattle.fault_notes.specs.Lasts.{labels_in};
 
 use exc_groups::Label;
@@ -12,7 +12,7 @@ use std::alloc::{AllocError, Global};
 /// Returns the tasks in which `Cancelled` was raised in the middle of a cleanup: in a `finally` block of their own, or of a
 /// task that started them. They are in the order of these events, each once. The only error is that memory was refused.
 pub fn cut_in_cleanup<'e>(alloc: Global, events: &[&'e Event]) -> Result<Vec<&'e Label>, AllocError>
-    ensures { IfOk result (λ tasks. labels_in tasks.items ≡ cut_in (map seen events.now)) }
+    ensures { IfOk result (λ tasks. labels_in tasks.items ≡ cut_in (map event_in events.now)) }
 {
     let tasks = cut_tasks(alloc, events)?;
     Vec::from_slice(alloc, tasks.as_slice())
@@ -20,7 +20,7 @@ pub fn cut_in_cleanup<'e>(alloc: Global, events: &[&'e Event]) -> Result<Vec<&'e
 
 // Returns the same tasks as a set, which keeps the order in which they were inserted.
 fn cut_tasks<'e>(alloc: Global, events: &[&'e Event]) -> Result<IndexSet<&'e Label>, AllocError>
-    ensures { IfOk result (λ tasks. labels_in tasks.keys ≡ cut_in (map seen events.now)) }
+    ensures { IfOk result (λ tasks. labels_in tasks.keys ≡ cut_in (map event_in events.now)) }
 {
     let mut tasks = IndexSet::new(alloc);
     'events: for event in events {
@@ -32,7 +32,7 @@ fn cut_tasks<'e>(alloc: Global, events: &[&'e Event]) -> Result<IndexSet<&'e Lab
 // Inserts the task of an event, if the event is a cancellation in a cleanup.
 fn note_cut<'e>(tasks: &mut IndexSet<&'e Label>, event: &'e Event) -> Result<(), AllocError>
     ensures { OnOk result (labels_in tasks.new.keys
-        ≡ (if cuts (what_of event.entry.now.what) then noted event.entry.now.task (labels_in tasks.old.keys)
+        ≡ (if cuts (what_of event.entry.now.what) then with_label event.entry.now.task (labels_in tasks.old.keys)
         else labels_in tasks.old.keys)) }
 {
     if !cuts(&event.what) {

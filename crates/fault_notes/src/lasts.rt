@@ -3,7 +3,7 @@ ghost use Rattle.exc_groups.specs.Exceptions as tree;
 ghost use Rattle.job_meaning.specs.Log.{same_label};
 ghost use Rattle.job_story.specs.Held.{what_of};
 ghost use Rattle.job_story.specs.Limit.{is_start, start_if};
-ghost use Rattle.story_causes.specs.Seen.{seen};
+ghost use Rattle.story_causes.specs.Seen.{event_in};
 ghost use Rattle.fault_notes.specs.Notes.{last_what, sleeps_forever, sleeping_in};
 ghost use Rattle.fault_notes.specs.Lasts.{what_at, labels_in};
 
@@ -22,7 +22,7 @@ pub fn sleeping_forever<'e>(
     alloc: Global,
     walked: &[&'e Event],
 ) -> Result<Vec<&'e Label>, AllocError>
-    ensures { IfOk result (λ tasks. labels_in tasks.items ≡ sleeping_in (map seen walked.now)) }
+    ensures { IfOk result (λ tasks. labels_in tasks.items ≡ sleeping_in (map event_in walked.now)) }
 {
     let lasts = last_events(alloc, walked)?;
     let mut tasks = Vec::new(alloc);
@@ -52,7 +52,7 @@ fn note_sleeping<'e>(
 
 // Returns the last event of each task.
 fn last_events<'e>(alloc: Global, events: &[&'e Event]) -> Result<Lasts<'e>, AllocError>
-    ensures { IfOk result (λ lasts. (l : tree.Label) → what_at lasts l ≡ last_what l (map seen events.now) None) }
+    ensures { IfOk result (λ lasts. (l : tree.Label) → what_at lasts l ≡ last_what l (map event_in events.now) None) }
 {
     let mut lasts = IndexMap::new(alloc);
     'events: for event in events {

@@ -1,7 +1,7 @@
 ghost use Rattle.std.specs.Prelude.{◌≡◌, map};
 ghost use Rattle.exc_groups.specs.Held.{exc_of, excs_of};
 ghost use Rattle.job_story.specs.Held.{what_of};
-ghost use Rattle.story_causes.specs.Seen.{seen};
+ghost use Rattle.story_causes.specs.Seen.{event_in};
 ghost use Rattle.fault_notes.specs.Notes.{has_leaf, some_leaf, raises_it, handles_it, escapes, some_event, is_lost, is_raised};
 
 use exc_groups::Exc;
@@ -13,14 +13,14 @@ use job_tree::Name;
 /// only by their names. So if several exceptions have this name, the result is `false` as soon as one of them is handled or is
 /// part of the outcome of the root task, even if another one is lost.
 pub fn is_lost(events: &[&Event], name: Name) -> bool
-    ensures { result ≡ is_lost name (map seen events.now) }
+    ensures { result ≡ is_lost name (map event_in events.now) }
 {
     is_raised(events, name) && !is_handled(events, name) && !has_escaped(events, name)
 }
 
 /// Returns whether a `raise` step with this name is among these events. An exception that a `need` raises does not count.
 pub fn is_raised(events: &[&Event], name: Name) -> bool
-    ensures { result ≡ is_raised name (map seen events.now) }
+    ensures { result ≡ is_raised name (map event_in events.now) }
 {
     'events: for event in events {
         if raises_it(&event.what, name) {
@@ -32,7 +32,7 @@ pub fn is_raised(events: &[&Event], name: Name) -> bool
 
 // Returns whether some handler handles an exception with this name.
 fn is_handled(events: &[&Event], name: Name) -> bool
-    ensures { result ≡ some_event (handles_it name) (map seen events.now) }
+    ensures { result ≡ some_event (handles_it name) (map event_in events.now) }
 {
     'events: for event in events {
         if handles_it(&event.what, name) {
@@ -44,7 +44,7 @@ fn is_handled(events: &[&Event], name: Name) -> bool
 
 // Returns whether the root task ends with an exception with this name.
 fn has_escaped(events: &[&Event], name: Name) -> bool
-    ensures { result ≡ some_event (escapes name) (map seen events.now) }
+    ensures { result ≡ some_event (escapes name) (map event_in events.now) }
 {
     'events: for event in events {
         if escapes(&event.what, name) {

@@ -14,8 +14,8 @@ task name = record { name = name; indices = [] }
 
 -- the outcome of a job with a fault of a step, given the line and column of the step, and whether the fault is
 -- reached
-abbrev pub told : ℕ → ℕ → Wait → Fault → Bool → JobOutcome → Line
-told line column wait fault reached job_outcome =
+abbrev pub line_with : ℕ → ℕ → Wait → Fault → Bool → JobOutcome → Line
+line_with line column wait fault reached job_outcome =
     record {
       line = line;
       column = column;
@@ -27,18 +27,18 @@ told line column wait fault reached job_outcome =
 -- two tasks that clean up: some faults end in a cleanup that is cancelled, and one in a task that sleeps forever
 abbrev pub cleanup_lines : List Line
 cleanup_lines =
-    told 7 11 Forever Fails true (ended 4 (Some (group (by_nursery (task (codes "writers"))) (part (raised (codes "Fault") (task (codes "journal")) 0) no_parts))) (task (codes "cache") ∷ []) (task (codes "cache") ∷ []) false)
-    ∷ told 7 11 Forever Cancelled true (ended 4 None (task (codes "journal") ∷ task (codes "cache") ∷ []) (task (codes "cache") ∷ []) false)
-    ∷ told 11 13 (Sleep 3) Fails true (ended 5 (Some (group (by_nursery (task (codes "writers"))) (part (raised (codes "Fault") (task (codes "journal")) 5) no_parts))) (task (codes "cache") ∷ []) (task (codes "cache") ∷ []) false)
-    ∷ told 11 13 (Sleep 3) FailsLate true (ended 8 (Some (group (by_nursery (task (codes "writers"))) (part (raised (codes "Fault") (task (codes "journal")) 8) no_parts))) (task (codes "cache") ∷ []) (task (codes "cache") ∷ []) false)
-    ∷ told 11 13 (Sleep 3) Hangs true (stuck (task (codes "journal") ∷ []))
-    ∷ told 11 13 (Sleep 3) Cancelled true (ended 8 None (task (codes "journal") ∷ task (codes "cache") ∷ []) (task (codes "cache") ∷ []) false)
-    ∷ told 18 11 Forever Fails true (ended 7 (Some (group (by_nursery (task (codes "writers"))) (part (raised (codes "Fault") (task (codes "cache")) 0) no_parts))) (task (codes "journal") ∷ []) [] false)
-    ∷ told 18 11 Forever Cancelled true (ended 4 None (task (codes "journal") ∷ task (codes "cache") ∷ []) (task (codes "cache") ∷ []) false)
-    ∷ told 21 11 (Sleep 3) Fails true (ended 8 (Some (group (by_nursery (task (codes "writers"))) (part (raised (codes "Fault") (task (codes "cache")) 5) no_parts))) (task (codes "journal") ∷ []) [] false)
-    ∷ told 21 11 (Sleep 3) FailsLate false (ended 8 None (task (codes "journal") ∷ task (codes "cache") ∷ []) (task (codes "cache") ∷ []) false)
-    ∷ told 21 11 (Sleep 3) Hangs true (ended 8 None (task (codes "journal") ∷ task (codes "cache") ∷ []) (task (codes "cache") ∷ []) false)
-    ∷ told 21 11 (Sleep 3) Cancelled true (ended 8 None (task (codes "journal") ∷ task (codes "cache") ∷ []) (task (codes "cache") ∷ []) false)
+    line_with 7 11 Forever Fails true (ended 4 (Some (group (by_nursery (task (codes "writers"))) (part (raised (codes "Fault") (task (codes "journal")) 0) no_parts))) (task (codes "cache") ∷ []) (task (codes "cache") ∷ []) false)
+    ∷ line_with 7 11 Forever Cancelled true (ended 4 None (task (codes "journal") ∷ task (codes "cache") ∷ []) (task (codes "cache") ∷ []) false)
+    ∷ line_with 11 13 (Sleep 3) Fails true (ended 5 (Some (group (by_nursery (task (codes "writers"))) (part (raised (codes "Fault") (task (codes "journal")) 5) no_parts))) (task (codes "cache") ∷ []) (task (codes "cache") ∷ []) false)
+    ∷ line_with 11 13 (Sleep 3) FailsLate true (ended 8 (Some (group (by_nursery (task (codes "writers"))) (part (raised (codes "Fault") (task (codes "journal")) 8) no_parts))) (task (codes "cache") ∷ []) (task (codes "cache") ∷ []) false)
+    ∷ line_with 11 13 (Sleep 3) Hangs true (stuck (task (codes "journal") ∷ []))
+    ∷ line_with 11 13 (Sleep 3) Cancelled true (ended 8 None (task (codes "journal") ∷ task (codes "cache") ∷ []) (task (codes "cache") ∷ []) false)
+    ∷ line_with 18 11 Forever Fails true (ended 7 (Some (group (by_nursery (task (codes "writers"))) (part (raised (codes "Fault") (task (codes "cache")) 0) no_parts))) (task (codes "journal") ∷ []) [] false)
+    ∷ line_with 18 11 Forever Cancelled true (ended 4 None (task (codes "journal") ∷ task (codes "cache") ∷ []) (task (codes "cache") ∷ []) false)
+    ∷ line_with 21 11 (Sleep 3) Fails true (ended 8 (Some (group (by_nursery (task (codes "writers"))) (part (raised (codes "Fault") (task (codes "cache")) 5) no_parts))) (task (codes "journal") ∷ []) [] false)
+    ∷ line_with 21 11 (Sleep 3) FailsLate false (ended 8 None (task (codes "journal") ∷ task (codes "cache") ∷ []) (task (codes "cache") ∷ []) false)
+    ∷ line_with 21 11 (Sleep 3) Hangs true (ended 8 None (task (codes "journal") ∷ task (codes "cache") ∷ []) (task (codes "cache") ∷ []) false)
+    ∷ line_with 21 11 (Sleep 3) Cancelled true (ended 8 None (task (codes "journal") ∷ task (codes "cache") ∷ []) (task (codes "cache") ∷ []) false)
     ∷ []
 
 abbrev pub cleanup_first : JobOutcome
@@ -66,10 +66,10 @@ cleanup_is_told = refl
 -- a text that is refused, more than three names, an exception that is lost, and a fault that is not reached
 abbrev pub other_lines : List Line
 other_lines =
-    told 1 7 (Sleep 3) Fails false refused
-    ∷ told 10 9 (Pace 20) FailsLate true (stuck (task (codes "a") ∷ record { name = codes "b"; indices = 1 ∷ [] } ∷ task (codes "c") ∷ task (codes "d") ∷ record { name = codes "e"; indices = 2 ∷ 3 ∷ [] } ∷ []))
-    ∷ told 100 1 Checkpoint Hangs true (ended 12 None [] [] true)
-    ∷ told 100 2 (Need (codes "k b") (codes "Gone")) (Misses (codes "X")) false (stuck (task (codes "a") ∷ task (codes "b") ∷ task (codes "c") ∷ []))
+    line_with 1 7 (Sleep 3) Fails false refused
+    ∷ line_with 10 9 (Pace 20) FailsLate true (stuck (task (codes "a") ∷ record { name = codes "b"; indices = 1 ∷ [] } ∷ task (codes "c") ∷ task (codes "d") ∷ record { name = codes "e"; indices = 2 ∷ 3 ∷ [] } ∷ []))
+    ∷ line_with 100 1 Checkpoint Hangs true (ended 12 None [] [] true)
+    ∷ line_with 100 2 (Need (codes "k b") (codes "Gone")) (Misses (codes "X")) false (stuck (task (codes "a") ∷ task (codes "b") ∷ task (codes "c") ∷ []))
     ∷ []
 
 abbrev pub other_first : JobOutcome

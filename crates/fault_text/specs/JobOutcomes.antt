@@ -21,8 +21,8 @@ pub data JobOutcome : Type 0 where
 -- ---- of a job
 
 -- the events of the story of a job's meaning, in the order of the walk
-abbrev pub walked : Tree → List ℕ → List Event
-walked job input = events_of (root_label job.name) (story_by (meaning_table job input) job input)
+abbrev pub walked_events : Tree → List ℕ → List Event
+walked_events job input = events_of (root_label job.name) (story_by (meaning_table job input) job input)
 
 abbrev pub cancelled_if : Ending → Label → List Label → List Label
 cancelled_if well l ls = ls
@@ -47,11 +47,11 @@ job_outcome_by true limit name end exc rows es = ended end exc (cancelled_in row
 abbrev pub job_outcome_of : ℕ → Option (List ℕ) → Tree → List ℕ → JobOutcome
 job_outcome_of limit name job input =
     job_outcome_by (nat_le (meaning_end job input) limit) limit name (meaning_end job input) (meaning job input).exc (meaning_rows job input)
-    (walked job input)
+    (walked_events job input)
 
 -- whether an exception with this name is raised by the limit
 abbrev pub reaches : ℕ → List ℕ → Tree → List ℕ → Bool
-reaches limit name job input = is_raised name (by_limit limit (walked job input))
+reaches limit name job input = is_raised name (by_limit limit (walked_events job input))
 
 -- ---- how it is printed
 

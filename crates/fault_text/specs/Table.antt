@@ -35,9 +35,9 @@ abbrev pub kind_text : Line → List ℕ
 kind_text l = fault_text l.variant.fault
 
 -- the length of the longest of some texts, or `least` if that is more
-abbrev pub widest : (Line → List ℕ) → ℕ → List Line → ℕ
-widest text least [] = least
-widest text least (l ∷ ls) = max (length (text l)) (widest text least ls)
+abbrev pub greatest_length : (Line → List ℕ) → ℕ → List Line → ℕ
+greatest_length text least [] = least
+greatest_length text least (l ∷ ls) = max (length (text l)) (greatest_length text least ls)
 
 abbrev pub spaces : ℕ → List ℕ
 spaces n = replicate n 32
@@ -50,7 +50,7 @@ right_text width text = spaces (width - length text) ++ text
 
 -- the widths of the columns: places, steps and faults
 abbrev pub widths_of : List Line → Widths
-widths_of ls = record { place = widest place_text 0 ls; step = widest step_text 0 ls; fault = widest kind_text 8 ls }
+widths_of ls = record { place = greatest_length place_text 0 ls; step = greatest_length step_text 0 ls; fault = greatest_length kind_text 8 ls }
 
 -- ---- lines
 

@@ -1,7 +1,7 @@
 //! Prints the outcome of a job with each of its faults.
 //!
 //! `table` returns the text of these outcomes, as `specs/Table.antt` defines it: the outcome of the job without a fault, a line
-//! for each fault, in columns, and the counts. `denied` returns those of its lines that should make a build fail. The crate
+//! for each fault, in columns, and the counts. `denied_text` returns those of its lines that should make a build fail. The crate
 //! uses `job_edits` for the faults and `story_text` for labels and exceptions.
 #![tactic(auto)]
 
@@ -18,6 +18,6 @@ pub use counts::{push_count, push_refused};
 pub use deny::Deny;
 pub use job_outcome::JobOutcome;
 pub use line::Line;
-pub use lines::{denied, table};
+pub use lines::{denied_text, table};
 pub use notes::push_names_note;
 pub use pieces::{push_left, push_right};

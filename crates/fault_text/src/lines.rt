@@ -31,7 +31,7 @@ pub fn table(
 
 /// Returns the lines of the table whose outcome is denied, as they are in the table. The text is empty if there are none. The
 /// only error is that memory was refused.
-pub fn denied(
+pub fn denied_text(
     alloc: Global,
     limit: u64,
     first: &JobOutcome,

@@ -23,5 +23,5 @@ changed_from at text [] = drop at text
 changed_from at text (c ∷ cs) = take (c.from - at) (drop at text) ++ piece_text c.piece ++ changed_from c.to text cs
 
 -- a text with its changes
-abbrev pub changed : List ℕ → List Change → List ℕ
-changed text changes = changed_from 0 text changes
+abbrev pub changed_text : List ℕ → List Change → List ℕ
+changed_text text changes = changed_from 0 text changes

@@ -17,15 +17,15 @@ abbrev pub count_in : List Token → Option ℕ
 count_in [] = None
 count_in (t ∷ ts) = count_by (keyword_in (word_in t.shape)) ts
 
-abbrev pub copied : ℕ → Option (List ℕ) → Option ℕ → Option CopiedStart
-copied from (Some name) (Some count) = Some (record { from = from; name = name; count = count })
-copied from (Some name) None = None
-copied from None count = None
+abbrev pub copied_start : ℕ → Option (List ℕ) → Option ℕ → Option CopiedStart
+copied_start from (Some name) (Some count) = Some (record { from = from; name = name; count = count })
+copied_start from (Some name) None = None
+copied_start from None count = None
 
 -- given the place of the keyword `start` and the tokens after it
 abbrev pub copied_from : ℕ → List Token → Option CopiedStart
 copied_from from [] = None
-copied_from from (t ∷ ts) = copied from (word_in t.shape) (count_in ts)
+copied_from from (t ∷ ts) = copied_start from (word_in t.shape) (count_in ts)
 
 -- what begins with a keyword at a place, given the tokens after it
 abbrev pub copied_by : ℕ → Option Keyword → List Token → Option CopiedStart

@@ -13,7 +13,7 @@ use Rattle.job_edits.specs.declared.fault.Fault.TheVariants.{Fails, FailsLate, H
 use Rattle.job_edits.specs.declared.fault.Variant.{Variant}
 use Rattle.job_edits.specs.declared.plan.Plan.{Plan}
 use Rattle.job_edits.specs.Waiting.{first_mark, waiting_in}
-use Rattle.job_edits.specs.Fresh.{fresh}
+use Rattle.job_edits.specs.Fresh.{fresh_word}
 
 -- ---- which faults
 
@@ -49,33 +49,33 @@ last_place at [] = at
 last_place at (t ∷ ts) = last_place t.at ts
 
 -- The block of a job begins at its first brace and ends at its last token. The scope that encloses its steps, and the exception
--- that shows whether a fault is reached, get names that are meant to be new in the text (`fresh`).
+-- that shows whether a fault is reached, get names that are meant to be new in the text (`fresh_word`).
 abbrev pub plan_of : List ℕ → List Token → Plan
 plan_of name tokens =
     record {
       name = name;
-      outside = fresh (codes "outside") tokens;
-      reached = fresh (codes "reached") tokens;
+      outside = fresh_word (codes "outside") tokens;
+      reached = fresh_word (codes "reached") tokens;
       opening = place_or 0 (first_mark Open tokens);
       closing = last_place 0 tokens;
     }
 
 -- ---- the changes
 
-abbrev pub instead : Waiting → Piece → Change
-instead step p = record { from = step.from; to = step.to; piece = p }
+abbrev pub replacement : Waiting → Piece → Change
+replacement step p = record { from = step.from; to = step.to; piece = p }
 
-abbrev pub inserted : ℕ → Piece → Change
-inserted at p = record { from = at; to = at; piece = p }
+abbrev pub insertion : ℕ → Piece → Change
+insertion at p = record { from = at; to = at; piece = p }
 
 abbrev pub changes_by : Plan → Waiting → Fault → List Change
-changes_by plan step Fails = instead step (piece.Raise plan.name) ∷ []
-changes_by plan step FailsLate = inserted step.to (piece.ThenRaise plan.name) ∷ []
-changes_by plan step Hangs = instead step piece.Forever ∷ []
+changes_by plan step Fails = replacement step (piece.Raise plan.name) ∷ []
+changes_by plan step FailsLate = insertion step.to (piece.ThenRaise plan.name) ∷ []
+changes_by plan step Hangs = replacement step piece.Forever ∷ []
 changes_by plan step Cancelled =
-    inserted plan.opening (piece.OpenScope plan.outside) ∷ inserted step.from (piece.Cancel plan.outside)
-    ∷ inserted plan.closing piece.Close ∷ []
-changes_by plan step (Misses name) = instead step (piece.Raise name) ∷ []
+    insertion plan.opening (piece.OpenScope plan.outside) ∷ insertion step.from (piece.Cancel plan.outside)
+    ∷ insertion plan.closing piece.Close ∷ []
+changes_by plan step (Misses name) = replacement step (piece.Raise name) ∷ []
 
 -- the changes of the text that make the fault of a step
 abbrev pub changes_of : Plan → Variant → List Change
@@ -83,11 +83,11 @@ changes_of plan v = changes_by plan v.step v.fault
 
 -- The change that shows whether a fault is reached: the exception `reached` is raised there.
 abbrev pub probe_by : Plan → Waiting → Fault → Change
-probe_by plan step Fails = instead step (piece.Raise plan.reached)
-probe_by plan step FailsLate = inserted step.to (piece.ThenRaise plan.reached)
-probe_by plan step Hangs = instead step (piece.Raise plan.reached)
-probe_by plan step Cancelled = instead step (piece.Raise plan.reached)
-probe_by plan step (Misses name) = instead step (piece.Raise plan.reached)
+probe_by plan step Fails = replacement step (piece.Raise plan.reached)
+probe_by plan step FailsLate = insertion step.to (piece.ThenRaise plan.reached)
+probe_by plan step Hangs = replacement step (piece.Raise plan.reached)
+probe_by plan step Cancelled = replacement step (piece.Raise plan.reached)
+probe_by plan step (Misses name) = replacement step (piece.Raise plan.reached)
 
 abbrev pub probe_of : Plan → Variant → Change
 probe_of plan v = probe_by plan v.step v.fault

@@ -11,7 +11,7 @@ use Rattle.job_edits.specs.declared.finer.Finer.{Finer}
 use Rattle.job_edits.specs.declared.shift.Hair.{Hair}
 use Rattle.job_edits.specs.declared.shift.Hair.TheVariants.{Earlier, Later}
 use Rattle.job_edits.specs.declared.shift.Shift.{Shift}
-use Rattle.job_edits.specs.Faults.{inserted}
+use Rattle.job_edits.specs.Faults.{insertion}
 use Rattle.job_edits.specs.Numbers.{set_to}
 
 -- ---- how much finer
@@ -42,10 +42,6 @@ abbrev pub finer_for : List Site → Option Finer
 finer_for sites = finer_by (most_ticks sites)
 
 -- ---- finer ticks
-
--- numbers and places are capped at the maximum `u64`
-abbrev pub capped : ℕ → ℕ
-capped n = min n 18446744073709551615
 
 abbrev pub ticks_by : Finer → Number → ℕ
 ticks_by finer n = u64_saturate (n.value * finer.factor)
@@ -95,9 +91,9 @@ moved_ticks finer n Later = u64_saturate (ticks_by finer n + finer.hair)
 -- A number of ticks is moved; in place of a `checkpoint` there is a sleep of a hair; a `pace` sleeps a hair after its
 -- end, and a task at its start.
 abbrev pub shifted_at : Finer → Hair → ℕ → Moment → List Change
-shifted_at finer hair from (Sleep n) = set_to n (moved finer n hair) ∷ []
-shifted_at finer hair from (After name n) = set_to n (moved finer n hair) ∷ []
-shifted_at finer hair from (At name n) = set_to n (moved finer n hair) ∷ []
+shifted_at finer hair from (Sleep n) = set_to n (moved_ticks finer n hair) ∷ []
+shifted_at finer hair from (After name n) = set_to n (moved_ticks finer n hair) ∷ []
+shifted_at finer hair from (At name n) = set_to n (moved_ticks finer n hair) ∷ []
 shifted_at finer hair from (Checkpoint to) = record { from = from; to = to; piece = piece.Sleep finer.hair } ∷ []
 shifted_at finer hair from (Pace lines to) =
     insertion from (piece.OpenRepeat finer.factor) ∷ insertion (u64_saturate (to + 1)) piece.Close ∷ insertion (u64_saturate (to + 1)) (piece.ThenSleep finer.hair) ∷ []

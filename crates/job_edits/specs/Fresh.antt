@@ -18,14 +18,14 @@ abbrev pub word_or : List ℕ → List ℕ → List ℕ
 word_or other word = if is_word word then word else other
 
 -- a word with a number after it, or the word alone if that would be too long for a word
-abbrev pub numbered : List ℕ → ℕ → List ℕ
-numbered word n = word_or word (word ++ codes "_" ++ decimal n)
+abbrev pub numbered_word : List ℕ → ℕ → List ℕ
+numbered_word word n = word_or word (word ++ codes "_" ++ decimal n)
 
 -- the first of `word_n`, `word_n+1` and so on that no token is, with at most the given number of tries
 abbrev pub fresh_from : ℕ → ℕ → List ℕ → List Token → List ℕ
-fresh_from zero n word ts = numbered word n
-fresh_from (suc tries) n word ts = if occurs (numbered word n) ts then fresh_from tries (n + 1) word ts else numbered word n
+fresh_from zero n word ts = numbered_word word n
+fresh_from (suc tries) n word ts = if occurs (numbered_word word n) ts then fresh_from tries (n + 1) word ts else numbered_word word n
 
 -- the first of `word`, `word_1`, `word_2` and so on that no token is
-abbrev pub fresh : List ℕ → List Token → List ℕ
-fresh word ts = if occurs word ts then fresh_from (length ts) 1 word ts else word
+abbrev pub fresh_word : List ℕ → List Token → List ℕ
+fresh_word word ts = if occurs word ts then fresh_from (length ts) 1 word ts else word

@@ -31,15 +31,15 @@ abbrev pub deadline_from : List Token → Option Moment
 deadline_from [] = None
 deadline_from (t ∷ ts) = deadline_named (word_in t.shape) ts
 
-abbrev pub paced : Option ℕ → Option ℕ → Option Moment
-paced (Some lines) (Some to) = Some (Pace lines to)
-paced (Some lines) None = None
-paced None to = None
+abbrev pub pace_moment : Option ℕ → Option ℕ → Option Moment
+pace_moment (Some lines) (Some to) = Some (Pace lines to)
+pace_moment (Some lines) None = None
+pace_moment None to = None
 
-abbrev pub started : Option (List ℕ) → Option ℕ → Option Moment
-started (Some name) (Some opening) = Some (Start name opening)
-started (Some name) None = None
-started None opening = None
+abbrev pub start_moment : Option (List ℕ) → Option ℕ → Option Moment
+start_moment (Some name) (Some opening) = Some (Start name opening)
+start_moment (Some name) None = None
+start_moment None opening = None
 
 -- what begins with a keyword, given the tokens after it
 abbrev pub moment_by : Keyword → List Token → Option Moment
@@ -47,8 +47,8 @@ moment_by keyword.Sleep ts = option_map (λ n. Sleep n) (number_first ts)
 moment_by keyword.Scope ts = deadline_from ts
 moment_by keyword.Nursery ts = deadline_from ts
 moment_by keyword.Checkpoint ts = option_map (λ to. Checkpoint to) (first_mark Semicolon ts)
-moment_by keyword.Pace ts = paced (first_number ts) (first_mark Semicolon ts)
-moment_by keyword.Start ts = started (first_name ts) (first_mark Open ts)
+moment_by keyword.Pace ts = pace_moment (first_number ts) (first_mark Semicolon ts)
+moment_by keyword.Start ts = start_moment (first_name ts) (first_mark Open ts)
 moment_by _ ts = None
 
 abbrev pub moment_if : Option Keyword → List Token → Option Moment

@@ -1,5 +1,5 @@
 ghost use Rattle.std.specs.Prelude.{◌≡◌, ◌-◌, ◌++◌, take, drop, decimal, IfOk, OnOk};
-ghost use Rattle.job_edits.specs.Changes.{piece_text, changed};
+ghost use Rattle.job_edits.specs.Changes.{piece_text, changed_text};
 
 use job_tree::Name;
 use std::alloc::{AllocError, Global};
@@ -45,7 +45,7 @@ pub struct Change {
 /// Returns the text with these changes: each piece is at its place, and all other bytes of the text are unchanged. The changes
 /// must be in the order of their places and must not overlap. The only error is that memory was refused.
 pub fn changed_text(alloc: Global, text: &[u8], changes: &[Change]) -> Result<Vec<u8>, AllocError>
-    ensures { IfOk result (λ out. out.items ≡ changed text.now changes.now) }
+    ensures { IfOk result (λ out. out.items ≡ changed_text text.now changes.now) }
 {
     let mut out = Vec::new(alloc);
     let mut at = 0;

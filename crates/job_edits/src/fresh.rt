@@ -1,5 +1,5 @@
 ghost use Rattle.std.specs.Prelude.{◌≡◌, IfOk};
-ghost use Rattle.job_edits.specs.Fresh.{occurs, numbered, fresh};
+ghost use Rattle.job_edits.specs.Fresh.{occurs, numbered_word, fresh_word};
 
 use job_tokens::Token;
 use job_tree::Name;
@@ -8,8 +8,8 @@ use std::alloc::{AllocError, Global};
 // Returns the first of `word`, `word_1`, `word_2` and so on that is not a token of the text. As many numbers are
 // tried as the text has tokens, so one of the names is new if `word` is short; this is tested, not proved. The only
 // error is that memory was refused.
-pub(crate) fn fresh(alloc: Global, word: Name, tokens: &[Token]) -> Result<Name, AllocError>
-    ensures { IfOk result (λ name. name ≡ fresh word tokens.now) }
+pub(crate) fn fresh_name(alloc: Global, word: Name, tokens: &[Token]) -> Result<Name, AllocError>
+    ensures { IfOk result (λ name. name ≡ fresh_word word tokens.now) }
 {
     if !occurs(word, tokens) {
         return Ok(word);
@@ -17,14 +17,14 @@ pub(crate) fn fresh(alloc: Global, word: Name, tokens: &[Token]) -> Result<Name,
     let mut n = 1;
     let mut tries = tokens.len();
     'tries: while tries > 0 {
-        let name = numbered(alloc, word, n)?;
+        let name = numbered_word(alloc, word, n)?;
         if !occurs(name, tokens) {
             return Ok(name);
         }
         n += 1;
         tries -= 1;
     }
-    numbered(alloc, word, n)
+    numbered_word(alloc, word, n)
 }
 
 // Returns whether some token is this word.
@@ -40,8 +40,8 @@ fn occurs(word: Name, tokens: &[Token]) -> bool
 }
 
 // Returns the word with `_` and a number after it, or the word alone if that would be too long for a word.
-fn numbered(alloc: Global, word: Name, n: usize) -> Result<Name, AllocError>
-    ensures { IfOk result (λ name. name ≡ numbered word n) }
+fn numbered_word(alloc: Global, word: Name, n: usize) -> Result<Name, AllocError>
+    ensures { IfOk result (λ name. name ≡ numbered_word word n) }
 {
     let mut bytes = Vec::new(alloc);
     bytes.extend_from_slice(word.bytes())?;

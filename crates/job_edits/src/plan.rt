@@ -1,12 +1,12 @@
 ghost use Rattle.std.specs.Prelude.{◌≡◌, [], ◌∷◌, IfOk, IsTrue};
 ghost use Rattle.job_tree.specs.Words.{is_word};
 ghost use Rattle.job_edits.specs.declared.fault.Fault.TheVariants.{Cancelled};
-ghost use Rattle.job_edits.specs.Faults.{plan_of, last_place, instead, inserted, changes_by, changes_of, probe_of, raised_by};
-ghost use Rattle.job_edits.specs.Fresh.{fresh};
+ghost use Rattle.job_edits.specs.Faults.{plan_of, last_place, replacement, insertion, changes_by, changes_of, probe_of, raised_by};
+ghost use Rattle.job_edits.specs.Fresh.{fresh_word};
 
 use crate::change::{Change, Piece};
 use crate::fault::{Fault, Variant};
-use crate::fresh::fresh;
+use crate::fresh::fresh_name;
 use crate::waiting::{Waiting, first_mark};
 use job_tokens::{Mark, Token};
 use job_tree::Name;
@@ -51,22 +51,22 @@ impl Plan {
         let step = variant.step;
         let fault = variant.fault;
         match fault {
-            Fault::Fails => one(alloc, step.from, step.to, Piece::Raise(self.name)),
-            Fault::FailsLate => one(alloc, step.to, step.to, Piece::ThenRaise(self.name)),
-            Fault::Hangs => one(alloc, step.from, step.to, Piece::Forever),
-            Fault::Cancelled => self.cancelled(alloc, step),
-            Fault::Misses(name) => one(alloc, step.from, step.to, Piece::Raise(name)),
+            Fault::Fails => single_change(alloc, step.from, step.to, Piece::Raise(self.name)),
+            Fault::FailsLate => single_change(alloc, step.to, step.to, Piece::ThenRaise(self.name)),
+            Fault::Hangs => single_change(alloc, step.from, step.to, Piece::Forever),
+            Fault::Cancelled => self.cancel_changes(alloc, step),
+            Fault::Misses(name) => single_change(alloc, step.from, step.to, Piece::Raise(name)),
         }
     }
 
     // Returns the changes that cancel the whole job before a step.
-    fn cancelled(&self, alloc: Global, step: Waiting) -> Result<Vec<Change>, AllocError>
+    fn cancel_changes(&self, alloc: Global, step: Waiting) -> Result<Vec<Change>, AllocError>
         ensures { IfOk result (λ changes. changes.items ≡ changes_by self.now step Cancelled) }
     {
         let mut changes = Vec::new(alloc);
-        changes.push(inserted(self.opening, Piece::OpenScope(self.outside)))?;
-        changes.push(inserted(step.from, Piece::Cancel(self.outside)))?;
-        changes.push(inserted(self.closing, Piece::Close))?;
+        changes.push(insertion(self.opening, Piece::OpenScope(self.outside)))?;
+        changes.push(insertion(step.from, Piece::Cancel(self.outside)))?;
+        changes.push(insertion(self.closing, Piece::Close))?;
         Ok(changes)
     }
 
@@ -76,15 +76,15 @@ impl Plan {
     {
         let step = variant.step;
         match variant.fault {
-            Fault::FailsLate => inserted(step.to, Piece::ThenRaise(self.reached)),
+            Fault::FailsLate => insertion(step.to, Piece::ThenRaise(self.reached)),
             Fault::Fails | Fault::Hangs | Fault::Cancelled | Fault::Misses(_) => {
-                instead(step, Piece::Raise(self.reached))
+                replacement(step, Piece::Raise(self.reached))
             }
         }
     }
 
     /// Returns the name of the exception that a fault raises, or `None` if it raises none.
-    pub fn raised(&self, fault: Fault) -> Option<Name>
+    pub fn raised_name(&self, fault: Fault) -> Option<Name>
         ensures { result ≡ raised_by self.now fault }
     {
         match fault {
@@ -98,12 +98,12 @@ impl Plan {
 // Returns the first of the word, and the word with numbers after it, that is not a token. Requires that `word` is a word.
 fn fresh_word(alloc: Global, word: &[u8], tokens: &[Token]) -> Result<Name, AllocError>
     requires { IsTrue (is_word word.now) }
-    ensures { IfOk result (λ name. name ≡ fresh word.now tokens.now) }
+    ensures { IfOk result (λ name. name ≡ fresh_word word.now tokens.now) }
 {
     let Some(name) = Name::new(word) else {
         unreachable!()
     };
-    fresh(alloc, name, tokens)
+    fresh_name(alloc, name, tokens)
 }
 
 // Returns the place of the last token, or 0 if there is none.
@@ -118,8 +118,8 @@ fn last_place(tokens: &[Token]) -> usize
 }
 
 // Returns the change that puts a piece in place of a step, up to the semicolon of the step.
-fn instead(step: Waiting, piece: Piece) -> Change
-    ensures { result ≡ instead step piece }
+fn replacement(step: Waiting, piece: Piece) -> Change
+    ensures { result ≡ replacement step piece }
 {
     Change {
         from: step.from,
@@ -129,8 +129,8 @@ fn instead(step: Waiting, piece: Piece) -> Change
 }
 
 // Returns the change that puts a piece before a place, and leaves nothing out.
-fn inserted(at: usize, piece: Piece) -> Change
-    ensures { result ≡ inserted at piece }
+fn insertion(at: usize, piece: Piece) -> Change
+    ensures { result ≡ insertion at piece }
 {
     Change {
         from: at,
@@ -140,7 +140,12 @@ fn inserted(at: usize, piece: Piece) -> Change
 }
 
 // Returns a single change: this piece in place of the bytes from one place up to another.
-fn one(alloc: Global, from: usize, to: usize, piece: Piece) -> Result<Vec<Change>, AllocError>
+fn single_change(
+    alloc: Global,
+    from: usize,
+    to: usize,
+    piece: Piece,
+) -> Result<Vec<Change>, AllocError>
     ensures { IfOk result (λ changes. changes.items ≡ record { from = from; to = to; piece = piece } ∷ []) }
 {
     let mut changes = Vec::new(alloc);

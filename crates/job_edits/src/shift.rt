@@ -1,9 +1,9 @@
 ghost use Rattle.std.specs.Prelude.{◌≡◌, ◌+◌, ◌++◌, ◌∷◌, [], IfOk, OnOk};
 ghost use Rattle.std.specs.Io.Iter.{u64_saturate};
 ghost use Rattle.job_edits.specs.declared.change.Piece.TheVariants as piece;
-ghost use Rattle.job_edits.specs.Faults.{inserted};
+ghost use Rattle.job_edits.specs.Faults.{insertion};
 ghost use Rattle.job_edits.specs.Numbers.{set_to};
-ghost use Rattle.job_edits.specs.Finer.{capped, finer_at, finer_changes, hairs_of, shifts_with, shifts_of, moved, shifted_at, shifted_or_finer, shifted_changes};
+ghost use Rattle.job_edits.specs.Finer.{finer_at, finer_changes, hairs_of, shifts_with, shifts_of, moved_ticks, shifted_at, shifted_or_finer, shifted_changes};
 
 use crate::change::{Change, Piece};
 use crate::finer::{Finer, ticks_of};
@@ -138,7 +138,7 @@ fn push_shifted(
     let moment = site.moment;
     match moment {
         Moment::Sleep(number) | Moment::After(_, number) | Moment::At(_, number) => {
-            push_number(changes, number, moved(finer, number, hair))
+            push_number(changes, number, moved_ticks(finer, number, hair))
         }
         Moment::Checkpoint { to } => { push(changes, from, to, Piece::Sleep(finer.hair)) }
         Moment::Pace { to, .. } => {
@@ -181,8 +181,8 @@ fn push_after(changes: &mut Vec<Change>, at: usize, piece: Piece) -> Result<(), 
 }
 
 // Returns a number of ticks in finer ticks, moved by a hair.
-fn moved(finer: Finer, number: Number, hair: Hair) -> u64
-    ensures { result ≡ moved finer number hair }
+fn moved_ticks(finer: Finer, number: Number, hair: Hair) -> u64
+    ensures { result ≡ moved_ticks finer number hair }
 {
     let ticks = finer.ticks(number);
     match hair {

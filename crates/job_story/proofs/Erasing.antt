@@ -15,8 +15,8 @@ use Rattle.job_meaning.specs.Walk as walks
 use Rattle.job_meaning.proofs.Finish.{followed_assoc}
 use Rattle.job_meaning.proofs.Clips.{followed_nil}
 use Rattle.job_meaning.proofs.Settled.{settled_is_meaning}
-use Rattle.job_story.specs.Story.{Happening, enters, sleeps, is_cancelled, finds, misses, raises, cancels, handles, cleans, replaces, waits, leaves, Story, no_more, happened, started, then_story, erased_one, erased, Tale, result_of}
-use Rattle.job_story.specs.Tell.{Scene, told_at, only, and_tale, tale_if, then_tale, failed_at, after_this, seer, asleep_for, tell_slept, tell_sleep, tell_lines, tell_need, tell_raise, tell_cancel, tell_left, tell_block, tell_wait, tell_gathered, tell_child, tell_each, tell_passes, handled_if, handled_exc, tell_handled, replaced, cleaned_by, tell_cleaned, at_place, tell, tell_step, tell_handler, tell_cleanup, root_scene, tale_by}
+use Rattle.job_story.specs.Story.{Happening, enters, sleeps, is_cancelled, finds, misses, raises, cancels, handles, cleans, replaces, waits, leaves, Story, no_more, happened, started, then_story, erased_one, erased_log, Tale, result_of}
+use Rattle.job_story.specs.Tell.{Scene, told_at, story_of_one, and_tale, tale_if, then_tale, failed_at, after_this, seer, asleep_for, tell_slept, tell_sleep, tell_lines, tell_need, tell_raise, tell_cancel, tell_left, tell_block, tell_wait, tell_gathered, tell_child, tell_each, tell_passes, handled_if, handled_exc, tell_handled, replacement, cleaned_by, tell_cleaned, at_place, tell, tell_step, tell_handler, tell_cleanup, root_scene, tale_by}
 use Rattle.job_story.specs.Laws.{TellingIsFollowing, StoriesAreTrue}
 
 -- ---- stories, one after another
@@ -36,19 +36,19 @@ erased_before t (replaces lost fresh) a b = refl
 erased_before t (waits label exc) a b = followed_assoc (sign_if exc (Some label) t) a b
 erased_before t (leaves kind label inside caught outside) a b = refl
 
-erased_then : (a b : Story) → erased (then_story a b) ≡ followed_by (erased a) (erased b)
+erased_then : (a b : Story) → erased_log (then_story a b) ≡ followed_by (erased_log a) (erased_log b)
 erased_then no_more b = refl
 erased_then (happened t what rest) b =
-    ap (λ (l : Log). erased_one t what l) (erased_then rest b) ∙ sym (erased_before t what (erased rest) (erased b))
+    ap (λ (l : Log). erased_one t what l) (erased_then rest b) ∙ sym (erased_before t what (erased_log rest) (erased_log b))
 erased_then (started l home part s u e own rest) b =
-    ap (λ (x : Log). task l s u e (followed_by (erased own) (sign_if e home u)) x) (erased_then rest b)
+    ap (λ (x : Log). task l s u e (followed_by (erased_log own) (sign_if e home u)) x) (erased_then rest b)
 
 -- a tale whose story has this log is the result with it
-with_log : (a : Tale) (l : Log) → erased a.story ≡ l → result_of a ≡ record { end = a.end; exc = a.exc; members = a.members; log = l }
+with_log : (a : Tale) (l : Log) → erased_log a.story ≡ l → result_of a ≡ record { end = a.end; exc = a.exc; members = a.members; log = l }
 with_log a l e = ap (λ (x : Log). record { end = a.end; exc = a.exc; members = a.members; log = x }) e
 
 joined_is : (a b : Tale) → result_of (and_tale a b) ≡ in_sequence (result_of a) (result_of b)
-joined_is a b = with_log (and_tale a b) (followed_by (erased a.story) (erased b.story)) (erased_then a.story b.story)
+joined_is a b = with_log (and_tale a b) (followed_by (erased_log a.story) (erased_log b.story)) (erased_then a.story b.story)
 
 -- one tale and then another, from the results of both
 then_is : (a : Tale) (r : Result) (go : ℕ → Tale) (walked : ℕ → Result) → result_of a ≡ r → ((u : ℕ) → result_of (go u) ≡ walked u) →
@@ -62,11 +62,11 @@ then_is a r go walked e h = by_outcome a.exc ∙ ap (λ (x : Result). then_if x.
 
 -- ---- steps that take time, and others
 
-asleep_erased : (n t : ℕ) (until : Tick) (b : Story) → erased (then_story (asleep_for n t until) b) ≡ erased b
+asleep_erased : (n t : ℕ) (until : Tick) (b : Story) → erased_log (then_story (asleep_for n t until) b) ≡ erased_log b
 asleep_erased zero t until b = refl
 asleep_erased (suc n) t until b = refl
 
-asleep_nothing : (n t : ℕ) (until : Tick) → erased (asleep_for n t until) ≡ nil
+asleep_nothing : (n t : ℕ) (until : Tick) → erased_log (asleep_for n t until) ≡ nil
 asleep_nothing zero t until = refl
 asleep_nothing (suc n) t until = refl
 
@@ -75,13 +75,13 @@ slept_is None n t st c until = with_log (told_at (t + n) (asleep_for n t until))
 slept_is (Some from) n t st c until = by_now (nat_le from t) (nat_le from (t + n))
   where
     by_now : (b d : Bool) →
-        result_of (if b then failed_at cancelled t (only t (is_cancelled (seer st from) None c))
-        else (if d then failed_at cancelled from (then_story (asleep_for n t until) (only from (is_cancelled (seer st from) (Some t) c)))
+        result_of (if b then failed_at cancelled t (story_of_one t (is_cancelled (seer st from) None c))
+        else (if d then failed_at cancelled from (then_story (asleep_for n t until) (story_of_one from (is_cancelled (seer st from) (Some t) c)))
         else told_at (t + n) (asleep_for n t until)))
         ≡ (if b then raised_at cancelled t else (if d then raised_at cancelled from else done_at (t + n)))
     by_now true d = refl
     by_now false true = (
-        let b = only from (is_cancelled (seer st from) (Some t) c) in
+        let b = story_of_one from (is_cancelled (seer st from) (Some t) c) in
         with_log (failed_at cancelled from (then_story (asleep_for n t until) b)) nil (asleep_erased n t until b))
     by_now false false = with_log (told_at (t + n) (asleep_for n t until)) nil (asleep_nothing n t until)
 
@@ -124,8 +124,8 @@ wait_is : (label : Label) (shield : Bool) (from : Tick) (st : Stack) (a : Tale) 
 unfolding tell_wait with_sign
 wait_is label shield from st a r e =
     with_log (tell_wait label a) _
-    (erased_then a.story (only a.end (waits label a.exc))
-    ∙ ap (λ (x : Log). followed_by (erased a.story) x) (followed_nil (sign_if a.exc (Some label) a.end)))
+    (erased_then a.story (story_of_one a.end (waits label a.exc))
+    ∙ ap (λ (x : Log). followed_by (erased_log a.story) x) (followed_nil (sign_if a.exc (Some label) a.end)))
     ∙ ap (λ (x : Result). with_sign (stack_inside label shield from st) x) e
 
 gathered_is : (label : Label) (a : Tale) (r : Result) → result_of a ≡ r → result_of (tell_gathered label a) ≡ nursery_result label r
@@ -170,7 +170,7 @@ handled_is wanted a r go walked e h =
     by_outcome None = refl
     by_outcome (Some x) = by_match (keep wanted x) (drop wanted x)
 
-replaced_nothing : (lost fresh : Option Exc) (t : ℕ) → erased (replaced lost fresh t) ≡ nil
+replaced_nothing : (lost fresh : Option Exc) (t : ℕ) → erased_log (replacement lost fresh t) ≡ nil
 replaced_nothing None fresh t = refl
 replaced_nothing (Some l) None t = refl
 replaced_nothing (Some l) (Some f) t = refl
@@ -181,9 +181,9 @@ unfolding tell_cleaned cleanup_result
 cleaned_is a r go walked e h =
     with_log (cleaned_by a b) _
     (erased_then a.story _
-    ∙ ap (λ (x : Log). followed_by (erased a.story) x)
-    (erased_then b.story (replaced a.exc b.exc b.end)
-    ∙ (ap (λ (x : Log). followed_by (erased b.story) x) (replaced_nothing a.exc b.exc b.end) ∙ followed_nil (erased b.story))))
+    ∙ ap (λ (x : Log). followed_by (erased_log a.story) x)
+    (erased_then b.story (replacement a.exc b.exc b.end)
+    ∙ (ap (λ (x : Log). followed_by (erased_log b.story) x) (replaced_nothing a.exc b.exc b.end) ∙ followed_nil (erased_log b.story))))
     ∙ (ap (λ (x : Result). walks.cleanup_after (result_of a) x) (h a.end) ∙ ap (λ (x : Result). walks.cleanup_after x (walked x.end)) e)
   where
     b : Tale
@@ -256,7 +256,7 @@ pub stories_are_true : StoriesAreTrue
 stories_are_true table job input once settled =
     let e = telling_is_following table job input ∙ settled_is_meaning table job input once settled in
     ap (λ (x : Log). task (root_label job.name) 0 (tale_by table job input).end (tale_by table job input).exc x nil)
-    (followed_by_none (tale_by table job input).exc (erased (tale_by table job input).story) (tale_by table job input).end)
+    (followed_by_none (tale_by table job input).exc (erased_log (tale_by table job input).story) (tale_by table job input).end)
     ∙ ap (λ (r : Result). root_log job r) e
   where
     followed_by_none : (o : Option Exc) (a : Log) (t : ℕ) → followed_by a (sign_if o None t) ≡ a

@@ -19,9 +19,9 @@ lines_of [] = []
 lines_of (l ∷ ls) = l ++ codes "\n" ++ lines_of ls
 
 -- the story of the meaning
-unfoldable pub told : Tree → List ℕ → List ℕ
+unfoldable pub told_text : Tree → List ℕ → List ℕ
 unfolding meaning walk and_then sleep_result lines_result need_result cancel_result block with_sign nursery_result child handler_result cleanup_result tell then_tale tell_sleep tell_lines tell_need tell_raise tell_cancel tell_block tell_wait tell_gathered tell_child tell_handled tell_cleaned tale_by
-told job input = story_text (meaning_table job input) job input
+told_text job input = story_text (meaning_table job input) job input
 
 -- job supervisor { nursery workers {
 --   start reader { try { forever; } finally { scope flush after 5 shield { sleep 3; } } }
@@ -36,7 +36,7 @@ supervisor =
     ∷ []) ∷ [])
 
 pub a_sibling_fails :
-    told supervisor []
+    told_text supervisor []
     ≡ lines_of
     (codes "tick 0"
     ∷ codes "  supervisor  starts"
@@ -60,5 +60,5 @@ pub a_sibling_fails :
     ∷ codes "  supervisor  leaves nursery workers: cancellation caught, workers[DiskFull(writer@4)] propagates"
     ∷ codes "  supervisor  ends: raised workers[DiskFull(writer@4)]"
     ∷ [])
-unfolding told digits
+unfolding told_text digits
 a_sibling_fails = refl

@@ -32,19 +32,19 @@ is_some_label l None = false
 is_some_label l (Some m) = same_label l m
 
 -- whether an event of the task `whose` is a cancellation that the task `l` caused
-abbrev pub caused : Table → List Event → Label → Label → List Event → Bool
-caused table all l whose [] = false
-caused table all l whose (e ∷ es) =
-    (if same_label whose e.task then is_some_label l (causer_of table all e.what) else false) || caused table all l whose es
+abbrev pub is_causer_of : Table → List Event → Label → Label → List Event → Bool
+is_causer_of table all l whose [] = false
+is_causer_of table all l whose (e ∷ es) =
+    (if same_label whose e.task then is_some_label l (causer_of table all e.what) else false) || is_causer_of table all l whose es
 
 -- these tasks, and each task of an event that caused a cancellation of one of them
 abbrev pub is_among : Label → List Label → Bool
 is_among l [] = false
 is_among l (m ∷ ms) = same_label l m || is_among l ms
 
-abbrev pub caused_some : Table → List Event → Label → List Label → Bool
-caused_some table all l [] = false
-caused_some table all l (m ∷ ms) = caused table all l m all || caused_some table all l ms
+abbrev pub is_causer_of_some : Table → List Event → Label → List Label → Bool
+is_causer_of_some table all l [] = false
+is_causer_of_some table all l (m ∷ ms) = is_causer_of table all l m all || is_causer_of_some table all l ms
 
 abbrev pub add_if : Bool → Label → List Label → List Label
 add_if true l ls = l ∷ ls
@@ -54,7 +54,7 @@ abbrev pub with_causers : Table → List Event → List Label → List Event →
 with_causers table all kept [] = kept
 with_causers table all kept (e ∷ es) =
     let rest = with_causers table all kept es in
-    add_if (caused_some table all e.task kept && not (is_among e.task rest)) e.task rest
+    add_if (is_causer_of_some table all e.task kept && not (is_among e.task rest)) e.task rest
 
 -- the same, repeated n times
 abbrev pub causers_in : ℕ → Table → List Event → List Label → List Label
@@ -66,21 +66,21 @@ of_tasks kept [] = []
 of_tasks kept (e ∷ es) = if is_among e.task kept then e ∷ of_tasks kept es else of_tasks kept es
 
 -- the tasks that concern a task: itself, each that caused one of its cancellations, and so on
-abbrev pub concerned : Table → List Event → Label → List Label
-concerned table all l = causers_in (length all) table all (l ∷ [])
+abbrev pub concerned_tasks : Table → List Event → Label → List Label
+concerned_tasks table all l = causers_in (length all) table all (l ∷ [])
 
 -- the text of the story of a job by a table that concerns a task
 abbrev pub story_of_task : Table → Tree → List ℕ → Label → List ℕ
 story_of_task table job input l =
     let all = job_events table job input in
-    kept_text table all (of_tasks (concerned table all l) all)
+    kept_text table all (of_tasks (concerned_tasks table all l) all)
 
 -- the same up to a limit, with what the tasks do that have not ended by then
 abbrev pub story_of_task_to : Table → ℕ → Tree → List ℕ → Label → List ℕ
 story_of_task_to table limit job input l =
     let walked = walked_to table limit job input in
     let all = in_order walked in
-    let tasks = concerned table all l in
+    let tasks = concerned_tasks table all l in
     kept_text_to table limit all (of_tasks tasks all) (of_tasks tasks walked)
 
 -- ---- a task by its label's text

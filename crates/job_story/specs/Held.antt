@@ -30,8 +30,8 @@ abbrev pub span_in : Span → lines.Span
 span_in span = record { at = span.at; len = span.len }
 
 -- a boxed exception, if there is one
-abbrev pub boxed : Option (Box Exc) → Option tree.Exc
-boxed exc = option_map (λ (b : Box Exc). exc_of b.value) exc
+abbrev pub unboxed_exc : Option (Box Exc) → Option tree.Exc
+unboxed_exc exc = option_map (λ (b : Box Exc). exc_of b.value) exc
 
 abbrev pub happening_of : Happening → story.Happening
 happening_of (Enters kind label deadline shield) = story.enters (kind_of kind) label deadline shield
@@ -41,17 +41,17 @@ happening_of (Finds lines) = story.finds (map span_in lines.items)
 happening_of (Misses name) = story.misses name
 happening_of (Raises name) = story.raises name
 happening_of (Cancels label) = story.cancels label
-happening_of (Handles matched rest) = story.handles (exc_of matched.value) (boxed rest)
-happening_of (Cleans exc) = story.cleans (boxed exc)
+happening_of (Handles matched rest) = story.handles (exc_of matched.value) (unboxed_exc rest)
+happening_of (Cleans exc) = story.cleans (unboxed_exc exc)
 happening_of (Replaces lost fresh) = story.replaces (exc_of lost.value) (exc_of fresh.value)
-happening_of (Waits nursery exc) = story.waits nursery (boxed exc)
+happening_of (Waits nursery exc) = story.waits nursery (unboxed_exc exc)
 happening_of (Leaves kind label inside caught outside) =
-    story.leaves (kind_of kind) label (boxed inside) caught (boxed outside)
+    story.leaves (kind_of kind) label (unboxed_exc inside) caught (unboxed_exc outside)
 
 abbrev pub what_of : What → events.What
 what_of (Starts home part) = events.starts home (range_in part)
 what_of (Happens what) = events.happens (happening_of what)
-what_of (Ends home exc) = events.ends home (boxed exc)
+what_of (Ends home exc) = events.ends home (unboxed_exc exc)
 
 abbrev pub event_of : Event → events.Event
 event_of e = record { tick = e.tick; task = e.task; what = what_of e.what }

@@ -6,7 +6,7 @@ use Rattle.job_meaning.specs.Log.{Table}
 use Rattle.job_meaning.specs.Meaning.{root_log, meaning, meaning_table, meaning_froms}
 use Rattle.job_meaning.specs.Follow.{follow, IsSettled}
 use Rattle.job_story.specs.Froms.{never, set_in}
-use Rattle.job_story.specs.Story.{result_of, erased}
+use Rattle.job_story.specs.Story.{result_of, erased_log}
 use Rattle.job_story.specs.Tell.{tale_by, story_by}
 
 -- The story by a table, with everything erased that a log does not contain, is the log of following the table.
@@ -18,7 +18,7 @@ TellingIsFollowing = (table : Table) (job : Tree) (input : List ℕ) → result_
 abbrev pub StoriesAreTrue : Type 0
 StoriesAreTrue =
     (table : Table) (job : Tree) (input : List ℕ) → GivesNamesOnce job → IsSettled table job input →
-    erased (story_by table job input) ≡ root_log job (meaning job input)
+    erased_log (story_by table job input) ≡ root_log job (meaning job input)
 
 -- The ticks from which the scopes and nurseries of a meaning are cancelled, set in an empty table, make the table of the meaning.
 abbrev pub FromsGiveTheTable : Type 0

@@ -7,7 +7,7 @@ use Rattle.job_meaning.specs.Meaning.{root_label}
 use Rattle.job_story.specs.Story.{sleeps, waits}
 use Rattle.job_story.specs.Tell.{story_by}
 use Rattle.job_story.specs.Events.{What, starts, happens, ends, Event, events_of, in_order}
-use Rattle.job_story.specs.Sentences.{label_text, until_text, padded, widest, kept_text}
+use Rattle.job_story.specs.Sentences.{label_text, until_text, padded_text, label_width, kept_text}
 
 -- the events up to a tick
 abbrev pub by_limit : ℕ → List Event → List Event
@@ -56,7 +56,7 @@ last_of l (e ∷ es) text = last_of l es (if same_label l e.task then doing_text
 abbrev pub running_text : ℕ → List Event → List Label → List ℕ
 running_text width es [] = []
 running_text width es (l ∷ ls) =
-    codes "  " ++ padded width (label_text l) ++ codes "  " ++ last_of l es [] ++ codes "\n" ++ running_text width es ls
+    codes "  " ++ padded_text width (label_text l) ++ codes "  " ++ last_of l es [] ++ codes "\n" ++ running_text width es ls
 
 -- ---- the text
 
@@ -64,7 +64,7 @@ running_text width es (l ∷ ls) =
 abbrev pub kept_text_to : Table → ℕ → List Event → List Event → List Event → List ℕ
 kept_text_to table limit all sorted walked =
     kept_text table all sorted ++ codes "limit " ++ decimal limit ++ codes "\n"
-    ++ running_text (widest sorted) sorted (running_in walked walked)
+    ++ running_text (label_width sorted) sorted (running_in walked walked)
 
 -- the events of a job by a table up to a limit, in the order of the walk
 abbrev pub walked_to : Table → ℕ → Tree → List ℕ → List Event

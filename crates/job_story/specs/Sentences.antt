@@ -151,16 +151,16 @@ what_text table es t (ends home exc) = codes "ends: " ++ end_text exc ++ sign_te
 -- ---- lines
 
 -- the length of the longest label
-abbrev pub widest : List Event → ℕ
-widest [] = 0
-widest (e ∷ es) = max (length (label_text e.task)) (widest es)
+abbrev pub label_width : List Event → ℕ
+label_width [] = 0
+label_width (e ∷ es) = max (length (label_text e.task)) (label_width es)
 
-abbrev pub padded : ℕ → List ℕ → List ℕ
-padded width text = text ++ replicate (width - length text) 32
+abbrev pub padded_text : ℕ → List ℕ → List ℕ
+padded_text width text = text ++ replicate (width - length text) 32
 
 abbrev pub line_text : Table → List Event → ℕ → Event → List ℕ
 line_text table es width e =
-    codes "  " ++ padded width (label_text e.task) ++ codes "  " ++ what_text table es e.tick e.what ++ codes "\n"
+    codes "  " ++ padded_text width (label_text e.task) ++ codes "  " ++ what_text table es e.tick e.what ++ codes "\n"
 
 -- a line for a tick, where the event before is of another tick; a line for each event of the tick follows
 abbrev pub tick_text : Tick → ℕ → List ℕ
@@ -177,7 +177,7 @@ job_events table job input = in_order (events_of (root_label job.name) (story_by
 
 -- the text of selected events of a story, of which `all` has all events
 abbrev pub kept_text : Table → List Event → List Event → List ℕ
-kept_text table all kept = lines_text table all (widest kept) None kept
+kept_text table all kept = lines_text table all (label_width kept) None kept
 
 abbrev pub events_text : Table → List Event → List ℕ
 events_text table es = kept_text table es es

@@ -61,10 +61,10 @@ erased_one t (waits nursery exc) rest = followed_by (sign_if exc (Some nursery) 
 erased_one t (leaves kind label inside caught outside) rest = entry t (left_as kind label caught) rest
 
 -- a story with everything erased that a log does not contain
-abbrev pub erased : Story → Log
-erased no_more = nil
-erased (happened t what rest) = erased_one t what (erased rest)
-erased (started l home part s u e own rest) = task l s u e (followed_by (erased own) (sign_if e home u)) (erased rest)
+abbrev pub erased_log : Story → Log
+erased_log no_more = nil
+erased_log (happened t what rest) = erased_one t what (erased_log rest)
+erased_log (started l home part s u e own rest) = task l s u e (followed_by (erased_log own) (sign_if e home u)) (erased_log rest)
 
 -- the result of a walk that makes a story: like a `Result`, with a story in place of the log
 pub record Tale : Type 0 where
@@ -74,4 +74,4 @@ pub record Tale : Type 0 where
   pub story : Story
 
 abbrev pub result_of : Tale → Result
-result_of tale = record { end = tale.end; exc = tale.exc; members = tale.members; log = erased tale.story }
+result_of tale = record { end = tale.end; exc = tale.exc; members = tale.members; log = erased_log tale.story }

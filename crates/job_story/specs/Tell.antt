@@ -21,8 +21,8 @@ abbrev pub told_at : ℕ → Story → Tale
 told_at t story = record { end = t; exc = None; members = []; story = story }
 
 -- the story in which only this happened, in this tick
-abbrev pub only : ℕ → Happening → Story
-only t what = happened t what no_more
+abbrev pub story_of_one : ℕ → Happening → Story
+story_of_one t what = happened t what no_more
 
 abbrev pub failed_at : Exc → ℕ → Story → Tale
 failed_at e t story = record { end = t; exc = Some e; members = []; story = story }
@@ -43,7 +43,7 @@ abbrev pub after_this : ℕ → Happening → Tale → Tale
 after_this t what a = record a { story = happened t what a.story }
 
 abbrev pub before_this : Tale → ℕ → Happening → Tale
-before_this a t what = record a { story = then_story a.story (only t what) }
+before_this a t what = record a { story = then_story a.story (story_of_one t what) }
 
 -- ---- sleeps
 
@@ -61,15 +61,15 @@ seer (l ∷ ls) t = if is_from l.from t then Some l.label else (if l.shield then
 -- a sleep that takes no time is not an event
 abbrev pub asleep_for : ℕ → ℕ → Tick → Story
 asleep_for zero t until = no_more
-asleep_for (suc n) t until = only t (sleeps until)
+asleep_for (suc n) t until = story_of_one t (sleeps until)
 
 -- a sleep of n ticks; the story says that it is until the tick `until`, or forever
 abbrev pub tell_slept : Tick → ℕ → ℕ → Stack → Bool → Tick → Tale
 tell_slept None n t stack cleanup until = told_at (t + n) (asleep_for n t until)
 tell_slept (Some from) n t stack cleanup until =
-    if nat_le from t then failed_at cancelled t (only t (is_cancelled (seer stack from) None cleanup))
+    if nat_le from t then failed_at cancelled t (story_of_one t (is_cancelled (seer stack from) None cleanup))
     else (if nat_le from (t + n) then
-    failed_at cancelled from (then_story (asleep_for n t until) (only from (is_cancelled (seer stack from) (Some t) cleanup)))
+    failed_at cancelled from (then_story (asleep_for n t until) (story_of_one from (is_cancelled (seer stack from) (Some t) cleanup)))
     else told_at (t + n) (asleep_for n t until))
 
 unfoldable pub tell_sleep : Stack → Bool → Tick → ℕ → ℕ → Tale
@@ -78,20 +78,20 @@ tell_sleep stack cleanup until n t = tell_slept (sight stack) n t stack cleanup 
 -- ---- other steps
 
 unfoldable pub tell_lines : List Span → ℕ → Tale
-tell_lines lines t = told_at t (only t (finds lines))
+tell_lines lines t = told_at t (story_of_one t (finds lines))
 
 abbrev pub need_if : Option Span → List ℕ → Label → ℕ → Tale
-need_if (Some l) name label t = told_at t (only t (finds (l ∷ [])))
-need_if None name label t = failed_at (raised name label t) t (only t (misses name))
+need_if (Some l) name label t = told_at t (story_of_one t (finds (l ∷ [])))
+need_if None name label t = failed_at (raised name label t) t (story_of_one t (misses name))
 
 unfoldable pub tell_need : Option Span → List ℕ → Label → ℕ → Tale
 tell_need found name label t = need_if found name label t
 
 unfoldable pub tell_raise : List ℕ → Label → ℕ → Tale
-tell_raise name label t = failed_at (raised name label t) t (only t (raises name))
+tell_raise name label t = failed_at (raised name label t) t (story_of_one t (raises name))
 
 unfoldable pub tell_cancel : Option Label → ℕ → Tale
-tell_cancel label t = told_at t (only t (cancels label))
+tell_cancel label t = told_at t (story_of_one t (cancels label))
 
 -- ---- blocks
 
@@ -104,7 +104,7 @@ tell_left kind label t deadline shield left a =
       members = [];
       story =
           happened t (enters kind label deadline shield)
-          (then_story a.story (only a.end (leaves kind label a.exc left.caught (exc_after kind label a.end left))));
+          (then_story a.story (story_of_one a.end (leaves kind label a.exc left.caught (exc_after kind label a.end left))));
     }
 
 unfoldable pub tell_block : Table → Kind → Label → ℕ → Tick → Bool → Stack → (Tick → Tale) → Tale
@@ -164,10 +164,10 @@ unfoldable pub tell_handled : Wanted → Tale → (ℕ → Tale) → Tale
 tell_handled wanted a go = handled_exc a.exc wanted a go
 
 -- an exception of a cleanup replaces an earlier one
-abbrev pub replaced : Option Exc → Option Exc → ℕ → Story
-replaced None fresh t = no_more
-replaced (Some lost) None t = no_more
-replaced (Some lost) (Some fresh) t = only t (replaces lost fresh)
+abbrev pub replacement : Option Exc → Option Exc → ℕ → Story
+replacement None fresh t = no_more
+replacement (Some lost) None t = no_more
+replacement (Some lost) (Some fresh) t = story_of_one t (replaces lost fresh)
 
 abbrev pub cleaned_by : Tale → Tale → Tale
 cleaned_by a b =
@@ -175,7 +175,7 @@ cleaned_by a b =
       end = b.end;
       exc = outcome_after a.exc b.exc;
       members = a.members ++ b.members;
-      story = then_story a.story (happened a.end (cleans a.exc) (then_story b.story (replaced a.exc b.exc b.end)));
+      story = then_story a.story (happened a.end (cleans a.exc) (then_story b.story (replacement a.exc b.exc b.end)));
     }
 
 unfoldable pub tell_cleaned : Tale → (ℕ → Tale) → Tale

@@ -12,7 +12,7 @@ use Rattle.job_meaning.specs.Walk.{Kind, Stack, left_with, exc_after}
 use Rattle.job_story.specs.Events.{event, starts, ends}
 use Rattle.job_story.specs.Held.{event_of}
 use Rattle.job_story.specs.Story.{Tale, enters, leaves, waits}
-use Rattle.job_story.specs.Tell.{Scene, only, tell, tell_block, tell_left, tell_wait, tell_gathered, tell_child}
+use Rattle.job_story.specs.Tell.{Scene, story_of_one, tell, tell_block, tell_left, tell_wait, tell_gathered, tell_child}
 use Rattle.job_story.specs.declared.event.Event as held
 use Rattle.job_teller.specs.declared.told.Told.{Told}
 use Rattle.job_teller.specs.Tales.{IsTold, Adds, Tells, IsLeft}
@@ -23,13 +23,13 @@ use Rattle.job_teller.proofs.Telling.{told_like}
 abbrev Shut : Label → List held.Event → List held.Event → Kind → Label → Tick → Bool → Stack → ℕ → Option Exc → Type 0
 Shut me mid after kind label from shield st n o =
     Adds me mid after
-    (only n (leaves kind label o (left_with (catches from shield st n) o).caught (exc_after kind label n (left_with
+    (story_of_one n (leaves kind label o (left_with (catches from shield st n) o).caught (exc_after kind label n (left_with
     (catches from shield st n) o))))
 
 -- a block is entered, and left where its inside ends
 pub tells_block : (me : Label) (a b c d : List held.Event) (table : Table) (kind : Kind) (label : Label) (t : ℕ) (deadline : Tick)
     (shield : Bool) (st : Stack) (inside : Tick → Tale) (inner w : Told) (from : Tick) → from ≡ table label →
-    Adds me a b (only t (enters kind label deadline shield)) → Tells me b inner c (inside from) →
+    Adds me a b (story_of_one t (enters kind label deadline shield)) → Tells me b inner c (inside from) →
     IsLeft me c d inner w kind label (left_with (catches from shield st inner.end) (option_map exc_of inner.exc)) →
     Tells me a w d (tell_block table kind label t deadline shield st inside)
 unfolding tell_block
@@ -53,13 +53,13 @@ tells_block me a b c d table kind label t deadline shield st inside inner w from
 
 -- the body of a nursery ended, and the nursery ends with its last member
 pub tells_wait : (me : Label) (start mid now : List held.Event) (told w : Told) (label : Label) (a : Tale) → Tells me start told mid a →
-    Adds me mid now (only told.end (waits label (option_map exc_of told.exc))) →
+    Adds me mid now (story_of_one told.end (waits label (option_map exc_of told.exc))) →
     ((b : Tale) → IsTold told b → IsTold w (tell_gathered label b)) → Tells me start w now (tell_gathered label (tell_wait label a))
 unfolding tell_wait tell_gathered
 tells_wait me start mid now told w label a h k g =
-    let waited : Adds me mid now (only a.end (waits label a.exc)) =
-    subst (λ (n : ℕ). Adds me mid now (only n (waits label a.exc))) h.told.end
-    (subst (λ (o : Option Exc). Adds me mid now (only told.end (waits label o))) h.told.exc k) in
+    let waited : Adds me mid now (story_of_one a.end (waits label a.exc)) =
+    subst (λ (n : ℕ). Adds me mid now (story_of_one n (waits label a.exc))) h.told.end
+    (subst (λ (o : Option Exc). Adds me mid now (story_of_one told.end (waits label o))) h.told.exc k) in
     record {
       told = told_like w (tell_gathered label a) (tell_gathered label (tell_wait label a)) (g a h.told) refl refl refl;
       events = adds_then me start mid now a.story _ h.events waited;

@@ -14,7 +14,7 @@ use Rattle.line_kernels.specs.declared.answers.Answer.TheVariants as answers
 use Rattle.exc_groups.specs.Exceptions.{Label, raised}
 use Rattle.job_meaning.specs.Walk.{pace_ticks}
 use Rattle.job_story.specs.Story.{misses}
-use Rattle.job_story.specs.Tell.{failed_at, only, tell_lines, tell_need}
+use Rattle.job_story.specs.Tell.{failed_at, story_of_one, tell_lines, tell_need}
 use Rattle.job_story.specs.declared.event.Event as held
 use Rattle.job_teller.specs.declared.told.Told.{Told}
 use Rattle.job_teller.specs.Tales.{Tells}
@@ -69,7 +69,7 @@ shows_needed me before after part needle text a lines name label w t is lines_is
 pub misses_needed : (me : Label) (before after : List held.Event) (part : Part) (needle : Bor (List ℕ)) (text : List ℕ) (a : Answer)
     (name : List ℕ) (label : Label) (w : Told) (t : ℕ) →
     IsAnswer (Need needle) part a → ((lines : List Line) → a ≡ answers.Lines lines → ⊥) → needle.now ≡ text →
-    Tells me before w after (failed_at (raised name label t) t (only t (misses name))) →
+    Tells me before w after (failed_at (raised name label t) t (story_of_one t (misses name))) →
     Tells me before w after (tell_need (needed_in (buffer_of part) text (range_of part)) name label t)
 unfolding tell_need
 misses_needed me before after part needle text a name label w t is no_lines needle_is h =

@@ -5,7 +5,7 @@ use Rattle.exc_groups.specs.Exceptions.{Label, cancelled}
 use Rattle.cancel_scopes.specs.Sight.{Tick, sight}
 use Rattle.job_meaning.specs.Walk.{Stack}
 use Rattle.job_story.specs.Story.{Story, Tale, is_cancelled, sleeps, then_story}
-use Rattle.job_story.specs.Tell.{told_at, failed_at, only, seer, asleep_for, tell_sleep}
+use Rattle.job_story.specs.Tell.{told_at, failed_at, story_of_one, seer, asleep_for, tell_sleep}
 use Rattle.job_story.specs.declared.event.Event as held
 use Rattle.job_teller.specs.declared.told.Told.{Told}
 use Rattle.job_teller.specs.Tales.{IsTold, Adds, Tells}
@@ -14,9 +14,9 @@ use Rattle.job_teller.proofs.Adding.{adds_nothing, adds_then}
 -- the tale of a sleep on whose stack a cancellation is seen from a tick on
 abbrev slept_from : ℕ → Bool → Bool → Stack → Bool → Tick → ℕ → ℕ → Tale
 slept_from from now due st c until n t =
-    if now then failed_at cancelled t (only t (is_cancelled (seer st from) None c))
+    if now then failed_at cancelled t (story_of_one t (is_cancelled (seer st from) None c))
     else (if due then
-    failed_at cancelled from (then_story (asleep_for n t until) (only from (is_cancelled (seer st from) (Some t) c)))
+    failed_at cancelled from (then_story (asleep_for n t until) (story_of_one from (is_cancelled (seer st from) (Some t) c)))
     else told_at (t + n) (asleep_for n t until))
 
 pub slept_never : (me : Label) (before after : List held.Event) (w : Told) (st : Stack) (c : Bool) (until : Tick) (n t : ℕ) →
@@ -27,7 +27,7 @@ unfolding tell_sleep
 slept_never me before after w st c until n t e h k = rw e (record { told = k (asleep_for n t until); events = h })
 
 pub slept_now : (me : Label) (before after : List held.Event) (w : Told) (st : Stack) (c : Bool) (until : Tick) (n t from : ℕ) →
-    sight st ≡ Some from → from ≤ t → Adds me before after (only t (is_cancelled (seer st from) None c)) →
+    sight st ≡ Some from → from ≤ t → Adds me before after (story_of_one t (is_cancelled (seer st from) None c)) →
     ((s : Story) → IsTold w (failed_at cancelled t s)) → Tells me before w after (tell_sleep st c until n t)
 unfolding tell_sleep
 slept_now me before after w st c until n t from e le h k = rw e (by_test (nat_le from t) refl)
@@ -38,7 +38,7 @@ slept_now me before after w st c until n t from e le h k = rw e (by_test (nat_le
 
 pub slept_later : (me : Label) (before mid after : List held.Event) (w : Told) (st : Stack) (c : Bool) (until : Tick) (n t from : ℕ) →
     sight st ≡ Some from → t < from → from ≤ t + n → Adds me before mid (asleep_for n t until) →
-    Adds me mid after (only from (is_cancelled (seer st from) (Some t) c)) → ((s : Story) → IsTold w (failed_at cancelled from s)) →
+    Adds me mid after (story_of_one from (is_cancelled (seer st from) (Some t) c)) → ((s : Story) → IsTold w (failed_at cancelled from s)) →
     Tells me before w after (tell_sleep st c until n t)
 unfolding tell_sleep
 slept_later me before mid after w st c until n t from e lt le h g k = rw e (by_test (nat_le from t) refl (nat_le from (t + n)) refl)
@@ -63,7 +63,7 @@ slept_past me before after w st c until n t from e lt h k = rw e (by_test (nat_l
 
 -- a sleep that takes time
 pub asleep_some : (me : Label) (before after : List held.Event) (n t : ℕ) (until : Tick) → 0 < n →
-    Adds me before after (only t (sleeps until)) →
+    Adds me before after (story_of_one t (sleeps until)) →
     Adds me before after (asleep_for n t until)
 asleep_some me before after zero t until lt h = absurd (omega arith)
 asleep_some me before after (suc n) t until lt h = h

@@ -5,7 +5,7 @@ use Rattle.exc_groups.specs.Exceptions.{Label, Exc}
 use Rattle.exc_groups.specs.Held.{exc_of}
 use Rattle.exc_groups.specs.Split.{Wanted, keep, drop}
 use Rattle.job_story.specs.Story.{Tale, happened, handles, cleans, then_story}
-use Rattle.job_story.specs.Tell.{only, handled_by, handled_if, handled_exc, tell_handled, replaced, cleaned_by, tell_cleaned}
+use Rattle.job_story.specs.Tell.{story_of_one, handled_by, handled_if, handled_exc, tell_handled, replacement, cleaned_by, tell_cleaned}
 use Rattle.job_story.specs.declared.event.Event as held
 use Rattle.job_teller.specs.declared.told.Told.{Told}
 use Rattle.job_teller.specs.Tales.{IsTold, Adds, Tells}
@@ -39,12 +39,12 @@ is_wanted me before after w wanted a go e m rest raised kept dropped h =
 
 -- the handler ran
 pub tells_handled : (me : Label) (start mid begun now : List held.Event) (told next w : Told) (m : Exc) (rest : Option Exc) (a b : Tale) →
-    Tells me start told mid a → Adds me mid begun (only told.end (handles m rest)) → Tells me begun next now b →
+    Tells me start told mid a → Adds me mid begun (story_of_one told.end (handles m rest)) → Tells me begun next now b →
     ((x : Exc) (p q : Tale) → IsTold told p → IsTold next q → IsTold w (handled_by x rest p q)) →
     Tells me start w now (handled_by m rest a b)
 tells_handled me start mid begun now told next w m rest a b h k n join =
-    let handling : Adds me mid begun (only a.end (handles m rest)) =
-    subst (λ (t : ℕ). Adds me mid begun (only t (handles m rest))) h.told.end k in
+    let handling : Adds me mid begun (story_of_one a.end (handles m rest)) =
+    subst (λ (t : ℕ). Adds me mid begun (story_of_one t (handles m rest))) h.told.end k in
     record {
       told = join m a b h.told n.told;
       events = adds_then me start mid now a.story (happened a.end (handles m rest) b.story) h.events
@@ -53,24 +53,24 @@ tells_handled me start mid begun now told next w m rest a b h k n join =
 
 -- the cleanup ran
 pub tells_cleaned : (me : Label) (start mid begun over now : List held.Event) (told next w : Told) (a : Tale) (go : ℕ → Tale) →
-    Tells me start told mid a → Adds me mid begun (only told.end (cleans (option_map exc_of told.exc))) →
+    Tells me start told mid a → Adds me mid begun (story_of_one told.end (cleans (option_map exc_of told.exc))) →
     Tells me begun next over (go a.end) →
-    Adds me over now (replaced (option_map exc_of told.exc) (option_map exc_of next.exc) next.end) →
+    Adds me over now (replacement (option_map exc_of told.exc) (option_map exc_of next.exc) next.end) →
     ((p q : Tale) → IsTold told p → IsTold next q → IsTold w (cleaned_by p q)) → Tells me start w now (tell_cleaned a go)
 unfolding tell_cleaned
 tells_cleaned me start mid begun over now told next w a go h k n r join =
     let b = go a.end in
-    let cleaning : Adds me mid begun (only a.end (cleans a.exc)) =
-    subst (λ (t : ℕ). Adds me mid begun (only t (cleans a.exc))) h.told.end
-    (subst (λ (o : Option Exc). Adds me mid begun (only told.end (cleans o))) h.told.exc k) in
-    let replacing : Adds me over now (replaced a.exc b.exc b.end) =
-    subst (λ (t : ℕ). Adds me over now (replaced a.exc b.exc t)) n.told.end
-    (subst (λ (o : Option Exc). Adds me over now (replaced a.exc o next.end)) n.told.exc
-    (subst (λ (o : Option Exc). Adds me over now (replaced o (option_map exc_of next.exc) next.end)) h.told.exc r)) in
+    let cleaning : Adds me mid begun (story_of_one a.end (cleans a.exc)) =
+    subst (λ (t : ℕ). Adds me mid begun (story_of_one t (cleans a.exc))) h.told.end
+    (subst (λ (o : Option Exc). Adds me mid begun (story_of_one told.end (cleans o))) h.told.exc k) in
+    let replacing : Adds me over now (replacement a.exc b.exc b.end) =
+    subst (λ (t : ℕ). Adds me over now (replacement a.exc b.exc t)) n.told.end
+    (subst (λ (o : Option Exc). Adds me over now (replacement a.exc o next.end)) n.told.exc
+    (subst (λ (o : Option Exc). Adds me over now (replacement o (option_map exc_of next.exc) next.end)) h.told.exc r)) in
     record {
       told = join a b h.told n.told;
       events =
-          adds_then me start mid now a.story (happened a.end (cleans a.exc) (then_story b.story (replaced a.exc b.exc b.end))) h.events
-          (adds_then me mid begun now (only a.end (cleans a.exc)) (then_story b.story (replaced a.exc b.exc b.end)) cleaning
-          (adds_then me begun over now b.story (replaced a.exc b.exc b.end) n.events replacing));
+          adds_then me start mid now a.story (happened a.end (cleans a.exc) (then_story b.story (replacement a.exc b.exc b.end))) h.events
+          (adds_then me mid begun now (story_of_one a.end (cleans a.exc)) (then_story b.story (replacement a.exc b.exc b.end)) cleaning
+          (adds_then me begun over now b.story (replacement a.exc b.exc b.end) n.events replacing));
     }

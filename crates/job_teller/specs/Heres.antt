@@ -59,17 +59,17 @@ abbrev pub scene_in : Label → Range → Here → Scene
 scene_in label lent h = at_place (here_in label lent (here_of h)) (scene_of h)
 
 -- and its tale
-abbrev pub started : Label → Range → Steps → Here → ℕ → Tale
-started label lent body h t =
+abbrev pub started_tale : Label → Range → Steps → Here → ℕ → Tale
+started_tale label lent body h t =
     tell_child label (home_of (scopes_of h)) (scene_in label lent h) t (tell (table_of h) body (scene_in label lent h) (scopes_of h) t)
 
 -- one of the children of a `start .. over`
 abbrev pub started_over : List ℕ → ℕ → Steps → Here → ℕ → ℕ → Tale
-started_over name k body h t i = started (label_over name (here_of h) i) (cut_of (input_of h) (range_of h.part) k i) body h t
+started_over name k body h t i = started_tale (label_over name (here_of h) i) (cut_of (input_of h) (range_of h.part) k i) body h t
 
 -- what a `start` starts
 abbrev pub started_by : List ℕ → Option ℕ → Steps → Here → ℕ → Tale
-started_by name None body h t = started (label_in name h) (range_of h.part) body h t
+started_by name None body h t = started_tale (label_in name h) (range_of h.part) body h t
 started_by name (Some k) body h t = tell_each k (started_over name k body h t) t
 
 -- a pass of a `repeat`

@@ -7,7 +7,7 @@ use Rattle.job_meaning.specs.Walk.{Kind, Left, exc_after, latest, excs_of}
 use Rattle.job_story.specs.Events.{events_of}
 use Rattle.job_story.specs.Held.{event_of}
 use Rattle.job_story.specs.Story.{Story, Tale, leaves}
-use Rattle.job_story.specs.Tell.{only}
+use Rattle.job_story.specs.Tell.{story_of_one}
 use Rattle.job_story.specs.declared.event.Event.{Event}
 use Rattle.job_teller.specs.declared.told.Told.{Told}
 
@@ -34,4 +34,4 @@ pub record IsLeft (me : Label) (before after : List Event) (inner w : Told) (kin
   pub open_until : w.open_until ≡ 0
   pub open_excs : map exc_of w.open_excs.items ≡ []
   pub events : Adds me before after
-      (only inner.end (leaves kind label (option_map exc_of inner.exc) left.caught (exc_after kind label inner.end left)))
+      (story_of_one inner.end (leaves kind label (option_map exc_of inner.exc) left.caught (exc_after kind label inner.end left)))

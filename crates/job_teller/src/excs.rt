@@ -2,7 +2,7 @@ ghost use Rattle.std.specs.Prelude.{◌≡◌, List, Option, IfOk, OnOk, map, �
 ghost use Rattle.std.specs.Option.{option_map, option_copied};
 ghost use Rattle.exc_groups.specs.Held.{exc_of};
 ghost use Rattle.job_meaning.specs.Walk.{left_with, exc_after, with_exc, handler_exc, outcome_after};
-ghost use Rattle.job_story.specs.Held.{boxed, kind_of};
+ghost use Rattle.job_story.specs.Held.{unboxed_exc, kind_of};
 ghost use Rattle.job_teller.specs.Lefts.{left_of, fails_of};
 
 use exc_groups::{Exc, Label, Match, Parts, Whose, holds_cancelled, split};
@@ -91,7 +91,7 @@ pub(crate) fn copy_in_box(alloc: Global, exc: &Exc) -> Result<Box<Exc>, AllocErr
 
 // Returns a copy of an exception in a box, if there is one.
 pub(crate) fn boxed_copy(alloc: Global, exc: &Option<Exc>) -> Result<Option<Box<Exc>>, AllocError>
-    ensures { IfOk result (λ copy. boxed copy ≡ option_map exc_of exc.now) }
+    ensures { IfOk result (λ copy. unboxed_exc copy ≡ option_map exc_of exc.now) }
 {
     match exc {
         None => Ok(None),
@@ -101,7 +101,7 @@ pub(crate) fn boxed_copy(alloc: Global, exc: &Option<Exc>) -> Result<Option<Box<
 
 // Returns a copy of a label, if there is one.
 #[inline(never)]
-pub(crate) fn copied(alloc: Global, label: Option<&Label>) -> Result<Option<Label>, AllocError>
+pub(crate) fn copy_label(alloc: Global, label: Option<&Label>) -> Result<Option<Label>, AllocError>
     ensures { IfOk result (λ copy. copy ≡ option_copied label.entry) }
 {
     match label {

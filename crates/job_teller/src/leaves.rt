@@ -10,7 +10,7 @@ ghost use Rattle.job_tree.specs.Names.{size_in};
 ghost use Rattle.job_teller.specs.Heres.{HasRoom, IsLeaf, input_of, scene_of, scopes_of, table_of};
 ghost use Rattle.job_teller.specs.Tales.{Tells};
 
-use crate::excs::copied;
+use crate::excs::copy_label;
 use crate::here::Here;
 use crate::notes::{note, note_cancelled, note_sleep};
 use crate::places::spans;
@@ -39,23 +39,23 @@ pub(crate) fn tell_leaf<'a>(
         (tell_step (table_of here.entry) (step_of step.now) (scene_of here.entry) (scopes_of here.entry) tick)) }
 {
     match step {
-        Step::Sleep(ticks) => sleeping(here, Some(tick + *ticks), *ticks, tick, events),
-        Step::Checkpoint => sleeping(here, Some(tick), 0, tick, events),
-        Step::Forever => sleeping(here, None, FAR.saturating_sub(tick), tick, events),
+        Step::Sleep(ticks) => sleep(here, Some(tick + *ticks), *ticks, tick, events),
+        Step::Checkpoint => sleep(here, Some(tick), 0, tick, events),
+        Step::Forever => sleep(here, None, FAR.saturating_sub(tick), tick, events),
         Step::Pace(per_tick) => pace(here, *per_tick, tick, events),
-        Step::Find(text) => found(here, text, tick, events),
+        Step::Find(text) => find(here, text, tick, events),
         Step::Head(count) => head(here, *count, tick, events),
         Step::Longest => longest(here, tick, events),
         Step::Need { text, name } => need(here, text, name, tick, events),
-        Step::Raise(name) => raised(here, name, tick, events),
+        Step::Raise(name) => raise(here, name, tick, events),
         Step::Cancel(name) => cancel(here, name, tick, events),
         _ => unreachable!(),
     }
 }
 
-/// Walks a sleep of `ticks` ticks. The event says until which tick it sleeps, or that it sleeps forever if `until` is `None`. It
-/// ends early if a cancellation is seen.
-pub(crate) fn sleeping<'a>(
+// Walks a sleep of `ticks` ticks. The event says until which tick it sleeps, or that it sleeps forever if `until` is `None`. It
+// ends early if a cancellation is seen.
+pub(crate) fn sleep<'a>(
     here: Here<'a, '_>,
     until: Option<u64>,
     ticks: u64,
@@ -72,12 +72,12 @@ pub(crate) fn sleeping<'a>(
     };
     if from <= tick {
         note_cancelled(here, from, None, tick, events)?;
-        return Ok(Told::failed(here.alloc, Exc::Cancelled, tick));
+        return Ok(Told::failure(here.alloc, Exc::Cancelled, tick));
     }
     note_sleep(here, until, ticks, tick, events)?;
     if from <= tick + ticks {
         note_cancelled(here, from, Some(tick), from, events)?;
-        return Ok(Told::failed(here.alloc, Exc::Cancelled, from));
+        return Ok(Told::failure(here.alloc, Exc::Cancelled, from));
     }
     Ok(Told::at(here.alloc, tick + ticks))
 }
@@ -100,7 +100,7 @@ pub(crate) fn pace<'a>(
 {
     let count = line_count(here)?;
     let ticks = (count + (per_tick - 1)) / per_tick;
-    let told = sleeping(here, Some(tick + ticks), ticks, tick, events)?;
+    let told = sleep(here, Some(tick + ticks), ticks, tick, events)?;
     Ok(told)
 }
 
@@ -117,7 +117,7 @@ fn line_count(here: Here<'_, '_>) -> Result<u64, AllocError>
 }
 
 // Walks a kernel that answered these lines. It takes no time.
-fn shown<'a>(
+fn show_lines<'a>(
     here: Here<'a, '_>,
     lines: FoundLines<'a>,
     tick: u64,
@@ -132,8 +132,8 @@ fn shown<'a>(
     Ok(Told::at(here.alloc, tick))
 }
 
-/// Walks a `find`: the lines of the task's part that contain a string.
-pub(crate) fn found<'a>(
+// Walks a `find`: the lines of the task's part that contain a string.
+pub(crate) fn find<'a>(
     here: Here<'a, '_>,
     text: &'a Text,
     tick: u64,
@@ -145,7 +145,7 @@ pub(crate) fn found<'a>(
     let Answer::Lines(lines) = answer(here.alloc, &Kernel::Find(text.bytes()), here.part)? else {
         unreachable!()
     };
-    let told = shown(here, lines, tick, events)?;
+    let told = show_lines(here, lines, tick, events)?;
     Ok(told)
 }
 
@@ -162,7 +162,7 @@ pub(crate) fn head<'a>(
     let Answer::Lines(lines) = answer(here.alloc, &Kernel::Head(count), here.part)? else {
         unreachable!()
     };
-    let told = shown(here, lines, tick, events)?;
+    let told = show_lines(here, lines, tick, events)?;
     Ok(told)
 }
 
@@ -178,7 +178,7 @@ pub(crate) fn longest<'a>(
     let Answer::Lines(lines) = answer(here.alloc, &Kernel::Longest, here.part)? else {
         unreachable!()
     };
-    let told = shown(here, lines, tick, events)?;
+    let told = show_lines(here, lines, tick, events)?;
     Ok(told)
 }
 
@@ -201,14 +201,14 @@ pub(crate) fn need<'a>(
             task,
             tick,
         };
-        return Ok(Told::failed(here.alloc, exc, tick));
+        return Ok(Told::failure(here.alloc, exc, tick));
     };
-    let told = shown(here, lines, tick, events)?;
+    let told = show_lines(here, lines, tick, events)?;
     Ok(told)
 }
 
-/// Walks a `raise`: an exception of that name.
-pub(crate) fn raised<'a>(
+// Walks a `raise`: an exception of that name.
+pub(crate) fn raise<'a>(
     here: Here<'a, '_>,
     name: &Name,
     tick: u64,
@@ -224,7 +224,7 @@ pub(crate) fn raised<'a>(
         task,
         tick,
     };
-    Ok(Told::failed(here.alloc, exc, tick))
+    Ok(Told::failure(here.alloc, exc, tick))
 }
 
 // Walks a `cancel` of the innermost scope or nursery of that name that encloses the task.
@@ -237,7 +237,7 @@ pub(crate) fn cancel<'a>(
     ensures { IfOk result (λ told. Tells here.entry.task.now events.old.items told events.new.items
         (tell_cancel (label_on name.now (scopes_of here.entry)) tick)) }
 {
-    let label = copied(here.alloc, here.stack.label_on(name))?;
+    let label = copy_label(here.alloc, here.stack.label_on(name))?;
     note(here, tick, Happening::Cancels { label }, events)?;
     Ok(Told::at(here.alloc, tick))
 }

@@ -6,13 +6,13 @@ ghost use Rattle.job_meaning.specs.Walk.{left_with};
 ghost use Rattle.job_story.specs.Events.{event};
 ghost use Rattle.job_story.specs.Held.{event_of, happening_of, kind_of, what_of};
 ghost use Rattle.job_story.specs.Story.{is_cancelled, Tale};
-ghost use Rattle.job_story.specs.Tell.{asleep_for, only, replaced, seer, tell_gathered, tell_wait};
+ghost use Rattle.job_story.specs.Tell.{asleep_for, story_of_one, replacement, seer, tell_gathered, tell_wait};
 ghost use Rattle.job_story.specs.declared.event.Event.{Event as HeldEvent};
 ghost use Rattle.job_teller.specs.Heres.{scopes_of};
 ghost use Rattle.job_teller.specs.Tales.{Adds, IsLeft, Tells};
 
 use crate::block::Block;
-use crate::excs::{boxed_copy, copied, copy_in_box, exc_after, left_with};
+use crate::excs::{boxed_copy, copy_in_box, copy_label, exc_after, left_with};
 use crate::here::Here;
 use crate::told::Told;
 use exc_groups::{Exc, Label};
@@ -43,7 +43,7 @@ pub(crate) fn note<'a>(
     what: Happening,
     events: &mut Vec<Event>,
 ) -> Result<(), AllocError>
-    ensures { OnOk result (Adds here.entry.task.now events.old.items events.new.items (only tick (happening_of what))) }
+    ensures { OnOk result (Adds here.entry.task.now events.old.items events.new.items (story_of_one tick (happening_of what))) }
 {
     add(here.alloc, here.task, tick, What::Happens(what), events)?;
     Ok(())
@@ -78,9 +78,9 @@ pub(crate) fn note_cancelled<'a>(
     events: &mut Vec<Event>,
 ) -> Result<(), AllocError>
     ensures { OnOk result (Adds here.entry.task.now events.old.items events.new.items
-        (only tick (is_cancelled (seer (scopes_of here.entry) from) since here.entry.in_cleanup))) }
+        (story_of_one tick (is_cancelled (seer (scopes_of here.entry) from) since here.entry.in_cleanup))) }
 {
-    let by = copied(here.alloc, here.stack.seer(from))?;
+    let by = copy_label(here.alloc, here.stack.seer(from))?;
     let what = Happening::IsCancelled {
         by,
         since,
@@ -100,7 +100,7 @@ pub(crate) fn note_replaced<'a>(
     events: &mut Vec<Event>,
 ) -> Result<(), AllocError>
     ensures { OnOk result (Adds here.entry.task.now events.old.items events.new.items
-        (replaced (option_map exc_of lost.now) (option_map exc_of fresh.now) tick)) }
+        (replacement (option_map exc_of lost.now) (option_map exc_of fresh.now) tick)) }
 {
     let Some(lost) = lost else {
         return Ok(());

@@ -2,7 +2,7 @@ ghost use Rattle.std.specs.Prelude.{◌≡◌, ◌++◌, Bool, Option, IfOk, OnO
 ghost use Rattle.std.specs.Option.{option_map, is_some};
 ghost use Rattle.exc_groups.specs.Exceptions.{Label as TreeLabel, Exc as TreeExc};
 ghost use Rattle.exc_groups.specs.Held.{exc_of};
-ghost use Rattle.job_story.specs.Held.{boxed};
+ghost use Rattle.job_story.specs.Held.{unboxed_exc};
 ghost use Rattle.job_story.specs.Story.{Story, Tale};
 ghost use Rattle.job_story.specs.Tell.{Scene, told_at, failed_at, and_tale, handled_by, cleaned_by, tell_gathered, tell_child};
 ghost use Rattle.job_teller.specs.Tales.{IsTold};
@@ -48,7 +48,7 @@ impl Told {
 
     // Returns a copy of its exception in a box, if it ended with one.
     pub(crate) fn box_exc(&self, alloc: Global) -> Result<Option<Box<Exc>>, AllocError>
-        ensures { IfOk result (λ copy. boxed copy ≡ option_map exc_of self.now.exc) }
+        ensures { IfOk result (λ copy. unboxed_exc copy ≡ option_map exc_of self.now.exc) }
     {
         boxed_copy(alloc, &self.exc)
     }
@@ -65,8 +65,8 @@ impl Told {
         }
     }
 
-    /// Returns a stretch that ended in this tick with an exception, and started no child.
-    pub(crate) fn failed(alloc: Global, exc: Exc, tick: u64) -> Told
+    // Returns a stretch that ended in this tick with an exception, and started no child.
+    pub(crate) fn failure(alloc: Global, exc: Exc, tick: u64) -> Told
         ensures { (story : Story) → IsTold result (failed_at (exc_of exc) tick story) }
     {
         Told {
@@ -105,7 +105,7 @@ impl Told {
 
     // Joins a `try` body and its handler. What the handler did not handle propagates, in a group with what it raised itself.
     #[inline(never)]
-    pub(crate) fn handled(
+    pub(crate) fn join_handler(
         self,
         alloc: Global,
         next: Told,
@@ -121,7 +121,7 @@ impl Told {
 
     // Joins a `try` and its `finally` block. An exception of that block replaces the earlier one.
     #[inline(never)]
-    pub(crate) fn cleaned(self, alloc: Global, next: Told) -> Result<Told, AllocError>
+    pub(crate) fn join_cleanup(self, alloc: Global, next: Told) -> Result<Told, AllocError>
         ensures { IfOk result (λ w. (a b : Tale) → IsTold self a → IsTold next b → IsTold w (cleaned_by a b)) }
     {
         let before = copy_of(alloc, &self.exc)?;

@@ -7,11 +7,11 @@ ghost use Rattle.job_story.specs.Held.{kind_of};
 ghost use Rattle.job_story.specs.Story.{Tale};
 ghost use Rattle.job_story.specs.Tell.{tell, tell_step, tell_handler, tell_cleanup, tell_block, tell_each, tell_passes};
 ghost use Rattle.job_story.specs.declared.event.Event.{Event as HeldEvent};
-ghost use Rattle.job_teller.specs.Heres.{HasRoom, input_of, scene_of, scopes_of, table_of, inside, started, started_over, started_by, pass};
+ghost use Rattle.job_teller.specs.Heres.{HasRoom, input_of, scene_of, scopes_of, table_of, inside, started_tale, started_over, started_by, pass};
 ghost use Rattle.job_teller.specs.Tales.{Tells};
 
 use crate::block::Block;
-use crate::excs::{boxed_copy, copied};
+use crate::excs::{boxed_copy, copy_label};
 use crate::here::Here;
 use crate::leaves::{due, tell_leaf};
 use crate::notes::{add, leave, note, note_replaced, wait};
@@ -198,9 +198,9 @@ pub(crate) fn tell_child<'a>(
     requires room { HasRoom (size_of (steps_of steps.now)) here tick }
     requires same { buffer_of part ≡ input_of here }
     ensures { IfOk result (λ w. Tells here.entry.task.now events.old.items w events.new.items
-        (started label (range_of part.entry) (steps_of steps.now) here.entry tick)) }
+        (started_tale label (range_of part.entry) (steps_of steps.now) here.entry tick)) }
 {
-    let home = copied(here.alloc, here.stack.home())?;
+    let home = copy_label(here.alloc, here.stack.home())?;
     add(
         here.alloc,
         &label,
@@ -218,7 +218,7 @@ pub(crate) fn tell_child<'a>(
         ..here
     };
     let told = tell_steps(steps, inside, tick, events)?;
-    let home = copied(here.alloc, here.stack.home())?;
+    let home = copy_label(here.alloc, here.stack.home())?;
     let exc = told.box_exc(here.alloc)?;
     let what = What::Ends { home, exc };
     add(here.alloc, &label, told.end(), what, events)?;
@@ -360,7 +360,7 @@ fn tell_handler<'a>(
     };
     note(here, told.end(), what, events)?;
     let next = tell_steps(handler.body.as_slice(), here, told.end(), events)?;
-    let told = told.handled(here.alloc, next, rest)?;
+    let told = told.join_handler(here.alloc, next, rest)?;
     Ok(told)
 }
 
@@ -390,7 +390,7 @@ fn tell_cleanup<'a>(
     };
     let next = tell_steps(cleanup.as_slice(), inside, told.end(), events)?;
     note_replaced(here, &told.exc, &next.exc, next.end(), events)?;
-    let told = told.cleaned(here.alloc, next)?;
+    let told = told.join_cleanup(here.alloc, next)?;
     Ok(told)
 }
 

@@ -1,7 +1,7 @@
 ghost use Rattle.std.specs.Prelude.{◌≡◌, [], Some, map, IfOk};
 ghost use Rattle.std.specs.Option.{option_copied};
 ghost use Rattle.job_story.specs.Froms.{table_in};
-ghost use Rattle.story_causes.specs.Seen.{seen};
+ghost use Rattle.story_causes.specs.Seen.{event_in};
 ghost use Rattle.story_focus.specs.Holds.{label_seen};
 ghost use Rattle.story_focus.specs.Nearest.{nearest_in};
 ghost use Rattle.story_app.specs.Stories.{label_or_nothing};
@@ -28,7 +28,7 @@ pub(crate) fn story_about(
     task: Option<&[u8]>,
 ) -> Result<(StoryVerdict, Vec<u8>), AllocError>
     ensures { IfOk result (λ r. IsTold job.now.name (table_in meaning.now.table) until meaning.now.ending
-        (option_copied task.entry) (map seen walked.now) r.0 r.1.items) }
+        (option_copied task.entry) (map event_in walked.now) r.0 r.1.items) }
 {
     let Some(text) = task else {
         let bytes = story_json(alloc, job.name(), until, walked, &meaning.table, None)?;
@@ -49,7 +49,7 @@ fn story_about_task(
     text: &[u8],
 ) -> Result<(StoryVerdict, Vec<u8>), AllocError>
     ensures { IfOk result (λ r. IsTold job.now.name (table_in meaning.now.table) until meaning.now.ending
-        (Some text.now) (map seen walked.now) r.0 r.1.items) }
+        (Some text.now) (map event_in walked.now) r.0 r.1.items) }
 {
     let named = task_named(alloc, walked, text)?;
     let Some(label) = named else {
@@ -69,7 +69,7 @@ fn story_about_task(
 
 // Returns the text of the label of the task that is nearest to this text.
 fn nearest_text(alloc: Global, walked: &[&Event], text: &[u8]) -> Result<Vec<u8>, AllocError>
-    ensures { IfOk result (λ nearest. nearest.items ≡ label_or_nothing (nearest_in text.now (map seen walked.now))) }
+    ensures { IfOk result (λ nearest. nearest.items ≡ label_or_nothing (nearest_in text.now (map event_in walked.now))) }
 {
     let nearest = nearest_task(alloc, walked, text)?;
     let label = text_of(alloc, nearest)?;

@@ -6,7 +6,7 @@ use Rattle.cancel_scopes.specs.Sight.{Tick}
 use Rattle.job_meaning.specs.Log.{Table}
 use Rattle.job_story.specs.Events.{Event, in_order}
 use Rattle.job_story.specs.Limit.{running_in}
-use Rattle.job_story.specs.Focus.{concerned, of_tasks}
+use Rattle.job_story.specs.Focus.{concerned_tasks, of_tasks}
 use Rattle.json_report.specs.Values.{list_of, text_json}
 use Rattle.json_story.specs.Events.{tick_json, event_json}
 use Rattle.json_story.specs.Running.{task_json}
@@ -28,5 +28,5 @@ abbrev pub story_json : List ℕ → Tick → Table → Option Label → List Ev
 story_json name until table None walked = kept_json name until table (in_order walked) (in_order walked) walked
 story_json name until table (Some task) walked =
     let all = in_order walked in
-    let tasks = concerned table all task in
+    let tasks = concerned_tasks table all task in
     kept_json name until table all (of_tasks tasks all) (of_tasks tasks walked)

@@ -1,13 +1,13 @@
 -- The events from which the tasks are known.
 use Rattle.std.specs.Prelude.{List, map}
 use Rattle.job_story.specs.Events as told
-use Rattle.story_causes.specs.Seen.{seen}
+use Rattle.story_causes.specs.Seen.{event_in}
 use Rattle.json_story.specs.declared.lasts.Tasks.{Tasks}
 
 -- in order
 abbrev pub sorted_in : Tasks → List told.Event
-sorted_in tasks = map seen tasks.sorted.now
+sorted_in tasks = map event_in tasks.sorted.now
 
 -- in the order of the walk
 abbrev pub walked_in : Tasks → List told.Event
-walked_in tasks = map seen tasks.walked.now
+walked_in tasks = map event_in tasks.walked.now

@@ -1,8 +1,8 @@
 ghost use Rattle.std.specs.Prelude.{◌≡◌, ◌++◌, [], ◌∷◌, take, map, IfOk, OnOk, codes};
 ghost use Rattle.serde_json.specs.Data.{put as with_member};
 ghost use Rattle.serde_json.specs.View.{view, members_view};
-ghost use Rattle.job_story.specs.Held.{boxed, what_of, event_of};
-ghost use Rattle.story_causes.specs.Seen.{seen};
+ghost use Rattle.job_story.specs.Held.{unboxed_exc, what_of, event_of};
+ghost use Rattle.story_causes.specs.Seen.{event_in};
 ghost use Rattle.json_story.specs.Events.{what_word, with_what, event_head, event_json};
 ghost use Rattle.json_story.specs.Known.{events_in, froms_in};
 
@@ -21,7 +21,7 @@ pub(crate) fn event_values(
     events: &[&Event],
 ) -> Result<Vec<Value>, AllocError>
     ensures { IfOk result (λ values. map view values.items
-        ≡ map (event_json (froms_in known.now) (events_in known.now)) (map seen events.now)) }
+        ≡ map (event_json (froms_in known.now) (events_in known.now)) (map event_in events.now)) }
 {
     let mut values = Vec::new(alloc);
     'events: for event in events {

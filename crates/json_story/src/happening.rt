@@ -2,7 +2,7 @@ ghost use Rattle.std.specs.Prelude.{◌≡◌, ◌++◌, [], ◌∷◌, Some, ta
 ghost use Rattle.serde_json.specs.Data.{boolean, put as with_member};
 ghost use Rattle.serde_json.specs.View.{view, members_view};
 ghost use Rattle.exc_groups.specs.Held.{exc_of};
-ghost use Rattle.job_story.specs.Held.{boxed, kind_of, span_in, happening_of};
+ghost use Rattle.job_story.specs.Held.{unboxed_exc, kind_of, span_in, happening_of};
 ghost use Rattle.json_report.specs.Values.{list_of, label_json, exc_json};
 ghost use Rattle.json_story.specs.Events.{tick_json, label_or_null, exc_or_null, why_json, cancel_from, failure_from, kind_key, span_json, happening_word, with_happening};
 ghost use Rattle.json_story.specs.Known.{events_in, froms_in};
@@ -203,7 +203,7 @@ fn put_handles(
     matched: &Exc,
     rest: &Option<Box<Exc>>,
 ) -> Result<(), AllocError>
-    ensures { OnOk result (members_view members.new.entries ≡ with_member (codes "rest") (exc_or_null (boxed rest.now))
+    ensures { OnOk result (members_view members.new.entries ≡ with_member (codes "rest") (exc_or_null (unboxed_exc rest.now))
         (with_member (codes "matched") (exc_json (exc_of matched.now)) (members_view members.old.entries))) }
 {
     let handled = exc_value(alloc, matched)?;
@@ -239,8 +239,8 @@ fn put_waits(
     tick: u64,
 ) -> Result<(), AllocError>
     ensures { OnOk result (members_view members.new.entries
-        ≡ with_member (codes "from") (tick_json (failure_from (froms_in known.now) (Some nursery.now) (boxed exc.now) tick))
-        (with_member (codes "exception") (exc_or_null (boxed exc.now))
+        ≡ with_member (codes "from") (tick_json (failure_from (froms_in known.now) (Some nursery.now) (unboxed_exc exc.now) tick))
+        (with_member (codes "exception") (exc_or_null (unboxed_exc exc.now))
         (with_member (codes "nursery") (label_json nursery.now) (members_view members.old.entries)))) }
 {
     let label = label_value(alloc, nursery)?;
@@ -264,8 +264,8 @@ fn put_leaving(
     caught: bool,
     outside: &Option<Box<Exc>>,
 ) -> Result<(), AllocError>
-    ensures { OnOk result (members_view members.new.entries ≡ with_member (codes "outside") (exc_or_null (boxed outside.now))
-        (with_member (codes "caught") (boolean caught) (with_member (codes "inside") (exc_or_null (boxed inside.now))
+    ensures { OnOk result (members_view members.new.entries ≡ with_member (codes "outside") (exc_or_null (unboxed_exc outside.now))
+        (with_member (codes "caught") (boolean caught) (with_member (codes "inside") (exc_or_null (unboxed_exc inside.now))
         (members_view members.old.entries)))) }
 {
     let before = exc_or_null(alloc, inside)?;

@@ -1,7 +1,7 @@
 ghost use Rattle.std.specs.Prelude.{map};
 ghost use Rattle.job_story.specs.Froms.{table_in};
 ghost use Rattle.story_causes.specs.Knows.{Knows};
-ghost use Rattle.story_causes.specs.Seen.{seen};
+ghost use Rattle.story_causes.specs.Seen.{event_in};
 
 use job_story::{Event, Froms};
 use story_causes::Causes;
@@ -13,5 +13,5 @@ pub(crate) struct Known<'k, 'e> {
     pub events: &'k [&'e Event],
     pub froms: &'k Froms,
     pub causes: &'k Causes<'e>,
-    ghost known: { Knows causes.now (table_in froms.now) (map seen events.now) },
+    ghost known: { Knows causes.now (table_in froms.now) (map event_in events.now) },
 }

@@ -7,7 +7,7 @@ ghost use Rattle.exc_groups.specs.Exceptions.{Excs, no_parts, part, cancelled};
 ghost use Rattle.job_meaning.specs.Log.{same_label};
 ghost use Rattle.job_story.specs.Held.{event_of, what_of};
 ghost use Rattle.job_story.specs.Limit.{is_end, has_ended};
-ghost use Rattle.story_causes.specs.Seen.{seen};
+ghost use Rattle.story_causes.specs.Seen.{event_in};
 ghost use Rattle.story_text.specs.Lasts.{is_among, event_at};
 ghost use Rattle.json_story.specs.Lasts.{last_event, seen_last};
 
@@ -25,8 +25,8 @@ pub(crate) struct Tasks<'s, 'e> {
     ended: IndexSet<&'e Label>,
     lasts: IndexMap<&'e Label, &'e Event>,
     // An event has a code, with an exception in it as the only part of a group, so each fact has at most one proof.
-    ghost ends: { (l : tree.Label) → is_among ended l ≡ has_ended l (map seen walked.now) },
-    ghost does: { (l : tree.Label) → seen_last (event_at lasts l) ≡ last_event l (map seen sorted.now) None } by { Prim.hlevel (props, code_by Excs excs_code (λ exc. part exc no_parts) (elim [ no_parts ↦ cancelled | part exc parts ↦ exc ]) (λ exc. refl)) },
+    ghost ends: { (l : tree.Label) → is_among ended l ≡ has_ended l (map event_in walked.now) },
+    ghost does: { (l : tree.Label) → seen_last (event_at lasts l) ≡ last_event l (map event_in sorted.now) None } by { Prim.hlevel (props, code_by Excs excs_code (λ exc. part exc no_parts) (elim [ no_parts ↦ cancelled | part exc parts ↦ exc ]) (λ exc. refl)) },
 }
 
 impl<'s, 'e> Tasks<'s, 'e> {
@@ -51,14 +51,14 @@ impl<'s, 'e> Tasks<'s, 'e> {
 
     // Returns whether a task has ended.
     pub(crate) fn has_ended(&self, label: &Label) -> bool
-        ensures { result ≡ has_ended label.now (map seen self.now.walked.now) }
+        ensures { result ≡ has_ended label.now (map event_in self.now.walked.now) }
     {
         self.ended.contains(&label)
     }
 
     // Returns the last event of a task.
     pub(crate) fn last(&self, label: &Label) -> Option<&'e Event>
-        ensures { seen_last result ≡ last_event label.now (map seen self.now.sorted.now) None }
+        ensures { seen_last result ≡ last_event label.now (map event_in self.now.sorted.now) None }
     {
         self.lasts.get(&label).copied()
     }
@@ -66,7 +66,7 @@ impl<'s, 'e> Tasks<'s, 'e> {
 
 // Returns the tasks that end in these events.
 fn ended_tasks<'e>(alloc: Global, events: &[&'e Event]) -> Result<IndexSet<&'e Label>, AllocError>
-    ensures { IfOk result (λ ended. (l : tree.Label) → is_among ended l ≡ has_ended l (map seen events.now)) }
+    ensures { IfOk result (λ ended. (l : tree.Label) → is_among ended l ≡ has_ended l (map event_in events.now)) }
 {
     let mut ended = IndexSet::new(alloc);
     'events: for event in events {
@@ -103,7 +103,7 @@ fn last_events<'e>(
     alloc: Global,
     events: &[&'e Event],
 ) -> Result<IndexMap<&'e Label, &'e Event>, AllocError>
-    ensures { IfOk result (λ lasts. (l : tree.Label) → seen_last (event_at lasts l) ≡ last_event l (map seen events.now) None) }
+    ensures { IfOk result (λ lasts. (l : tree.Label) → seen_last (event_at lasts l) ≡ last_event l (map event_in events.now) None) }
 {
     let mut lasts = IndexMap::new(alloc);
     'events: for event in events {

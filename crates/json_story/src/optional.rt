@@ -1,6 +1,6 @@
 ghost use Rattle.std.specs.Prelude.{◌≡◌, IfOk};
 ghost use Rattle.serde_json.specs.View.{view};
-ghost use Rattle.job_story.specs.Held.{boxed};
+ghost use Rattle.job_story.specs.Held.{unboxed_exc};
 ghost use Rattle.json_story.specs.Events.{tick_json, label_or_null, exc_or_null};
 
 use exc_groups::{Exc, Label};
@@ -30,7 +30,7 @@ pub(crate) fn label_or_null(alloc: Global, label: &Option<Label>) -> Result<Valu
 
 // Returns an exception, or `null`.
 pub(crate) fn exc_or_null(alloc: Global, exc: &Option<Box<Exc>>) -> Result<Value, AllocError>
-    ensures { IfOk result (λ value. view value ≡ exc_or_null (boxed exc.now)) }
+    ensures { IfOk result (λ value. view value ≡ exc_or_null (unboxed_exc exc.now)) }
 {
     match exc {
         Some(exc) => exc_value(alloc, exc),

@@ -5,7 +5,7 @@ ghost use Rattle.exc_groups.specs.Exceptions as tree;
 ghost use Rattle.job_story.specs.Held.{happening_of, what_of};
 ghost use Rattle.job_story.specs.Events as told;
 ghost use Rattle.job_story.specs.Limit.{has_ended, start_if, is_start, running_in};
-ghost use Rattle.story_causes.specs.Seen.{seen};
+ghost use Rattle.story_causes.specs.Seen.{event_in};
 ghost use Rattle.json_report.specs.Values.{integer, word};
 ghost use Rattle.json_story.specs.Lasts.{seen_last};
 ghost use Rattle.json_story.specs.Running.{with_idle, with_doing, with_last, task_json};
@@ -26,7 +26,7 @@ pub(crate) fn running_values(
     walked: &[&Event],
 ) -> Result<Vec<Value>, AllocError>
     ensures { IfOk result (λ values. map view values.items
-        ≡ map (task_json (sorted_in tasks.now)) (running_in (walked_in tasks.now) (map seen walked.now))) }
+        ≡ map (task_json (sorted_in tasks.now)) (running_in (walked_in tasks.now) (map event_in walked.now))) }
 {
     let mut values = Vec::new(alloc);
     'walked: for event in walked {

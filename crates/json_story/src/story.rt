@@ -2,7 +2,7 @@ ghost use Rattle.std.specs.Prelude.{◌≡◌, IfOk, map};
 ghost use Rattle.serde_json.specs.View.{view};
 ghost use Rattle.job_story.specs.Froms.{table_in};
 ghost use Rattle.story_causes.specs.Knows.{Knows};
-ghost use Rattle.story_causes.specs.Seen.{seen};
+ghost use Rattle.story_causes.specs.Seen.{event_in};
 ghost use Rattle.story_focus.specs.Holds.{label_seen};
 ghost use Rattle.json_report.specs.Values.{document};
 ghost use Rattle.json_story.specs.Known.{events_in, froms_in};
@@ -20,7 +20,7 @@ use json_report::{document, text_value};
 use serde_json::{Value, json};
 use std::alloc::{AllocError, Global};
 use story_causes::Causes;
-use story_focus::{concerned, of_tasks};
+use story_focus::{concerned_tasks, of_tasks};
 use story_text::in_order;
 
 /// Returns the story of a job as one JSON document, in compact form and with a newline, given its events in the order of the walk
@@ -36,7 +36,7 @@ pub fn story_json<'e>(
     task: Option<&'e Label>,
 ) -> Result<Vec<u8>, AllocError>
     ensures { IfOk result (λ bytes. bytes.items
-        ≡ document (story_json job until (table_in table.entry.now) (label_seen task.entry) (map seen walked.now))) }
+        ≡ document (story_json job until (table_in table.entry.now) (label_seen task.entry) (map event_in walked.now))) }
 {
     let all = in_order(alloc, walked)?;
     let causes = Causes::of(alloc, all.as_slice(), table)?;
@@ -45,7 +45,7 @@ pub fn story_json<'e>(
         let bytes = kept_json(alloc, job, until, &known, all.as_slice(), walked)?;
         return Ok(bytes);
     };
-    let tasks = concerned(alloc, all.as_slice(), &causes, task)?;
+    let tasks = concerned_tasks(alloc, all.as_slice(), &causes, task)?;
     let sorted = of_tasks(alloc, all.as_slice(), &tasks)?;
     let walked = of_tasks(alloc, walked, &tasks)?;
     let bytes = kept_json(
@@ -70,7 +70,7 @@ fn kept_json(
     walked: &[&Event],
 ) -> Result<Vec<u8>, AllocError>
     ensures { IfOk result (λ bytes. bytes.items
-        ≡ document (kept_json job until (froms_in known.now) (events_in known.now) (map seen sorted.now) (map seen walked.now))) }
+        ≡ document (kept_json job until (froms_in known.now) (events_in known.now) (map event_in sorted.now) (map event_in walked.now))) }
 {
     let value = kept_value(alloc, job, until, known, sorted, walked)?;
     document(alloc, &value)
@@ -86,7 +86,7 @@ fn kept_value(
     walked: &[&Event],
 ) -> Result<Value, AllocError>
     ensures { IfOk result (λ value. view value
-        ≡ kept_json job until (froms_in known.now) (events_in known.now) (map seen sorted.now) (map seen walked.now)) }
+        ≡ kept_json job until (froms_in known.now) (events_in known.now) (map event_in sorted.now) (map event_in walked.now)) }
 {
     let name = text_value(alloc, job.bytes())?;
     let events = event_values(alloc, known, sorted)?;
@@ -101,7 +101,7 @@ fn running_until(
     sorted: &[&Event],
     walked: &[&Event],
 ) -> Result<Vec<Value>, AllocError>
-    ensures { IfOk result (λ values. map view values.items ≡ running_json until (map seen sorted.now) (map seen walked.now)) }
+    ensures { IfOk result (λ values. map view values.items ≡ running_json until (map event_in sorted.now) (map event_in walked.now)) }
 {
     match until {
         Some(_) => {

@@ -2,10 +2,10 @@ ghost use Rattle.std.specs.Prelude.{◌≡◌, Some, map};
 ghost use Rattle.std.specs.Option.{option_map};
 ghost use Rattle.job_story.specs.Causes.{cause_of};
 ghost use Rattle.job_story.specs.Froms.{table_in};
-ghost use Rattle.job_story.specs.Held.{boxed};
+ghost use Rattle.job_story.specs.Held.{unboxed_exc};
 ghost use Rattle.story_causes.specs.Found.{cause_in_code};
 ghost use Rattle.story_causes.specs.Knows.{Knows};
-ghost use Rattle.story_causes.specs.Seen.{seen};
+ghost use Rattle.story_causes.specs.Seen.{event_in};
 ghost use Rattle.json_story.specs.Events.{next_if, cancel_from, failure_from};
 ghost use Rattle.json_story.specs.Known.{events_in, froms_in};
 
@@ -21,8 +21,8 @@ impl<'k, 'e> Known<'k, 'e> {
         froms: &'k Froms,
         causes: &'k Causes<'e>,
     ) -> Known<'k, 'e>
-        requires { Knows causes.now (table_in froms.now) (map seen events.now) }
-        ensures events { events_in result ≡ map seen events.now }
+        requires { Knows causes.now (table_in froms.now) (map event_in events.now) }
+        ensures events { events_in result ≡ map event_in events.now }
         ensures froms { froms_in result ≡ table_in froms.now }
     {
         Known {
@@ -56,7 +56,7 @@ impl<'k, 'e> Known<'k, 'e> {
         exc: &Option<Box<Exc>>,
         tick: u64,
     ) -> Option<u64>
-        ensures { result ≡ failure_from (froms_in self.now) home.now (boxed exc.now) tick }
+        ensures { result ≡ failure_from (froms_in self.now) home.now (unboxed_exc exc.now) tick }
     {
         match exc {
             Some(_) => self.cancel_from(home, tick),
@@ -71,7 +71,7 @@ impl<'k, 'e> Known<'k, 'e> {
         exc: &Option<Box<Exc>>,
         tick: u64,
     ) -> Option<u64>
-        ensures { result ≡ failure_from (froms_in self.now) (Some nursery.now) (boxed exc.now) tick }
+        ensures { result ≡ failure_from (froms_in self.now) (Some nursery.now) (unboxed_exc exc.now) tick }
     {
         match exc {
             Some(_) => next_if(self.froms.of(nursery), tick),

@@ -9,8 +9,8 @@ use Rattle.job_edits.specs.declared.site.Moment.TheVariants.{Sleep}
 use Rattle.job_edits.specs.declared.shift.Hair.TheVariants.{Earlier, Later}
 use Rattle.job_lint.specs.declared.warning.Lint.TheVariants.{Unreachable, IdleScope}
 use Rattle.fault_text.specs.JobOutcomes.{refused, stuck, ended}
-use Rattle.fault_text.specs.Examples.{task, told}
-use Rattle.sweep_text.specs.Examples.{told as value}
+use Rattle.fault_text.specs.Examples.{task, line_with}
+use Rattle.sweep_text.specs.Examples.{value_with as value}
 use Rattle.race_rows.specs.Differences.{otherwise, inside}
 use Rattle.race_text.specs.Examples.{copy}
 use Rattle.race_text.specs.Lines as races
@@ -24,10 +24,10 @@ use Rattle.json_tables.specs.Lints.{lints_json}
 -- step is doubled as in a report, and once more by JSON.
 pub faults_are_written :
     document (faults_json 50 (ended 3 (Some cancelled) [] [] false)
-    (told 7 11 (wait.Sleep 3) Fails true
+    (line_with 7 11 (wait.Sleep 3) Fails true
     (ended 4 (Some (group (by_nursery (task (codes "n"))) (part (raised (codes "E") (task (codes "a")) 2) no_parts))) (task (codes "b") ∷ []) (task (codes "c") ∷ []) true)
-    ∷ told 9 3 wait.Forever Hangs false (stuck (task (codes "a") ∷ []))
-    ∷ told 10 3 (wait.Need (codes "k\\") (codes "Gone")) (Misses (codes "X")) false refused
+    ∷ line_with 9 3 wait.Forever Hangs false (stuck (task (codes "a") ∷ []))
+    ∷ line_with 10 3 (wait.Need (codes "k\\") (codes "Gone")) (Misses (codes "X")) false refused
     ∷ []))
     ≡ codes "{\"as_it_is\":{\"result\":{\"cancelled\":[],\"cut\":[],\"end\":3,\"exception\":{\"cancelled\":true},\"lost\":false,\"outcome\":\"cancelled\"}},"
     ++ codes "\"counts\":{\"cut\":1,\"faults\":3,\"lost\":1,\"not_reached\":1,\"refused\":1,\"stuck\":1},"

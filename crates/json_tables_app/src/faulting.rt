@@ -5,7 +5,7 @@ ghost use Rattle.fault_text.specs.Views.{job_outcome_held, line_held};
 ghost use Rattle.json_tables_app.specs.Faults.{IsDocumentOf, IsVerdict, IsSent, IsFaultsFault};
 
 use fault_app::{FaultLines, FaultsVerdict, fault_lines};
-use fault_text::{Deny, denied};
+use fault_text::{Deny, denied_text};
 use job_grammar::Name;
 use job_report::{Out, send};
 use job_runner::Settings;
@@ -92,6 +92,6 @@ fn document_and_denied(
         r.1.items r.0.items) }
 {
     let bytes = faults_document(alloc, limit, &told.first, told.lines.as_slice())?;
-    let denied = denied(alloc, limit, &told.first, told.lines.as_slice(), deny)?;
+    let denied = denied_text(alloc, limit, &told.first, told.lines.as_slice(), deny)?;
     Ok((denied, bytes))
 }

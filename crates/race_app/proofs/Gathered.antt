@@ -7,13 +7,13 @@ use Rattle.job_grammar.specs.declared.fault.JobFault.{JobFault}
 use Rattle.job_grammar.specs.Refusals.{Spells, IsRefused}
 use Rattle.job_meaning.specs.Shown.{Row, meaning_rows}
 use Rattle.job_runner.specs.Runs.{root_end}
-use Rattle.job_edits.specs.Changes.{changed}
+use Rattle.job_edits.specs.Changes.{changed_text}
 use Rattle.job_edits.specs.Finer.{finer_changes, shifts_of}
 use Rattle.job_edits.specs.declared.change.Change.{Change}
 use Rattle.job_edits.specs.declared.copied.CopiedStart.{CopiedStart}
 use Rattle.job_edits.specs.declared.finer.Finer.{Finer}
 use Rattle.job_edits.specs.declared.shift.Shift.{Shift}
-use Rattle.fault_text.specs.JobOutcomes.{walked}
+use Rattle.fault_text.specs.JobOutcomes.{walked_events}
 use Rattle.slot_work.specs.Answers.{AreAnswers}
 use Rattle.slot_work.proofs.Answered.{seen_as}
 use Rattle.race_text.specs.Lines as told
@@ -54,7 +54,7 @@ of_run author input first shown rows end found moves lines s e f are l =
 pub with_copies : (author : Author) (input : List ℕ) (first : Ran) (job : Tree) (rows : List Row) (lines all : List told.Line) →
     rows ≡ meaning_rows job input →
     AreLinesBeside author input first (ran (nat_le (root_end rows) author.limit) rows) lines →
-    all ≡ lines ++ copies_lines author.text.now author.limit author.finer (walked job input) author.starts.now →
+    all ≡ lines ++ copies_lines author.text.now author.limit author.finer (walked_events job input) author.starts.now →
     AreLinesFor author input first job all
 with_copies author input first job rows lines all r are a =
     let run : ran (nat_le (root_end rows) author.limit) rows ≡ ran_of author.limit job input =
@@ -66,19 +66,19 @@ with_copies author input first job rows lines all r are a =
       all =
           a
           ∙ ap
-          (λ (ls : List told.Line). ls ++ copies_lines author.text.now author.limit author.finer (walked job input) author.starts.now)
+          (λ (ls : List told.Line). ls ++ copies_lines author.text.now author.limit author.finer (walked_events job input) author.starts.now)
           (are.all ∙ ap (λ (before : Ran). told.finer (found_between first before) ∷ are.moves) run);
     }
 
 -- all lines of a text whose text in finer ticks spells a job
 pub for_job : (author : Author) (input : List ℕ) (first : Ran) (job : Tree) (text : List ℕ) (changes : List Change) (lines : List told.Line) →
-    changes ≡ finer_changes author.finer author.sites.now → text ≡ changed author.text.now changes → Spells text job →
+    changes ≡ finer_changes author.finer author.sites.now → text ≡ changed_text author.text.now changes → Spells text job →
     AreLinesFor author input first job lines → AreLinesOf author input first lines
 for_job author input first job text changes lines c t spells are =
     record {
       before = ran_of author.limit job input;
-      events = walked job input;
-      before_is = inl (job, subst (λ (x : List ℕ). Spells x job) (t ∙ ap (changed author.text.now) c) spells, refl, refl);
+      events = walked_events job input;
+      before_is = inl (job, subst (λ (x : List ℕ). Spells x job) (t ∙ ap (changed_text author.text.now) c) spells, refl, refl);
       moves = are.moves;
       moves_are = are.moves_are;
       all = are.all;
@@ -105,14 +105,14 @@ all_of_refused author first moves =
 
 -- all lines of a text whose text in finer ticks is refused
 pub for_refused : (author : Author) (input : List ℕ) (first : Ran) (fault : JobFault) (text : List ℕ) (changes : List Change) (lines : List told.Line) →
-    changes ≡ finer_changes author.finer author.sites.now → text ≡ changed author.text.now changes →
+    changes ≡ finer_changes author.finer author.sites.now → text ≡ changed_text author.text.now changes →
     IsRefused text fault.kind fault.at → AreLinesOfRefused author input lines → AreLinesOf author input first lines
 for_refused author input first fault text changes lines c t is are =
     record {
       before = refused;
       events = [];
       before_is =
-          inr (fault, subst (λ (x : List ℕ). IsRefused x fault.kind fault.at) (t ∙ ap (changed author.text.now) c) is, refl, refl);
+          inr (fault, subst (λ (x : List ℕ). IsRefused x fault.kind fault.at) (t ∙ ap (changed_text author.text.now) c) is, refl, refl);
       moves = are.moves;
       moves_are = are.moves_are;
       all = are.all ∙ all_of_refused author first are.moves;

@@ -10,7 +10,7 @@ use Rattle.job_meaning.specs.Meaning.{meaning_end}
 use Rattle.job_meaning.specs.Shown.{Row, meaning_rows}
 use Rattle.job_edits.specs.Sites.{sites_in}
 use Rattle.job_edits.specs.Copied.{copied_in}
-use Rattle.job_edits.specs.Finer.{capped, finer_for, most_ticks, shifts_of}
+use Rattle.job_edits.specs.Finer.{finer_for, most_ticks, shifts_of}
 use Rattle.job_edits.specs.declared.site.Site.{Site}
 use Rattle.job_edits.specs.declared.copied.CopiedStart.{CopiedStart}
 use Rattle.job_edits.specs.declared.finer.Finer.{Finer}

@@ -7,7 +7,7 @@ use Rattle.job_grammar.specs.Refusals.{Spells, HasTokens}
 use Rattle.job_meaning.specs.Meaning.{meaning_end}
 use Rattle.job_edits.specs.Sites.{sites_in}
 use Rattle.job_edits.specs.Copied.{copied_in}
-use Rattle.job_edits.specs.Finer.{capped, finer_for, shifts_of}
+use Rattle.job_edits.specs.Finer.{finer_for, shifts_of}
 use Rattle.job_edits.specs.declared.finer.Finer.{Finer}
 use Rattle.race_text.specs.Lines.{Line}
 use Rattle.race_text.specs.Views.{line_held}

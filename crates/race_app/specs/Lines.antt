@@ -1,7 +1,7 @@
 -- The lines of `races` for a job text.
 use Rattle.std.specs.Prelude.{◌≡◌, ℕ, ◌/◌, nat_le, if◌then◌else◌, Option, Some, None, List, [], ◌∷◌, ◌++◌}
 use Rattle.job_story.specs.Events.{Event}
-use Rattle.job_edits.specs.Changes.{changed}
+use Rattle.job_edits.specs.Changes.{changed_text}
 use Rattle.job_edits.specs.Finer.{finer_changes, shifted_changes, shifts_of}
 use Rattle.job_edits.specs.declared.site.Site.{Site}
 use Rattle.job_edits.specs.declared.copied.CopiedStart.{CopiedStart}
@@ -19,7 +19,7 @@ use Rattle.race_app.specs.Ran.{Ran, IsRan, IsBeside, found_between}
 -- finer ticks.
 abbrev pub IsMoved : List ℕ → List ℕ → ℕ → Finer → List Site → Ran → Shift → Line → Type 0
 IsMoved text input limit f sites before shift line =
-    (found : Found) × IsBeside (changed text (shifted_changes f shift sites)) input limit before found
+    (found : Found) × IsBeside (changed_text text (shifted_changes f shift sites)) input limit before found
     × (line ≡ moved (line_of text shift.site.from) (column_of text shift.site.from) shift.site.moment shift.hair found)
 
 -- ---- copies that meet
@@ -45,7 +45,7 @@ copies_lines text limit f events (c ∷ cs) =
 pub record AreLines (text input : List ℕ) (limit : ℕ) (f : Finer) (sites : List Site) (starts : List CopiedStart) (first : Ran) (lines : List Line) : Type 0 where
   pub before : Ran
   pub events : List Event
-  pub before_is : IsRan (changed text (finer_changes f sites)) input limit before events
+  pub before_is : IsRan (changed_text text (finer_changes f sites)) input limit before events
   pub moves : List Line
   pub moves_are : AreAnswers (IsMoved text input limit f sites before) (shifts_of sites) moves
   pub all : lines ≡ finer (found_between first before) ∷ (moves ++ copies_lines text limit f events starts)

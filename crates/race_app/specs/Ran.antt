@@ -6,7 +6,7 @@ use Rattle.job_grammar.specs.Refusals.{Spells, IsRefused}
 use Rattle.job_meaning.specs.Meaning.{meaning_end}
 use Rattle.job_meaning.specs.Shown.{Row, meaning_rows}
 use Rattle.job_story.specs.Events.{Event}
-use Rattle.fault_text.specs.JobOutcomes.{walked}
+use Rattle.fault_text.specs.JobOutcomes.{walked_events}
 use Rattle.race_rows.specs.Runs.{of_runs}
 use Rattle.race_text.specs.Lines as told
 use Rattle.race_text.specs.Lines.{Found}
@@ -23,7 +23,7 @@ ran_of limit job input = ran (nat_le (meaning_end job input) limit) (meaning_row
 -- no events if the text is refused
 abbrev pub IsRan : List ℕ → List ℕ → ℕ → Ran → List Event → Type 0
 IsRan text input limit r events =
-    ((job : Tree) × Spells text job × (r ≡ ran_of limit job input) × (events ≡ walked job input))
+    ((job : Tree) × Spells text job × (r ≡ ran_of limit job input) × (events ≡ walked_events job input))
     ⊎ ((fault : JobFault) × IsRefused text fault.kind fault.at × (r ≡ refused) × (events ≡ []))
 
 -- what a run shows that another one does not show, apart from ticks

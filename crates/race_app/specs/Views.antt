@@ -4,7 +4,7 @@ use Rattle.std.specs.Borrow.{Bor}
 use Rattle.job_tree.specs.Tree.{Tree}
 use Rattle.job_meaning.specs.declared.limits.TheConstants.{MAX_INPUT}
 use Rattle.task_table.specs.Records.{row_in}
-use Rattle.fault_text.specs.JobOutcomes.{walked}
+use Rattle.fault_text.specs.JobOutcomes.{walked_events}
 use Rattle.job_edits.specs.Finer.{shifts_of}
 use Rattle.job_edits.specs.declared.shift.Shift.{Shift}
 use Rattle.slot_work.specs.Answers.{AreAnswers}
@@ -60,7 +60,7 @@ pub record AreLinesFor (author : Author) (input : List ℕ) (first : Ran) (job :
   pub moves_are : AreAnswers (IsMovedBy author input (ran_of author.limit job input)) (shifts_of author.sites.now) moves
   pub all :
       lines ≡ told.finer (found_between first (ran_of author.limit job input))
-      ∷ (moves ++ copies_lines author.text.now author.limit author.finer (walked job input) author.starts.now)
+      ∷ (moves ++ copies_lines author.text.now author.limit author.finer (walked_events job input) author.starts.now)
 
 -- all lines of a text whose text in finer ticks is refused
 pub record AreLinesOfRefused (author : Author) (input : List ℕ) (lines : List told.Line) : Type 0 where

@@ -1,6 +1,6 @@
 ghost use Rattle.std.specs.Prelude.{◌≡◌, ◌<◌, ◌++◌, OnOk, map};
 ghost use Rattle.std.specs.Option.{option_map};
-ghost use Rattle.story_causes.specs.Seen.{seen};
+ghost use Rattle.story_causes.specs.Seen.{event_in};
 ghost use Rattle.race_copies.specs.Views.{meeting_held};
 ghost use Rattle.race_text.specs.Views.{line_held};
 ghost use Rattle.race_app.specs.Lines.{met_line, copies_lines};
@@ -22,7 +22,7 @@ pub(crate) fn push_copies(
 ) -> Result<(), AllocError>
     requires { 0 < author.now.finer.factor }
     ensures { OnOk result (map line_held lines.new.items ≡ map line_held lines.old.items
-        ++ copies_lines author.now.text.now author.now.limit author.now.finer (map seen walked.now) author.now.starts.now) }
+        ++ copies_lines author.now.text.now author.now.limit author.now.finer (map event_in walked.now) author.now.starts.now) }
 {
     'starts: for start in author.starts {
         let met = meeting_of(alloc, author.finer.hair, start.name, walked)?;

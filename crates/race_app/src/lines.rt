@@ -1,7 +1,7 @@
 ghost use Rattle.std.specs.Prelude.{◌≡◌, ◌<◌, ◌≤◌, true, ◌∷◌, ◌++◌, length, IfOk, OnOk, map};
 ghost use Rattle.job_meaning.specs.declared.limits.TheConstants.{MAX_INPUT};
 ghost use Rattle.job_runner.specs.Runs.{rows_of};
-ghost use Rattle.fault_text.specs.JobOutcomes.{walked};
+ghost use Rattle.fault_text.specs.JobOutcomes.{walked_events};
 ghost use Rattle.job_edits.specs.Finer.{shifts_of};
 ghost use Rattle.slot_work.specs.Answers.{AreAnswers};
 ghost use Rattle.race_text.specs.Lines as told;
@@ -171,7 +171,7 @@ fn push_copies_of<R: Threads + Sync>(
     requires input { length input.now ≤ MAX_INPUT }
     requires ticks { 0 < author.now.finer.factor }
     ensures { OnOk result (map line_held lines.new.items ≡ map line_held lines.old.items ++ copies_lines author.now.text.now
-        author.now.limit author.now.finer (walked job.now input.now) author.now.starts.now) }
+        author.now.limit author.now.finer (walked_events job.now input.now) author.now.starts.now) }
 {
     if author.starts.is_empty() {
         return Ok(());

@@ -1,6 +1,6 @@
 ghost use Rattle.std.specs.Prelude.{◌≡◌, ◌≤◌, length, IfOk};
 ghost use Rattle.job_meaning.specs.declared.limits.TheConstants.{MAX_INPUT};
-ghost use Rattle.job_edits.specs.Changes.{changed};
+ghost use Rattle.job_edits.specs.Changes.{changed_text};
 ghost use Rattle.job_edits.specs.Finer.{shifted_changes};
 ghost use Rattle.race_text.specs.Views.{found_held};
 ghost use Rattle.race_app.specs.Ran.{IsBeside};
@@ -80,7 +80,7 @@ fn found_with<R: Threads + Sync>(
     shift: &Shift,
 ) -> Result<Found, AllocError>
     requires { length moves.now.input.now ≤ MAX_INPUT }
-    ensures { IfOk result (λ found. IsBeside (changed moves.now.author.text.now (shifted_changes moves.now.author.finer shift.now
+    ensures { IfOk result (λ found. IsBeside (changed_text moves.now.author.text.now (shifted_changes moves.now.author.finer shift.now
         moves.now.author.sites.now)) moves.now.input.now moves.now.author.limit (ran_held moves.now.before) (found_held found)) }
 {
     let author = moves.author;

@@ -1,6 +1,6 @@
 ghost use Rattle.std.specs.Prelude.{◌≡◌, IfOk, map};
 ghost use Rattle.std.specs.Option.{option_map};
-ghost use Rattle.story_causes.specs.Seen.{seen};
+ghost use Rattle.story_causes.specs.Seen.{event_in};
 ghost use Rattle.race_copies.specs.Copies.{differ_last, is_within, meets, first_meeting, earlier_meeting, first_meeting_among, meeting_in};
 ghost use Rattle.race_copies.specs.Views.{sight_held, met_held, meeting_held};
 
@@ -41,7 +41,7 @@ pub fn meeting_of(
     name: Name,
     walked: &[&Event],
 ) -> Result<Option<Meeting>, AllocError>
-    ensures { IfOk result (λ found. option_map meeting_held found ≡ meeting_in hair name (map seen walked.now)) }
+    ensures { IfOk result (λ found. option_map meeting_held found ≡ meeting_in hair name (map event_in walked.now)) }
 {
     let sights = sights_of(alloc, name, walked)?;
     let Some(met) = first_meeting_among(hair, sights.as_slice()) else {

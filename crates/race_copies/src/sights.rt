@@ -2,7 +2,7 @@ ghost use Rattle.std.specs.Prelude.{◌≡◌, ◌++◌, List, IfOk, OnOk, map};
 ghost use Rattle.std.specs.Str.{bytes_eq};
 ghost use Rattle.job_meaning.specs.Log.{same_label};
 ghost use Rattle.job_story.specs.Held.{event_of};
-ghost use Rattle.story_causes.specs.Seen.{seen};
+ghost use Rattle.story_causes.specs.Seen.{event_in};
 ghost use Rattle.race_copies.specs.Copies as told;
 ghost use Rattle.race_copies.specs.Copies.{starts_copy, ends_copy, copy_at, open_copy, with_sight, sights_of};
 ghost use Rattle.race_copies.specs.Views.{label_seen, sight_held};
@@ -26,7 +26,7 @@ pub(crate) fn sights_of<'e>(
     name: Name,
     walked: &[&'e Event],
 ) -> Result<Vec<Sight<'e>>, AllocError>
-    ensures { IfOk result (λ sights. map sight_held sights.items ≡ sights_of name (map seen walked.now)) }
+    ensures { IfOk result (λ sights. map sight_held sights.items ≡ sights_of name (map event_in walked.now)) }
 {
     let mut sights = Vec::new(alloc);
     let mut current = None;

@@ -5,12 +5,12 @@ use Rattle.job_grammar.specs.declared.fault.JobFault.{JobFault}
 use Rattle.job_grammar.specs.Refusals.{Spells, IsRefused}
 use Rattle.job_meaning.specs.Meaning.{meaning_end, meaning_table}
 use Rattle.job_story.specs.Events.{Event, in_order}
-use Rattle.job_story.specs.Sentences.{widest}
+use Rattle.job_story.specs.Sentences.{label_width}
 use Rattle.job_story.specs.Limit.{running_in, running_text, walked_to}
 
 -- the lines that end the text of these events up to a limit
 abbrev pub running_lines : List Event → List ℕ
-running_lines walked = running_text (widest (in_order walked)) (in_order walked) (running_in walked walked)
+running_lines walked = running_text (label_width (in_order walked)) (in_order walked) (running_in walked walked)
 
 -- the lines of a job that ends later than the limit, with what its tasks are doing that have not ended by then
 pub record IsJobRunning (job : Tree) (input : List ℕ) (limit : ℕ) (lines : List ℕ) : Type 0 where

@@ -10,7 +10,7 @@ use Rattle.job_runner.specs.Runs.{root_is_well, root_end}
 use Rattle.job_story.specs.Events.{Event, in_order}
 use Rattle.job_story.specs.Sentences.{kept_text}
 use Rattle.job_story.specs.Limit.{by_limit, kept_text_to}
-use Rattle.job_story.specs.Focus.{concerned, of_tasks, task_named}
+use Rattle.job_story.specs.Focus.{concerned_tasks, of_tasks, task_named}
 use Rattle.story_focus.specs.Nearest.{nearest_in}
 use Rattle.story_app.specs.Stories.{label_or_nothing, IsAbout, IsAboutNone}
 use Rattle.story_app.specs.declared.verdict.StoryVerdict.{StoryVerdict}
@@ -62,7 +62,7 @@ abbrev pub story_told : Table → Option ℕ → Option Label → List Event →
 story_told table until None walked = text_until until table (in_order walked) (in_order walked) walked
 story_told table until (Some task) walked =
     let all = in_order walked in
-    let tasks = concerned table all task in
+    let tasks = concerned_tasks table all task in
     text_until until table all (of_tasks tasks all) (of_tasks tasks walked)
 
 -- which task was asked for among these events

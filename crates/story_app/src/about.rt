@@ -1,6 +1,6 @@
 ghost use Rattle.std.specs.Prelude.{◌≡◌, [], map, IfOk};
 ghost use Rattle.std.specs.Option.{option_copied};
-ghost use Rattle.story_causes.specs.Seen.{seen};
+ghost use Rattle.story_causes.specs.Seen.{event_in};
 ghost use Rattle.story_focus.specs.Holds.{label_seen};
 ghost use Rattle.story_app.specs.Tellings.{IsAsked};
 ghost use Rattle.story_app.specs.Stories.{label_or_nothing};
@@ -31,7 +31,7 @@ pub(crate) fn about_of<'e>(
     events: &[&'e Event],
     task: Option<&[u8]>,
 ) -> Result<About<'e>, AllocError>
-    ensures { IfOk result (IsAsked (option_copied task.entry) (map seen events.now)) }
+    ensures { IfOk result (IsAsked (option_copied task.entry) (map event_in events.now)) }
 {
     let Some(text) = task else {
         return Ok(About::All);

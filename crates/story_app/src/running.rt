@@ -9,7 +9,7 @@ use job_runner::{Gate, Pick, Settings};
 use job_teller::tell;
 use std::alloc::{AllocError, Global};
 use std::thread::Threads;
-use story_text::{in_order, still_running};
+use story_text::{in_order, running_text};
 
 /// Returns a line for each task of a job that has not ended by the limit, with what it is doing: the last lines of the story that
 /// `explain` writes of such a job. Returns nothing if the job ends by the limit or its text is refused. The picker, the number of
@@ -59,7 +59,7 @@ fn running_of<R: Threads + Sync, P: Pick, G: Gate + Sync>(
             let events = tell(alloc, job, input, &meaning.table)?;
             let walked = events_until(alloc, events.as_slice(), Some(settings.limit()))?;
             let sorted = in_order(alloc, walked.as_slice())?;
-            let lines = still_running(alloc, sorted.as_slice(), walked.as_slice())?;
+            let lines = running_text(alloc, sorted.as_slice(), walked.as_slice())?;
             Ok(lines)
         }
     }

@@ -3,7 +3,7 @@ ghost use Rattle.std.specs.Option.{option_copied};
 ghost use Rattle.job_meaning.specs.declared.limits.TheConstants.{MAX_INPUT};
 ghost use Rattle.job_story.specs.Froms.{table_in};
 ghost use Rattle.job_story.specs.Held.{event_of};
-ghost use Rattle.story_causes.specs.Seen.{seen};
+ghost use Rattle.story_causes.specs.Seen.{event_in};
 ghost use Rattle.story_app.specs.Stories.{IsJobVerdict};
 ghost use Rattle.story_app.specs.Tellings.{IsTold, is_until, events_until};
 
@@ -50,7 +50,7 @@ fn story_about(
     task: Option<&[u8]>,
 ) -> Result<(StoryVerdict, Vec<u8>), AllocError>
     ensures { IfOk result (λ r. IsTold (table_in meaning.now.table) until meaning.now.ending (option_copied task.entry)
-        (map seen walked.now) r.0 r.1.items) }
+        (map event_in walked.now) r.0 r.1.items) }
 {
     match about_of(alloc, walked, task)? {
         About::All => {
@@ -72,7 +72,7 @@ pub fn events_until<'e>(
     events: &'e [Event],
     until: Option<u64>,
 ) -> Result<Vec<&'e Event>, AllocError>
-    ensures { IfOk result (λ told. map seen told.items ≡ events_until until (map event_of events.now)) }
+    ensures { IfOk result (λ told. map event_in told.items ≡ events_until until (map event_of events.now)) }
 {
     let mut told = Vec::new(alloc);
     'events: for event in events {

@@ -1,7 +1,7 @@
 ghost use Rattle.std.specs.Prelude.{◌≡◌, map, IfOk};
 ghost use Rattle.job_story.specs.Froms.{table_in};
 ghost use Rattle.story_causes.specs.Knows.{Knows};
-ghost use Rattle.story_causes.specs.Seen.{seen};
+ghost use Rattle.story_causes.specs.Seen.{event_in};
 ghost use Rattle.story_focus.specs.Holds.{label_seen};
 ghost use Rattle.story_text.specs.Told.{events_in, froms_in};
 ghost use Rattle.story_app.specs.Tellings.{story_told, text_until};
@@ -10,7 +10,7 @@ use exc_groups::Label;
 use job_story::{Event, Froms};
 use std::alloc::{AllocError, Global};
 use story_causes::Causes;
-use story_focus::{concerned, of_tasks};
+use story_focus::{concerned_tasks, of_tasks};
 use story_text::{Known, in_order, kept_text, kept_text_to};
 
 // Returns the text of a story from its events in the order of the walk: of all tasks, or of those that concern one task. If
@@ -22,7 +22,7 @@ pub(crate) fn story<'e>(
     task: Option<&'e Label>,
     until: Option<u64>,
 ) -> Result<Vec<u8>, AllocError>
-    ensures { IfOk result (λ text. text.items ≡ story_told (table_in table.entry.now) until (label_seen task.entry) (map seen walked.now)) }
+    ensures { IfOk result (λ text. text.items ≡ story_told (table_in table.entry.now) until (label_seen task.entry) (map event_in walked.now)) }
 {
     let all = in_order(alloc, walked)?;
     let causes = Causes::of(alloc, all.as_slice(), table)?;
@@ -31,7 +31,7 @@ pub(crate) fn story<'e>(
         let text = text_until(alloc, all.as_slice(), walked, &known, until)?;
         return Ok(text);
     };
-    let tasks = concerned(alloc, all.as_slice(), &causes, task)?;
+    let tasks = concerned_tasks(alloc, all.as_slice(), &causes, task)?;
     let sorted = of_tasks(alloc, all.as_slice(), &tasks)?;
     let walked = of_tasks(alloc, walked, &tasks)?;
     let text = text_until(alloc, sorted.as_slice(), walked.as_slice(), &known, until)?;
@@ -47,7 +47,7 @@ fn text_until(
     until: Option<u64>,
 ) -> Result<Vec<u8>, AllocError>
     ensures { IfOk result (λ text. text.items
-        ≡ text_until until (froms_in known.now) (events_in known.now) (map seen sorted.now) (map seen walked.now)) }
+        ≡ text_until until (froms_in known.now) (events_in known.now) (map event_in sorted.now) (map event_in walked.now)) }
 {
     match until {
         Some(limit) => kept_text_to(alloc, sorted, walked, limit, known),

@@ -2,7 +2,7 @@
 use Rattle.std.proofs.Common.{◌≡◌, refl, ◌∙◌}
 use Rattle.std.specs.Prelude.{Bool, true, false, not, ◌&&◌, Option, Some, None, is_none}
 use Rattle.exc_groups.specs.Exceptions.{Whose, Exc, cancelled, raised, too_slow, group, Excs, no_parts, part, group_of}
-use Rattle.exc_groups.specs.Split.{is_cancelled, matches, pruned, pruned_parts, with_part, drop}
+use Rattle.exc_groups.specs.Split.{is_cancelled, matches, pruned_exc, pruned_parts, with_part, drop}
 use Rattle.story_causes.specs.Leaves.{all_cancelled, all_in}
 
 abbrev are_none : Excs → Bool
@@ -31,4 +31,4 @@ mutual
   nothing_in : (es : Excs) → are_none (pruned_parts is_other es) ≡ all_in es
   nothing_in no_parts = refl
   nothing_in (part e es) =
-      none_with (pruned is_other e) (pruned_parts is_other es) ∙ cc (nothing_left e, nothing_in es)
+      none_with (pruned_exc is_other e) (pruned_parts is_other es) ∙ cc (nothing_left e, nothing_in es)

@@ -4,5 +4,5 @@ use Rattle.job_story.specs.Events as told
 use Rattle.job_story.specs.Held.{event_of}
 use Rattle.job_story.specs.declared.event.Event.{Event}
 
-abbrev pub seen : Bor Event → told.Event
-seen event = event_of event.now
+abbrev pub event_in : Bor Event → told.Event
+event_in event = event_of event.now

@@ -7,7 +7,7 @@ ghost use Rattle.job_story.specs.Froms.{table_in};
 ghost use Rattle.job_story.specs.Held.{event_of};
 ghost use Rattle.story_causes.specs.Found.{entering_in_code, cause_in_code, is_due_at};
 ghost use Rattle.story_causes.specs.Knows.{Knows};
-ghost use Rattle.story_causes.specs.Seen.{seen};
+ghost use Rattle.story_causes.specs.Seen.{event_in};
 
 use crate::notes::{note_entering, note_sign};
 use crate::sign::Cause;
@@ -49,7 +49,7 @@ impl<'e> Causes<'e> {
         events: &[&'e Event],
         froms: &'e Froms,
     ) -> Result<Causes<'e>, AllocError>
-        ensures { IfOk result (λ causes. Knows causes (table_in froms.entry.now) (map seen events.now)) }
+        ensures { IfOk result (λ causes. Knows causes (table_in froms.entry.now) (map event_in events.now)) }
     {
         let mut causes = Causes {
             froms,
@@ -73,7 +73,7 @@ impl<'e> Causes<'e> {
     }
 
     /// Returns how a scope or nursery was first entered, or `None` if no event enters it.
-    pub fn entering(&self, label: &Label) -> Option<Entering>
+    pub fn entering_of(&self, label: &Label) -> Option<Entering>
         ensures { (table : Table) (es : List told.Event) → Knows self.now table es →
             option_map entering_in_code result ≡ entering_of label.now es }
     {
@@ -89,7 +89,7 @@ impl<'e> Causes<'e> {
         let Some(from) = self.froms.of(label) else {
             return None;
         };
-        if is_due(self.entering(label), from) {
+        if is_due(self.entering_of(label), from) {
             return Some(Cause::Deadline);
         }
         self.signed.get(&label).copied()

@@ -3,7 +3,7 @@ ghost use Rattle.exc_groups.specs.Exceptions as tree;
 ghost use Rattle.exc_groups.specs.Held.{exc_of};
 ghost use Rattle.job_story.specs.Causes.{cause_by, cause_if, cause_in};
 ghost use Rattle.job_story.specs.Events as told;
-ghost use Rattle.job_story.specs.Held.{boxed, happening_of, what_of};
+ghost use Rattle.job_story.specs.Held.{unboxed_exc, happening_of, what_of};
 ghost use Rattle.job_story.specs.Story as story;
 ghost use Rattle.job_meaning.specs.Log.{same_label};
 ghost use Rattle.story_causes.specs.Found.{cause_in_code, sign_at};
@@ -95,7 +95,7 @@ fn sign_by<'e>(
     task: &'e Label,
     tick: u64,
 ) -> Option<Sign<'e>>
-    ensures { (l : tree.Label) → sign_at l result ≡ cause_if (same_label l label.entry.now) (boxed exc.now) task.entry.now tick }
+    ensures { (l : tree.Label) → sign_at l result ≡ cause_if (same_label l label.entry.now) (unboxed_exc exc.now) task.entry.now tick }
 {
     let Some(exc) = exc else {
         return None;

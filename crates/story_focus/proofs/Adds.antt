@@ -9,7 +9,7 @@ use Rattle.job_meaning.specs.Log.{Table, same_label}
 use Rattle.job_story.specs.Events.{Event}
 use Rattle.std.specs.Borrow.{Bor}
 use Rattle.job_story.specs.declared.event.Event as held
-use Rattle.story_causes.specs.Seen.{seen}
+use Rattle.story_causes.specs.Seen.{event_in}
 use Rattle.story_focus.specs.Added.{is_added, is_added_by}
 use Rattle.story_focus.proofs.Bools.{or_order, or_false}
 use Rattle.story_focus.proofs.SeenMore.{seen_more}
@@ -55,12 +55,12 @@ all_added old new ks inserts l = inserts.0 (record { ref_ptr = (0, 0); now = l }
 
 -- a round as one more event is read
 pub one_more_added : (has : Label → Bool) (table : Table) (all : List Event) (l : Label) (xs : List (Bor held.Event)) (i : ℕ) (x : Bor held.Event) (old new : Bool) →
-    i < length xs → x ≡ get_or xs i x → old ≡ is_added has table all l (map seen (take i xs)) →
-    new ≡ (old || is_added_by has table all l (seen x)) → new ≡ is_added has table all l (map seen (take (i + 1) xs))
+    i < length xs → x ≡ get_or xs i x → old ≡ is_added has table all l (map event_in (take i xs)) →
+    new ≡ (old || is_added_by has table all l (event_in x)) → new ≡ is_added has table all l (map event_in (take (i + 1) xs))
 one_more_added has table all l xs i x old new within is before adds =
-    let front = map seen (take i xs) in
+    let front = map event_in (take i xs) in
     adds
-    ∙ ap (λ (b : Bool). b || is_added_by has table all l (seen x)) before
-    ∙ ap (λ (b : Bool). is_added has table all l front || b) (or_false (is_added_by has table all l (seen x)))
-    ∙ sym (is_added-append has table all l front (seen x ∷ []))
+    ∙ ap (λ (b : Bool). b || is_added_by has table all l (event_in x)) before
+    ∙ ap (λ (b : Bool). is_added has table all l front || b) (or_false (is_added_by has table all l (event_in x)))
+    ∙ sym (is_added-append has table all l front (event_in x ∷ []))
     ∙ ap (is_added has table all l) (sym (seen_more xs i x within is))

@@ -7,7 +7,7 @@ use Rattle.job_story.specs.Focus.{is_among, of_tasks}
 use Rattle.std.proofs.lemmas.List.{append-nil, map-append}
 use Rattle.std.specs.Borrow.{Bor}
 use Rattle.job_story.specs.declared.event.Event as held
-use Rattle.story_causes.specs.Seen.{seen}
+use Rattle.story_causes.specs.Seen.{event_in}
 use Rattle.story_focus.proofs.SeenMore.{seen_more}
 
 -- whether an event goes in front of others, or not
@@ -24,26 +24,26 @@ of_tasks-append ls (e ∷ es) fs =
 
 -- the events of some tasks before one more event
 before_more : (ls : List Label) (xs : List (Bor held.Event)) (i : ℕ) (x : Bor held.Event) → i < length xs → x ≡ get_or xs i x →
-    of_tasks ls (map seen (take (i + 1) xs)) ≡ of_tasks ls (map seen (take i xs)) ++ of_tasks ls (seen x ∷ [])
+    of_tasks ls (map event_in (take (i + 1) xs)) ≡ of_tasks ls (map event_in (take i xs)) ++ of_tasks ls (event_in x ∷ [])
 before_more ls xs i x within is =
-    ap (of_tasks ls) (seen_more xs i x within is) ∙ of_tasks-append ls (map seen (take i xs)) (seen x ∷ [])
+    ap (of_tasks ls) (seen_more xs i x within is) ∙ of_tasks-append ls (map event_in (take i xs)) (event_in x ∷ [])
 
 -- one more event, of one of the tasks
 pub kept_more : (ls : List Label) (xs : List (Bor held.Event)) (i : ℕ) (x : Bor held.Event) (old : List (Bor held.Event)) → i < length xs → x ≡ get_or xs i x →
-    is_among (seen x).task ls ≡ true → map seen old ≡ of_tasks ls (map seen (take i xs)) →
-    map seen (old ++ x ∷ []) ≡ of_tasks ls (map seen (take (i + 1) xs))
+    is_among (event_in x).task ls ≡ true → map event_in old ≡ of_tasks ls (map event_in (take i xs)) →
+    map event_in (old ++ x ∷ []) ≡ of_tasks ls (map event_in (take (i + 1) xs))
 kept_more ls xs i x old within is among before =
-    map-append seen old (x ∷ [])
-    ∙ ap (λ es. es ++ seen x ∷ []) before
-    ∙ ap (λ (b : Bool). of_tasks ls (map seen (take i xs)) ++ (if b then seen x ∷ [] else [])) (sym among)
+    map-append event_in old (x ∷ [])
+    ∙ ap (λ es. es ++ event_in x ∷ []) before
+    ∙ ap (λ (b : Bool). of_tasks ls (map event_in (take i xs)) ++ (if b then event_in x ∷ [] else [])) (sym among)
     ∙ sym (before_more ls xs i x within is)
 
 -- one more event, of another task
 pub kept_same : (ls : List Label) (xs : List (Bor held.Event)) (i : ℕ) (x : Bor held.Event) (old : List (Bor held.Event)) → i < length xs → x ≡ get_or xs i x →
-    is_among (seen x).task ls ≡ false → map seen old ≡ of_tasks ls (map seen (take i xs)) →
-    map seen old ≡ of_tasks ls (map seen (take (i + 1) xs))
+    is_among (event_in x).task ls ≡ false → map event_in old ≡ of_tasks ls (map event_in (take i xs)) →
+    map event_in old ≡ of_tasks ls (map event_in (take (i + 1) xs))
 kept_same ls xs i x old within is among before =
     before
-    ∙ sym (append-nil (of_tasks ls (map seen (take i xs))))
-    ∙ ap (λ (b : Bool). of_tasks ls (map seen (take i xs)) ++ (if b then seen x ∷ [] else [])) (sym among)
+    ∙ sym (append-nil (of_tasks ls (map event_in (take i xs))))
+    ∙ ap (λ (b : Bool). of_tasks ls (map event_in (take i xs)) ++ (if b then event_in x ∷ [] else [])) (sym among)
     ∙ sym (before_more ls xs i x within is)

@@ -6,7 +6,7 @@ use Rattle.exc_groups.specs.Exceptions.{Label}
 use Rattle.exc_groups.specs.Labels.{same_label_equiv}
 use Rattle.job_meaning.specs.Log.{Table, same_label}
 use Rattle.job_story.specs.Events.{Event}
-use Rattle.job_story.specs.Focus.{causer_of, is_some_label, caused, is_among, caused_some, add_if, with_causers, causers_in}
+use Rattle.job_story.specs.Focus.{causer_of, is_some_label, is_causer_of, is_among, is_causer_of_some, add_if, with_causers, causers_in}
 use Rattle.story_causes.proofs.LabelLemmas.{same_label_is}
 use Rattle.story_focus.specs.Added.{is_added}
 use Rattle.story_focus.proofs.Bools.{and_shown, or_nothing, or_new, other_task, same_task, some_of, swapped, without}
@@ -24,11 +24,11 @@ no_task_noted table all l [] = refl
 no_task_noted table all l (e ∷ es) = no_task_noted table all l es
 
 one_more_noted : (table : Table) (all : List Event) (l m : Label) (ms : List Label) (es : List Event) →
-    noted (λ t. is_among t (m ∷ ms)) table all l es ≡ (caused table all l m es || noted (λ t. is_among t ms) table all l es)
+    noted (λ t. is_among t (m ∷ ms)) table all l es ≡ (is_causer_of table all l m es || noted (λ t. is_among t ms) table all l es)
 one_more_noted table all l m ms [] = refl
 one_more_noted table all l m ms (e ∷ es) =
     let c = is_some_label l (causer_of table all e.what) in
-    let x = caused table all l m es in
+    let x = is_causer_of table all l m es in
     let y = noted (λ t. is_among t ms) table all l es in
     let turned : same_label e.task m ≡ same_label m e.task = same_label_equiv.symm e.task m in
     ap (λ (b : Bool). ((b || is_among e.task ms) && c) || noted (λ t. is_among t (m ∷ ms)) table all l es) turned
@@ -36,10 +36,10 @@ one_more_noted table all l m ms (e ∷ es) =
     ∙ swapped (same_label m e.task) (is_among e.task ms) c x y
 
 caused_some_noted : (table : Table) (all : List Event) (l : Label) (kept : List Label) →
-    caused_some table all l kept ≡ noted (λ m. is_among m kept) table all l all
+    is_causer_of_some table all l kept ≡ noted (λ m. is_among m kept) table all l all
 caused_some_noted table all l [] = sym (no_task_noted table all l all)
 caused_some_noted table all l (m ∷ ms) =
-    ap (λ (b : Bool). caused table all l m all || b) (caused_some_noted table all l ms) ∙ sym (one_more_noted table all l m ms all)
+    ap (λ (b : Bool). is_causer_of table all l m all || b) (caused_some_noted table all l ms) ∙ sym (one_more_noted table all l m ms all)
 
 -- ---- the members of a round
 
@@ -57,14 +57,14 @@ one_more_task true a c s ct rt rl f g is =
 one_more_task false a c s ct rt rl f g is = other_task (ct && not rt) rl ∙ is
 
 among_with : (table : Table) (all : List Event) (l : Label) (kept : List Label) (es : List Event) →
-    is_among l (with_causers table all kept es) ≡ (is_among l kept || (caused_some table all l kept && is_task l es))
-among_with table all l kept [] = or_nothing (is_among l kept) (caused_some table all l kept)
+    is_among l (with_causers table all kept es) ≡ (is_among l kept || (is_causer_of_some table all l kept && is_task l es))
+among_with table all l kept [] = or_nothing (is_among l kept) (is_causer_of_some table all l kept)
 among_with table all l kept (e ∷ es) =
     let rest = with_causers table all kept es in
-    among_added (caused_some table all e.task kept && not (is_among e.task rest)) l e.task rest
-    ∙ one_more_task (same_label l e.task) (is_among l kept) (caused_some table all l kept) (is_task l es)
-    (caused_some table all e.task kept) (is_among e.task rest) (is_among l rest)
-    (λ same. ap (λ m. caused_some table all m kept) (sym (same_label_is l e.task same)))
+    among_added (is_causer_of_some table all e.task kept && not (is_among e.task rest)) l e.task rest
+    ∙ one_more_task (same_label l e.task) (is_among l kept) (is_causer_of_some table all l kept) (is_task l es)
+    (is_causer_of_some table all e.task kept) (is_among e.task rest) (is_among l rest)
+    (λ same. ap (λ m. is_causer_of_some table all m kept) (sym (same_label_is l e.task same)))
     (λ same. ap (λ m. is_among m rest) (sym (same_label_is l e.task same)))
     (among_with table all l kept es)
 

@@ -1,7 +1,7 @@
 ghost use Rattle.std.specs.Prelude.{◌≡◌, List, IfOk, map};
 ghost use Rattle.exc_groups.specs.Exceptions as tree;
 ghost use Rattle.job_story.specs.Focus.{is_among, of_tasks};
-ghost use Rattle.story_causes.specs.Seen.{seen};
+ghost use Rattle.story_causes.specs.Seen.{event_in};
 ghost use Rattle.story_focus.specs.Holds.{holds};
 
 use crate::tasks::Tasks;
@@ -15,7 +15,7 @@ pub fn of_tasks<'e>(
     tasks: &Tasks<'_>,
 ) -> Result<Vec<&'e Event>, AllocError>
     ensures { IfOk result (λ kept. (ls : List tree.Label) → ((l : tree.Label) → holds tasks.now l ≡ is_among l ls) →
-        map seen kept.items ≡ of_tasks ls (map seen events.now)) }
+        map event_in kept.items ≡ of_tasks ls (map event_in events.now)) }
 {
     let mut kept = Vec::new(alloc);
     'events: for event in events {

@@ -14,5 +14,5 @@ mod tasks;
 
 pub use kept::of_tasks;
 pub use named::{nearest_task, task_named};
-pub use rounds::concerned;
+pub use rounds::concerned_tasks;
 pub use tasks::Tasks;

@@ -3,11 +3,11 @@ ghost use Rattle.std.specs.Option.{option_map};
 ghost use Rattle.exc_groups.specs.Exceptions as tree;
 ghost use Rattle.job_meaning.specs.Log.{Table};
 ghost use Rattle.job_story.specs.Events as told;
-ghost use Rattle.job_story.specs.Focus.{causer_of, causers_in, concerned, is_among, task_of, with_causers};
+ghost use Rattle.job_story.specs.Focus.{causer_of, causers_in, concerned_tasks, is_among, task_of, with_causers};
 ghost use Rattle.job_story.specs.Held.{event_of, what_of};
 ghost use Rattle.story_causes.specs.Found.{cause_in_code};
 ghost use Rattle.story_causes.specs.Knows.{Knows};
-ghost use Rattle.story_causes.specs.Seen.{seen};
+ghost use Rattle.story_causes.specs.Seen.{event_in};
 ghost use Rattle.story_focus.specs.Holds.{holds, label_seen};
 ghost use Rattle.story_focus.specs.Added.{is_added, is_added_by};
 
@@ -20,14 +20,14 @@ use story_causes::{Cause, Causes};
 /// Returns the tasks that concern a task of a story: the task itself, each task that caused one of its cancellations, each that
 /// caused one of theirs, and so on. The index must be one over these events, as `Causes::of` creates it. The events are read once
 /// for each step of the longest chain of causes, and once more. Returns `AllocError` if memory is refused.
-pub fn concerned<'e>(
+pub fn concerned_tasks<'e>(
     alloc: Global,
     events: &[&'e Event],
     causes: &Causes<'e>,
     task: &'e Label,
 ) -> Result<Tasks<'e>, AllocError>
-    ensures { IfOk result (λ tasks. (table : Table) → Knows causes.now table (map seen events.now) → (l : tree.Label) →
-        holds tasks l ≡ is_among l (concerned table (map seen events.now) task.entry.now)) }
+    ensures { IfOk result (λ tasks. (table : Table) → Knows causes.now table (map event_in events.now) → (l : tree.Label) →
+        holds tasks l ≡ is_among l (concerned_tasks table (map event_in events.now) task.entry.now)) }
 {
     let mut tasks = Tasks::none(alloc);
     tasks.add(task)?;
@@ -42,9 +42,9 @@ fn add_rounds<'e>(
     causes: &Causes<'e>,
     tasks: &mut Tasks<'e>,
 ) -> Result<(), AllocError>
-    ensures { OnOk result ((table : Table) (kept : List tree.Label) → Knows causes.now table (map seen events.now) →
+    ensures { OnOk result ((table : Table) (kept : List tree.Label) → Knows causes.now table (map event_in events.now) →
         ((l : tree.Label) → holds tasks.old l ≡ is_among l kept) → (l : tree.Label) →
-        holds tasks.new l ≡ is_among l (causers_in (length events.now) table (map seen events.now) kept)) }
+        holds tasks.new l ≡ is_among l (causers_in (length events.now) table (map event_in events.now) kept)) }
 {
     'rounds: for round in 0..events.len() {
         if !add_causers(alloc, events, causes, tasks)? {
@@ -61,9 +61,9 @@ fn add_causers<'e>(
     causes: &Causes<'e>,
     tasks: &mut Tasks<'e>,
 ) -> Result<bool, AllocError>
-    ensures grown { OnOk result ((table : Table) (kept : List tree.Label) → Knows causes.now table (map seen events.now) →
+    ensures grown { OnOk result ((table : Table) (kept : List tree.Label) → Knows causes.now table (map event_in events.now) →
         ((l : tree.Label) → holds tasks.old l ≡ is_among l kept) → (l : tree.Label) →
-        holds tasks.new l ≡ is_among l (with_causers table (map seen events.now) kept (map seen events.now))) }
+        holds tasks.new l ≡ is_among l (with_causers table (map event_in events.now) kept (map event_in events.now))) }
     ensures closed { IfOk result (λ grew. grew ≡ false → (l : tree.Label) → holds tasks.new l ≡ holds tasks.old l) }
 {
     let added = causers(alloc, events, causes, tasks)?;
@@ -82,7 +82,7 @@ fn causers<'e>(
     tasks: &Tasks<'e>,
 ) -> Result<Tasks<'e>, AllocError>
     ensures { IfOk result (λ added. (table : Table) (all : List told.Event) → Knows causes.now table all → (l : tree.Label) →
-        holds added l ≡ is_added (holds tasks.now) table all l (map seen events.now)) }
+        holds added l ≡ is_added (holds tasks.now) table all l (map event_in events.now)) }
 {
     let mut added = Tasks::none(alloc);
     'events: for event in events {

@@ -3,12 +3,12 @@ use Rattle.std.specs.Prelude.{List, map}
 use Rattle.job_meaning.specs.Log.{Table}
 use Rattle.job_story.specs.Events as told
 use Rattle.job_story.specs.Froms.{table_in}
-use Rattle.story_causes.specs.Seen.{seen}
+use Rattle.story_causes.specs.Seen.{event_in}
 use Rattle.story_text.specs.declared.known.Known.{Known}
 
 -- its events
 abbrev pub events_in : Known → List told.Event
-events_in known = map seen known.events.now
+events_in known = map event_in known.events.now
 
 -- the tick from which each label is cancelled
 abbrev pub froms_in : Known → Table

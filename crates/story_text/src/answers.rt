@@ -4,7 +4,7 @@ ghost use Rattle.job_story.specs.Causes.{entering_of, cause_of};
 ghost use Rattle.job_story.specs.Froms.{table_in};
 ghost use Rattle.story_causes.specs.Found.{entering_in_code, cause_in_code};
 ghost use Rattle.story_causes.specs.Knows.{Knows};
-ghost use Rattle.story_causes.specs.Seen.{seen};
+ghost use Rattle.story_causes.specs.Seen.{event_in};
 ghost use Rattle.story_text.specs.Told.{events_in, froms_in};
 
 use crate::known::Known;
@@ -16,8 +16,8 @@ impl<'k, 'e> Known<'k, 'e> {
     /// Puts together the events of a story in order, the table of cancellations, and the index of both. The caller must ensure
     /// that the index was created from these events and this table.
     pub fn new(events: &'k [&'e Event], froms: &'k Froms, causes: &'k Causes<'e>) -> Known<'k, 'e>
-        requires { Knows causes.now (table_in froms.now) (map seen events.now) }
-        ensures events { events_in result ≡ map seen events.now }
+        requires { Knows causes.now (table_in froms.now) (map event_in events.now) }
+        ensures events { events_in result ≡ map event_in events.now }
         ensures froms { froms_in result ≡ table_in froms.now }
     {
         Known {
@@ -28,10 +28,10 @@ impl<'k, 'e> Known<'k, 'e> {
     }
 
     // Returns how a scope or nursery was first entered, or `None` if it never was.
-    pub(crate) fn entering(&self, label: &Label) -> Option<Entering>
+    pub(crate) fn entering_of(&self, label: &Label) -> Option<Entering>
         ensures { option_map entering_in_code result ≡ entering_of label.now (events_in self.now) }
     {
-        self.causes.entering(label)
+        self.causes.entering_of(label)
     }
 
     // Returns why a scope or nursery is cancelled, or `None` if it never is.

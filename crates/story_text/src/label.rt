@@ -1,5 +1,5 @@
 ghost use Rattle.std.specs.Prelude.{◌≡◌, ◌++◌, [], ◌∷◌, OnOk, decimal, codes, replicate};
-ghost use Rattle.job_story.specs.Sentences.{label_text, indices_text, at_text, padded};
+ghost use Rattle.job_story.specs.Sentences.{label_text, indices_text, at_text, padded_text};
 
 use exc_groups::Label;
 use itoa::Buffer;
@@ -49,7 +49,7 @@ pub(crate) fn push_place(out: &mut Vec<u8>, label: &Label, tick: u64) -> Result<
 
 // Appends a label, and spaces up to a width.
 pub(crate) fn push_padded(out: &mut Vec<u8>, width: usize, label: &Label) -> Result<(), AllocError>
-    ensures { OnOk result (out.new.items ≡ out.old.items ++ padded width (label_text label.now)) }
+    ensures { OnOk result (out.new.items ≡ out.old.items ++ padded_text width (label_text label.now)) }
 {
     let start = out.len();
     push_label(out, label)?;

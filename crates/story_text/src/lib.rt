@@ -20,6 +20,6 @@ mod ticks;
 pub use exc::{push_exc, push_whose};
 pub use known::Known;
 pub use label::{push_label, push_number};
-pub use limit::{kept_text_to, still_running};
+pub use limit::{kept_text_to, running_text};
 pub use lines::kept_text;
 pub use order::in_order;

@@ -3,10 +3,10 @@ ghost use Rattle.exc_groups.specs.Exceptions as tree;
 ghost use Rattle.job_story.specs.Held.{happening_of, what_of};
 ghost use Rattle.job_story.specs.Events as told;
 ghost use Rattle.job_story.specs.Limit.{has_ended, start_if, is_start, running_in, doing_text, last_of, running_text, kept_text_to};
-ghost use Rattle.job_story.specs.Sentences.{widest};
+ghost use Rattle.job_story.specs.Sentences.{label_width};
 ghost use Rattle.story_text.specs.Told.{events_in, froms_in};
 ghost use Rattle.story_text.specs.Tasks.{sorted_in, walked_in};
-ghost use Rattle.story_causes.specs.Seen.{seen};
+ghost use Rattle.story_causes.specs.Seen.{event_in};
 
 use crate::known::Known;
 use crate::label::{push_label, push_number, push_padded};
@@ -28,7 +28,7 @@ pub fn kept_text_to<'e>(
     known: &Known<'_, '_>,
 ) -> Result<Vec<u8>, AllocError>
     ensures { IfOk result (λ text. text.items
-        ≡ kept_text_to (froms_in known.now) limit (events_in known.now) (map seen sorted.now) (map seen walked.now)) }
+        ≡ kept_text_to (froms_in known.now) limit (events_in known.now) (map event_in sorted.now) (map event_in walked.now)) }
 {
     let width = label_width(alloc, sorted)?;
     let mut out = Vec::new(alloc);
@@ -41,13 +41,13 @@ pub fn kept_text_to<'e>(
 
 /// Returns a line for each task that has not ended in these events, with what it is doing, as at the end of `kept_text_to`. The
 /// events are given in order (`sorted`) and in the order of the walk (`walked`). Returns `AllocError` if memory is refused.
-pub fn still_running(
+pub fn running_text(
     alloc: Global,
     sorted: &[&Event],
     walked: &[&Event],
 ) -> Result<Vec<u8>, AllocError>
-    ensures { IfOk result (λ text. text.items ≡ running_text (widest (map seen sorted.now)) (map seen sorted.now)
-        (running_in (map seen walked.now) (map seen walked.now))) }
+    ensures { IfOk result (λ text. text.items ≡ running_text (label_width (map event_in sorted.now)) (map event_in sorted.now)
+        (running_in (map event_in walked.now) (map event_in walked.now))) }
 {
     let width = label_width(alloc, sorted)?;
     let tasks = Tasks::of(alloc, sorted, walked)?;
@@ -73,7 +73,7 @@ fn push_running(
     walked: &[&Event],
 ) -> Result<(), AllocError>
     ensures { OnOk result (out.new.items ≡ out.old.items
-        ++ running_text width (sorted_in tasks.now) (running_in (walked_in tasks.now) (map seen walked.now))) }
+        ++ running_text width (sorted_in tasks.now) (running_in (walked_in tasks.now) (map event_in walked.now))) }
 {
     'walked: for event in walked {
         push_if_running(out, width, tasks, event)?;

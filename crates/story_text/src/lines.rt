@@ -1,8 +1,8 @@
 ghost use Rattle.std.specs.Prelude.{◌≡◌, ◌++◌, [], None, IfOk, OnOk, map, max, codes, decimal};
 ghost use Rattle.job_story.specs.Held.{event_of};
-ghost use Rattle.job_story.specs.Sentences.{widest, tick_text, line_text, lines_text, kept_text};
+ghost use Rattle.job_story.specs.Sentences.{label_width, tick_text, line_text, lines_text, kept_text};
 ghost use Rattle.story_text.specs.Told.{events_in, froms_in};
-ghost use Rattle.story_causes.specs.Seen.{seen};
+ghost use Rattle.story_causes.specs.Seen.{event_in};
 
 use crate::known::Known;
 use crate::label::{push_label, push_number, push_padded};
@@ -18,7 +18,7 @@ pub fn kept_text(
     kept: &[&Event],
     known: &Known<'_, '_>,
 ) -> Result<Vec<u8>, AllocError>
-    ensures { IfOk result (λ text. text.items ≡ kept_text (froms_in known.now) (events_in known.now) (map seen kept.now)) }
+    ensures { IfOk result (λ text. text.items ≡ kept_text (froms_in known.now) (events_in known.now) (map event_in kept.now)) }
 {
     let width = label_width(alloc, kept)?;
     let mut out = Vec::new(alloc);
@@ -28,7 +28,7 @@ pub fn kept_text(
 
 // Returns the length of the longest label, in bytes.
 pub(crate) fn label_width(alloc: Global, events: &[&Event]) -> Result<usize, AllocError>
-    ensures { IfOk result (λ width. width ≡ widest (map seen events.now)) }
+    ensures { IfOk result (λ width. width ≡ label_width (map event_in events.now)) }
 {
     let mut width: usize = 0;
     let mut text = Vec::new(alloc);
@@ -48,7 +48,7 @@ pub(crate) fn push_lines(
     width: usize,
 ) -> Result<(), AllocError>
     ensures { OnOk result (out.new.items
-        ≡ out.old.items ++ lines_text (froms_in known.now) (events_in known.now) width None (map seen events.now)) }
+        ≡ out.old.items ++ lines_text (froms_in known.now) (events_in known.now) width None (map event_in events.now)) }
 {
     let mut before = None;
     'events: for event in events {

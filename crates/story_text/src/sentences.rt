@@ -2,7 +2,7 @@ ghost use Rattle.std.specs.Prelude.{◌≡◌, ◌++◌, [], Some, None, OnOk, c
 ghost use Rattle.std.specs.Option.{option_map};
 ghost use Rattle.exc_groups.specs.Held.{exc_of};
 ghost use Rattle.exc_groups.specs.Split.{is_cancelled, drop};
-ghost use Rattle.job_story.specs.Held.{boxed, kind_of, happening_of, what_of};
+ghost use Rattle.job_story.specs.Held.{unboxed_exc, kind_of, happening_of, what_of};
 ghost use Rattle.job_story.specs.Sentences.{label_text, exc_text, kind_text, with_exc, entering_text, until_text, since_text, cleanup_text, cause_text, entered_text, count_text, caught_text, leaving_text, end_text, sign_text, cancel_text, cancelled_text, happening_text, home_text, what_text};
 ghost use Rattle.story_causes.specs.Found.{entering_in_code, cause_in_code};
 ghost use Rattle.story_text.specs.Told.{events_in, froms_in};
@@ -211,7 +211,7 @@ fn push_by(out: &mut Vec<u8>, known: &Known<'_, '_>, by: &Option<Label>) -> Resu
         return Ok(());
     };
     out.extend_from_slice(b" by ")?;
-    push_entered(out, known.entering(label), label)?;
+    push_entered(out, known.entering_of(label), label)?;
     let Some(cause) = known.cause(label) else {
         return Ok(());
     };
@@ -290,7 +290,7 @@ fn push_cancels(
         return Ok(());
     };
     out.extend_from_slice(b"cancels ")?;
-    push_entered(out, known.entering(label), label)?;
+    push_entered(out, known.entering_of(label), label)?;
     let Some(from) = next_from(known, label, tick) else {
         return out.extend_from_slice(b", which is cancelled already");
     };
@@ -301,7 +301,7 @@ fn push_cancels(
 // Appends what a handler handles, and the rest of the exception.
 fn push_handles(out: &mut Vec<u8>, matched: &Exc, rest: &Option<Box<Exc>>) -> Result<(), AllocError>
     ensures { OnOk result (out.new.items ≡ out.old.items
-        ++ (codes "handles " ++ exc_text (exc_of matched.now) ++ with_exc (codes ", ") (boxed rest.now) (codes " propagates"))) }
+        ++ (codes "handles " ++ exc_text (exc_of matched.now) ++ with_exc (codes ", ") (unboxed_exc rest.now) (codes " propagates"))) }
 {
     out.extend_from_slice(b"handles ")?;
     push_exc(out, matched)?;
@@ -325,7 +325,7 @@ fn push_cleans(out: &mut Vec<u8>, exc: &Option<Box<Exc>>) -> Result<(), AllocErr
 
 // Appends the exception after which something begins, if there is one.
 fn push_after(out: &mut Vec<u8>, exc: &Option<Box<Exc>>) -> Result<(), AllocError>
-    ensures { OnOk result (out.new.items ≡ out.old.items ++ with_exc (codes " after ") (boxed exc.now) []) }
+    ensures { OnOk result (out.new.items ≡ out.old.items ++ with_exc (codes " after ") (unboxed_exc exc.now) []) }
 {
     let Some(exc) = exc else {
         return Ok(());
@@ -354,8 +354,8 @@ fn push_waits(
     tick: u64,
 ) -> Result<(), AllocError>
     ensures { OnOk result (out.new.items ≡ out.old.items
-        ++ (codes "waits for nursery " ++ label_text nursery.now ++ with_exc (codes " after ") (boxed exc.now) []
-        ++ sign_text (froms_in known.now) (Some nursery.now) (boxed exc.now) tick)) }
+        ++ (codes "waits for nursery " ++ label_text nursery.now ++ with_exc (codes " after ") (unboxed_exc exc.now) []
+        ++ sign_text (froms_in known.now) (Some nursery.now) (unboxed_exc exc.now) tick)) }
 {
     out.extend_from_slice(b"waits for nursery ")?;
     push_label(out, nursery)?;
@@ -372,7 +372,7 @@ fn push_sign(
     tick: u64,
 ) -> Result<(), AllocError>
     ensures { OnOk result (out.new.items
-        ≡ out.old.items ++ sign_text (froms_in known.now) (Some nursery.now) (boxed exc.now) tick) }
+        ≡ out.old.items ++ sign_text (froms_in known.now) (Some nursery.now) (unboxed_exc exc.now) tick) }
 {
     let Some(_) = exc else {
         return Ok(());
@@ -395,7 +395,7 @@ fn push_home_sign(
     tick: u64,
 ) -> Result<(), AllocError>
     ensures { OnOk result (out.new.items
-        ≡ out.old.items ++ sign_text (froms_in known.now) home.now (boxed exc.now) tick) }
+        ≡ out.old.items ++ sign_text (froms_in known.now) home.now (unboxed_exc exc.now) tick) }
 {
     let Some(nursery) = home else {
         return Ok(());
@@ -432,7 +432,7 @@ fn push_leaving(
     outside: &Option<Box<Exc>>,
 ) -> Result<(), AllocError>
     ensures { OnOk result (out.new.items
-        ≡ out.old.items ++ leaving_text (boxed inside.now) caught (boxed outside.now)) }
+        ≡ out.old.items ++ leaving_text (unboxed_exc inside.now) caught (unboxed_exc outside.now)) }
 {
     let Some(inside) = inside else {
         return out.extend_from_slice(b"completed");
@@ -452,7 +452,7 @@ fn push_caught(
     outside: &Option<Box<Exc>>,
 ) -> Result<(), AllocError>
     ensures { OnOk result (out.new.items
-        ≡ out.old.items ++ caught_text (drop is_cancelled (exc_of inside.now)) (boxed outside.now)) }
+        ≡ out.old.items ++ caught_text (drop is_cancelled (exc_of inside.now)) (unboxed_exc outside.now)) }
 {
     let Some(outside) = outside else {
         return Ok(());
@@ -468,7 +468,7 @@ fn push_caught(
 
 // Appends how a task ended.
 fn push_end(out: &mut Vec<u8>, exc: &Option<Box<Exc>>) -> Result<(), AllocError>
-    ensures { OnOk result (out.new.items ≡ out.old.items ++ end_text (boxed exc.now)) }
+    ensures { OnOk result (out.new.items ≡ out.old.items ++ end_text (unboxed_exc exc.now)) }
 {
     let Some(exc) = exc else {
         return out.extend_from_slice(b"done");

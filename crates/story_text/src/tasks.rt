@@ -4,7 +4,7 @@ ghost use Rattle.job_meaning.specs.Log.{same_label};
 ghost use Rattle.job_story.specs.Held.{what_of};
 ghost use Rattle.job_story.specs.Limit.{is_end, has_ended, doing_text, last_of};
 ghost use Rattle.story_text.specs.Lasts.{is_among, event_at, last_text};
-ghost use Rattle.story_causes.specs.Seen.{seen};
+ghost use Rattle.story_causes.specs.Seen.{event_in};
 
 use exc_groups::Label;
 use indexmap::{IndexMap, IndexSet};
@@ -19,8 +19,8 @@ pub(crate) struct Tasks<'s, 'e> {
     pub walked: &'s [&'e Event],
     ended: IndexSet<&'e Label>,
     lasts: IndexMap<&'e Label, &'e Event>,
-    ghost ends: { (l : tree.Label) → is_among ended l ≡ has_ended l (map seen walked.now) },
-    ghost does: { (l : tree.Label) → last_text (event_at lasts l) ≡ last_of l (map seen sorted.now) [] },
+    ghost ends: { (l : tree.Label) → is_among ended l ≡ has_ended l (map event_in walked.now) },
+    ghost does: { (l : tree.Label) → last_text (event_at lasts l) ≡ last_of l (map event_in sorted.now) [] },
 }
 
 impl<'s, 'e> Tasks<'s, 'e> {
@@ -45,14 +45,14 @@ impl<'s, 'e> Tasks<'s, 'e> {
 
     // Returns whether a task has ended.
     pub(crate) fn has_ended(&self, label: &Label) -> bool
-        ensures { result ≡ has_ended label.now (map seen self.now.walked.now) }
+        ensures { result ≡ has_ended label.now (map event_in self.now.walked.now) }
     {
         self.ended.contains(&label)
     }
 
     // Returns the last event of a task.
     pub(crate) fn last(&self, label: &Label) -> Option<&'e Event>
-        ensures { last_text result ≡ last_of label.now (map seen self.now.sorted.now) [] }
+        ensures { last_text result ≡ last_of label.now (map event_in self.now.sorted.now) [] }
     {
         self.lasts.get(&label).copied()
     }
@@ -60,7 +60,7 @@ impl<'s, 'e> Tasks<'s, 'e> {
 
 // Returns the tasks that end in these events.
 fn ended_tasks<'e>(alloc: Global, events: &[&'e Event]) -> Result<IndexSet<&'e Label>, AllocError>
-    ensures { IfOk result (λ ended. (l : tree.Label) → is_among ended l ≡ has_ended l (map seen events.now)) }
+    ensures { IfOk result (λ ended. (l : tree.Label) → is_among ended l ≡ has_ended l (map event_in events.now)) }
 {
     let mut ended = IndexSet::new(alloc);
     'events: for event in events {
@@ -97,7 +97,7 @@ fn last_events<'e>(
     alloc: Global,
     events: &[&'e Event],
 ) -> Result<IndexMap<&'e Label, &'e Event>, AllocError>
-    ensures { IfOk result (λ lasts. (l : tree.Label) → last_text (event_at lasts l) ≡ last_of l (map seen events.now) []) }
+    ensures { IfOk result (λ lasts. (l : tree.Label) → last_text (event_at lasts l) ≡ last_of l (map event_in events.now) []) }
 {
     let mut lasts = IndexMap::new(alloc);
     'events: for event in events {

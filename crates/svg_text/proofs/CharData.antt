@@ -2,7 +2,7 @@
 use Rattle.std.proofs.Common.{◌≡◌, ℕ, List, [], ◌∷◌, ◌++◌, true, false, refl, inl, inr}
 use Rattle.std.proofs.lemmas.Bool.{cases_Bool}
 use Rattle.std.specs.Prelude.{◌==◌}
-use Rattle.svg_text.specs.Escaping.{is_char, escaped_byte, escaped, is_char_data}
+use Rattle.svg_text.specs.Escaping.{is_char, escaped_byte, escaped_text, is_char_data}
 
 -- A character that needs no reference, in front of character data, makes character data.
 plain : (b : ℕ) (rest : List ℕ) → (b == 38) ≡ false → (b == 60) ≡ false → (b == 62) ≡ false → (b == 34) ≡ false → is_char b ≡ true →
@@ -34,7 +34,7 @@ escaped_byte-then b rest known =
     ]
 
 -- So escaped text is character data, by induction over its bytes.
-pub is_char_data-escaped : (bytes : List ℕ) → is_char_data (escaped bytes) ≡ true
-unfolding escaped
+pub is_char_data-escaped : (bytes : List ℕ) → is_char_data (escaped_text bytes) ≡ true
+unfolding escaped_text
 is_char_data-escaped [] = refl
-is_char_data-escaped (b ∷ bs) = escaped_byte-then b (escaped bs) (is_char_data-escaped bs)
+is_char_data-escaped (b ∷ bs) = escaped_byte-then b (escaped_text bs) (is_char_data-escaped bs)

@@ -1,8 +1,8 @@
 -- Contents joined by `then_content`: how they are written, and that they are well formed.
 use Rattle.std.proofs.Common.{◌≡◌, ◌++◌, true, refl, sym, ap, ◌∙◌, append_assoc}
 use Rattle.std.proofs.lemmas.Bool.{and_from, and_parts}
-use Rattle.svg_text.specs.Escaping.{escaped}
-use Rattle.svg_text.specs.Content.{Content, then_content, start_tag, end_tag, written, are_distinct, is_well_formed}
+use Rattle.svg_text.specs.Escaping.{escaped_text}
+use Rattle.svg_text.specs.Content.{Content, then_content, start_tag, end_tag, content_text, are_distinct, is_well_formed}
 use Rattle.svg_text.specs.Content.Content.{nothing, text, element}
 
 -- Content joined with the empty content is that content.
@@ -18,13 +18,13 @@ then_then (text bytes rest) b c = ap (text bytes) (then_then rest b c)
 then_then (element tag attributes inside rest) b c = ap (element tag attributes inside) (then_then rest b c)
 
 -- Joined content is written as its parts, one after the other.
-pub written_then : (a b : Content) → written (then_content a b) ≡ written a ++ written b
+pub written_then : (a b : Content) → content_text (then_content a b) ≡ content_text a ++ content_text b
 written_then nothing b = refl
 written_then (text bytes rest) b =
-    ap (λ w. escaped bytes ++ w) (written_then rest b) ∙ sym (append_assoc (escaped bytes) (written rest) (written b))
+    ap (λ w. escaped_text bytes ++ w) (written_then rest b) ∙ sym (append_assoc (escaped_text bytes) (content_text rest) (content_text b))
 written_then (element tag attributes inside rest) b =
-    ap (λ w. start_tag tag attributes ++ written inside ++ end_tag tag ++ w) (written_then rest b)
-    ∙ sym (append_assoc (start_tag tag attributes ++ written inside ++ end_tag tag) (written rest) (written b))
+    ap (λ w. start_tag tag attributes ++ content_text inside ++ end_tag tag ++ w) (written_then rest b)
+    ∙ sym (append_assoc (start_tag tag attributes ++ content_text inside ++ end_tag tag) (content_text rest) (content_text b))
 
 -- Content joined of two well-formed parts is well formed.
 pub well_then : (a b : Content) → is_well_formed a ≡ true → is_well_formed b ≡ true → is_well_formed (then_content a b) ≡ true

@@ -1,7 +1,7 @@
 -- The content of an XML document: elements with their attributes, and text.
 use Rattle.std.specs.Prelude.{◌≡◌, ℕ, Bool, true, false, ◌&&◌, ◌||◌, not, List, [], ◌∷◌, ◌++◌, codes}
 use Rattle.std.specs.Str.{bytes_eq}
-use Rattle.svg_text.specs.Escaping.{escaped}
+use Rattle.svg_text.specs.Escaping.{escaped_text}
 use Rattle.svg_text.specs.declared.names.Tag.{Tag}
 use Rattle.svg_text.specs.declared.names.Tag.TheVariants as tags
 use Rattle.svg_text.specs.declared.names.Attr.{Attr}
@@ -72,7 +72,7 @@ then_content (element tag attributes inside rest) others = element tag attribute
 -- ---- as bytes
 
 unfoldable pub attribute_text : Attribute → List ℕ
-attribute_text a = codes " " ++ attr_name a.name ++ codes "=\"" ++ escaped a.value ++ codes "\""
+attribute_text a = codes " " ++ attr_name a.name ++ codes "=\"" ++ escaped_text a.value ++ codes "\""
 
 abbrev pub attributes_text : List Attribute → List ℕ
 attributes_text [] = []
@@ -84,10 +84,10 @@ start_tag tag attributes = codes "<" ++ tag_name tag ++ attributes_text attribut
 abbrev pub end_tag : Tag → List ℕ
 end_tag tag = codes "</" ++ tag_name tag ++ codes ">"
 
-abbrev pub written : Content → List ℕ
-written nothing = []
-written (text bytes rest) = escaped bytes ++ written rest
-written (element tag attributes inside rest) = start_tag tag attributes ++ written inside ++ end_tag tag ++ written rest
+abbrev pub content_text : Content → List ℕ
+content_text nothing = []
+content_text (text bytes rest) = escaped_text bytes ++ content_text rest
+content_text (element tag attributes inside rest) = start_tag tag attributes ++ content_text inside ++ end_tag tag ++ content_text rest
 
 -- ---- well-formed documents
 
@@ -111,5 +111,5 @@ pub record IsDocument (bytes : List ℕ) : Type 0 where
   pub tag : Tag
   pub attributes : List Attribute
   pub inside : Content
-  pub is_written : bytes ≡ written (element tag attributes inside nothing)
+  pub is_written : bytes ≡ content_text (element tag attributes inside nothing)
   pub well : is_well_formed (element tag attributes inside nothing) ≡ true

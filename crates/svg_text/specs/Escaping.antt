@@ -15,9 +15,9 @@ escaped_byte b =
     else (if b == 34 then codes "&quot;"
     else (if is_char b then b ∷ [] else codes "?"))))
 
-unfoldable pub escaped : List ℕ → List ℕ
-escaped [] = []
-escaped (b ∷ bs) = escaped_byte b ++ escaped bs
+unfoldable pub escaped_text : List ℕ → List ℕ
+escaped_text [] = []
+escaped_text (b ∷ bs) = escaped_byte b ++ escaped_text bs
 
 -- ---- character data, which has no `<` and no `"`, and has `&` only where a reference begins
 

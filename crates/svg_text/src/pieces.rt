@@ -1,5 +1,5 @@
 ghost use Rattle.std.specs.Prelude.{◌≡◌, ◌++◌, OnOk, codes, decimal};
-ghost use Rattle.svg_text.specs.Escaping.{escaped_byte, escaped};
+ghost use Rattle.svg_text.specs.Escaping.{escaped_byte, escaped_text};
 ghost use Rattle.svg_text.specs.Content as content;
 ghost use Rattle.svg_text.specs.Content.{tag_name, attribute_text, end_tag};
 
@@ -46,9 +46,9 @@ pub fn inside(out: &mut Vec<u8>) -> Result<(), AllocError>
 
 /// Appends text, escaped. A byte that is neither a printable character of ASCII nor a newline is written as a question mark. Returns
 /// `AllocError` if memory is refused.
-#[tactic(auto, unfolding(crate::specs::Escaping::escaped))]
+#[tactic(auto, unfolding(crate::specs::Escaping::escaped_text))]
 pub fn text(out: &mut Vec<u8>, bytes: &[u8]) -> Result<(), AllocError>
-    ensures { OnOk result (out.new.items ≡ out.old.items ++ escaped bytes.now) }
+    ensures { OnOk result (out.new.items ≡ out.old.items ++ escaped_text bytes.now) }
 {
     'bytes: for byte in bytes {
         escape(out, *byte)?;

@@ -1,7 +1,7 @@
 -- The outcome of a job for each value of a number.
 use Rattle.std.specs.Prelude.{◌≡◌, ◌≤◌, ℕ, None, List, [], ◌∷◌, length}
 use Rattle.job_meaning.specs.declared.limits.TheConstants.{MAX_INPUT}
-use Rattle.job_edits.specs.Changes.{changed}
+use Rattle.job_edits.specs.Changes.{changed_text}
 use Rattle.job_edits.specs.Numbers.{set_to}
 use Rattle.job_edits.specs.declared.number.Number.{Number}
 use Rattle.fault_app.specs.JobOutcomes.{IsJobOutcome}
@@ -13,7 +13,7 @@ use Rattle.sweep_app.specs.declared.values.Swept.{Swept}
 -- the outcome of the text with this value in place of the number
 pub record IsValue (text input : List ℕ) (limit : ℕ) (number : Number) (n : ℕ) (v : told.Value) : Type 0 where
   pub value : v.value ≡ n
-  pub job_outcome : IsJobOutcome (changed text (set_to number n ∷ [])) input limit None v.job_outcome
+  pub job_outcome : IsJobOutcome (changed_text text (set_to number n ∷ [])) input limit None v.job_outcome
 
 -- ---- the values of the code
 

@@ -3,7 +3,7 @@ use Rattle.std.proofs.Common.{◌≡◌, ◌∙◌, ap, sym, refl, ℕ, suc, Lis
 use Rattle.std.specs.Prelude.{true, map, reverse}
 use Rattle.std.proofs.lemmas.List.{take_all, length-set, reverse-append}
 use Rattle.std.proofs.Math.Seq.{take-suc, take-suc-set}
-use Rattle.sweep_text.specs.Groups.{shares, joined, before_groups}
+use Rattle.sweep_text.specs.Groups.{shares, joined_group, before_groups}
 use Rattle.sweep_text.specs.Views.{group_held}
 use Rattle.sweep_text.specs.declared.group.Group.{Group}
 
@@ -21,13 +21,13 @@ reverse_last xs x = reverse-append xs (x ∷ [])
 
 -- a group joins the first of some groups
 joins_first : (gs : List Group) (a old new : Group) → shares (group_held a) (group_held old) ≡ true →
-    group_held new ≡ joined (group_held a) (group_held old) →
+    group_held new ≡ joined_group (group_held a) (group_held old) →
     map group_held (new ∷ gs) ≡ before_groups (group_held a) (map group_held (old ∷ gs))
 joins_first gs a old new same join = rw (same, join) refl
 
 -- a group joins the last of the groups that the code holds
 pub joins_last : (xs : List Group) (n : ℕ) (a old new : Group) → suc n ≡ length xs → old ≡ get_or xs n old →
-    shares (group_held a) (group_held old) ≡ true → group_held new ≡ joined (group_held a) (group_held old) →
+    shares (group_held a) (group_held old) ≡ true → group_held new ≡ joined_group (group_held a) (group_held old) →
     map group_held (reverse (set xs n new)) ≡ before_groups (group_held a) (map group_held (reverse xs))
 joins_last xs n a old new h is same join =
     let ys = take n xs in

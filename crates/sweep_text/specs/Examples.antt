@@ -10,8 +10,8 @@ abbrev pub task : List ℕ → Label
 task name = record { name = name; indices = [] }
 
 -- the outcome of a job for a value
-abbrev pub told : ℕ → JobOutcome → Value
-told value job_outcome = record { value = value; job_outcome = job_outcome }
+abbrev pub value_with : ℕ → JobOutcome → Value
+value_with value job_outcome = record { value = value; job_outcome = job_outcome }
 
 -- a job that ends at a tick with a cleanup that is cancelled
 abbrev pub cut_at : ℕ → JobOutcome
@@ -25,16 +25,16 @@ failed_at tick end =
 -- Neighbours share a line if only ticks differ, but not if notes differ, or if other values are between them.
 abbrev pub cleanup_values : List Value
 cleanup_values =
-    told 1 (failed_at 3 4)
-    ∷ told 2 (failed_at 4 5)
-    ∷ told 3 (cut_at 8)
-    ∷ told 4 (cut_at 7)
-    ∷ told 5 (cut_at 9)
-    ∷ told 6 (ended 9 None [] [] false)
-    ∷ told 7 (stuck (task (codes "journal") ∷ []))
-    ∷ told 8 (stuck (task (codes "journal") ∷ []))
-    ∷ told 9 refused
-    ∷ told 10 (cut_at 8)
+    value_with 1 (failed_at 3 4)
+    ∷ value_with 2 (failed_at 4 5)
+    ∷ value_with 3 (cut_at 8)
+    ∷ value_with 4 (cut_at 7)
+    ∷ value_with 5 (cut_at 9)
+    ∷ value_with 6 (ended 9 None [] [] false)
+    ∷ value_with 7 (stuck (task (codes "journal") ∷ []))
+    ∷ value_with 8 (stuck (task (codes "journal") ∷ []))
+    ∷ value_with 9 refused
+    ∷ value_with 10 (cut_at 8)
     ∷ []
 
 pub cleanup_is_told :
@@ -58,7 +58,7 @@ late_at tick =
     (task (codes "a") ∷ []) [] false
 
 pub late_is_told :
-    sweep_text 50 (ended 3 (Some cancelled) [] [] false) (told 100000 (late_at 100) ∷ told 200000 (late_at 20) ∷ [])
+    sweep_text 50 (ended 3 (Some cancelled) [] [] false) (value_with 100000 (late_at 100) ∷ value_with 200000 (late_at 20) ∷ [])
     ≡ codes "as it is        cancelled, ends 3\n"
     ++ codes "100000..200000  raised *[TooSlow(s.1), E(a), Cancelled], ends 20..100; cancelled: a\n"
     ++ codes "2 values: 0 stuck, 0 cut a cleanup\n"
@@ -67,7 +67,7 @@ late_is_told = refl
 
 -- one value
 pub one_is_told :
-    sweep_text 50 refused (told 7 (stuck []) ∷ [])
+    sweep_text 50 refused (value_with 7 (stuck []) ∷ [])
     ≡ codes "as it is  refused\n"
     ++ codes "7         stuck at 50\n"
     ++ codes "1 value: 1 stuck, 0 cut a cleanup\n"

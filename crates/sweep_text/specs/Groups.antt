@@ -63,21 +63,21 @@ with_ends None b = b
 with_ends (Some a) None = Some a
 with_ends (Some a) (Some b) = Some (record { least = min a.least b.least; greatest = max a.greatest b.greatest })
 
-abbrev pub alone : ℕ → ℕ → JobOutcome → Group
-alone limit value job_outcome =
+abbrev pub group_of_one : ℕ → ℕ → JobOutcome → Group
+group_of_one limit value job_outcome =
     record { first = value; last = value; head = head_text limit job_outcome; notes = notes_text job_outcome; ends = ends_of job_outcome }
 
 -- both groups have the same text
 abbrev pub shares : Group → Group → Bool
 shares a b = bytes_eq a.head b.head && bytes_eq a.notes b.notes
 
-abbrev pub joined : Group → Group → Group
-joined a b = record b { first = a.first; ends = with_ends a.ends b.ends }
+abbrev pub joined_group : Group → Group → Group
+joined_group a b = record b { first = a.first; ends = with_ends a.ends b.ends }
 
 -- a group before others; it joins the first of them if both have the same text
 abbrev pub before_groups : Group → List Group → List Group
 before_groups a [] = a ∷ []
-before_groups a (g ∷ gs) = if shares a g then joined a g ∷ gs else a ∷ g ∷ gs
+before_groups a (g ∷ gs) = if shares a g then joined_group a g ∷ gs else a ∷ g ∷ gs
 
 -- the outcome of a job for a value
 pub record Value : Type 0 where
@@ -86,4 +86,4 @@ pub record Value : Type 0 where
 
 abbrev pub groups_of : ℕ → List Value → List Group
 groups_of limit [] = []
-groups_of limit (v ∷ vs) = before_groups (alone limit v.value v.job_outcome) (groups_of limit vs)
+groups_of limit (v ∷ vs) = before_groups (group_of_one limit v.value v.job_outcome) (groups_of limit vs)

@@ -2,7 +2,7 @@
 use Rattle.std.specs.Prelude.{ℕ, ◌+◌, ◌==◌, Bool, max, if◌then◌else◌, Option, Some, None, List, [], ◌∷◌, ◌++◌, length, codes, decimal}
 use Rattle.fault_text.specs.JobOutcomes.{JobOutcome, is_stuck, has_cut, is_refused}
 use Rattle.fault_text.specs.Table.{left_text, refused_text}
-use Rattle.sweep_text.specs.Groups.{Ends, Group, Value, alone, groups_of}
+use Rattle.sweep_text.specs.Groups.{Ends, Group, Value, group_of_one, groups_of}
 
 -- ---- lines
 
@@ -52,5 +52,5 @@ counts_text vs =
 abbrev pub sweep_text : ℕ → JobOutcome → List Value → List ℕ
 sweep_text limit first vs =
     let gs = groups_of limit vs in
-    left_text (width_of gs) (codes "as it is") ++ codes "  " ++ told_text (alone limit 0 first)
+    left_text (width_of gs) (codes "as it is") ++ codes "  " ++ told_text (group_of_one limit 0 first)
     ++ groups_text (width_of gs) gs ++ counts_text vs

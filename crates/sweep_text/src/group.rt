@@ -1,7 +1,7 @@
 ghost use Rattle.std.specs.Prelude.{◌≡◌, IfOk};
 ghost use Rattle.std.specs.Option.{option_map};
 ghost use Rattle.fault_text.specs.Views.{job_outcome_held};
-ghost use Rattle.sweep_text.specs.Groups.{alone, shares, joined, ends_of, with_ends};
+ghost use Rattle.sweep_text.specs.Groups.{group_of_one, shares, joined_group, ends_of, with_ends};
 ghost use Rattle.sweep_text.specs.Views.{ends_held, group_held};
 
 use crate::told::{push_head, push_notes};
@@ -27,13 +27,13 @@ pub(crate) struct Group {
 
 impl Group {
     // Makes a group of a single value.
-    pub(crate) fn alone(
+    pub(crate) fn of_one(
         alloc: Global,
         limit: u64,
         value: u64,
         job_outcome: &JobOutcome,
     ) -> Result<Group, AllocError>
-        ensures { IfOk result (λ group. group_held group ≡ alone limit value (job_outcome_held job_outcome.now)) }
+        ensures { IfOk result (λ group. group_held group ≡ group_of_one limit value (job_outcome_held job_outcome.now)) }
     {
         let mut head = Vec::new(alloc);
         push_head(&mut head, limit, job_outcome)?;
@@ -58,7 +58,7 @@ impl Group {
 
     // Adds a group whose values come directly before those of this one.
     pub(crate) fn join(&mut self, earlier: &Group)
-        ensures { group_held self.new ≡ joined (group_held earlier.now) (group_held self.old) }
+        ensures { group_held self.new ≡ joined_group (group_held earlier.now) (group_held self.old) }
     {
         self.first = earlier.first;
         self.ends = with_ends(earlier.ends, self.ends);

@@ -21,7 +21,7 @@ pub(crate) fn groups_of(
         let value = &values[left];
         put(
             &mut groups,
-            Group::alone(alloc, limit, value.value, &value.job_outcome)?,
+            Group::of_one(alloc, limit, value.value, &value.job_outcome)?,
         )?;
     }
     groups.reverse();

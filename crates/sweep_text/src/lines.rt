@@ -2,7 +2,7 @@ ghost use Rattle.std.specs.Prelude.{◌≡◌, ◌++◌, IfOk, OnOk, codes, map}
 ghost use Rattle.std.specs.Option.{option_map};
 ghost use Rattle.fault_text.specs.Table.{left_text};
 ghost use Rattle.fault_text.specs.Views.{job_outcome_held};
-ghost use Rattle.sweep_text.specs.Groups.{alone};
+ghost use Rattle.sweep_text.specs.Groups.{group_of_one};
 ghost use Rattle.sweep_text.specs.Sweeps.{span_text, range_text, ends_text, told_text, width_of, group_text, groups_text, sweep_text};
 ghost use Rattle.sweep_text.specs.Views.{ends_held, group_held, value_held};
 
@@ -28,7 +28,7 @@ pub fn sweep_table(
     let groups = groups_of(alloc, limit, values)?;
     let width = width_of(alloc, groups.as_slice())?;
     let mut out = Vec::new(alloc);
-    push_first(&mut out, width, &Group::alone(alloc, limit, 0, first)?)?;
+    push_first(&mut out, width, &Group::of_one(alloc, limit, 0, first)?)?;
     push_groups(alloc, &mut out, width, groups.as_slice())?;
     push_counts(&mut out, values)?;
     Ok(out)

@@ -1,6 +1,6 @@
 use Rattle.std.proofs.Common.{ap, ◌∙◌, map}
 use Rattle.job_story.specs.Held.{event_of}
-use Rattle.story_causes.specs.Seen.{seen}
+use Rattle.story_causes.specs.Seen.{event_in}
 use Rattle.story_app.specs.Tellings.{until_of, events_until}
 use Rattle.chart_app.proofs.Charted.{job_charted}
 use Rattle.chart_app.proofs.charting.job_chart.Goals as goal
@@ -10,5 +10,5 @@ returns g c =
     job_charted _ _ _ _ _ _ _ _ _ _ _ c.in_ok-meaning.ensures.ending c.in_ok-meaning.ensures.table
     (c.until-last.ensures ∙ ap (until_of _) c.limit.ensures.value)
     c.in_ok-events.ensures
-    (ap (map seen) c.as_slice-2.ensures.value ∙ (c.in_ok-walked.ensures ∙ ap (events_until c.until-last.result) (ap (map event_of) c.as_slice.ensures.value)))
+    (ap (map event_in) c.as_slice-2.ensures.value ∙ (c.in_ok-walked.ensures ∙ ap (events_until c.until-last.result) (ap (map event_of) c.as_slice.ensures.value)))
     c.in_ok-bytes.ensures.chart c.in_ok-bytes.ensures.well c.verdict_of.ensures

@@ -1,7 +1,7 @@
 use Rattle.std.proofs.Common.{◌≡◌, ◌++◌, drop}
 use Rattle.std.specs.Prelude.{map}
 use Rattle.job_story.specs.Froms.{table_in}
-use Rattle.story_causes.specs.Seen.{seen}
+use Rattle.story_causes.specs.Seen.{event_in}
 use Rattle.chart_bars.specs.Bars.{block_bars}
 use Rattle.chart_bars.specs.Held.{bar_of}
 use Rattle.chart_bars.specs.Indexed.{walked_in}
@@ -9,5 +9,5 @@ use Rattle.chart_bars.proofs.blocks.push_blocks.Given as goal
 
 abbrev pub invariant-events : goal.invariant-events
 invariant-events l =
-    map bar_of l.bars.items ++ block_bars (table_in l.froms) l.until (walked_in l.index) (map seen (drop l.event-index l.events))
-    ≡ map bar_of l.fn.bars.items ++ block_bars (table_in l.froms) l.until (walked_in l.index) (map seen l.events)
+    map bar_of l.bars.items ++ block_bars (table_in l.froms) l.until (walked_in l.index) (map event_in (drop l.event-index l.events))
+    ≡ map bar_of l.fn.bars.items ++ block_bars (table_in l.froms) l.until (walked_in l.index) (map event_in l.events)

@@ -1,9 +1,9 @@
 use Rattle.std.proofs.Common.{◌≡◌, ◌++◌, [], drop}
 use Rattle.std.specs.Prelude.{map}
-use Rattle.story_causes.specs.Seen.{seen}
+use Rattle.story_causes.specs.Seen.{event_in}
 use Rattle.chart_bars.specs.Ticks.{ticks_of_events}
 use Rattle.chart_bars.proofs.ticks.push_events.Given as goal
 
 abbrev pub invariant-events : goal.invariant-events
 invariant-events l =
-    l.ticks.items ++ ticks_of_events (map seen (drop l.event-index l.events)) [] ≡ l.fn.ticks.items ++ ticks_of_events (map seen l.events) []
+    l.ticks.items ++ ticks_of_events (map event_in (drop l.event-index l.events)) [] ≡ l.fn.ticks.items ++ ticks_of_events (map event_in l.events) []

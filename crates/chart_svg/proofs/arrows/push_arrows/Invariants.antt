@@ -1,6 +1,6 @@
 use Rattle.std.proofs.Common.{◌≡◌, ◌++◌, drop, map}
 use Rattle.chart_bars.specs.Held.{bar_of}
-use Rattle.svg_text.specs.Content.{Content, written}
+use Rattle.svg_text.specs.Content.{Content, content_text}
 use Rattle.chart_svg.specs.Arrows.{arrows}
 use Rattle.chart_svg.specs.Held.{sheet_held}
 use Rattle.chart_svg.proofs.arrows.push_arrows.Given as goal
@@ -9,6 +9,6 @@ abbrev pub invariant-bars : goal.invariant-bars
 invariant-bars l = record {
   counted : l.row ≡ l.bar-index;
   appended : (rest : Content) → l.out.items
-      ++ written (arrows (sheet_held l.sheet) (map bar_of l.bars) l.row (map bar_of (drop l.bar-index l.bars)) rest)
-      ≡ l.fn.out.items ++ written (arrows (sheet_held l.sheet) (map bar_of l.bars) 0 (map bar_of l.bars) rest);
+      ++ content_text (arrows (sheet_held l.sheet) (map bar_of l.bars) l.row (map bar_of (drop l.bar-index l.bars)) rest)
+      ≡ l.fn.out.items ++ content_text (arrows (sheet_held l.sheet) (map bar_of l.bars) 0 (map bar_of l.bars) rest);
 }

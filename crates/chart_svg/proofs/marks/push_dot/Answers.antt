@@ -1,7 +1,7 @@
 use Rattle.std.proofs.Common.{[], ◌∷◌}
 use Rattle.job_story.specs.Held.{event_of}
 use Rattle.svg_text.specs.declared.names.Tag.TheVariants as tags
-use Rattle.chart_svg.specs.Sheets.{x_of, middle_of, told}
+use Rattle.chart_svg.specs.Sheets.{x_of, middle_of, events_title}
 use Rattle.chart_svg.specs.Rows.{dot}
 use Rattle.chart_svg.specs.Held.{sheet_held}
 use Rattle.chart_svg.proofs.Pieces.{element_ok, at_place}
@@ -11,6 +11,6 @@ pub returns : goal.returns
 returns c =
     let sheet = sheet_held c.args.sheet.now in
     let x = x_of sheet c.args.event.now.tick in
-    element_ok c.end.result tags.Circle (dot x (middle_of c.args.row)) (told sheet (event_of c.args.event.now ∷ [])) _ _ _ _
+    element_ok c.end.result tags.Circle (dot x (middle_of c.args.row)) (events_title sheet (event_of c.args.event.now ∷ [])) _ _ _ _
     (at_place dot tags.Circle _ _ c.x_of.result x c.middle_of.result (middle_of c.args.row) c.in_ok-begin_dot.ensures c.x_of.ensures
     c.middle_of.ensures) c.in_ok-push_told.ensures c.end.ensures

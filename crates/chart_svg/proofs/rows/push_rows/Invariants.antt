@@ -1,6 +1,6 @@
 use Rattle.std.proofs.Common.{◌≡◌, ◌++◌, drop, map}
 use Rattle.chart_bars.specs.Held.{bar_of}
-use Rattle.svg_text.specs.Content.{Content, written}
+use Rattle.svg_text.specs.Content.{Content, content_text}
 use Rattle.chart_svg.specs.Rows.{rows}
 use Rattle.chart_svg.specs.Held.{sheet_held}
 use Rattle.chart_svg.proofs.rows.push_rows.Given as goal
@@ -8,6 +8,6 @@ use Rattle.chart_svg.proofs.rows.push_rows.Given as goal
 abbrev pub invariant-bars : goal.invariant-bars
 invariant-bars l = record {
   counted : l.row ≡ l.bar-index;
-  appended : (rest : Content) → l.out.items ++ written (rows (sheet_held l.sheet) l.row (map bar_of (drop l.bar-index l.bars)) rest)
-      ≡ l.fn.out.items ++ written (rows (sheet_held l.sheet) 0 (map bar_of l.bars) rest);
+  appended : (rest : Content) → l.out.items ++ content_text (rows (sheet_held l.sheet) l.row (map bar_of (drop l.bar-index l.bars)) rest)
+      ≡ l.fn.out.items ++ content_text (rows (sheet_held l.sheet) 0 (map bar_of l.bars) rest);
 }

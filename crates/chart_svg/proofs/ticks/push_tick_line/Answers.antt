@@ -1,7 +1,7 @@
 use Rattle.std.proofs.Common.{◌∙◌, ◌-◌, ◌++◌, ap}
 use Rattle.std.specs.Prelude.{codes, decimal}
 use Rattle.std.proofs.lemmas.Result.{on_ok_weaker}
-use Rattle.svg_text.specs.Content.{nothing, text, element, written}
+use Rattle.svg_text.specs.Content.{nothing, text, element, content_text}
 use Rattle.svg_text.specs.declared.names.Tag.TheVariants as tags
 use Rattle.chart_svg.specs.declared.layout.TheConstants.{TOP}
 use Rattle.chart_svg.specs.Arrows.{segment}
@@ -21,6 +21,6 @@ returns c =
     ∙ c.in_ok-push_line.ensures (words (codes "tick") c.x_at-x.result (TOP - 6) tick line)
     ∙ ap (λ x.
     c.args.out.now.items
-    ++ written (element tags.Line (segment (codes "tick") x TOP x bottom) nothing (words (codes "tick") x (TOP - 6) tick line)))
+    ++ content_text (element tags.Line (segment (codes "tick") x TOP x bottom) nothing (words (codes "tick") x (TOP - 6) tick line)))
     c.x_at-x.ensures.value)
     c.text.ensures

@@ -1,11 +1,11 @@
 use Rattle.std.proofs.Common.{◌≡◌, ◌++◌, drop}
 use Rattle.std.specs.Prelude.{map}
-use Rattle.story_causes.specs.Seen.{seen}
+use Rattle.story_causes.specs.Seen.{event_in}
 use Rattle.fault_notes.specs.Notes.{sleeping_among, sleeping_in}
 use Rattle.fault_notes.specs.Lasts.{labels_in}
 use Rattle.fault_notes.proofs.lasts.sleeping_forever.Given as goal
 
 abbrev pub invariant-walked : goal.invariant-walked
 invariant-walked l =
-    labels_in l.tasks.items ++ sleeping_among (map seen l.walked) (map seen (drop l.event-index l.walked))
-    ≡ sleeping_in (map seen l.walked)
+    labels_in l.tasks.items ++ sleeping_among (map event_in l.walked) (map event_in (drop l.event-index l.walked))
+    ≡ sleeping_in (map event_in l.walked)

@@ -1,7 +1,7 @@
 use Rattle.std.proofs.Common.{Option, ap, ◌∙◌}
 use Rattle.exc_groups.specs.Exceptions.{Label}
 use Rattle.job_story.specs.Story.{cancels}
-use Rattle.job_story.specs.Tell.{only, tell_cancel}
+use Rattle.job_story.specs.Tell.{story_of_one, tell_cancel}
 use Rattle.job_teller.proofs.Adding.{adds_like}
 use Rattle.job_teller.proofs.leaves.cancel.Goals as goal
 
@@ -11,5 +11,5 @@ returns c = record {
   told = c.at.ensures _;
   events =
       adds_like _ _ _ _ _ c.in_ok-note.ensures
-      (ap (λ (o : Option Label). only c.args.tick (cancels o)) (c.in_ok-label.ensures ∙ c.label_on.ensures));
+      (ap (λ (o : Option Label). story_of_one c.args.tick (cancels o)) (c.in_ok-label.ensures ∙ c.label_on.ensures));
 }

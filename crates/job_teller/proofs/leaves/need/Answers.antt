@@ -1,7 +1,7 @@
 use Rattle.std.proofs.Common.{subst}
 use Rattle.exc_groups.specs.Exceptions.{Label, raised}
 use Rattle.job_story.specs.Story.{misses}
-use Rattle.job_story.specs.Tell.{failed_at, only}
+use Rattle.job_story.specs.Tell.{failed_at, story_of_one}
 use Rattle.job_teller.specs.Tales.{IsTold}
 use Rattle.job_teller.proofs.Shows.{shows_needed, misses_needed}
 use Rattle.job_teller.proofs.leaves.need.Goals as goal
@@ -14,8 +14,8 @@ returns-in_default c =
     c.in_default.not-Lines
     c.bytes.ensures (record {
       told =
-          subst (λ (l : Label). IsTold c.failed.result (failed_at (raised name l tick) tick (only tick (misses name)))) c.in_ok-task.ensures
-          (c.failed.ensures (only tick (misses name)));
+          subst (λ (l : Label). IsTold c.failure.result (failed_at (raised name l tick) tick (story_of_one tick (misses name)))) c.in_ok-task.ensures
+          (c.failure.ensures (story_of_one tick (misses name)));
       events = c.in_ok-note.ensures;
     })
 

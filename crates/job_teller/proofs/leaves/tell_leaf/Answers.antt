@@ -3,15 +3,15 @@ use Rattle.job_teller.proofs.leaves.tell_leaf.Goals as goal
 
 pub returns-in-Sleep : goal.returns-in-Sleep
 unfolding tell_step
-returns-in-Sleep c = rw c.in-Sleep.is c.sleeping.ensures
+returns-in-Sleep c = rw c.in-Sleep.is c.sleep.ensures
 
 pub returns-in-Checkpoint : goal.returns-in-Checkpoint
 unfolding tell_step
-returns-in-Checkpoint c = rw c.in-Checkpoint.is c.sleeping-in-Checkpoint.ensures
+returns-in-Checkpoint c = rw c.in-Checkpoint.is c.sleep-in-Checkpoint.ensures
 
 pub returns-in-Forever : goal.returns-in-Forever
 unfolding tell_step
-returns-in-Forever c = rw (c.in-Forever.is, ← c.saturating_sub.ensures) c.sleeping-in-Forever.ensures
+returns-in-Forever c = rw (c.in-Forever.is, ← c.saturating_sub.ensures) c.sleep-in-Forever.ensures
 
 pub returns-in-Pace : goal.returns-in-Pace
 unfolding tell_step
@@ -19,7 +19,7 @@ returns-in-Pace c = rw c.in-Pace.is c.pace.ensures
 
 pub returns-in-Find : goal.returns-in-Find
 unfolding tell_step
-returns-in-Find c = rw c.in-Find.is c.found.ensures
+returns-in-Find c = rw c.in-Find.is c.find.ensures
 
 pub returns-in-Head : goal.returns-in-Head
 unfolding tell_step
@@ -35,7 +35,7 @@ returns-in-Need c = rw c.in-Need.is c.need.ensures
 
 pub returns-in-Raise : goal.returns-in-Raise
 unfolding tell_step
-returns-in-Raise c = rw c.in-Raise.is c.raised.ensures
+returns-in-Raise c = rw c.in-Raise.is c.raise.ensures
 
 pub returns-in-Cancel : goal.returns-in-Cancel
 unfolding tell_step

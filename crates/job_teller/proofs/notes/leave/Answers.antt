@@ -5,9 +5,9 @@ use Rattle.cancel_scopes.specs.Sight.{catches}
 use Rattle.exc_groups.specs.Exceptions.{Label, Exc}
 use Rattle.exc_groups.specs.Held.{exc_of}
 use Rattle.job_meaning.specs.Walk.{Left, left_with, exc_after}
-use Rattle.job_story.specs.Held.{boxed, kind_of}
+use Rattle.job_story.specs.Held.{unboxed_exc, kind_of}
 use Rattle.job_story.specs.Story.{leaves}
-use Rattle.job_story.specs.Tell.{only}
+use Rattle.job_story.specs.Tell.{story_of_one}
 use Rattle.job_teller.specs.Heres.{scopes_of}
 use Rattle.job_teller.specs.Lefts.{left_of}
 use Rattle.job_teller.proofs.Adding.{adds_like}
@@ -23,7 +23,7 @@ returns c =
     let is : left_of c.in_ok-left.left ≡ left = c.in_ok-left.ensures ∙ ap (λ (b : Bool). left_with b inner) c.catches-catches.ensures in
     let outer : option_map exc_of c.in_ok-outer.outer ≡ exc_after kind label end left =
     c.in_ok-outer.ensures ∙ ap (λ (l : Left). exc_after kind label end l) is in
-    let held = boxed c.in_ok-outside.outside in
+    let held = unboxed_exc c.in_ok-outside.outside in
     record {
       end = refl;
       exc = outer;
@@ -31,9 +31,9 @@ returns c =
       open_excs = ap (map exc_of) c.new.ensures.items;
       events =
           adds_like _ _ _ _ _ c.in_ok-note.ensures
-          (ap (λ (l : Label). only end (leaves kind l (boxed c.in_ok-inner.inner) c.in_ok-left.left.caught held))
+          (ap (λ (l : Label). story_of_one end (leaves kind l (unboxed_exc c.in_ok-inner.inner) c.in_ok-left.left.caught held))
           c.in_ok-label.ensures
-          ∙ (ap (λ (o : Option Exc). only end (leaves kind label o c.in_ok-left.left.caught held)) c.in_ok-inner.ensures
-          ∙ (ap (λ (l : Left). only end (leaves kind label inner l.caught held)) is
-          ∙ ap (λ (o : Option Exc). only end (leaves kind label inner left.caught o)) (c.in_ok-outside.ensures ∙ outer))));
+          ∙ (ap (λ (o : Option Exc). story_of_one end (leaves kind label o c.in_ok-left.left.caught held)) c.in_ok-inner.ensures
+          ∙ (ap (λ (l : Left). story_of_one end (leaves kind label inner l.caught held)) is
+          ∙ ap (λ (o : Option Exc). story_of_one end (leaves kind label inner left.caught o)) (c.in_ok-outside.ensures ∙ outer))));
     }

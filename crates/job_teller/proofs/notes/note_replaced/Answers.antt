@@ -2,7 +2,7 @@ use Rattle.std.proofs.Common.{ap, ◌∙◌}
 use Rattle.exc_groups.specs.Exceptions.{Exc}
 use Rattle.exc_groups.specs.Held.{exc_of}
 use Rattle.job_story.specs.Story.{replaces}
-use Rattle.job_story.specs.Tell.{only}
+use Rattle.job_story.specs.Tell.{story_of_one}
 use Rattle.job_teller.proofs.Adding.{adds_nothing, adds_like}
 use Rattle.job_teller.proofs.notes.note_replaced.Goals as goal
 
@@ -15,5 +15,5 @@ returns-in_default-fresh c = rw (c.in-Some.is, c.in_default-fresh.is) (adds_noth
 pub returns : goal.returns
 returns c =
     rw (c.in-Some.is, c.in-Some-fresh.is) (adds_like _ _ _ _ _ c.in_ok-note.ensures
-    (ap (λ (x : Exc). only c.args.tick (replaces x (exc_of c.in_ok-fresh.fresh.value))) c.in_ok-lost.ensures
-    ∙ ap (λ (x : Exc). only c.args.tick (replaces (exc_of c.in-Some.lost) x)) c.in_ok-fresh.ensures))
+    (ap (λ (x : Exc). story_of_one c.args.tick (replaces x (exc_of c.in_ok-fresh.fresh.value))) c.in_ok-lost.ensures
+    ∙ ap (λ (x : Exc). story_of_one c.args.tick (replaces (exc_of c.in-Some.lost) x)) c.in_ok-fresh.ensures))

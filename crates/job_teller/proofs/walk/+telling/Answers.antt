@@ -14,11 +14,11 @@ use Rattle.job_tree.specs.Names.{size_of, size_in}
 use Rattle.job_tree.proofs.Weights.{weight_at}
 use Rattle.job_meaning.specs.Walk.{stack_inside, home_of, label_over}
 use Rattle.job_story.specs.Events.{event, starts, ends}
-use Rattle.job_story.specs.Held.{boxed, kind_of, event_of, range_in}
+use Rattle.job_story.specs.Held.{unboxed_exc, kind_of, event_of, range_in}
 use Rattle.job_story.specs.Story.{Tale, enters, handles, cleans}
-use Rattle.job_story.specs.Tell.{only, tell, tell_block, tell_each, replaced}
+use Rattle.job_story.specs.Tell.{story_of_one, tell, tell_block, tell_each, replacement}
 use Rattle.job_teller.specs.declared.block.Block.{Block}
-use Rattle.job_teller.specs.Heres.{HasRoom, table_of, scene_of, scene_in, scopes_of, input_of, here_of, inside, started, started_over}
+use Rattle.job_teller.specs.Heres.{HasRoom, table_of, scene_of, scene_in, scopes_of, input_of, here_of, inside, started_tale, started_over}
 use Rattle.job_teller.specs.Tales.{Tells}
 use Rattle.job_teller.proofs.Adding.{adds_like, adds_nothing}
 use Rattle.job_teller.proofs.Telling.{tells_joined}
@@ -71,7 +71,7 @@ tell_block-returns t c =
     let kind = kind_of block.kind in
     let body = inside kind block.label block.shield c.args.body.now c.args.here c.args.tick in
     let entering = adds_like _ _ _ _ _ c.in_ok-note.ensures
-    (ap (λ (l : Label). only c.args.tick (enters kind l block.deadline block.shield)) c.in_ok-label.ensures) in
+    (ap (λ (l : Label). story_of_one c.args.tick (enters kind l block.deadline block.shield)) c.in_ok-label.ensures) in
     tells_block c.args.here.task.now _ _ _ _ (table_of c.args.here) kind block.label c.args.tick block.deadline block.shield
     (scopes_of c.args.here)
     body c.in_ok-inner.inner c.in_ok-told.told block.from c.requires.known entering c.in_ok-inner.ensures c.in_ok-told.ensures
@@ -112,10 +112,10 @@ tell_child-returns t c =
     inner
     (c.in_ok-add-2.ensures
     ∙ (ap (λ (n : ℕ). map event_of c.tell_steps.new.events.items ++ event n c.args.label (ends c.in_ok-home-2.home
-    (boxed c.in_ok-exc.exc)) ∷ [])
+    (unboxed_exc c.in_ok-exc.exc)) ∷ [])
     c.end.ensures
     ∙ (ap (λ (o : Option Label). map event_of c.tell_steps.new.events.items
-    ++ event c.in_ok-told.told.end c.args.label (ends o (boxed c.in_ok-exc.exc)) ∷ [])
+    ++ event c.in_ok-told.told.end c.args.label (ends o (unboxed_exc c.in_ok-exc.exc)) ∷ [])
     (c.in_ok-home-2.ensures ∙ c.home-2.ensures)
     ∙ ap (λ (o : Option Exc). map event_of c.tell_steps.new.events.items ++ event c.in_ok-told.told.end c.args.label (ends home o) ∷ [])
     c.in_ok-exc.ensures)))
@@ -128,11 +128,11 @@ pub tell_children-copies-preserved : goal.tell_children-copies-preserved
 tell_children-copies-preserved t c =
     let here = c.args.here in
     let body = subst (λ (ss : Steps). Tells here.task.now c.copies.events.items c.in_ok-child.child c.tell_child.new.events.items
-    (started c.in_ok-label.label (range_of c.cut-part.result) ss here c.args.tick)) c.as_slice.ensures c.in_ok-child.ensures in
+    (started_tale c.in_ok-label.label (range_of c.cut-part.result) ss here c.args.tick)) c.as_slice.ensures c.in_ok-child.ensures in
     let labelled = subst (λ (l : Label). Tells here.task.now c.copies.events.items c.in_ok-child.child c.tell_child.new.events.items
-    (started l (range_of c.cut-part.result) c.args.body.now here c.args.tick)) c.in_ok-label.ensures body in
+    (started_tale l (range_of c.cut-part.result) c.args.body.now here c.args.tick)) c.in_ok-label.ensures body in
     let child = subst (λ (x : Range). Tells here.task.now c.copies.events.items c.in_ok-child.child c.tell_child.new.events.items
-    (started (label_over c.args.name.now (here_of here) c.copies.i) x c.args.body.now here c.args.tick)) c.cut-part.ensures.range labelled
+    (started_tale (label_over c.args.name.now (here_of here) c.copies.i) x c.args.body.now here c.args.tick)) c.cut-part.ensures.range labelled
     in
     rw (add-one c.copies.i) (tells_joined _ _ _ _ _ _ _ _ _ c.copies.invariant child c.in_ok-told.ensures)
 
@@ -230,9 +230,9 @@ tell_handler-returns t c = λ start (a : Tale) h.
     let e : a.exc ≡ Some (exc_of c.in-Some-2.exc) = sym h.told.exc ∙ (sym c.in_ok-exc.ensures ∙ ap (option_map exc_of) c.in-Some-2.is) in
     let matched = exc_of c.in-Some-kept.matched in
     let handling = adds_like _ _ _ _ _ c.in_ok-note.ensures
-    (ap (λ (n : ℕ). only n (handles (exc_of c.in_ok-matched.matched.value) (boxed c.in_ok-left.left))) c.end.ensures
-    ∙ (ap (λ (x : held.Exc). only c.args.told.end (handles (exc_of x) (boxed c.in_ok-left.left))) c.in_ok-matched.ensures.ok
-    ∙ ap (λ (o : Option Exc). only c.args.told.end (handles matched o)) c.in_ok-left.ensures)) in
+    (ap (λ (n : ℕ). story_of_one n (handles (exc_of c.in_ok-matched.matched.value) (unboxed_exc c.in_ok-left.left))) c.end.ensures
+    ∙ (ap (λ (x : held.Exc). story_of_one c.args.told.end (handles (exc_of x) (unboxed_exc c.in_ok-left.left))) c.in_ok-matched.ensures.ok
+    ∙ ap (λ (o : Option Exc). story_of_one c.args.told.end (handles matched o)) c.in_ok-left.ensures)) in
     let next = tells_at _ _ _ c.in_ok-next.next _ _ _ _ _ _ a.end c.as_slice.ensures (c.end-2.ensures ∙ h.told.end) c.in_ok-next.ensures in
     rw c.in-Some.is
     (is_wanted _ start _ _ _ a _ _ matched _ e (sym (ap (option_map exc_of) c.in-Some-kept.is) ∙ c.in_ok-kept.ensures.kept)
@@ -248,11 +248,11 @@ unfolding tell
 tell_cleanup-returns t c = λ start (a : Tale) h.
     let told = c.args.told in
     let cleaning = adds_like _ _ _ _ _ c.in_ok-note.ensures
-    (ap (λ (n : ℕ). only n (cleans (boxed c.in_ok-exc.exc))) c.end.ensures
-    ∙ ap (λ (o : Option Exc). only told.end (cleans o)) c.in_ok-exc.ensures) in
+    (ap (λ (n : ℕ). story_of_one n (cleans (unboxed_exc c.in_ok-exc.exc))) c.end.ensures
+    ∙ ap (λ (o : Option Exc). story_of_one told.end (cleans o)) c.in_ok-exc.ensures) in
     let next = tells_at _ _ _ c.in_ok-next.next _ _ _ _ _ _ a.end c.as_slice.ensures (c.end-2.ensures ∙ h.told.end) c.in_ok-next.ensures in
     let replacing = adds_like _ _ _ _ _ c.in_ok-note_replaced.ensures
-    (ap (λ (n : ℕ). replaced (option_map exc_of told.exc) (option_map exc_of c.in_ok-next.next.exc) n) c.end-3.ensures) in
+    (ap (λ (n : ℕ). replacement (option_map exc_of told.exc) (option_map exc_of c.in_ok-next.next.exc) n) c.end-3.ensures) in
     rw c.in-Some.is (tells_cleaned _ start _ _ _ _ told c.in_ok-next.next _ a _ h cleaning next replacing c.in_ok-told.ensures)
 
 pub tell_step-returns-in_ok-block-in-Scope : goal.tell_step-returns-in_ok-block-in-Scope
@@ -287,9 +287,9 @@ tell_start-returns-in_ok-label-in-None t c =
     let here = c.args.here in
     rw c.in-None.is
     (subst (λ (l : Label). IfOk c.tell_child.result (λ w. Tells here.task.now c.args.events.now.items w c.tell_child.new.events.items
-    (started l (range_of here.part) c.args.body.now here c.args.tick))) c.in_ok-label-in-None.ensures
+    (started_tale l (range_of here.part) c.args.body.now here c.args.tick))) c.in_ok-label-in-None.ensures
     (subst (λ (ss : Steps). IfOk c.tell_child.result (λ w. Tells here.task.now c.args.events.now.items w c.tell_child.new.events.items
-    (started c.in_ok-label-in-None.label (range_of here.part) ss here c.args.tick))) c.as_slice.ensures c.tell_child.ensures))
+    (started_tale c.in_ok-label-in-None.label (range_of here.part) ss here c.args.tick))) c.as_slice.ensures c.tell_child.ensures))
 
 pub tell_start-returns-in-Some : goal.tell_start-returns-in-Some
 tell_start-returns-in-Some t c = rw c.in-Some.is c.tell_children.ensures

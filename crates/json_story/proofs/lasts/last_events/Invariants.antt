@@ -1,7 +1,7 @@
 use Rattle.std.proofs.Common.{◌≡◌, drop}
 use Rattle.std.specs.Prelude.{None, map}
 use Rattle.exc_groups.specs.Exceptions as tree
-use Rattle.story_causes.specs.Seen.{seen}
+use Rattle.story_causes.specs.Seen.{event_in}
 use Rattle.story_text.specs.Lasts.{event_at}
 use Rattle.json_story.specs.Lasts.{last_event, seen_last}
 use Rattle.json_story.proofs.lasts.last_events.Given as goal
@@ -9,4 +9,4 @@ use Rattle.json_story.proofs.lasts.last_events.Given as goal
 abbrev pub invariant-events : goal.invariant-events
 invariant-events l =
     (task : tree.Label) →
-    last_event task (map seen (drop l.event-index l.events)) (seen_last (event_at l.lasts task)) ≡ last_event task (map seen l.events) None
+    last_event task (map event_in (drop l.event-index l.events)) (seen_last (event_at l.lasts task)) ≡ last_event task (map event_in l.events) None

@@ -1,7 +1,7 @@
 use Rattle.std.proofs.Common.{◌≡◌, ◌++◌, drop}
 use Rattle.std.specs.Prelude.{map}
 use Rattle.serde_json.specs.View.{view}
-use Rattle.story_causes.specs.Seen.{seen}
+use Rattle.story_causes.specs.Seen.{event_in}
 use Rattle.job_story.specs.Limit.{running_in}
 use Rattle.json_story.specs.Running.{task_json}
 use Rattle.json_story.specs.Tasks.{sorted_in, walked_in}
@@ -10,5 +10,5 @@ use Rattle.json_story.proofs.running.running_values.Given as goal
 abbrev pub invariant-walked : goal.invariant-walked
 invariant-walked l =
     map view l.values.items
-    ++ map (task_json (sorted_in l.tasks)) (running_in (walked_in l.tasks) (map seen (drop l.event-index l.walked)))
-    ≡ map (task_json (sorted_in l.tasks)) (running_in (walked_in l.tasks) (map seen l.walked))
+    ++ map (task_json (sorted_in l.tasks)) (running_in (walked_in l.tasks) (map event_in (drop l.event-index l.walked)))
+    ≡ map (task_json (sorted_in l.tasks)) (running_in (walked_in l.tasks) (map event_in l.walked))

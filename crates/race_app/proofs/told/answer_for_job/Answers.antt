@@ -4,7 +4,7 @@ use Rattle.job_meaning.specs.Meaning.{meaning_end}
 use Rattle.job_runner.specs.Runs.{rows_of, root_end}
 use Rattle.job_edits.specs.Sites.{sites_in}
 use Rattle.job_edits.specs.Copied.{copied_in}
-use Rattle.job_edits.specs.Finer.{capped, finer_for}
+use Rattle.job_edits.specs.Finer.{finer_for}
 use Rattle.race_text.specs.Views.{line_held}
 use Rattle.race_app.specs.Ran.{ran}
 use Rattle.race_app.proofs.Tabled.{in_time, ran_in_time, are_lines}

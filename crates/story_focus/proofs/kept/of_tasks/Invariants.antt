@@ -3,10 +3,10 @@ use Rattle.std.specs.Prelude.{map}
 use Rattle.std.proofs.Math.ListN.{take}
 use Rattle.exc_groups.specs.Exceptions.{Label}
 use Rattle.job_story.specs.Focus.{is_among, of_tasks}
-use Rattle.story_causes.specs.Seen.{seen}
+use Rattle.story_causes.specs.Seen.{event_in}
 use Rattle.story_focus.specs.Holds.{holds}
 use Rattle.story_focus.proofs.kept.of_tasks.Given as goal
 
 abbrev pub invariant-events : goal.invariant-events
 invariant-events l = (ls : List Label) → ((m : Label) → holds l.tasks m ≡ is_among m ls) →
-    map seen l.kept.items ≡ of_tasks ls (map seen (take l.event-index l.events))
+    map event_in l.kept.items ≡ of_tasks ls (map event_in (take l.event-index l.events))

@@ -1,6 +1,6 @@
 use Rattle.std.proofs.Common.{ap, ◌∙◌}
 use Rattle.std.specs.Prelude.{map}
-use Rattle.story_causes.specs.Seen.{seen}
+use Rattle.story_causes.specs.Seen.{event_in}
 use Rattle.story_focus.specs.Holds.{holds}
 use Rattle.story_focus.specs.Added.{is_added}
 use Rattle.story_focus.proofs.Adds.{one_more_added}
@@ -16,5 +16,5 @@ events-preserved c = λ table all known l.
 pub returns : goal.returns
 returns c = λ table all known l.
     c.events.invariant table all known l
-    ∙ ap (λ es. is_added (holds c.args.tasks.now) table all l (map seen es))
+    ∙ ap (λ es. is_added (holds c.args.tasks.now) table all l (map event_in es))
     (all_read c.args.events.now c.events.event-index c.events-test.false c.events.auto.event-index-end)

@@ -1,7 +1,7 @@
 use Rattle.std.proofs.Common.{◌≡◌, drop}
 use Rattle.std.specs.Prelude.{◌||◌, map}
 use Rattle.exc_groups.specs.Exceptions as tree
-use Rattle.story_causes.specs.Seen.{seen}
+use Rattle.story_causes.specs.Seen.{event_in}
 use Rattle.job_story.specs.Limit.{has_ended}
 use Rattle.story_text.specs.Lasts.{is_among}
 use Rattle.story_text.proofs.tasks.ended_tasks.Given as goal
@@ -9,4 +9,4 @@ use Rattle.story_text.proofs.tasks.ended_tasks.Given as goal
 abbrev pub invariant-events : goal.invariant-events
 invariant-events l =
     (task : tree.Label) →
-    (is_among l.ended task || has_ended task (map seen (drop l.event-index l.events))) ≡ has_ended task (map seen l.events)
+    (is_among l.ended task || has_ended task (map event_in (drop l.event-index l.events))) ≡ has_ended task (map event_in l.events)

@@ -7,8 +7,8 @@ returns-then-next-self c =
     let first : IsFirst c.self.inside.timers c.unwrap-due.result.0 c.unwrap-due.result.1 = rw c.unwrap-due.ensures at c.first.ensures in
     rw (← c.self.view_is)
     (record {
-      next = c.earlier-next.result;
-      is_next = rw c.earlier-next.ensures (first_is_next _ c.args.next_cancel _ _ first);
+      next = c.earlier_of-next.result;
+      is_next = rw c.earlier_of-next.ensures (first_is_next _ c.args.next_cancel _ _ first);
       late =
           c.if-next-self.true;
       unchanged = same_clock _;

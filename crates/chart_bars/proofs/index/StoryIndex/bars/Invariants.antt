@@ -1,7 +1,7 @@
 use Rattle.std.proofs.Common.{◌≡◌, ◌++◌, drop}
 use Rattle.std.specs.Prelude.{map}
 use Rattle.job_story.specs.Froms.{table_in}
-use Rattle.story_causes.specs.Seen.{seen}
+use Rattle.story_causes.specs.Seen.{event_in}
 use Rattle.chart_bars.specs.Bars.{bars_from, bars_of}
 use Rattle.chart_bars.specs.Held.{bar_of}
 use Rattle.chart_bars.specs.Indexed.{walked_in}
@@ -9,5 +9,5 @@ use Rattle.chart_bars.proofs.index.StoryIndex.bars.Given as goal
 
 abbrev pub invariant-events : goal.invariant-events
 invariant-events l =
-    map bar_of l.bars.items ++ bars_from (table_in l.froms) l.fn.until (walked_in l.self) (map seen (drop l.event-index l.self.walked.now))
+    map bar_of l.bars.items ++ bars_from (table_in l.froms) l.fn.until (walked_in l.self) (map event_in (drop l.event-index l.self.walked.now))
     ≡ bars_of (table_in l.froms) l.fn.until (walked_in l.self)

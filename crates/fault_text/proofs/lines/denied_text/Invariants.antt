@@ -2,7 +2,7 @@ use Rattle.std.proofs.Common.{◌≡◌, ◌++◌, drop}
 use Rattle.std.specs.Prelude.{map}
 use Rattle.fault_text.specs.Table.{first_denied, denied_lines}
 use Rattle.fault_text.specs.Views.{job_outcome_held, line_held}
-use Rattle.fault_text.proofs.lines.denied.Given as goal
+use Rattle.fault_text.proofs.lines.denied_text.Given as goal
 
 abbrev pub invariant-lines : goal.invariant-lines
 invariant-lines l =

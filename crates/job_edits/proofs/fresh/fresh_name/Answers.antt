@@ -1,7 +1,7 @@
 use Rattle.std.proofs.Common.{◌≡◌, ◌∙◌, sym, arith, ◌<◌, true, false}
 use Rattle.job_edits.specs.Fresh.{occurs}
 use Rattle.job_edits.proofs.Tries.{ends, goes_on}
-use Rattle.job_edits.proofs.fresh.fresh.Goals as goal
+use Rattle.job_edits.proofs.fresh.fresh_name.Goals as goal
 
 pub returns-then-not-occurs-2 : goal.returns-then-not-occurs-2
 returns-then-not-occurs-2 c =

@@ -1,6 +1,6 @@
 use Rattle.std.proofs.Common.{refl}
 use Rattle.job_teller.proofs.Telling.{is_failed}
-use Rattle.job_teller.proofs.told.Told.failed.Goals as goal
+use Rattle.job_teller.proofs.told.Told.failure.Goals as goal
 
 pub returns : goal.returns
 returns c = λ story. is_failed _ _ _ story refl refl refl c.new.ensures.items

@@ -1,5 +1,5 @@
 use Rattle.job_teller.proofs.Shows.{shows_found}
-use Rattle.job_teller.proofs.leaves.found.Goals as goal
+use Rattle.job_teller.proofs.leaves.find.Goals as goal
 
 pub returns : goal.returns
 returns c =

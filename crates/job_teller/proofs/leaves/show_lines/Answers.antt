@@ -3,14 +3,14 @@ use Rattle.std.specs.Prelude.{map}
 use Rattle.buffer_parts.specs.Part.{span_of}
 use Rattle.buffer_parts.specs.Lines.{Span}
 use Rattle.job_story.specs.Story.{finds}
-use Rattle.job_story.specs.Tell.{only, tell_lines}
+use Rattle.job_story.specs.Tell.{story_of_one, tell_lines}
 use Rattle.job_teller.proofs.Adding.{adds_like}
-use Rattle.job_teller.proofs.leaves.shown.Goals as goal
+use Rattle.job_teller.proofs.leaves.show_lines.Goals as goal
 
 pub returns : goal.returns
 unfolding tell_lines
 returns c = record {
   told = c.at.ensures _;
   events = adds_like _ _ _ _ _ c.in_ok-note.ensures
-      (ap (λ (ls : List Span). only c.args.tick (finds ls)) (c.in_ok-lines.ensures ∙ ap (map span_of) c.as_slice.ensures));
+      (ap (λ (ls : List Span). story_of_one c.args.tick (finds ls)) (c.in_ok-lines.ensures ∙ ap (map span_of) c.as_slice.ensures));
 }

@@ -6,7 +6,7 @@ use Rattle.job_meaning.specs.Walk.{handler_exc}
 use Rattle.job_story.specs.Story.{Tale}
 use Rattle.job_story.specs.Tell.{and_tale, with_exc_of, handled_by}
 use Rattle.job_teller.proofs.Telling.{is_outcome, told_like}
-use Rattle.job_teller.proofs.told.Told.handled.Goals as goal
+use Rattle.job_teller.proofs.told.Told.join_handler.Goals as goal
 
 pub returns : goal.returns
 returns c = λ matched (a : Tale) (b : Tale) h k.
