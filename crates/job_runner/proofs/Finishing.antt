@@ -31,7 +31,7 @@ use Rattle.task_table.specs.declared.rows.TaskRow.{TaskRow}
 use Rattle.job_runner.specs.declared.runner.Phase.TheVariants as phases
 use Rattle.job_runner.specs.declared.runner.Runner.{Runner}
 use Rattle.job_runner.specs.Phases.{phase_by, phase_of}
-use Rattle.task_table.specs.TaskTable.{children_by, state_of, gone_by, gone_from, gone_of, task_count, row_at, running_at, start_by, task_by, task_in, task_of, task_unless}
+use Rattle.task_table.specs.TaskTable.{children_by, run_state, gone_by, gone_from, gone_of, task_count, row_at, running_at, start_by, task_by, task_in, task_of, task_unless}
 use Rattle.task_table.specs.Rows.{AreShown, EndIsShown, IsShown, ShowRecords}
 use Rattle.job_runner.specs.Runs.{IsRun, FollowsEach, froms_in, name_of, records_in}
 use Rattle.job_runner.specs.Shelves.{state_in, IsUnderway}
@@ -78,7 +78,7 @@ end_shown input row (Some end) gone e label tick exc entries slices froms =
     }
 
 row_shown : (input : List ℕ) (task_table : TaskTable) (world : World) (turns s : ℕ) (row : interleaving.Row) (held : TaskRow) → row_at task_table s ≡ Some held →
-    ShowsRow input (state_of task_table world turns) s row →
+    ShowsRow input (run_state task_table world turns) s row →
     IsShown input row held
 row_shown input task_table world turns s row held e h =
     record {

@@ -37,7 +37,7 @@ use Rattle.task_table.specs.declared.task_table.Running.{Running}
 use Rattle.job_runner.specs.declared.runner.Runner.{Runner}
 use Rattle.job_runner.specs.Jumps.{sight_by, sight_in, Wakes, IsNextTick, Slept, IsAnyNow, IsWaking}
 use Rattle.sleepers.specs.Sleeping.{IsFirst}
-use Rattle.task_table.specs.TaskTable.{running_at, task_of, gone_of, id_of, task_count, state_of, IsTaskTable}
+use Rattle.task_table.specs.TaskTable.{running_at, task_of, gone_of, id_of, task_count, run_state, IsTaskTable}
 use Rattle.task_table.specs.Rows.{times}
 use Rattle.job_runner.specs.Shelves.{IsCalled, Dozes, sleep_slot_of, timer_times, settled_times, task_state_times, running_times, times_shelved, state_in, IsGoing, IsUnderway}
 use Rattle.task_table.proofs.Times.{one_if}
@@ -299,10 +299,10 @@ module _ (r : Runner) (w : IsUnderway r) (none : r.batch.current ≡ []) where
 
       -- the same tasks are a run of the definitions in that tick
       pub interleaving_jumps : (k : Table) → IsSettled k r.job.now r.input.now →
-          Refines k r.job.now r.input.now t (task_count r.task_table) None (state_of r.task_table (record r.world { tick = t }) r.turns)
+          Refines k r.job.now r.input.now t (task_count r.task_table) None (run_state r.task_table (record r.world { tick = t }) r.turns)
       interleaving_jumps k settled =
           let c = w.going.interleaving k settled in
-          state_jumps k r.job.now r.input.now r.world.tick t (task_count r.task_table) (state_in r) (state_of r.task_table later_world r.turns)
+          state_jumps k r.job.now r.input.now r.world.tick t (task_count r.task_table) (state_in r) (run_state r.task_table later_world r.turns)
           (let lt = next_later in omega (arith, lt))
           (record { turns = refl; task = λ p. refl; gone = λ p. refl; start = λ p. refl; children = λ p. refl }) refl c
           (state_blocked k r.job.now r.input.now r.world.tick (task_count r.task_table) (state_in r) c t (all_stay t none_before_next))
@@ -310,7 +310,7 @@ module _ (r : Runner) (w : IsUnderway r) (none : r.batch.current ≡ []) where
       -- and while one lives, the meaning does not end before it
       pub ends_later : (s : ℕ) (task : Task) → task_of r.task_table s ≡ Some task → t ≤ meaning_end r.job.now r.input.now
       ends_later s task e =
-          state_in_time r.job.now r.input.now t (task_count r.task_table) (state_of r.task_table later_world r.turns) w.going.sound.names
+          state_in_time r.job.now r.input.now t (task_count r.task_table) (run_state r.task_table later_world r.turns) w.going.sound.names
           w.going.sound.starts
           (interleaving_jumps (meaning_table r.job.now r.input.now) (table_is_settled r.job.now r.input.now w.going.sound.names)) s task e
 

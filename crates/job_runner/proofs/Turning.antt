@@ -58,7 +58,7 @@ use Rattle.task_table.specs.declared.task_table.TaskTable.{TaskTable}
 use Rattle.task_table.specs.declared.task_table.Running.{Running}
 use Rattle.job_runner.specs.declared.runner.Runner.{Runner}
 use Rattle.task_table.specs.Rows.{times}
-use Rattle.task_table.specs.TaskTable.{running_at, task_of, gone_of, start_of, children_of, parent_of, task_count, state_of, HasRow, MayTurn, HasTurn}
+use Rattle.task_table.specs.TaskTable.{running_at, task_of, gone_of, start_of, children_of, parent_of, task_count, run_state, HasRow, MayTurn, HasTurn}
 use Rattle.job_runner.specs.Shelves.{GoesBy, IsCalled, Dozes, sleep_slot_of, AreKnown, times_shelved, settled_times, task_state_times, running_times, AreShelved, state_in, IsGoing}
 use Rattle.job_runner.specs.Steps.{StartsAll, to_begin, TakesStarted, IsStopping}
 use Rattle.task_table.proofs.Times.{one_if}
@@ -175,7 +175,7 @@ module _ (id : ℕ) (wake : Wake) (stop : Stop) (r new : Runner) (ro : TaskTable
 
     -- the tasks of the program right after the turn, and those of the runner after the started tasks were taken
     abbrev that : RunState
-    that = state_of new.task_table w (r.turns + 1)
+    that = run_state new.task_table w (r.turns + 1)
 
     abbrev left : Runner
     left = record r { world = record w { started = new.world.started }; task_table = new.task_table; batch = new.batch; turns = r.turns + 1 }
@@ -185,7 +185,7 @@ module _ (id : ℕ) (wake : Wake) (stop : Stop) (r new : Runner) (ro : TaskTable
         takes.world
 
     tick : w.tick ≡ t
-    tick = ap (λ (x : World). x.tick) turn.world
+    tick = ap (λ (x : World). x.tick) turn.keeps.world
 
     same_many : task_count ro ≡ m
     same_many = turn.same.many
@@ -219,13 +219,13 @@ module _ (id : ℕ) (wake : Wake) (stop : Stop) (r new : Runner) (ro : TaskTable
     turn_taken = record {
       task = task_at r.task_table going.shelved.agree id (record { task = turn.before; row = s }) turn.lived;
       goes = may;
-      stays = turn.stays;
-      world = turn.world;
+      stays = turn.keeps.task;
+      world = turn.keeps.world;
       sound = sound;
       sound_after = sound_after;
       none_left = going.shelved.none_started;
       fits_after = turn.fits;
-      in_range = turn.in_range;
+      in_range = turn.keeps.in_range;
       turn = turn.turn;
       turns = refl;
       task_after = started_at.same_task s row_there ∙ turn.task;

@@ -53,7 +53,7 @@ comes_tick id (Ended exc) old new h = ap (λ (w : World). w.tick) h.1
 
 turn_tick : (id : ℕ) (wake : Wake) (old new : Runner) → TakesTurn id wake old new → new.world.tick ≡ old.world.tick
 turn_tick id wake old new h =
-    comes_tick id h.stop h.went new h.stopped ∙ ap (λ (w : World). w.tick) h.goes.started.world ∙ ap (λ (w : World). w.tick) h.goes.turn.world
+    comes_tick id h.stop h.went new h.stopped ∙ ap (λ (w : World). w.tick) h.goes.started.world ∙ ap (λ (w : World). w.tick) h.goes.turn.keeps.world
 
 turns_tick : {P : Type 0} (picks : P → ℕ → ℕ → P → Type 0) (old new : Runner) (before after : P) → TakesTurns picks old before new after →
     new.world.tick ≡ old.world.tick

@@ -36,7 +36,7 @@ use Rattle.task_table.specs.declared.task_table.TaskTable.{TaskTable}
 use Rattle.task_table.specs.declared.task_table.Running.{Running}
 use Rattle.job_runner.specs.declared.runner.Runner.{Runner}
 use Rattle.task_table.specs.Rows.{times}
-use Rattle.task_table.specs.TaskTable.{running_at, parent_of, task_count, state_of, IsTaskTable}
+use Rattle.task_table.specs.TaskTable.{running_at, parent_of, task_count, run_state, IsTaskTable}
 
 -- ---- why a task is ready
 
@@ -130,7 +130,7 @@ IsElse (Some away) id = id ≢ away
 -- What the runner keeps is consistent. The task with one id may be missing: it is having its turn.
 pub record AreShelved (turning : Option ℕ) (r : Runner) : Type 0 where
   pub agree : IsTaskTable r.task_table
-  pub homes : AreHomesOf (state_of r.task_table r.world r.turns) (parent_of r.task_table)
+  pub homes : AreHomesOf (run_state r.task_table r.world r.turns) (parent_of r.task_table)
   pub now : now_of r.clock ≡ r.world.tick
   pub limit : limit_of r.clock ≡ r.limit
   pub within : r.world.tick ≤ r.limit
@@ -145,7 +145,7 @@ pub record AreShelved (turning : Option ℕ) (r : Runner) : Type 0 where
 
 -- the tasks of the program, as a runner keeps them
 abbrev pub state_in : Runner → RunState
-state_in r = state_of r.task_table r.world r.turns
+state_in r = run_state r.task_table r.world r.turns
 
 -- For each settled table they are a run of the definitions.
 abbrev pub IsRefined : Runner → Type 0
