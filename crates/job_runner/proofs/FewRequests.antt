@@ -1,14 +1,11 @@
 -- A batch has few requests: each is made by another task that has not ended.
 use Rattle.std.proofs.Common.{◌≡◌, inl, inr, ℕ, suc, ◌+◌, ◌≤◌, Option, Some, None, List, [], ◌∷◌, length, refl, ap, sym, ◌∙◌, subst, arith}
-use Rattle.std.specs.Prelude.{All, IsSome, ◌==◌, map}
+use Rattle.std.specs.Prelude.{All, IsSome, is_some, ◌==◌, map}
 use Rattle.std.proofs.lemmas.List.Elements.{All-head, All-tail, All-weaker}
 use Rattle.batch_commit.specs.declared.entry.Call.{Call}
 use Rattle.batch_commit.specs.declared.entry.Call.TheVariants.{Begin, Due, Seen, Settled, Ask}
 use Rattle.batch_commit.specs.declared.entry.Entry.{Entry}
 use Rattle.batch_commit.specs.Entries.{requests_of}
-use Rattle.job_meaning.specs.Log.{Table}
-use Rattle.job_meaning.specs.Meaning.{meaning_table}
-use Rattle.job_meaning.proofs.Settled.{table_is_settled}
 use Rattle.line_kernels.specs.declared.answers.Answer.{Answer}
 use Rattle.interleavings.specs.Interleaving.{In}
 use Rattle.run_refinement.specs.Laws.{AreDistinct}
@@ -17,13 +14,12 @@ use Rattle.task_table.specs.TaskTable.{running_at, task_of, task_count, IsTaskTa
 use Rattle.task_table.specs.Rows.{times}
 use Rattle.task_table.specs.declared.task_table.TaskTable.{TaskTable}
 use Rattle.task_table.specs.declared.task_table.Running.{Running}
-use Rattle.task_table.proofs.Times.{one_if}
+use Rattle.task_table.proofs.Times.{one_if, one_same, times_cons}
 use Rattle.job_runner.specs.declared.runner.Runner.{Runner}
-use Rattle.job_runner.specs.Shelves.{AreShelved, GoesBy, IsCalled, IsUnderway, state_in, running_times, times_shelved}
+use Rattle.job_runner.specs.Shelves.{AreShelved, GoesBy, IsCalled, IsCalledEntry, IsUnderway, state_in, running_times, times_shelved}
 use Rattle.job_runner.proofs.Lived.{one_id, task_at}
-use Rattle.job_runner.proofs.Places.{times_cons}
-use Rattle.job_runner.proofs.Shelving.{one_same}
-use Rattle.job_runner.proofs.Stopped.{some_is}
+use Rattle.job_runner.proofs.Options.{some_is}
+use Rattle.job_runner.proofs.States.{meaning_of, meaning_run}
 use Rattle.job_runner.proofs.Waking.{running_most}
 use Rattle.job_tree.proofs.Sizes.{few_steps}
 
@@ -81,7 +77,8 @@ rows_differ r agree (e ∷ es) all once = (no_other, rows_differ r agree es rest
     no_other : In (row_in (running_at r e.task)) (rows_in r es) → ⊥
     no_other i =
         let f = All-head (Runs r) e es all in
-        let some = among r agree e.task f.running f.is es rest (subst (λ (n : ℕ). In n (rows_in r es)) (ap row_in f.is) i) in
+        let row = ap row_in f.is in
+        let some = among r agree e.task f.running f.is es rest (subst (λ (n : ℕ). In n (rows_in r es)) row i) in
         let one = one_same e.task e.task refl in
         omega (arith, some, one, once e.task, more e.task)
 
@@ -91,7 +88,7 @@ rows_live r agree [] all s i = absurd i
 rows_live r agree (e ∷ es) all s (inl h) =
     let f = All-head (Runs r) e es all in
     let is = ap (task_of r) (h ∙ ap row_in f.is) ∙ task_at r agree e.task f.running f.is in
-    subst IsSome (sym is) refl
+    ap is_some is
 rows_live r agree (e ∷ es) all s (inr i) = rows_live r agree es (All-tail (Runs r) e es all) s i
 
 -- ---- requests
@@ -112,19 +109,15 @@ requests_fewer (e ∷ es) = let one = one_request e.task e.call e.answer es in l
 -- a batch of a run makes at most 4,000,000 requests
 pub few_requests : (r : Runner) → IsUnderway r → length (requests_of r.batch.current) ≤ 4000000
 few_requests r h =
-    let distinct = rows_differ r.task_table shelved.agree r.batch.current all once in
-    let state = h.going.interleaving k (table_is_settled r.job.now r.input.now h.going.sound.names) in
-    let few = state_few k r.job.now r.input.now r.world.tick (task_count r.task_table) (state_in r) state (rows_in r.task_table r.batch.current) distinct
-    (rows_live r.task_table shelved.agree r.batch.current all) in
+    let distinct = rows_differ r.task_table shelved.consistent.agree r.batch.current all once in
+    let few = state_few (meaning_of r) r.job.now r.input.now r.world.tick (task_count r.task_table) (state_in r) (meaning_run r h.going)
+    (rows_in r.task_table r.batch.current) distinct (rows_live r.task_table shelved.consistent.agree r.batch.current all) in
     let long = rows_long r.task_table r.batch.current in
     let fewer = requests_fewer r.batch.current in
     let size = h.going.sound.in_range.size in
     let most = few_steps r.job.now.format in
     omega (arith, few, long, fewer, size, most)
   where
-    k : Table
-    k = meaning_table r.job.now r.input.now
-
     shelved : AreShelved None r
     shelved = h.going.shelved
 
@@ -133,7 +126,7 @@ few_requests r h =
         record { running = x.0; is = x.1 }
 
     all : All (Runs r.task_table) r.batch.current
-    all = All-weaker (λ (e : Entry). IsCalled r.task_table r.world e.task e.call) (Runs r.task_table) runs r.batch.current shelved.current
+    all = All-weaker (IsCalledEntry r.task_table r.world) (Runs r.task_table) runs r.batch.current shelved.current
 
     once : (id : ℕ) → times id (map (λ (e : Entry). e.task) r.batch.current) ≤ 1
     once id =

@@ -11,13 +11,13 @@ use Rattle.exc_groups.specs.Exceptions.{Label}
 use Rattle.job_meaning.specs.Follow.{follow}
 use Rattle.job_meaning.specs.Log.{Result, Table}
 use Rattle.job_meaning.specs.Meaning.{From, meaning, meaning_end, meaning_table, root_log, records_of, all_entered, froms_by}
-use Rattle.job_meaning.specs.Shown.{row_of, as_shown}
+use Rattle.job_meaning.specs.Shown.{row_of}
 use Rattle.job_meaning.proofs.Settled.{table_is_settled, settled_is_meaning, one_table_is_settled}
 use Rattle.task_machine.specs.declared.world.World.{World}
 use Rattle.task_table.specs.declared.record.Record.{Record}
 use Rattle.task_machine.specs.declared.entry.ScopeFrom.{ScopeFrom}
 use Rattle.task_machine.specs.Noted.{entry_of, from_of, IsSlice}
-use Rattle.task_table.specs.Records.{row_in, AreSlices}
+use Rattle.task_table.specs.Records.{row_in}
 use Rattle.interleavings.specs.Rows as interleaving
 use Rattle.run_refinement.specs.RunState.{Gone, Refines}
 use Rattle.run_refinement.specs.Over.{IsOver, ShowsRow}
@@ -35,7 +35,8 @@ use Rattle.task_table.specs.TaskTable.{children_by, run_state, gone_by, gone_fro
 use Rattle.task_table.specs.Rows.{AreShown, EndIsShown, IsShown, ShowRecords}
 use Rattle.job_runner.specs.Runs.{IsRun, FollowsEach, froms_in, name_of, records_in}
 use Rattle.job_runner.specs.Shelves.{state_in, IsUnderway}
-use Rattle.job_runner.proofs.Places.{all_by_place}
+use Rattle.task_table.proofs.Lists.{all_by_place}
+use Rattle.job_runner.proofs.States.{meaning_of, meaning_run}
 
 -- ---- the root has ended
 
@@ -61,30 +62,27 @@ none_lives (Some end) x y e none = refl
 -- ---- what is kept shows the row
 
 -- what is kept of an end, as it is read
-end_shown : (input : List ℕ) (row : interleaving.Row) (end : Option Ended) (gone : Gone) → option_map gone_from end ≡ Some gone →
-    gone.label ≡ row.label → gone.end ≡ row.end → gone.exc ≡ row.exc →
-    map entry_of gone.entries ≡ map (as_shown input) row.entries → All (IsSlice input) gone.entries → map from_of gone.froms ≡ row.froms →
-    EndIsShown input row end
-end_shown input row None gone e label tick exc entries slices froms = tt
-end_shown input row (Some end) gone e label tick exc entries slices froms =
-    let is : gone_from end ≡ gone = same_Some (gone_from end) gone e in
+end_shown : (input : List ℕ) (row : interleaving.Row) (end : Option Ended) (task_table : TaskTable) (world : World) (turns s : ℕ)
+    (h : ShowsRow input (run_state task_table world turns) s row) → option_map gone_from end ≡ Some h.gone → EndIsShown input row end
+end_shown input row None task_table world turns s h e = tt
+end_shown input row (Some end) task_table world turns s h e =
+    let is : gone_from end ≡ h.gone = same_Some (gone_from end) h.gone e in
     record {
-      label = ap (λ (g : Gone). g.label) is ∙ label;
-      tick = ap (λ (g : Gone). g.end) is ∙ tick;
-      exc = ap (λ (g : Gone). g.exc) is ∙ exc;
-      entries = ap (λ (g : Gone). map entry_of g.entries) is ∙ entries;
-      slices = subst (λ (g : Gone). All (IsSlice input) g.entries) (sym is) slices;
-      froms = ap (λ (g : Gone). map from_of g.froms) is ∙ froms;
+      label = ap (λ (g : Gone). g.label) is ∙ h.label;
+      tick = ap (λ (g : Gone). g.end) is ∙ h.end;
+      exc = ap (λ (g : Gone). g.exc) is ∙ h.exc;
+      entries = ap (λ (g : Gone). map entry_of g.entries) is ∙ h.entries;
+      slices = subst (λ (g : Gone). All (IsSlice input) g.entries) (sym is) h.slices;
+      froms = ap (λ (g : Gone). map from_of g.froms) is ∙ h.froms;
     }
 
-row_shown : (input : List ℕ) (task_table : TaskTable) (world : World) (turns s : ℕ) (row : interleaving.Row) (held : TaskRow) → row_at task_table s ≡ Some held →
-    ShowsRow input (run_state task_table world turns) s row →
-    IsShown input row held
+row_shown : (input : List ℕ) (task_table : TaskTable) (world : World) (turns s : ℕ) (row : interleaving.Row) (held : TaskRow) →
+    row_at task_table s ≡ Some held → ShowsRow input (run_state task_table world turns) s row → IsShown input row held
 row_shown input task_table world turns s row held e h =
     record {
       start = sym (ap start_by e) ∙ h.start;
       children = sym (ap children_by e) ∙ h.children;
-      end = end_shown input row held.end h.gone (sym (ap gone_by e) ∙ h.is) h.label h.end h.exc h.entries h.slices h.froms;
+      end = end_shown input row held.end task_table world turns s h (sym (ap gone_by e) ∙ h.is);
     }
 
 -- two tables that agree on every label have the same froms
@@ -96,12 +94,12 @@ froms_alike table other same (l ∷ ls) =
 
 -- ---- a run that is over
 
-module _ (r : Runner) (w : IsUnderway r) (over : phase_of r ≡ phases.Over) where
+module _ {r : Runner} (w : IsUnderway r) (over : phase_of r ≡ phases.Over) where
   abbrev k : Table
-  k = meaning_table r.job.now r.input.now
+  k = meaning_of r
 
   state : Refines k r.job.now r.input.now r.world.tick (task_count r.task_table) None (state_in r)
-  state = w.going.interleaving k (table_is_settled r.job.now r.input.now w.going.sound.names)
+  state = meaning_run r w.going
 
   root : (g : Gone) × (gone_of r.task_table 0 ≡ Some g)
   root = gone_root r.batch.current (gone_of r.task_table 0) over
@@ -113,12 +111,12 @@ module _ (r : Runner) (w : IsUnderway r) (over : phase_of r ≡ phases.Over) whe
 
   -- so each row has its end
   pub all_ended : (rows : List TaskRow) → rows ≡ r.task_table.rows.items → All (λ (x : TaskRow). IsSome x.end) rows
-  all_ended rows same = subst (All (λ (x : TaskRow). IsSome x.end)) (sym same)
+  all_ended rows same = rw same
       (all_by_place (λ (x : TaskRow). IsSome x.end) r.task_table.rows.items (λ p row e. by_end p row e row.end refl))
     where
       by_end : (p : ℕ) (row : TaskRow) → row_at r.task_table p ≡ Some row → (end : Option Ended) → row.end ≡ end → IsSome row.end
       by_end p row e None f =
-          let l = w.going.shelved.agree.lives p row e f in
+          let l = w.going.shelved.consistent.agree.lives p row e f in
           none_lives row.end (running_at r.task_table row.task) l.running l.is (sym (ap (task_by r.task_table.live) e) ∙ none_left p)
       by_end p row e (Some end) f = ap is_some f
 
@@ -131,10 +129,10 @@ module _ (r : Runner) (w : IsUnderway r) (over : phase_of r ≡ phases.Over) whe
       (is_over.shows s (slice_get_within r.task_table.rows.items s held e))
 
   -- the records and froms of rows
-  module _ (rows : List TaskRow) (same : rows ≡ r.task_table.rows.items) (records : List Record) (froms : List ScopeFrom)
+  module _ {rows : List TaskRow} (same : rows ≡ r.task_table.rows.items) {records : List Record} {froms : List ScopeFrom}
       (tells : (input : List ℕ) (rs : ℕ → interleaving.Row) → AreShown input rs rows → ShowRecords input rs records froms) where
     told : ShowRecords r.input.now is_over.rows records froms
-    told = tells r.input.now is_over.rows (subst (AreShown r.input.now is_over.rows) (sym same) are_shown)
+    told = tells r.input.now is_over.rows (rw same are_shown)
 
     -- a run of the job's name with these records and froms is what the job means over its input
     pub is_run : (run : Run) → name_of run ≡ r.job.now.name → records_in run ≡ records → froms_in run ≡ froms →
@@ -143,7 +141,7 @@ module _ (r : Runner) (w : IsUnderway r) (over : phase_of r ≡ phases.Over) whe
         record {
           name = name;
           rows = ap (map row_in) rs ∙ told.records ∙ ap (map (row_of r.input.now)) (is_over.records told.taken told.order);
-          slices = subst (AreSlices r.input.now) (sym rs) told.slices;
+          slices = rw rs told.slices;
           froms = ap (map from_of) fs ∙ told.froms ∙ is_over.froms told.taken told.order;
         }
 
@@ -173,5 +171,5 @@ module _ (r : Runner) (w : IsUnderway r) (over : phase_of r ≡ phases.Over) whe
         let means : (is_over.rows 0).end ≡ meaning_end r.job.now r.input.now = is_over.end told.taken told.order in
         let at : shows.gone.end ≡ ended.0.end = ap (λ (g : Gone). g.end) same in
         let before : ended.0.end ≤ r.world.tick = ended.2.before in
-        let within : r.world.tick ≤ r.limit = w.going.shelved.within in
+        let within : r.world.tick ≤ r.limit = w.going.shelved.consistent.within in
         omega (arith, end, means, at, before, within)

@@ -1,25 +1,21 @@
 -- The clock jumps: until when all tasks stay, which tasks sleep, and what holds in the later tick.
-use Rattle.std.proofs.Common.{◌≡◌, inl, inr, ℕ, ◌<◌, ◌≤◌, Bool, true, false, Option, Some, None, List, [], map, refl, ap, sym, ◌∙◌, subst, arith}
-use Rattle.std.specs.Prelude.{All, IsSomeAnd, ◌⊎◌, nat_le}
+use Rattle.std.proofs.Common.{◌≡◌, inl, inr, ℕ, ◌<◌, ◌≤◌, Bool, true, false, Option, Some, None, [], refl, ap, sym, ◌∙◌, arith}
+use Rattle.std.specs.Prelude.{IsSomeAnd, ◌⊎◌, nat_le}
 use Rattle.std.proofs.lemmas.Bool.{le-leb}
 use Rattle.std.proofs.lemmas.Bool.Decides.{leb_tells}
 use Rattle.std.proofs.lemmas.List.Elements.{All-nil}
-use Rattle.std.specs.Option.{ForSome}
 use Rattle.std.proofs.lemmas.Option.{same_Some, none-some}
-use Rattle.batch_commit.specs.declared.entry.Entry.{Entry}
-use Rattle.batch_commit.specs.Entries.{Added}
 use Rattle.autojump_clock.specs.Clock.{Clock, now_of, limit_of, due_of, HasTimer, AllLater, IsNext}
 use Rattle.cancel_scopes.specs.Sight.{Tick, is_reached, seen, sight}
-use Rattle.cancel_scopes.specs.Tree.{outer_of, IsOpen}
+use Rattle.cancel_scopes.specs.Tree.{outer_of}
 use Rattle.nursery_book.specs.Nursery.{Nursery, is_settled}
 use Rattle.nursery_book.specs.Book.{nursery_at}
 use Rattle.nursery_book.specs.declared.book.NurseryBook.{NurseryBook}
 use Rattle.job_meaning.specs.Before.{upto}
 use Rattle.job_meaning.specs.Follow.{IsSettled}
 use Rattle.job_meaning.specs.Log.{Table}
-use Rattle.job_meaning.specs.Meaning.{meaning_table, meaning_end}
+use Rattle.job_meaning.specs.Meaning.{meaning_end}
 use Rattle.job_meaning.specs.Rest.{Stopped, at_end}
-use Rattle.job_meaning.proofs.Settled.{table_is_settled}
 use Rattle.task_machine.specs.declared.stop.TaskState.{TaskState}
 use Rattle.task_machine.specs.declared.stop.TaskState.TheVariants.{ToBegin, Asked, Asleep, Awaits, Over}
 use Rattle.task_machine.specs.declared.task.Task.{Task}
@@ -38,12 +34,13 @@ use Rattle.job_runner.specs.declared.runner.Runner.{Runner}
 use Rattle.job_runner.specs.Jumps.{sight_by, sight_in, Wakes, IsNextTick, Slept, IsAnyNow, IsWaking}
 use Rattle.sleepers.specs.Sleeping.{IsFirst}
 use Rattle.task_table.specs.TaskTable.{running_at, task_of, gone_of, id_of, task_count, run_state, IsTaskTable}
-use Rattle.task_table.specs.Rows.{times}
-use Rattle.job_runner.specs.Shelves.{IsCalled, Dozes, sleep_slot_of, timer_times, settled_times, task_state_times, running_times, times_shelved, state_in, IsGoing, IsUnderway}
+use Rattle.job_runner.specs.Shelves.{IsCalledAdded, IsConsistent, Dozes, sleep_slot_of, timer_times, settled_times, task_state_times, running_times, times_shelved, state_in, IsUnderway}
 use Rattle.task_table.proofs.Times.{one_if}
 use Rattle.job_runner.proofs.Known.{seen_by, sees_from}
-use Rattle.job_runner.proofs.Stopped.{some_is, some_has}
-use Rattle.job_runner.proofs.Lived.{lives_by, task_at}
+use Rattle.job_runner.proofs.Lived.{lives_by}
+use Rattle.job_runner.proofs.Options.{some_is, some_has}
+use Rattle.job_runner.proofs.Shelving.{times_next, times_now}
+use Rattle.job_runner.proofs.States.{meaning_of, meaning_run, meaning_settled}
 
 -- ---- which task has which id
 
@@ -58,17 +55,6 @@ lives_at : (r : TaskTable) → IsTaskTable r → (p : ℕ) (task : Task) → tas
 lives_at r agree p task e = let l = lives_by r agree p task e in
     record { id = id_of r p; running = l.running; is = l.is; task_is = l.task_is }
 
--- ---- a run of which nobody is ready
-
-state_now : (r : Runner) → IsGoing None r → Refines (meaning_table r.job.now r.input.now) r.job.now r.input.now r.world.tick (task_count r.task_table)
-    None (state_in r)
-state_now r g = g.interleaving (meaning_table r.job.now r.input.now) (table_is_settled r.job.now r.input.now g.sound.names)
-
--- the scope of each task is open
-pub scopes_open : (r : Runner) → IsGoing None r → (id : ℕ) (x : Running) → running_at r.task_table id ≡ Some x →
-    ForSome (scope_of x.task) (IsOpen r.world.scopes)
-scopes_open r g id x is = ((state_now r g).follows x.row x.task (task_at r.task_table g.shelved.agree id x is)).goes.scope
-
 -- ---- until when they stay
 
 over_has_ended : (ns : Numbers) (book : NurseryBook) (stopped : Stopped) → IsTaskState ns book Over stopped → live stopped ≡ true → ⊥
@@ -79,19 +65,17 @@ same_sleep : (a b c d : ℕ) → Asleep a b ≡ Asleep c d → (a ≡ c) × (b �
 same_sleep a b c d e = (cc, cc)
 
 -- A run whose batch is over, and a bound up to which no sleeper is due or sees a cancellation.
-module _ (r : Runner) (w : IsUnderway r) (none : r.batch.current ≡ []) where
-  state : Refines (meaning_table r.job.now r.input.now) r.job.now r.input.now r.world.tick (task_count r.task_table) None (state_in r)
-  state = state_now r w.going
+module _ {r : Runner} (w : IsUnderway r) (none : r.batch.current ≡ []) where
+  state : Refines (meaning_of r) r.job.now r.input.now r.world.tick (task_count r.task_table) None (state_in r)
+  state = meaning_run r w.going
 
   -- a task that has not ended has a timer as often as its blocked state says
   timed_times : (task : Task) (at : LivesAt r.task_table task) → timer_times (due_of r.clock at.id) ≡ task_state_times r.world.book task.task_state
   timed_times task at =
       let all : times_shelved r.batch r.clock at.id ≡ running_times r.world.book (running_at r.task_table at.id) =
       w.going.shelved.once at.id tt in
-      let current : times at.id (map (λ (e : Entry). e.task) r.batch.current) ≡ 0 =
-      ap (λ (es : List Entry). times at.id (map (λ (e : Entry). e.task) es)) none in
-      let next : times at.id (map (λ (a : Added). a.0) r.batch.next) ≡ 0 =
-      ap (λ (es : List Added). times at.id (map (λ (a : Added). a.0) es)) w.nothing_added in
+      let current : times_now at.id r.batch.current ≡ 0 = ap (times_now at.id) none in
+      let next : times_next at.id r.batch.next ≡ 0 = ap (times_next at.id) w.nothing_added in
       let its : running_times r.world.book (running_at r.task_table at.id) ≡ task_state_times r.world.book task.task_state =
       ap (running_times r.world.book) at.is ∙ ap (λ (t : Task). task_state_times r.world.book t.task_state) at.task_is in
       omega (arith, all, current, next, its)
@@ -118,10 +102,7 @@ module _ (r : Runner) (w : IsUnderway r) (none : r.batch.current ≡ []) where
             due = due;
             timer = e;
             seen_by = ap (sight_by r.world) at.is ∙ ap (λ (t : Task). sight (outer_of r.world.scopes (scope_of t))) at.task_is;
-            dozes =
-                subst (Dozes r.world due) at.task_is
-                (subst (λ (o : Option Running). IsSomeAnd o (λ (x : Running). Dozes r.world due x.task)) at.is
-                (w.going.shelved.doze at.id due e));
+            dozes = rw (at.is, at.task_is) at (w.going.shelved.doze at.id due e);
           }
 
   -- no sleeper is due before a tick, or sees a cancellation before it
@@ -134,7 +115,7 @@ module _ (r : Runner) (w : IsUnderway r) (none : r.batch.current ≡ []) where
   all_stay u bound p task e = by_task_state task.task_state refl
     where
       at : LivesAt r.task_table task
-      at = lives_at r.task_table w.going.shelved.agree p task e
+      at = lives_at r.task_table w.going.shelved.consistent.agree p task e
 
       -- a task that has to be kept according to its blocked state sleeps
       asleep_as : (task_state : TaskState) → task.task_state ≡ task_state → task_state_times r.world.book task_state ≡ 1 → SleepsAs task
@@ -170,8 +151,7 @@ module _ (r : Runner) (w : IsUnderway r) (none : r.batch.current ≡ []) where
           by_nursery id since h (nursery_at r.world.book id) refl ((state.follows p task e).nurseries id (inr (ap waits_of h)))
       by_task_state Over h =
           let it = state.follows p task e in
-          absurd (over_has_ended (state.numbers p) r.world.book (state.interleaving.at p).rest.stopped
-          (subst (λ (x : TaskState). IsTaskState (state.numbers p) r.world.book x (state.interleaving.at p).rest.stopped) h it.task_state)
+          absurd (over_has_ended (state.numbers p) r.world.book (state.interleaving.at p).rest.stopped (rw h at it.task_state)
           (it.lives (λ f. none-some p f)))
 
   -- ---- what the clock asks
@@ -184,7 +164,7 @@ module _ (r : Runner) (w : IsUnderway r) (none : r.batch.current ≡ []) where
   pub timers_later : AllLater r.clock (now_of r.clock)
   timers_later id due e =
       let later = (dozer id due e).2.asleep.later in
-      let now : now_of r.clock ≡ r.world.tick = w.going.shelved.now in
+      let now : now_of r.clock ≡ r.world.tick = w.going.shelved.consistent.now in
       omega (arith, later, now)
 
   none_before_zero : NoneBefore 0
@@ -197,10 +177,10 @@ module _ (r : Runner) (w : IsUnderway r) (none : r.batch.current ≡ []) where
   -- a task that has not ended is one of the program's, of which one sleeps
   pub has_timer : (s : ℕ) (task : Task) → task_of r.task_table s ≡ Some task → HasTimer r.clock
   has_timer s task e =
-      let h = state_sleeps (meaning_table r.job.now r.input.now) r.job.now r.input.now r.world.tick (task_count r.task_table) (state_in r)
-      (table_is_settled r.job.now r.input.now w.going.sound.names) w.going.sound.names
-      w.going.sound.starts state 0 (all_stay 0 none_before_zero) s task e in
-      let a = sleeps_as h.task (lives_at r.task_table w.going.shelved.agree h.serial h.task h.lives) (ap (task_state_times r.world.book) h.asleep) in
+      let h = state_sleeps (meaning_of r) r.job.now r.input.now r.world.tick (task_count r.task_table) (state_in r)
+      (meaning_settled r w.going.sound) w.going.sound.names w.going.sound.starts state 0 (all_stay 0 none_before_zero) s task e in
+      let a = sleeps_as h.task (lives_at r.task_table w.going.shelved.consistent.agree h.serial h.task h.lives)
+      (ap (task_state_times r.world.book) h.asleep) in
       (a.id, a.due, a.timer)
 
   -- the root lives where it has not ended
@@ -213,14 +193,21 @@ module _ (r : Runner) (w : IsUnderway r) (none : r.batch.current ≡ []) where
 
   -- ---- the first tick from which a sleeper sees a cancellation
 
-  module _ (first : Tick) (is_first : IsFirst r.sleepers first) where
+  module _ {first : Tick} (is_first : IsFirst r.sleepers first) where
     -- some sleeper sees from that tick on
     seer : (t : ℕ) → first ≡ Some t → (id : ℕ) × (due : ℕ) × (x : Running) × (due_of r.clock id ≡ Some due)
         × (running_at r.task_table id ≡ Some x) × (sight (outer_of r.world.scopes (scope_of x.task)) ≡ Some t)
     seer t e =
         let one = is_first.is_one t e in
-        let z = seen_by r.task_table r.world r.clock r.sleepers w.going.shelved.known w.unchanged one.0 t one.1 in
+        let z = seen_by w.going.shelved.known w.unchanged one.0 t one.1 in
         (one.0, z.0.due, z.0.running, z.0.timer, z.0.lives, z.1)
+
+    -- and each sleeper that sees a cancellation does so from then on, or later
+    first_before : (id due : ℕ) (x : Running) (t : ℕ) → due_of r.clock id ≡ Some due → running_at r.task_table id ≡ Some x →
+        sight (outer_of r.world.scopes (scope_of x.task)) ≡ Some t → (u : ℕ) × (first ≡ Some u) × (u ≤ t)
+    first_before id due x t e f sees =
+        some_is first (λ (u : ℕ). u ≤ t)
+        (is_first.least id t (sees_from w.going.shelved.known w.unchanged id due x t e f sees))
 
     -- so it is later than the clock's tick, in which no sleeper sees a cancellation
     pub cancel_later : (cancel : ℕ) → first ≡ Some cancel → now_of r.clock < cancel
@@ -231,18 +218,15 @@ module _ (r : Runner) (w : IsUnderway r) (none : r.batch.current ≡ []) where
         let unseen : nat_le cancel r.world.tick ≡ false =
         sym (ap (λ (t : Tick). is_reached t r.world.tick) z.5)
         ∙ (ap (λ (x : Running). seen (outer_of r.world.scopes (scope_of x.task)) r.world.tick) (sym same) ∙ d.2.unseen) in
-        by_test w.going.shelved.now unseen (leb_tells cancel r.world.tick)
-      where
-        by_test : now_of r.clock ≡ r.world.tick → nat_le cancel r.world.tick ≡ false →
-            ((nat_le cancel r.world.tick ≡ true) × (cancel ≤ r.world.tick))
-            ⊎ ((nat_le cancel r.world.tick ≡ false) × (r.world.tick < cancel)) →
-            now_of r.clock < cancel
-        by_test now unseen (inl h) = absurd (let f : true ≡ false = sym h.0 ∙ unseen in cc)
-        by_test now unseen (inr h) = let lt = h.1 in omega (arith, lt, now)
+        let now : now_of r.clock ≡ r.world.tick = w.going.shelved.consistent.now in
+        elim (leb_tells cancel r.world.tick) [
+          | inl h ↦ absurd (let f : true ≡ false = sym h.0 ∙ unseen in cc)
+          | inr h ↦ let lt = h.1 in omega (arith, lt, now)
+        ]
 
     -- ---- the next tick
 
-    module _ (t : ℕ) (next : IsNext r.clock first t) where
+    module _ {t : ℕ} (next : IsNext r.clock first t) where
       -- it is the first in which a sleeper continues
       pub is_next_tick : IsNextTick r t
       is_next_tick = record { someone = some_wakes next.is_one; first = none_wakes }
@@ -260,20 +244,19 @@ module _ (r : Runner) (w : IsUnderway r) (none : r.batch.current ≡ []) where
               by_case (inl e) = let le = next.by_timers h.id h.due h.timer in omega (arith, le, e)
               by_case (inr e) =
                   let d = dozer h.id h.due h.timer in
-                  let f = some_is first (λ (v : ℕ). v ≤ u) (is_first.least h.id u
-                  (sees_from r.task_table r.world r.clock r.sleepers w.going.shelved.known w.unchanged h.id h.due d.0 u h.timer d.1
-                  (sym (ap (sight_by r.world) d.1) ∙ e))) in
+                  let f = first_before h.id h.due d.0 u h.timer d.1 (sym (ap (sight_by r.world) d.1) ∙ e) in
                   let le : t ≤ f.0 = next.by_cancel f.0 f.1 in
                   let more : f.0 ≤ u = f.2 in
                   omega (arith, le, more)
 
       -- the next tick is later than the present one
       pub next_later : r.world.tick < t
-      next_later = let now : now_of r.clock ≡ r.world.tick = w.going.shelved.now in by_one now next.is_one
-        where
-          by_one : now_of r.clock ≡ r.world.tick → (first ≡ Some t) ⊎ ((task : ℕ) × (due_of r.clock task ≡ Some t)) → r.world.tick < t
-          by_one now (inl e) = let lt = cancel_later t e in omega (arith, lt, now)
-          by_one now (inr h) = let lt = timers_later h.0 t h.1 in omega (arith, lt, now)
+      next_later =
+          let now : now_of r.clock ≡ r.world.tick = w.going.shelved.consistent.now in
+          elim next.is_one [
+            | inl e ↦ let lt = cancel_later t e in omega (arith, lt, now)
+            | inr h ↦ let lt = timers_later h.0 t h.1 in omega (arith, lt, now)
+          ]
 
       -- no sleeper sees a cancellation before it
       none_earlier : (id due : ℕ) (x : Running) → due_of r.clock id ≡ Some due → running_at r.task_table id ≡ Some x →
@@ -283,8 +266,7 @@ module _ (r : Runner) (w : IsUnderway r) (none : r.batch.current ≡ []) where
           by_sight : (c : Tick) → sight (outer_of r.world.scopes (scope_of x.task)) ≡ c → upto t c ≡ t
           by_sight None g = refl
           by_sight (Some cancel) g =
-              let u = some_is first (λ (v : ℕ). v ≤ cancel) (is_first.least id cancel
-              (sees_from r.task_table r.world r.clock r.sleepers w.going.shelved.known w.unchanged id due x cancel e f g)) in
+              let u = first_before id due x cancel e f g in
               let le : t ≤ u.0 = next.by_cancel u.0 u.1 in
               let more : u.0 ≤ cancel = u.2 in
               omega (arith, le, more)
@@ -311,24 +293,23 @@ module _ (r : Runner) (w : IsUnderway r) (none : r.batch.current ≡ []) where
       pub ends_later : (s : ℕ) (task : Task) → task_of r.task_table s ≡ Some task → t ≤ meaning_end r.job.now r.input.now
       ends_later s task e =
           state_in_time r.job.now r.input.now t (task_count r.task_table) (run_state r.task_table later_world r.turns) w.going.sound.names
-          w.going.sound.starts
-          (interleaving_jumps (meaning_table r.job.now r.input.now) (table_is_settled r.job.now r.input.now w.going.sound.names)) s task e
+          w.going.sound.starts (interleaving_jumps (meaning_of r) (meaning_settled r w.going.sound)) s task e
 
       -- one is due in that tick, or sees a cancellation
       any_now : (clock : Clock) → ((task : ℕ) → due_of clock task ≡ due_of r.clock task) → IsAnyNow r.task_table later_world clock
-      any_now clock timers = by_one next.is_one
-        where
-          by_one : (first ≡ Some t) ⊎ ((task : ℕ) × (due_of r.clock task ≡ Some t)) → IsAnyNow r.task_table later_world clock
-          by_one (inl e) =
-              let z = seer t e in
-              record {
-                id = z.0;
-                due = z.1;
-                timer = timers z.0 ∙ z.3;
-                timely = inr (ap (λ (o : Option Running). is_reached (sight_by later_world o) t) z.4
-                    ∙ (ap (λ (c : Tick). is_reached c t) z.5 ∙ le-leb t t (omega arith)));
-              }
-          by_one (inr h) = record { id = h.0; due = t; timer = timers h.0 ∙ h.1; timely = inl (omega arith) }
+      any_now clock timers =
+          elim next.is_one [
+            | inl e ↦
+                let z = seer t e in
+                record {
+                  id = z.0;
+                  due = z.1;
+                  timer = timers z.0 ∙ z.3;
+                  timely = inr (ap (λ (o : Option Running). is_reached (sight_by later_world o) t) z.4
+                      ∙ (ap (λ (c : Tick). is_reached c t) z.5 ∙ le-leb t t (omega arith)));
+                }
+            | inr h ↦ record { id = h.0; due = t; timer = timers h.0 ∙ h.1; timely = inl (omega arith) }
+          ]
 
       slept : (id due : ℕ) → due_of r.clock id ≡ Some due → IsSomeAnd (running_at r.task_table id)
           (λ (x : Running). Slept later_world due x.task)
@@ -345,34 +326,37 @@ module _ (r : Runner) (w : IsUnderway r) (none : r.batch.current ≡ []) where
           })
 
       -- the runner whose clock jumped there
-      pub has_jumped : (clock : Clock) → t ≤ limit_of r.clock → now_of clock ≡ t → limit_of clock ≡ limit_of r.clock →
-          ((task : ℕ) → due_of clock task ≡ due_of r.clock task) →
-          IsWaking (record r { clock = clock; world = record r.world { tick = t } })
-      has_jumped clock within now limit timers =
-          record {
-            agree = w.going.shelved.agree;
-            homes = λ s task home e f. (let k = w.going.shelved.homes s task home e f in
-                record { task = k.task; lives = k.lives; owned = k.owned });
-            now = now;
-            limit = limit ∙ w.going.shelved.limit;
-            within = (let a : limit_of r.clock ≡ r.limit = w.going.shelved.limit in omega (arith, a, within));
-            bounded = w.going.shelved.bounded;
-            none_started = w.going.shelved.none_started;
-            slept = λ id due e. slept id due (sym (timers id) ∙ e);
-            known =
-                record {
-                  sleep_slots = λ id. w.going.shelved.known.sleep_slots id ∙ ap (λ (d : Option ℕ). sleep_slot_of d (running_at r.task_table id))
-                      (sym (timers id));
-                  sights = w.going.shelved.known.sights;
-                };
-            unchanged = w.unchanged;
-            none_current = none;
-            next = subst (All (λ (a : Added). IsCalled r.task_table later_world a.0 a.1)) (sym w.nothing_added)
-                (All-nil (λ (a : Added). IsCalled r.task_table later_world a.0 a.1));
-            once = λ id.
-                let all : times_shelved r.batch r.clock id ≡ running_times r.world.book (running_at r.task_table id) =
-                w.going.shelved.once id tt in
-                let same : timer_times (due_of clock id) ≡ timer_times (due_of r.clock id) = ap timer_times (timers id) in
-                omega (arith, all, same);
-            someone = inr (any_now clock timers);
-          }
+      module _ (clock : Clock) (within : t ≤ limit_of r.clock) (now : now_of clock ≡ t) (limit : limit_of clock ≡ limit_of r.clock)
+          (timers : (task : ℕ) → due_of clock task ≡ due_of r.clock task) where
+        later_consistent : IsConsistent r.task_table later_world clock r.limit r.turns
+        later_consistent = record {
+          agree = w.going.shelved.consistent.agree;
+          homes = λ s task home e f. (let k = w.going.shelved.consistent.homes s task home e f in
+              record { task = k.task; lives = k.lives; owned = k.owned });
+          now = now;
+          limit = limit ∙ w.going.shelved.consistent.limit;
+          within = (let a : limit_of r.clock ≡ r.limit = w.going.shelved.consistent.limit in omega (arith, a, within));
+          bounded = w.going.shelved.consistent.bounded;
+          none_started = w.going.shelved.consistent.none_started;
+        }
+
+        pub has_jumped : IsWaking (record r { clock = clock; world = record r.world { tick = t } })
+        has_jumped = record {
+          consistent = later_consistent;
+          slept = λ id due e. slept id due (sym (timers id) ∙ e);
+          known =
+              record {
+                sleep_slots = λ id. w.going.shelved.known.sleep_slots id ∙ ap (λ (d : Option ℕ). sleep_slot_of d (running_at r.task_table id))
+                    (sym (timers id));
+                sights = w.going.shelved.known.sights;
+              };
+          unchanged = w.unchanged;
+          none_current = none;
+          next = (let empty = w.nothing_added in rw empty (All-nil (IsCalledAdded r.task_table later_world)));
+          once = λ id.
+              let all : times_shelved r.batch r.clock id ≡ running_times r.world.book (running_at r.task_table id) =
+              w.going.shelved.once id tt in
+              let same : timer_times (due_of clock id) ≡ timer_times (due_of r.clock id) = ap timer_times (timers id) in
+              omega (arith, all, same);
+          someone = inr (any_now clock timers);
+        }

@@ -1,10 +1,12 @@
+pub mod Options
+pub mod Goes
+pub mod States
+pub mod Lived
+pub mod Known
 pub mod Shelving
 pub mod Stopped
-pub mod Places
 pub mod Counting
-pub mod Known
 pub mod Waking
-pub mod Lived
 pub mod Jumped
 pub mod Landing
 pub mod Ending

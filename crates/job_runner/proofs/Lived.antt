@@ -1,15 +1,12 @@
 -- What lives, by its row and by its id.
 use Rattle.std.proofs.Common.{◌≡◌, ◌≢◌, ℕ, ◌<◌, Option, Some, None, refl, ap, sym, ◌∙◌}
-use Rattle.std.proofs.lemmas.Option.{slice_get_within}
-use Rattle.run_refinement.proofs.ActsKeep.{not_both}
-use Rattle.run_refinement.proofs.Found.{below_length}
-use Rattle.task_machine.proofs.Stacked.{one_of}
+use Rattle.std.proofs.lemmas.Option.{none-some, same_Some, slice_get_within}
 use Rattle.task_machine.specs.declared.task.Task.{Task}
 use Rattle.task_table.specs.declared.task_table.TaskTable.{TaskTable}
 use Rattle.task_table.specs.declared.task_table.Running.{Running}
 use Rattle.task_table.specs.declared.rows.Ended.{Ended}
 use Rattle.task_table.specs.declared.rows.TaskRow.{TaskRow}
-use Rattle.task_table.specs.TaskTable.{row_at, running_at, task_in, task_unless, task_by, id_by, task_of, id_of, task_count, HasRow, Lives, IsTaskTable}
+use Rattle.task_table.specs.TaskTable.{row_at, running_at, task_by, id_by, task_of, id_of, task_count, HasRow, Lives, IsTaskTable}
 
 -- ---- what lives, by its row
 
@@ -21,28 +18,26 @@ pub record LivesBy (r : TaskTable) (p : ℕ) (task : Task) : Type 0 where
   pub row_is : running.row ≡ p
   pub below : p < task_count r
 
-lives_under : (r : TaskTable) (p : ℕ) (row : TaskRow) (task : Task) → IsTaskTable r → row_at r p ≡ Some row → (x : Option Ended) → row.end ≡ x →
-    task_by r.live (Some row) ≡ Some task → LivesBy r p task
-lives_under r p row task ok at (Some x) ends e =
-    absurd (not_both {o = task_by r.live (Some row)} (ap (λ (o : Option Ended). task_unless o (running_at r row.task)) ends) e)
-lives_under r p row task ok at None ends e =
-    let l : Lives r p row = ok.lives p row at ends in
-    record {
-      running = l.running;
-      is = ap (running_at r) (ap id_by at) ∙ l.is;
-      task_is = one_of l.running.task task (sym (ap (λ (o : Option Ended). task_unless o (running_at r row.task)) ends ∙ ap task_in l.is)
-          ∙ e);
-      row_is = l.row_is;
-      below = below_length r.rows.items p row at;
-    }
-
 -- the task of a row that has not ended lives under the id of the row
 pub lives_by : (r : TaskTable) → IsTaskTable r → (p : ℕ) (task : Task) → task_of r p ≡ Some task → LivesBy r p task
 lives_by r ok p task e = by_row (row_at r p) refl e
   where
+    by_end : (row : TaskRow) → row_at r p ≡ Some row → (end : Option Ended) → row.end ≡ end → task_by r.live (Some row) ≡ Some task →
+        LivesBy r p task
+    by_end row at (Some x) ends f = absurd (none-some task (rw ends at f))
+    by_end row at None ends f =
+        let l : Lives r p row = ok.lives p row at ends in
+        record {
+          running = l.running;
+          is = ap (running_at r) (ap id_by at) ∙ l.is;
+          task_is = same_Some l.running.task task (rw (ends, l.is) at f);
+          row_is = l.row_is;
+          below = slice_get_within r.rows.items p row at;
+        }
+
     by_row : (o : Option TaskRow) → row_at r p ≡ o → task_by r.live o ≡ Some task → LivesBy r p task
-    by_row None at f = absurd (let g : None ≡ Some task = f in cc)
-    by_row (Some row) at f = lives_under r p row task ok at row.end refl f
+    by_row None at f = absurd (none-some task f)
+    by_row (Some row) at f = by_end row at row.end refl f
 
 -- ---- what has which row
 
@@ -50,8 +45,7 @@ lives_by r ok p task e = by_row (row_at r p) refl e
 pub task_at : (r : TaskTable) → IsTaskTable r → (id : ℕ) (x : Running) → running_at r id ≡ Some x → task_of r x.row ≡ Some x.task
 task_at r agree id x lives =
     let h : HasRow r x.row id = agree.rows id x lives in
-    ap (task_by r.live) h.is ∙ ap (λ (e : Option Ended). task_unless e (running_at r h.row.task)) h.endless
-    ∙ ap (λ (n : ℕ). task_in (running_at r n)) h.id_is ∙ ap task_in lives
+    rw (h.is, h.endless, h.id_is, lives) refl
 
 -- the task with an id has one of the table's rows
 pub row_below : (r : TaskTable) → IsTaskTable r → (id : ℕ) (x : Running) → running_at r id ≡ Some x → x.row < task_count r
@@ -63,8 +57,7 @@ pub one_id : (r : TaskTable) → IsTaskTable r → (id other : ℕ) (x y : Runni
 one_id r agree id other x y e f same =
     let h : HasRow r x.row id = agree.rows id x e in
     let g : HasRow r y.row other = agree.rows other y f in
-    let both : Some g.row ≡ Some h.row = sym g.is ∙ (ap (row_at r) same ∙ h.is) in
-    let one : g.row ≡ h.row = one_of g.row h.row both in
+    let one : g.row ≡ h.row = same_Some g.row h.row (sym g.is ∙ (ap (row_at r) same ∙ h.is)) in
     sym g.id_is ∙ (ap (λ (z : TaskRow). z.task) one ∙ h.id_is)
 
 -- what lives under different ids has different rows

@@ -1,25 +1,20 @@
 -- A run continues as long as turns are left.
-use Rattle.std.proofs.Common.{◌≡◌, ℕ, ◌+◌, ◌*◌, ◌<◌, ◌≤◌, List, [], ◌∷◌, Option, Some, None, length, ap, ◌∙◌, subst, arith}
+use Rattle.std.proofs.Common.{◌≡◌, ℕ, ◌+◌, ◌*◌, ◌<◌, ◌≤◌, List, [], ◌∷◌, Option, Some, None, length, ap, ◌∙◌, arith}
 use Rattle.job_tree.specs.Names.{size_of}
 use Rattle.job_tree.specs.Tree.{Tree}
-use Rattle.job_meaning.specs.Meaning.{meaning_table}
-use Rattle.job_meaning.proofs.Settled.{table_is_settled}
 use Rattle.batch_commit.specs.declared.entry.Entry.{Entry}
 use Rattle.run_refinement.specs.RunState.{Gone}
-use Rattle.run_refinement.proofs.Blocks.{state_turns}
 use Rattle.job_runner.specs.declared.runner.Phase.{Phase}
 use Rattle.job_runner.specs.declared.runner.Phase.TheVariants.{Ready, Blocked, Over}
 use Rattle.job_runner.specs.declared.runner.Runner.{Runner}
-use Rattle.task_table.specs.TaskTable.{task_count}
 use Rattle.job_runner.specs.Phases.{phase_by, phase_of}
 use Rattle.job_runner.specs.Rounds.{jumps_before, most_turns, rounds_left}
-use Rattle.job_runner.specs.Shelves.{IsSameJob, IsUnderway, state_in}
+use Rattle.job_runner.specs.Shelves.{IsSameJob, IsUnderway}
+use Rattle.job_runner.proofs.States.{turns_bounded}
 
 -- a run had no more turns than it has at most
 pub few_turns : (r : Runner) → IsUnderway r → r.turns ≤ most_turns r
-few_turns r u =
-    state_turns (meaning_table r.job.now r.input.now) r.job.now r.input.now r.world.tick (task_count r.task_table) None (state_in r)
-    (u.going.interleaving (meaning_table r.job.now r.input.now) (table_is_settled r.job.now r.input.now u.going.sound.names))
+few_turns r u = turns_bounded r u.going
 
 -- a task is ready where the run is
 pub ready_some : (es : List Entry) (ended : Option Gone) → phase_by es ended ≡ Ready → 0 < length es
@@ -76,8 +71,7 @@ runs_on job input limit old new h same u =
 pub said_for : (job : Tree) (input : List ℕ) (limit : ℕ) (r : Runner) → RunsFor job input limit r → (P : Tree → List ℕ → ℕ → Type 0) →
     P r.job.now r.input.now r.limit → P job input limit
 said_for job input limit r h P p =
-    subst (λ (n : ℕ). P job input n) h.limit_is (subst (λ (xs : List ℕ). P job xs r.limit) h.input_is
-    (subst (λ (j : Tree). P j r.input.now r.limit) h.job_is p))
+    rw (← h.limit_is, ← h.input_is, ← h.job_is) p
 
 -- a run of a job had at most twice the job's size and one turns
 pub turns_for : (job : Tree) (input : List ℕ) (limit n : ℕ) (r : Runner) → RunsFor job input limit r → n ≡ r.turns →

@@ -1,74 +1,22 @@
 -- Tasks that were started are taken one by one: each has the next row and a new id, and is ready to begin.
-use Rattle.std.proofs.Common.{◌≡◌, ◌≢◌, ℕ, zero, suc, ◌+◌, ◌<◌, ◌≤◌, true, false, inl, inr, Some, None, List, [], ◌∷◌, ◌++◌, length, refl, ap, sym, ◌∙◌, subst, arith}
-use Rattle.std.specs.Prelude.{◌==◌, ◌⊎◌, slice_get}
-use Rattle.std.proofs.lemmas.Bool.{cases_lt}
+use Rattle.std.proofs.Common.{◌≡◌, ◌≢◌, ℕ, zero, suc, ◌+◌, ◌<◌, ◌≤◌, inl, inr, Some, None, List, [], ◌∷◌, ◌++◌, length, refl, ap, sym, ◌∙◌, arith}
+use Rattle.std.specs.Prelude.{◌==◌, slice_get}
+use Rattle.std.proofs.lemmas.Bool.{cases_eq, cases_lt}
 use Rattle.std.proofs.lemmas.Bool.Decides.{eqb_tells}
-use Rattle.std.proofs.lemmas.List.{append-nil, append_assoc, length-append, map-append}
-use Rattle.std.proofs.lemmas.List.Sums.{sum_by-cons}
-use Rattle.std.proofs.lemmas.Option.{slice_get_past, slice_get_within}
+use Rattle.std.proofs.lemmas.List.{append-nil, append_assoc, length_push, map-append}
+use Rattle.std.proofs.lemmas.Option.{none-some, same_Some, slice_get_past, slice_get_within}
 use Rattle.batch_commit.specs.declared.entry.Call.TheVariants.{Begin}
-use Rattle.batch_commit.specs.Batch.{Batches}
 use Rattle.batch_commit.specs.Entries.{Added}
 use Rattle.task_machine.specs.declared.task.Task.{Task}
 use Rattle.task_machine.specs.declared.world.World.{World}
 use Rattle.run_refinement.specs.Turn.{serials_from}
 use Rattle.task_table.specs.declared.task_table.TaskTable.{TaskTable}
-use Rattle.job_runner.specs.declared.runner.Runner.{Runner}
 use Rattle.task_table.specs.Rows.{times}
 use Rattle.task_table.specs.TaskTable.{running_at, task_of, task_by, start_of, children_of, parent_of, task_count, IsTaskTable, Starts}
-use Rattle.job_runner.specs.Steps.{StartsAll, TakesStarted, to_begin}
-use Rattle.task_table.proofs.Times.{one_if}
-use Rattle.job_runner.proofs.Shelving.{times_push, one_same, one_else}
-
--- ---- lists
-
--- what is at an index of a list with one more at the end
-pub got_more : {A : Type 0} (xs : List A) (y : A) (i : ℕ) → i < length xs → slice_get (xs ++ y ∷ []) i ≡ slice_get xs i
-got_more [] y i lt = absurd (omega (arith, lt))
-got_more (x ∷ xs) y zero lt = refl
-got_more (x ∷ xs) y (suc i) lt = got_more xs y i (omega (arith, lt))
-
--- what is appended to a list is at its end
-pub got_end : {A : Type 0} (xs : List A) (y : A) → slice_get (xs ++ y ∷ []) (length xs) ≡ Some y
-got_end [] y = refl
-got_end (x ∷ xs) y = got_end xs y
-
--- the index is one of the first, or the last
-pub by_place : (n i : ℕ) → i < n + 1 → (i < n) ⊎ (i ≡ n)
-by_place n i lt = at (cases_lt i n)
-  where
-    at : (i < n) ⊎ (n ≤ i) → (i < n) ⊎ (i ≡ n)
-    at (inl h) = inl h
-    at (inr h) = inr (omega (arith, h, lt))
-
--- a number that is there is counted
-pub got_once : (id : ℕ) (ids : List ℕ) → 1 ≤ times id ids → (i : ℕ) × (slice_get ids i ≡ Some id)
-got_once id [] h = absurd (let e : times id [] ≡ 0 = refl in omega (arith, h, e))
-got_once id (x ∷ ids) h = at (eqb_tells x id) (λ more. got_once id ids more)
-  where
-    step : times id (x ∷ ids) ≡ one_if (x == id) + times id ids
-    step = sum_by-cons (λ (n : ℕ). one_if (n == id)) x ids
-
-    at : (((x == id) ≡ true) × (x ≡ id)) ⊎ (((x == id) ≡ false) × (x ≢ id)) → (1 ≤ times id ids → (i : ℕ) × (slice_get ids i ≡ Some id)) →
-        (i : ℕ) × (slice_get (x ∷ ids) i ≡ Some id)
-    at (inl g) more = (zero, ap (λ (z : ℕ). Some z) g.1)
-    at (inr g) more =
-        let none : one_if (x == id) ≡ 0 = one_else x id g.1 in
-        let r = more (omega (arith, step, none, h)) in
-        (suc r.0, r.1)
-
--- an id that has an index in a list occurs there at least once
-pub times_there : (id : ℕ) (ids : List ℕ) (i : ℕ) → slice_get ids i ≡ Some id → 1 ≤ times id ids
-times_there id [] i e = absurd (let f : None ≡ Some id = e in cc)
-times_there id (x ∷ ids) zero e =
-    let step : times id (x ∷ ids) ≡ one_if (x == id) + times id ids = sum_by-cons (λ (n : ℕ). one_if (n == id)) x ids in
-    let f : Some x ≡ Some id = e in
-    let one : one_if (x == id) ≡ 1 = one_same x id (let g : x ≡ id = cc in g) in
-    omega (arith, step, one)
-times_there id (x ∷ ids) (suc i) e =
-    let step : times id (x ∷ ids) ≡ one_if (x == id) + times id ids = sum_by-cons (λ (n : ℕ). one_if (n == id)) x ids in
-    let more = times_there id ids i e in
-    omega (arith, step, more)
+use Rattle.task_table.proofs.Lists.{Changes, changes_push, value_at}
+use Rattle.task_table.proofs.Times.{one_if, one_same, times_none, times_push, times_there}
+use Rattle.job_runner.specs.declared.runner.Runner.{Runner}
+use Rattle.job_runner.specs.Steps.{StartsAll, TakesStarted, begin_calls}
 
 -- one more serial number after the given number of consecutive ones
 pub serials_more : (m n : ℕ) → serials_from m n ++ (m + n) ∷ [] ≡ serials_from m (n + 1)
@@ -89,7 +37,7 @@ none_past r p le = ap (task_by r.live) (slice_get_past r.rows.items p le)
 pub starts_none : (r : TaskTable) (parent tick : ℕ) → StartsAll r r parent [] tick []
 starts_none r parent tick = record {
   as_many = refl;
-  lives = λ i id task e. absurd (let f : None ≡ Some id = e in cc);
+  lives = λ i id task e. absurd (none-some id e);
   once = λ id. omega arith;
   others = λ id h. refl;
   more = (let e : task_count r ≡ task_count r + 0 = omega arith in e);
@@ -107,32 +55,24 @@ starts_none r parent tick = record {
 }
 
 -- one more
-module _ (old mid new : TaskTable) (parent : ℕ) (tasks : List Task) (tick : ℕ) (ids : List ℕ) (task : Task) (id : ℕ)
-    (a : StartsAll old mid parent tasks tick ids)
-    (s : Starts mid new parent task tick id) (there : parent < task_count old) where
+module _ {old mid new : TaskTable} {parent : ℕ} {tasks : List Task} {tick : ℕ} {ids : List ℕ} {task : Task} {id : ℕ}
+    (a : StartsAll old mid parent tasks tick ids) (s : Starts mid new parent task tick id) (there : parent < task_count old) where
   longer : length (tasks ++ task ∷ []) ≡ length tasks + 1
-  longer = length-append tasks (task ∷ [])
+  longer = length_push tasks task
+
+  -- the last task and its id are at this place
+  task_last : Changes (slice_get tasks) (slice_get (tasks ++ task ∷ [])) (length tasks) None (Some task)
+  task_last = changes_push tasks task
+
+  id_last : Changes (slice_get ids) (slice_get (ids ++ id ∷ [])) (length tasks) None (Some id)
+  id_last = let long = a.as_many in rw (← long) (changes_push ids id)
 
   -- its id is none of those before it
   not_before : times id ids ≡ 0
-  not_before = at (cases_lt 0 (times id ids))
-    where
-      at : (0 < times id ids) ⊎ (times id ids ≤ 0) → times id ids ≡ 0
-      at (inl h) =
-          let g = got_once id ids (omega (arith, h)) in
-          let le = slice_get_within ids g.0 id g.1 in
-          let long = a.as_many in
-          let t = by_task g.0 (omega (arith, le, long)) in
-          absurd (let e : None ≡ Some (record { task = t.0; row = task_count old + g.0 }) = sym s.fresh ∙ (a.lives g.0 id t.0 g.1 t.1).1 in cc)
-        where
-          nth : (ts : List Task) (i : ℕ) → i < length ts → (t : Task) × (slice_get ts i ≡ Some t)
-          nth [] i lt = absurd (omega (arith, lt))
-          nth (t ∷ ts) zero lt = (t, refl)
-          nth (t ∷ ts) (suc i) lt = nth ts i (omega (arith, lt))
-
-          by_task : (i : ℕ) → i < length tasks → (t : Task) × (slice_get tasks i ≡ Some t)
-          by_task i lt = nth tasks i lt
-      at (inr h) = omega (arith, h)
+  not_before = times_none id ids (λ i e.
+      let lt : i < length tasks = (let le = slice_get_within ids i id e in let long = a.as_many in omega (arith, le, long)) in
+      let t = value_at tasks i lt in
+      none-some _ (sym s.fresh ∙ (a.lives i id t.0 e t.1).1))
 
   counted : (other : ℕ) → times other (ids ++ id ∷ []) ≡ times other ids + one_if (id == other)
   counted other = times_push other ids id
@@ -142,44 +82,35 @@ module _ (old mid new : TaskTable) (parent : ℕ) (tasks : List Task) (tick : �
 
   lives_more : (i key : ℕ) (x : Task) → slice_get (ids ++ id ∷ []) i ≡ Some key → slice_get (tasks ++ task ∷ []) i ≡ Some x →
       (running_at old key ≡ None) × (running_at new key ≡ Some (record { task = x; row = task_count old + i }))
-  lives_more i key x e f = at (by_place (length tasks) i (let lt = slice_get_within (tasks ++ task ∷ []) i x f in
-      omega (arith, lt, longer)))
-    where
-      at : (i < length tasks) ⊎ (i ≡ length tasks) → (running_at old key ≡ None)
-          × (running_at new key ≡ Some (record { task = x; row = task_count old + i }))
-      at (inl lt) =
-          let long = a.as_many in
-          let e2 : slice_get ids i ≡ Some key = sym (got_more ids id i (omega (arith, lt, long))) ∙ e in
-          let h = a.lives i key x e2 (sym (got_more tasks task i lt) ∙ f) in
-          let differs : key ≢ id = λ (same : key ≡ id).
-          (let n = times_there key ids i e2 in
-          let z : times key ids ≡ 0 = ap (λ (k : ℕ). times k ids) same ∙ not_before in
-          omega (arith, n, z)) in
-          (h.0, s.others key differs ∙ h.1)
-      at (inr is) =
-          let e2 : Some id ≡ Some key = sym (got_end ids id) ∙ (ap (slice_get (ids ++ id ∷ [])) (a.as_many ∙ sym is) ∙ e) in
-          let f2 : Some task ≡ Some x = sym (got_end tasks task) ∙ (ap (slice_get (tasks ++ task ∷ [])) (sym is) ∙ f) in
-          let same_id : id ≡ key = cc in
-          let same_task : task ≡ x = cc in (
-            ap (running_at old) (sym same_id) ∙ fresh,
-            ap (running_at new) (sym same_id) ∙ s.lives ∙ ap (λ (z : Task). Some (record { task = z; row = task_count mid })) same_task
-                ∙ ap (λ (n : ℕ). Some (record { task = x; row = n })) (a.more ∙ ap (λ (n : ℕ). task_count old + n) (sym is)),
-          )
+  lives_more i key x e f =
+      elim (cases_eq i (length tasks)) [
+        | inl is ↦
+            let same_id : id ≡ key = same_Some id key (sym id_last.is ∙ (ap (slice_get (ids ++ id ∷ [])) (sym is) ∙ e)) in
+            let same_task : task ≡ x = same_Some task x (sym task_last.is ∙ (ap (slice_get (tasks ++ task ∷ [])) (sym is) ∙ f)) in
+            let row = a.more in
+            rw (← same_id, ← same_task, is, ← row) (fresh, s.lives)
+        | inr differs ↦
+            let before : slice_get ids i ≡ Some key = sym (id_last.others i differs) ∙ e in
+            let h = a.lives i key x before (sym (task_last.others i differs) ∙ f) in
+            let apart : key ≢ id = λ same. (let n = times_there key ids i before in
+            let z : times key ids ≡ 0 = ap (λ (k : ℕ). times k ids) same ∙ not_before in
+            omega (arith, n, z)) in
+            (h.0, s.others key apart ∙ h.1)
+      ]
 
   once_more : (other : ℕ) → times other (ids ++ id ∷ []) ≤ 1
-  once_more other = at (eqb_tells id other)
-    where
-      at : (((id == other) ≡ true) × (id ≡ other)) ⊎ (((id == other) ≡ false) × (id ≢ other)) → times other (ids ++ id ∷ []) ≤ 1
-      at (inl h) =
-          let c = counted other in
-          let one : one_if (id == other) ≡ 1 = ap one_if h.0 in
-          let z : times other ids ≡ 0 = subst (λ (k : ℕ). times k ids ≡ 0) h.1 not_before in
-          omega (arith, c, one, z)
-      at (inr h) =
-          let c = counted other in
-          let one : one_if (id == other) ≡ 0 = ap one_if h.0 in
-          let z = a.once other in
-          omega (arith, c, one, z)
+  once_more other =
+      let c = counted other in
+      elim (eqb_tells id other) [
+        | inl h ↦
+            let one : one_if (id == other) ≡ 1 = ap one_if h.0 in
+            let z : times other ids ≡ 0 = rw h.1 at not_before in
+            omega (arith, c, one, z)
+        | inr h ↦
+            let none : one_if (id == other) ≡ 0 = ap one_if h.0 in
+            let z = a.once other in
+            omega (arith, c, none, z)
+      ]
 
   others_more : (other : ℕ) → times other (ids ++ id ∷ []) ≡ 0 → running_at new other ≡ running_at old other
   others_more other h =
@@ -187,38 +118,37 @@ module _ (old mid new : TaskTable) (parent : ℕ) (tasks : List Task) (tick : �
       s.others other (λ (e : other ≡ id). (let one = one_same id other (sym e) in omega (arith, c, one, h)))
       ∙ a.others other (omega (arith, c, h))
 
+  -- what is said of the row of each started task
+  row_else : (i : ℕ) → i ≢ length tasks → task_count old + i ≢ task_count mid
+  row_else i differs e = let more = a.more in differs (omega (arith, e, more))
+
+  same_task_else : (p : ℕ) → p ≢ task_count mid → task_of new p ≡ task_of mid p
+  same_task_else p differs =
+      elim (cases_lt p (task_count mid)) [
+        | inl lt ↦ s.same_task p lt
+        | inr le ↦
+            let more = s.more in
+            none_past new p (omega (arith, le, differs, more)) ∙ sym (none_past mid p le)
+      ]
+
   task_more : (i : ℕ) → task_of new (task_count old + i) ≡ slice_get (tasks ++ task ∷ []) i
-  task_more i = at (cases_lt i (length tasks + 1))
-    where
-      more : task_count mid ≡ task_count old + length tasks
-      more = a.more
-
-      there_now : task_count new ≡ task_count mid + 1
-      there_now = s.more
-
-      by : (i < length tasks) ⊎ (i ≡ length tasks) → task_of new (task_count old + i) ≡ slice_get (tasks ++ task ∷ []) i
-      by (inl lt) = s.same_task (task_count old + i) (omega (arith, lt, more)) ∙ a.task i ∙ sym (got_more tasks task i lt)
-      by (inr is) =
-          ap (λ (n : ℕ). task_of new (task_count old + n)) is ∙ ap (task_of new) (sym more) ∙ s.task ∙ sym (got_end tasks task)
-          ∙ ap (slice_get (tasks ++ task ∷ [])) (sym is)
-
-      at : (i < length tasks + 1) ⊎ (length tasks + 1 ≤ i) → task_of new (task_count old + i) ≡ slice_get (tasks ++ task ∷ []) i
-      at (inl lt) = by (by_place (length tasks) i lt)
-      at (inr le) =
-          none_past new (task_count old + i) (omega (arith, le, more, there_now))
-          ∙ sym (slice_get_past (tasks ++ task ∷ []) i (omega (arith, le, longer)))
+  task_more i =
+      elim (cases_eq i (length tasks)) [
+        | inl is ↦ rw is (ap (task_of new) (sym a.more) ∙ s.task ∙ sym task_last.is)
+        | inr differs ↦ same_task_else (task_count old + i) (row_else i differs) ∙ a.task i ∙ sym (task_last.others i differs)
+      ]
 
   at_more : {A : Type 0} (get : TaskTable → ℕ → A) (x : A) → ((p : ℕ) → p < task_count mid → p ≢ parent → get new p ≡ get mid p) →
-      get new (task_count mid) ≡ x →
-      ((i : ℕ) → i < length tasks → get mid (task_count old + i) ≡ x) → (i : ℕ) → i < length (tasks ++ task ∷ []) → get new (task_count old + i) ≡ x
-  at_more get x same last before i lt = by (by_place (length tasks) i (omega (arith, lt, longer)))
-    where
-      more : task_count mid ≡ task_count old + length tasks
-      more = a.more
-
-      by : (i < length tasks) ⊎ (i ≡ length tasks) → get new (task_count old + i) ≡ x
-      by (inl h) = same (task_count old + i) (omega (arith, h, more)) (λ e. omega (arith, e, there)) ∙ before i h
-      by (inr is) = ap (λ (n : ℕ). get new (task_count old + n)) is ∙ ap (get new) (sym more) ∙ last
+      get new (task_count mid) ≡ x → ((i : ℕ) → i < length tasks → get mid (task_count old + i) ≡ x) →
+      (i : ℕ) → i < length (tasks ++ task ∷ []) → get new (task_count old + i) ≡ x
+  at_more get x same last before i lt =
+      let more : task_count mid ≡ task_count old + length tasks = a.more in
+      elim (cases_eq i (length tasks)) [
+        | inl is ↦ rw is (ap (get new) (sym more) ∙ last)
+        | inr differs ↦
+            let below : i < length tasks = omega (arith, lt, longer, differs) in
+            same (task_count old + i) (omega (arith, below, more)) (λ e. omega (arith, e, there)) ∙ before i below
+      ]
 
   less : (p : ℕ) → p < task_count old → p < task_count mid
   less p lt = let more = a.more in omega (arith, lt, more)
@@ -226,7 +156,7 @@ module _ (old mid new : TaskTable) (parent : ℕ) (tasks : List Task) (tick : �
   -- a task that is started after others is one more of them: it has the row after theirs, and an id of its own
   pub starts_more : StartsAll old new parent (tasks ++ task ∷ []) tick (ids ++ id ∷ [])
   starts_more = record {
-    as_many = length-append ids (id ∷ []) ∙ ap (λ (n : ℕ). n + 1) a.as_many ∙ sym longer;
+    as_many = length_push ids id ∙ ap (λ (n : ℕ). n + 1) a.as_many ∙ sym longer;
     lives = lives_more;
     once = once_more;
     others = others_more;
@@ -236,11 +166,12 @@ module _ (old mid new : TaskTable) (parent : ℕ) (tasks : List Task) (tick : �
     childless = at_more children_of [] s.same_children s.childless a.childless;
     parent_is = at_more parent_of parent (λ p lt differs. s.same_parent p lt) s.parent_is a.parent_is;
     child =
-        s.child ∙ ap (λ (xs : List ℕ). xs ++ task_count mid ∷ []) a.child ∙ append_assoc (children_of old parent)
-        (serials_from (task_count old) (length tasks)) (task_count mid ∷ [])
-        ∙ ap (λ (n : ℕ). children_of old parent ++ (serials_from (task_count old) (length tasks) ++ n ∷ [])) a.more
-        ∙ ap (λ (xs : List ℕ). children_of old parent ++ xs) (serials_more (task_count old) (length tasks)
-        ∙ ap (serials_from (task_count old)) (sym longer));
+        (let before = a.child in
+        let row = a.more in
+        let serials : children_of mid parent ++ task_count mid ∷ []
+        ≡ children_of old parent ++ serials_from (task_count old) (length (tasks ++ task ∷ [])) =
+        rw (before, row, append_assoc, serials_more (task_count old) (length tasks), ← longer) refl in
+        s.child ∙ serials);
     same_task = λ p lt. s.same_task p (less p lt) ∙ a.same_task p lt;
     same_gone = λ p. s.same_gone p ∙ a.same_gone p;
     same_start = λ p lt. s.same_start p (less p lt) ∙ a.same_start p lt;
@@ -260,7 +191,19 @@ pub record Taking (old now : Runner) (parent : ℕ) : Type 0 where
   pub agree : IsTaskTable now.task_table
   pub world : now.world ≡ record old.world { started = now.world.started }
   pub current : now.batch.current ≡ old.batch.current
-  pub next : now.batch.next ≡ old.batch.next ++ to_begin ids
+  pub next : now.batch.next ≡ old.batch.next ++ begin_calls ids
+  pub rest : now ≡ record old { world = now.world; task_table = now.task_table; batch = now.batch }
+
+-- one task was taken from the world: it has the next row and its id, and is ready to begin
+pub record TakesOne (old now : Runner) (parent : ℕ) : Type 0 where
+  pub task : Task
+  pub id : ℕ
+  pub first : old.world.started.items ≡ task ∷ now.world.started.items
+  pub world : now.world ≡ record old.world { started = now.world.started }
+  pub starts : Starts old.task_table now.task_table parent task now.world.tick id
+  pub agree : IsTaskTable now.task_table
+  pub current : now.batch.current ≡ old.batch.current
+  pub next : now.batch.next ≡ old.batch.next ++ (id, Begin) ∷ []
   pub rest : now ≡ record old { world = now.world; task_table = now.task_table; batch = now.batch }
 
 -- at first no task that waited in the world was taken
@@ -278,42 +221,39 @@ taking_none r parent agree = record {
 }
 
 -- the starter's row is still one of the table's, after tasks were taken
-pub row_there : (old now : Runner) (parent : ℕ) → Taking old now parent → parent < task_count old.task_table → parent < task_count now.task_table
-row_there old now parent t lt = let more = t.starts.more in omega (arith, lt, more)
+pub row_there : {old now : Runner} {parent : ℕ} → Taking old now parent → parent < task_count old.task_table →
+    parent < task_count now.task_table
+row_there t lt = let more = t.starts.more in omega (arith, lt, more)
 
--- one more task was taken from the world: it has the next row and its id, and is ready to begin
-pub taking_more : (old now : Runner) (w : World) (task_table : TaskTable) (b : Batches) (parent tick : ℕ) (task : Task) (id : ℕ) →
-    Taking old now parent → parent < task_count old.task_table →
-    now.world.started.items ≡ task ∷ w.started.items → w ≡ record now.world { started = w.started } → tick ≡ w.tick →
-    Starts now.task_table task_table parent task tick id → IsTaskTable task_table →
-    b.current ≡ now.batch.current → b.next ≡ now.batch.next ++ (id, Begin) ∷ [] →
-    Taking old (record now { world = w; task_table = task_table; batch = b }) parent
-taking_more old now w task_table b parent tick task id t there first world tick_is starts agree current next = record {
-  taken = t.taken ++ task ∷ [];
-  ids = t.ids ++ id ∷ [];
-  left = t.left ∙ ap (λ (ts : List Task). t.taken ++ ts) first ∙ sym (append_assoc t.taken (task ∷ []) w.started.items);
+-- one more task was taken
+pub taking_more : {old mid now : Runner} {parent : ℕ} → Taking old mid parent → parent < task_count old.task_table →
+    TakesOne mid now parent → Taking old now parent
+taking_more {old} {mid} {now} {parent} t there one = record {
+  taken = t.taken ++ one.task ∷ [];
+  ids = t.ids ++ one.id ∷ [];
+  left = t.left ∙ ap (λ (ts : List Task). t.taken ++ ts) one.first ∙ sym (append_assoc t.taken (one.task ∷ []) now.world.started.items);
   starts =
-      starts_more old.task_table now.task_table task_table parent t.taken old.world.tick t.ids task id t.starts
-      (subst (λ (v : ℕ). Starts now.task_table task_table parent task v id)
-      (tick_is ∙ (ap (λ (x : World). x.tick) world ∙ ap (λ (x : World). x.tick) t.world)) starts) there;
-  agree = agree;
-  world = world ∙ ap (λ (x : World). record x { started = w.started }) t.world;
-  current = current ∙ t.current;
+      (let tick : now.world.tick ≡ old.world.tick = ap (λ (x : World). x.tick) one.world ∙ ap (λ (x : World). x.tick) t.world in
+      let starts = rw tick at one.starts in
+      starts_more t.starts starts there);
+  agree = one.agree;
+  world = one.world ∙ ap (λ (x : World). record x { started = now.world.started }) t.world;
+  current = one.current ∙ t.current;
   next =
-      next ∙ ap (λ (xs : List Added). xs ++ (id, Begin) ∷ []) t.next ∙ append_assoc old.batch.next (to_begin t.ids) ((id, Begin) ∷ [])
-      ∙ ap (λ (xs : List Added). old.batch.next ++ xs) (sym (map-append (λ (x : ℕ). (x, Begin)) t.ids (id ∷ [])));
-  rest = ap (λ (r : Runner). record r { world = w; task_table = task_table; batch = b }) t.rest;
+      one.next ∙ ap (λ (xs : List Added). xs ++ (one.id, Begin) ∷ []) t.next
+      ∙ append_assoc old.batch.next (begin_calls t.ids) ((one.id, Begin) ∷ [])
+      ∙ ap (λ (xs : List Added). old.batch.next ++ xs) (sym (map-append (λ (x : ℕ). (x, Begin)) t.ids (one.id ∷ [])));
+  rest = one.rest ∙ ap (λ (r : Runner). record r { world = now.world; task_table = now.task_table; batch = now.batch }) t.rest;
 }
 
 -- once no task waits in the world, all that were started are taken
-pub taking_all : (old now : Runner) (w : World) (parent : ℕ) → Taking old now parent → now.world.started.items ≡ [] → w.started.items ≡ [] →
-    w ≡ record now.world { started = w.started } →
-    TakesStarted old (record now { world = w }) parent
-taking_all old now w parent t none left world = record {
+pub taking_all : {old now : Runner} {parent : ℕ} (w : World) → Taking old now parent → now.world.started.items ≡ [] → w.started.items ≡ [] →
+    w ≡ record now.world { started = w.started } → TakesStarted old (record now { world = w }) parent
+taking_all {old} {now} {parent} w t none left world = record {
   ids = t.ids;
   starts =
-      subst (λ (ts : List Task). StartsAll old.task_table now.task_table parent ts old.world.tick t.ids)
-      (sym (t.left ∙ ap (λ (ts : List Task). t.taken ++ ts) none ∙ append-nil t.taken)) t.starts;
+      (let all : old.world.started.items ≡ t.taken = t.left ∙ ap (λ (ts : List Task). t.taken ++ ts) none ∙ append-nil t.taken in
+      rw all t.starts);
   agree = t.agree;
   world = world ∙ ap (λ (x : World). record x { started = w.started }) t.world;
   none_left = left;

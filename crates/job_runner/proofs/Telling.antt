@@ -1,14 +1,13 @@
 -- The sleepers are updated with each effective deadline (`sight`) that was lowered: the scope is no longer
 -- marked, and they know what it shows.
-use Rattle.std.proofs.Common.{◌≡◌, ◌≢◌, inl, inr, ℕ, ◌<◌, Bool, true, false, Option, Some, None, List, length, refl, ap, sym, ◌∙◌, subst}
+use Rattle.std.proofs.Common.{◌≡◌, inl, inr, ℕ, ◌<◌, Bool, true, false, Option, Some, None, List, length, refl, ap, sym, ◌∙◌, subst}
 use Rattle.std.specs.Prelude.{◌⊎◌, IsSomeAnd}
 use Rattle.std.specs.Option.{ForSome}
 use Rattle.autojump_clock.specs.Clock.{due_of}
 use Rattle.batch_commit.specs.declared.entry.Call.{Call}
-use Rattle.batch_commit.specs.declared.entry.Entry.{Entry}
-use Rattle.batch_commit.specs.Entries.{Added}
 use Rattle.cancel_scopes.specs.Sight.{Tick, sight}
 use Rattle.cancel_scopes.specs.Tree.{Tree, stack_of, is_changed, IsOpen, SameMarks, OtherMarksKeep, TakesChanged}
+use Rattle.std.proofs.lemmas.Bool.{cases_eq}
 use Rattle.std.proofs.lemmas.List.Elements.{All-weaker}
 use Rattle.task_machine.specs.declared.stop.TaskState.{TaskState}
 use Rattle.task_machine.specs.declared.stop.TaskState.TheVariants.{Asleep}
@@ -19,17 +18,16 @@ use Rattle.task_machine.specs.declared.world.World.{World}
 use Rattle.task_machine.specs.Tasks.{scope_of}
 use Rattle.run_refinement.specs.Ready.{IsTimely}
 use Rattle.run_refinement.specs.Sights.{Shows}
-use Rattle.run_refinement.proofs.ActsKeep.{same_or}
 use Rattle.run_refinement.proofs.Jumped.{state_takes}
 use Rattle.sleepers.specs.Sleeping.{Sleeping, scope_in, sight_of, SameScopes, Sees}
 use Rattle.task_table.specs.declared.task_table.TaskTable.{TaskTable}
 use Rattle.task_table.specs.declared.task_table.Running.{Running}
 use Rattle.task_table.specs.TaskTable.{running_at, task_count}
 use Rattle.job_runner.specs.declared.runner.Runner.{Runner}
-use Rattle.job_runner.specs.Shelves.{GoesBy, IsCalled, Dozes, AreKnown, NoneChanged, state_in, IsRefined, IsGoing}
+use Rattle.job_runner.specs.Shelves.{GoesBy, IsCalled, IsCalledAdded, IsCalledEntry, IsConsistent, Dozes, AreKnown, NoneChanged, state_in, IsRefined, IsGoing}
 use Rattle.job_runner.specs.Steps.{SeesOnly}
 use Rattle.job_runner.proofs.Counting.{count_below, fewer_below, found_within}
-use Rattle.job_runner.proofs.Stopped.{some_is, some_has}
+use Rattle.job_runner.proofs.Options.{some_kept}
 
 -- a world with other scopes marked
 abbrev pub marked : World → List Bool → World
@@ -50,9 +48,9 @@ goes_marked w changed task call h answer wake right e =
 
 called_marked : (r : TaskTable) (w : World) (changed : List Bool) (id : ℕ) (call : Call) → IsCalled r w id call →
     IsCalled r (marked w changed) id call
-called_marked r w changed id call h =
-    let x = some_is (running_at r id) (λ (y : Running). GoesBy w y.task call) h in
-    some_has (running_at r id) (λ (y : Running). GoesBy (marked w changed) y.task call) x.0 x.1 (goes_marked w changed x.0.task call x.2)
+called_marked r w changed id call =
+    some_kept (running_at r id) (running_at r id) (λ (x : Running). GoesBy w x.task call)
+    (λ (x : Running). GoesBy (marked w changed) x.task call) (λ x is. is) (λ x is. goes_marked w changed x.task call)
 
 -- ---- one scope is handed out
 
@@ -78,7 +76,7 @@ shows_marked w changed scope was now kept mark h = record { stack = h.stack; ope
     by_known (inr f) = inr (mark ∙ f)
 
 -- a run with other marks, of which the sleepers know
-module _ (r : Runner) (going : IsGoing None r) (changed : List Bool) (sleepers : Sleeping)
+module _ {r : Runner} (going : IsGoing None r) (changed : List Bool) (sleepers : Sleeping)
     (known : AreKnown r.task_table (marked r.world changed) r.clock sleepers) where
   abbrev told : Runner
   told = record r { world = marked r.world changed; sleepers = sleepers }
@@ -89,23 +87,35 @@ module _ (r : Runner) (going : IsGoing None r) (changed : List Bool) (sleepers :
       (record { turns = refl; task = λ p. refl; gone = λ p. refl; start = λ p. refl; children = λ p. refl }) refl
       (going.interleaving k settled)).0
 
+  consistent_told : IsConsistent r.task_table (marked r.world changed) r.clock r.limit r.turns
+  consistent_told = record {
+    agree = going.shelved.consistent.agree;
+    homes = λ p task home lives at. (let k = going.shelved.consistent.homes p task home lives at in
+        record { task = k.task; lives = k.lives; owned = k.owned });
+    now = going.shelved.consistent.now;
+    limit = going.shelved.consistent.limit;
+    within = going.shelved.consistent.within;
+    bounded = going.shelved.consistent.bounded;
+    none_started = going.shelved.consistent.none_started;
+  }
+
   dozes_told : (key due : ℕ) → due_of r.clock key ≡ Some due →
       IsSomeAnd (running_at r.task_table key) (λ (x : Running). Dozes (marked r.world changed) due x.task)
   dozes_told key due e =
-      let x = some_is (running_at r.task_table key) (λ (y : Running). Dozes r.world due y.task) (going.shelved.doze key due e) in
-      some_has (running_at r.task_table key) (λ (y : Running). Dozes (marked r.world changed) due y.task) x.0 x.1
-      (record {
+      some_kept (running_at r.task_table key) (running_at r.task_table key) (λ (y : Running). Dozes r.world due y.task)
+      (λ (y : Running). Dozes (marked r.world changed) due y.task) (λ x is. is)
+      (λ x is d. record {
         asleep =
             record {
-              ticks = x.2.asleep.ticks;
-              since = x.2.asleep.since;
-              task_state = x.2.asleep.task_state;
-              due_is = x.2.asleep.due_is;
-              began = x.2.asleep.began;
-              later = x.2.asleep.later;
+              ticks = d.asleep.ticks;
+              since = d.asleep.since;
+              task_state = d.asleep.task_state;
+              due_is = d.asleep.due_is;
+              began = d.asleep.began;
+              later = d.asleep.later;
             };
-        unseen = x.2.unseen;
-      })
+        unseen = d.unseen;
+      }) (going.shelved.doze key due e)
 
   going_marked : IsGoing None told
   going_marked =
@@ -113,23 +123,14 @@ module _ (r : Runner) (going : IsGoing None r) (changed : List Bool) (sleepers :
         sound = going.sound;
         shelved =
             record {
-              agree = going.shelved.agree;
-              homes = λ p task home lives at. (let k = going.shelved.homes p task home lives at in
-                  record { task = k.task; lives = k.lives; owned = k.owned });
-              now = going.shelved.now;
-              limit = going.shelved.limit;
-              within = going.shelved.within;
-              bounded = going.shelved.bounded;
-              none_started = going.shelved.none_started;
+              consistent = consistent_told;
               doze = dozes_told;
               known = known;
               current =
-                  All-weaker (λ (e : Entry). IsCalled r.task_table r.world e.task e.call)
-                  (λ (e : Entry). IsCalled r.task_table (marked r.world changed) e.task e.call)
+                  All-weaker (IsCalledEntry r.task_table r.world) (IsCalledEntry r.task_table (marked r.world changed))
                   (λ e. called_marked r.task_table r.world changed e.task e.call) r.batch.current going.shelved.current;
               next =
-                  All-weaker (λ (a : Added). IsCalled r.task_table r.world a.0 a.1)
-                  (λ (a : Added). IsCalled r.task_table (marked r.world changed) a.0 a.1)
+                  All-weaker (IsCalledAdded r.task_table r.world) (IsCalledAdded r.task_table (marked r.world changed))
                   (λ a. called_marked r.task_table r.world changed a.0 a.1) r.batch.next going.shelved.next;
               once = going.shelved.once;
               away = going.shelved.away;
@@ -138,43 +139,39 @@ module _ (r : Runner) (going : IsGoing None r) (changed : List Bool) (sleepers :
       }
 
 -- one scope is known anew
-module _ (r : Runner) (going : IsGoing None r) (id : ℕ) (changed : List Bool) (seen : Tick) (sleepers : Sleeping)
-    (taken : is_changed (marked r.world changed).scopes id ≡ false)
+module _ {r : Runner} (going : IsGoing None r) {id : ℕ} (changed : List Bool) (seen : Tick) {sleepers : Sleeping}
     (others : OtherMarksKeep r.world.scopes (marked r.world changed).scopes id)
     (sees : ForSome (stack_of r.world.scopes id) (λ stack. seen ≡ sight stack)) (same : SameScopes r.sleepers sleepers)
     (tells : Sees r.sleepers sleepers id seen) where
-  sight_told : (key scope : ℕ) → scope_in sleepers key ≡ Some scope → (scope ≡ id) ⊎ (scope ≢ id) →
+  sights_told : (key scope : ℕ) → scope_in sleepers key ≡ Some scope →
       Shows (marked r.world changed).scopes scope (sight_of sleepers scope)
-  sight_told key scope e (inl is) =
+  sights_told key scope e =
       let was = going.shelved.known.sights key scope (sym (same key) ∙ e) in
-      record {
-        stack = was.stack;
-        opened = was.opened;
-        known =
-            inl (sym (sees was.stack (ap (stack_of r.world.scopes) (sym is) ∙ was.opened))
-            ∙ sym (ap (sight_of sleepers) is ∙ tells.here key (e ∙ ap (λ (n : ℕ). Some n) is)));
-      }
-  sight_told key scope e (inr differs) =
-      shows_marked r.world changed scope (sight_of r.sleepers scope) (sight_of sleepers scope) (tells.others key scope differs e)
-      (others scope differs)
-      (going.shelved.known.sights key scope (sym (same key) ∙ e))
+      elim (cases_eq scope id) [
+        | inl is ↦ record {
+          stack = was.stack;
+          opened = was.opened;
+          known =
+              inl (sym (sees was.stack (ap (stack_of r.world.scopes) (sym is) ∙ was.opened))
+              ∙ sym (ap (sight_of sleepers) is ∙ tells.here key (e ∙ ap (λ (n : ℕ). Some n) is)));
+        }
+        | inr differs ↦
+            shows_marked r.world changed scope (sight_of r.sleepers scope) (sight_of sleepers scope) (tells.others key scope differs e)
+            (others scope differs) was
+      ]
 
   -- after the sleepers know the scope's effective deadline, and its mark is gone, the run is consistent as before
   pub told_going : IsGoing None (record r { world = marked r.world changed; sleepers = sleepers })
   told_going =
-      going_marked r going changed sleepers
-      (record {
-        sleep_slots = λ key. same key ∙ going.shelved.known.sleep_slots key;
-        sights =
-            λ key scope e. sight_told key scope e (same_or scope id);
-      })
+      going_marked going changed sleepers
+      (record { sleep_slots = λ key. same key ∙ going.shelved.known.sleep_slots key; sights = sights_told })
 
 -- where no mark changes, nothing does
-still_going : (r : Runner) → IsGoing None r → (changed : List Bool) →
+still_going : {r : Runner} → IsGoing None r → (changed : List Bool) →
     ((key : ℕ) → is_changed (marked r.world changed).scopes key ≡ is_changed r.world.scopes key) →
     IsGoing None (record r { world = marked r.world changed; sleepers = r.sleepers })
-still_going r going changed marks =
-    going_marked r going changed r.sleepers
+still_going {r} going changed marks =
+    going_marked going changed r.sleepers
     (record {
       sleep_slots = going.shelved.known.sleep_slots;
       sights = λ key scope e. shows_marked r.world changed scope (sight_of r.sleepers scope) (sight_of r.sleepers scope) refl (marks scope)
@@ -184,92 +181,71 @@ still_going r going changed marks =
 -- a scope that is handed out is open still
 pub taken_open : (lent tree read : Tree) (id : ℕ) → tree ≡ record lent { changed = tree.changed } → TakesChanged lent tree id →
     read ≡ tree → IsOpen read id
-taken_open lent tree read id stacks takes reads =
-    subst (λ (t : Tree). IsOpen t id) (sym reads) (subst (λ (t : Tree). IsOpen t id) (sym stacks) takes.was_open)
+taken_open lent tree read id stacks takes reads = rw (reads, stacks) takes.was_open
 
--- the next one
-module _ (was r new : Runner) (id : ℕ) (lent tree read : Tree) (seen : Tick) (s : IsTelling was r) (lends : lent ≡ r.world.scopes)
-    (stacks_lent : tree ≡ record lent { changed = tree.changed })
-    (takes_lent : TakesChanged lent tree id) (reads : read ≡ tree) (sees_read : ForSome (stack_of read id) (λ stack. seen ≡ sight stack))
-    (same : SameScopes r.sleepers new.sleepers)
-    (tells : Sees r.sleepers new.sleepers id seen) (is : new ≡ record r
-    { world = record r.world { scopes = tree }; sleepers = new.sleepers }) where
-  stacks : tree ≡ record (r.world.scopes) { changed = tree.changed }
-  stacks = stacks_lent ∙ ap (λ (t : Tree). record t { changed = tree.changed }) lends
+-- the next scope is handed out: only its mark is gone, and the sleepers know its effective deadline
+pub record TellsOne (old new : Runner) (id : ℕ) : Type 0 where
+  pub seen : Tick
+  pub stacks : new.world.scopes ≡ record (old.world.scopes) { changed = new.world.scopes.changed }
+  pub takes : TakesChanged old.world.scopes new.world.scopes id
+  pub sees : ForSome (stack_of new.world.scopes id) (λ stack. seen ≡ sight stack)
+  pub same : SameScopes old.sleepers new.sleepers
+  pub tells : Sees old.sleepers new.sleepers id seen
+  pub rest : new ≡ record old { world = record old.world { scopes = new.world.scopes }; sleepers = new.sleepers }
 
-  takes : TakesChanged r.world.scopes tree id
-  takes = subst (λ (t : Tree). TakesChanged t tree id) lends takes_lent
+module _ {was r new : Runner} {id : ℕ} (s : IsTelling was r) (one : TellsOne r new id) where
+  is_told : new ≡ record r { world = marked r.world new.world.scopes.changed; sleepers = new.sleepers }
+  is_told = one.rest ∙ ap (λ (t : Tree). record r { world = record r.world { scopes = t }; sleepers = new.sleepers }) one.stacks
 
-  sees : ForSome (stack_of tree id) (λ stack. seen ≡ sight stack)
-  sees = subst (λ (t : Tree). ForSome (stack_of t id) (λ stack. seen ≡ sight stack)) reads sees_read
+  others_kept : OtherMarksKeep r.world.scopes (marked r.world new.world.scopes.changed).scopes id
+  others_kept other differs = ap (λ (t : Tree). is_changed t other) (sym one.stacks) ∙ one.takes.others other differs
 
-  is_told : new ≡ record r { world = marked r.world tree.changed; sleepers = new.sleepers }
-  is_told = is ∙ ap (λ (t : Tree). record r { world = record r.world { scopes = t }; sleepers = new.sleepers }) stacks
-
-  tree_is : new.world.scopes ≡ tree
-  tree_is = ap (λ (x : Runner). x.world.scopes) is
-
-  others : OtherMarksKeep r.world.scopes (marked r.world tree.changed).scopes id
-  others other differs = ap (λ (t : Tree). is_changed t other) (sym stacks) ∙ takes.others other differs
+  fewer : (key : ℕ) → is_changed new.world.scopes key ≡ true → is_changed was.world.scopes key ≡ true
+  fewer key f =
+      elim (cases_eq key id) [
+        | inl e ↦ absurd (let g : false ≡ true = sym one.takes.is ∙ (ap (is_changed new.world.scopes) (sym e) ∙ f) in cc)
+        | inr differs ↦ s.fewer key (sym (one.takes.others key differs) ∙ f)
+      ]
 
   -- once the next scope is handed out, what holds while they are is true again
   pub telling_next : IsTelling was new
-  telling_next =
-      record {
-        going =
-            subst (IsGoing None) (sym is_told)
-            (told_going r s.going id tree.changed seen new.sleepers (ap (λ (t : Tree). is_changed t id) (sym stacks) ∙ takes.is) others
-            (λ st e. sees st (ap (λ (t : Tree). stack_of t id) stacks ∙ e)) same tells);
-        only =
-            is_told ∙ ap (λ (x : Runner). record x { world = marked x.world tree.changed; sleepers = new.sleepers }) s.only
-            ∙ ap (λ (c : List Bool). record was { world = marked was.world c; sleepers = new.sleepers })
-            (ap (λ (t : Tree). t.changed) (sym tree_is));
-        fewer = λ key e. by_key key (same_or key id) (ap (λ (t : Tree). is_changed t key) (sym tree_is) ∙ e);
-      }
-    where
-      by_key : (key : ℕ) → (key ≡ id) ⊎ (key ≢ id) → is_changed tree key ≡ true → is_changed was.world.scopes key ≡ true
-      by_key key (inl e) f = absurd (let g : false ≡ true = sym takes.is ∙ (ap (is_changed tree) (sym e) ∙ f) in cc)
-      by_key key (inr differs) f = s.fewer key (sym (takes.others key differs) ∙ f)
+  telling_next = record {
+    going =
+        subst (IsGoing None) (sym is_told)
+        (told_going s.going new.world.scopes.changed one.seen others_kept
+        (λ st e. one.sees st (ap (λ (t : Tree). stack_of t id) one.stacks ∙ e)) one.same one.tells);
+    only =
+        is_told ∙ ap (λ (x : Runner). record x { world = marked x.world new.world.scopes.changed; sleepers = new.sleepers }) s.only;
+    fewer = fewer;
+  }
 
   -- and fewer scopes are left to hand out
   pub telling_fewer : count_below (length was.world.scopes.changed) (is_changed new.world.scopes) < count_below
       (length was.world.scopes.changed) (is_changed r.world.scopes)
   telling_fewer =
-      subst (λ (t : Tree). count_below (length was.world.scopes.changed) (is_changed t) < count_below (length was.world.scopes.changed)
-      (is_changed r.world.scopes)) (sym tree_is)
-      (fewer_below (length was.world.scopes.changed) (is_changed r.world.scopes) (is_changed tree) id
-      (found_within was.world.scopes.changed id false true (s.fewer id takes.was) (λ e. let f : true ≡ false = e in cc)) takes.was takes.is
-      takes.others)
+      fewer_below (length was.world.scopes.changed) (is_changed r.world.scopes) (is_changed new.world.scopes) id
+      (found_within was.world.scopes.changed id false true (s.fewer id one.takes.was) (λ e. let f : true ≡ false = e in cc)) one.takes.was
+      one.takes.is one.takes.others
 
--- none is left
-module _ (was r new : Runner) (lent tree : Tree) (s : IsTelling was r) (lends : lent ≡ r.world.scopes)
-    (stacks_lent : tree ≡ record lent { changed = tree.changed })
-    (marks_lent : (key : ℕ) → is_changed lent key ≡ false) (same_lent : SameMarks lent tree)
-    (is : new ≡ record r { world = record r.world { scopes = tree } }) where
-  last_stacks : tree ≡ record (r.world.scopes) { changed = tree.changed }
-  last_stacks = stacks_lent ∙ ap (λ (t : Tree). record t { changed = tree.changed }) lends
+-- none is left: only marks were read
+module _ {was r : Runner} (tree : Tree) (s : IsTelling was r) (stacks : tree ≡ record (r.world.scopes) { changed = tree.changed })
+    (none : (key : ℕ) → is_changed r.world.scopes key ≡ false) (same : SameMarks r.world.scopes tree) where
+  abbrev all_told : Runner
+  all_told = record r { world = record r.world { scopes = tree } }
 
-  marks : (key : ℕ) → is_changed r.world.scopes key ≡ false
-  marks key = ap (λ (t : Tree). is_changed t key) (sym lends) ∙ marks_lent key
+  is_last : all_told ≡ record r { world = marked r.world tree.changed; sleepers = r.sleepers }
+  is_last = ap (λ (t : Tree). record r { world = record r.world { scopes = t } }) stacks
 
-  same : (key : ℕ) → is_changed tree key ≡ is_changed r.world.scopes key
-  same key = same_lent key ∙ ap (λ (t : Tree). is_changed t key) lends
+  -- then the run fits together
+  pub told_still : IsGoing None all_told
+  told_still =
+      subst (IsGoing None) (sym is_last)
+      (still_going s.going tree.changed (λ key. ap (λ (t : Tree). is_changed t key) (sym stacks) ∙ same key))
 
-  is_last : new ≡ record r { world = marked r.world tree.changed; sleepers = r.sleepers }
-  is_last = is ∙ ap (λ (t : Tree). record r { world = record r.world { scopes = t } }) last_stacks
+  -- no scope is marked
+  pub told_unchanged : NoneChanged all_told.world
+  told_unchanged key = same key ∙ none key
 
-  last_tree : new.world.scopes ≡ tree
-  last_tree = ap (λ (x : Runner). x.world.scopes) is
-
-  -- then the run fits together, no scope is marked, and nothing changed but marks and what is known of sleepers
-  pub told_all : IsGoing None new × NoneChanged new.world × SeesOnly was new
-  told_all = (
-    subst (IsGoing None) (sym is_last) (still_going r s.going tree.changed
-        (λ key. ap (λ (t : Tree). is_changed t key) (sym last_stacks) ∙ same key)),
-    λ key. ap (λ (t : Tree). is_changed t key) last_tree ∙ (same key ∙ marks key),
-    is_last ∙ ap (λ (x : Runner). record x { world = marked x.world tree.changed }) s.only
-        ∙ ap (λ (c : List Bool). record was { world = marked was.world c; sleepers = r.sleepers })
-        (ap (λ (t : Tree). t.changed) (sym last_tree))
-        ∙ ap (λ (z : Sleeping). record was { world = marked was.world new.world.scopes.changed; sleepers = z })
-        (sym (ap (λ (x : Runner). x.sleepers) is)),
-  )
+  -- and nothing changed but marks and what is known of sleepers
+  pub told_only : SeesOnly was all_told
+  told_only = is_last ∙ ap (λ (x : Runner). record x { world = marked x.world tree.changed }) s.only

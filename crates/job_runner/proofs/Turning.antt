@@ -1,12 +1,12 @@
 -- A turn of a task of a runner: afterwards it keeps the tasks of the program, of which that one stopped, and the others
 -- are kept as before.
-use Rattle.std.proofs.Common.{◌≡◌, ◌≢◌, ℕ, zero, suc, ◌+◌, ◌*◌, ◌<◌, ◌≤◌, true, false, inl, inr, Option, Some, None, List, [], ◌∷◌, ◌++◌, length, refl, ap, sym, ◌∙◌, subst, arith}
-use Rattle.std.specs.Prelude.{◌==◌, ◌⊎◌, All, IsSomeAnd, map, slice_get}
-use Rattle.std.proofs.lemmas.Bool.{cases_lt}
-use Rattle.std.proofs.lemmas.Bool.Decides.{eqb_tells}
+use Rattle.std.proofs.Common.{◌≡◌, ◌≢◌, ℕ, zero, suc, ◌+◌, ◌<◌, ◌≤◌, inl, inr, Option, Some, None, List, [], ◌∷◌, ◌++◌, length, refl, ap, sym, ◌∙◌, subst, arith}
+use Rattle.std.specs.Prelude.{All, IsSomeAnd, map, slice_get}
+use Rattle.std.proofs.lemmas.Bool.{cases_eq, cases_lt}
 use Rattle.std.proofs.lemmas.List.{map-append}
-use Rattle.std.proofs.lemmas.List.Elements.{All-append, All-cons, All-head, All-nil, All-tail}
-use Rattle.std.proofs.lemmas.List.Sums.{sum_by-append, sum_by-cons}
+use Rattle.std.proofs.lemmas.List.Elements.{All-append, All-cons, All-nil}
+use Rattle.std.proofs.lemmas.Option.{none-some, same_Some, slice_get_within}
+use Rattle.autojump_clock.specs.Clock.{due_of}
 use Rattle.batch_commit.specs.declared.entry.Call.{Call}
 use Rattle.batch_commit.specs.declared.entry.Call.TheVariants as calls
 use Rattle.batch_commit.specs.declared.entry.Entry.{Entry}
@@ -14,11 +14,11 @@ use Rattle.batch_commit.specs.Entries.{Added}
 use Rattle.cancel_scopes.specs.Sight.{seen}
 use Rattle.cancel_scopes.specs.Tree.{Tree, outer_of, IsOwn, IsChain, IsApart}
 use Rattle.job_tree.specs.Tree.{Tree as Job}
+use Rattle.job_tree.specs.InRange.{most_steps}
 use Rattle.job_tree.specs.Names.{size_of}
+use Rattle.job_tree.proofs.Sizes.{few_steps}
 use Rattle.job_meaning.specs.Follow.{IsSettled}
 use Rattle.job_meaning.specs.Log.{Table}
-use Rattle.job_meaning.specs.Meaning.{meaning_table}
-use Rattle.job_meaning.proofs.Settled.{table_is_settled}
 use Rattle.task_machine.specs.declared.stop.TaskState.{TaskState}
 use Rattle.task_machine.specs.declared.stop.TaskState.TheVariants.{ToBegin, Asked, Asleep, Awaits, Over}
 use Rattle.task_machine.specs.declared.stop.Stop.{Stop}
@@ -29,46 +29,40 @@ use Rattle.task_machine.specs.declared.task.Task.{Task}
 use Rattle.task_machine.specs.declared.world.World.{World}
 use Rattle.task_machine.specs.Fitting.{blocks_of, waits_of}
 use Rattle.task_machine.specs.Tasks.{scope_of}
-use Rattle.task_machine.specs.Waking.{WakesFrom, wake_in}
-use Rattle.task_machine.proofs.Stacked.{one_of}
+use Rattle.task_machine.specs.Waking.{wake_in}
 use Rattle.interleavings.specs.Interleaving.{Started}
 use Rattle.interleavings.specs.Woken.{MayWake}
 use Rattle.run_refinement.specs.RunState.{RunState, Follows, Refines}
 use Rattle.run_refinement.specs.Moved.{SameTasks}
 use Rattle.run_refinement.specs.Ready.{IsTimely, MayGo, AreHomesOf}
-use Rattle.run_refinement.specs.Step.{TakesTurn, StopSays, EndsAs, StoppedIn}
-use Rattle.run_refinement.specs.Turn.{numbers_then, leaving_by, serials_from}
+use Rattle.run_refinement.specs.Sights.{Shows}
+use Rattle.run_refinement.specs.Step.{TakesTurn as StateTakesTurn, StopSays, EndsAs, StoppedIn}
+use Rattle.run_refinement.specs.Turn.{IsSound, numbers_then, leaving_by, serials_from}
 use Rattle.run_refinement.specs.Turning.{Turning}
-use Rattle.run_refinement.specs.Turn as turns
-use Rattle.run_refinement.proofs.Blocks.{state_turns}
 use Rattle.run_refinement.proofs.StateFits.{state_fits}
 use Rattle.run_refinement.proofs.StateTurn.{nursery_same}
-use Rattle.run_refinement.proofs.Found.{below_length, nth}
 use Rattle.run_refinement.proofs.Going.{may_wake}
 use Rattle.run_refinement.proofs.Jumped.{state_takes}
 use Rattle.run_refinement.proofs.Keeping.{still_goes, homes_kept, seen_still}
 use Rattle.run_refinement.proofs.Parts.{begun_at}
 use Rattle.run_refinement.proofs.SightsStay.{shows_still}
-use Rattle.run_refinement.specs.Sights.{Shows}
-use Rattle.sleepers.specs.Sleeping.{scope_in, sight_of}
-use Rattle.autojump_clock.specs.Clock.{due_of}
-use Rattle.std.proofs.lemmas.Option.{none-some}
 use Rattle.run_refinement.proofs.Stepped.{other_follows, turning_of, stepped, stop_says}
+use Rattle.sleepers.specs.Sleeping.{scope_in, sight_of}
 use Rattle.task_table.specs.declared.task_table.TaskTable.{TaskTable}
 use Rattle.task_table.specs.declared.task_table.Running.{Running}
-use Rattle.job_runner.specs.declared.runner.Runner.{Runner}
 use Rattle.task_table.specs.Rows.{times}
-use Rattle.task_table.specs.TaskTable.{running_at, task_of, gone_of, start_of, children_of, parent_of, task_count, run_state, HasRow, MayTurn, HasTurn}
-use Rattle.job_runner.specs.Shelves.{GoesBy, IsCalled, Dozes, sleep_slot_of, AreKnown, times_shelved, settled_times, task_state_times, running_times, AreShelved, state_in, IsGoing}
-use Rattle.job_runner.specs.Steps.{StartsAll, to_begin, TakesStarted, IsStopping}
-use Rattle.task_table.proofs.Times.{one_if}
-use Rattle.job_runner.proofs.Shelving.{times_now, times_next, one_same}
-use Rattle.job_runner.proofs.Starting.{got_once}
-use Rattle.job_runner.proofs.Known.{sleeps_in}
-use Rattle.job_runner.proofs.Stopped.{some_is, some_has, no_timer}
+use Rattle.task_table.specs.TaskTable.{running_at, task_of, gone_of, start_of, children_of, parent_of, task_count, run_state, MayTurn, HasTurn}
+use Rattle.task_table.proofs.Lists.{value_at}
+use Rattle.task_table.proofs.Times.{all_others, place_of, times_append, times_none}
+use Rattle.job_runner.specs.declared.runner.Runner.{Runner}
+use Rattle.job_runner.specs.Shelves.{GoesBy, IsCalled, IsCalledAdded, IsCalledEntry, IsConsistent, Dozes, AreKnown, times_shelved, settled_times, task_state_times, running_times, AreShelved, state_in, IsGoing}
+use Rattle.job_runner.specs.Steps.{StartsAll, begin_calls, TakesStarted, IsStopping}
+use Rattle.job_runner.proofs.Goes.{begin_goes}
+use Rattle.job_runner.proofs.Known.{sleeps_in, slots_kept}
 use Rattle.job_runner.proofs.Lived.{task_at, row_below, rows_apart}
-use Rattle.job_tree.proofs.Sizes.{few_steps}
-use Rattle.job_tree.specs.InRange.{most_steps}
+use Rattle.job_runner.proofs.Options.{some_has, some_is, some_kept, some_of}
+use Rattle.job_runner.proofs.Shelving.{timer_else, times_next, times_now}
+use Rattle.job_runner.proofs.States.{meaning_of, meaning_run, meaning_settled, turns_bounded}
 
 -- ---- a world from which the started tasks were taken
 
@@ -90,80 +84,60 @@ says_on w x task (Ended exc) h = tt
 
 -- ---- lists
 
--- what holds for each task if another has the number
-pub each_not : {A : Type 0} (key : A → ℕ) (id : ℕ) (xs : List A) → times id (map key xs) ≡ 0 → (P Q : A → Type 0) → All P xs →
-    ((x : A) → key x ≢ id → P x → Q x) → All Q xs
-each_not key id [] none P Q all more = All-nil Q
-each_not key id (x ∷ xs) none P Q all more =
-    let step : times id (map key (x ∷ xs)) ≡ one_if (key x == id) + times id (map key xs) =
-    sum_by-cons (λ (n : ℕ). one_if (n == id)) (key x) (map key xs) in
-    All-cons Q x xs (more x (λ e. let one : one_if (key x == id) ≡ 1 = one_same (key x) id e in absurd (omega (arith, step, one, none)))
-    (All-head P x xs all))
-    (each_not key id xs (omega (arith, step, none)) P Q (All-tail P x xs all) more)
-
 -- what holds of each number holds of each that has to begin
 pub each_begins : (ids : List ℕ) (Q : Added → Type 0) → ((i id : ℕ) → slice_get ids i ≡ Some id → Q (id, calls.Begin)) →
-    All Q (to_begin ids)
+    All Q (begin_calls ids)
 each_begins [] Q h = All-nil Q
-each_begins (id ∷ ids) Q h = All-cons Q (id, calls.Begin) (to_begin ids) (h zero id refl) (each_begins ids Q (λ i x e. h (suc i) x e))
+each_begins (id ∷ ids) Q h = All-cons Q (id, calls.Begin) (begin_calls ids) (h zero id refl) (each_begins ids Q (λ i x e. h (suc i) x e))
 
--- an id occurs among tasks that are ready to begin as often as among their ids
-pub times_begin : (id : ℕ) (ids : List ℕ) → times_next id (to_begin ids) ≡ times id ids
-times_begin id [] = refl
-times_begin id (x ∷ ids) =
-    sum_by-cons (λ (n : ℕ). one_if (n == id)) x (map (λ (a : Added). a.0) (to_begin ids))
-    ∙ ap (λ (n : ℕ). one_if (x == id) + n) (times_begin id ids)
-    ∙ sym (sum_by-cons (λ (n : ℕ). one_if (n == id)) x ids)
+-- tasks that are ready to begin have these ids
+begin_ids : (ids : List ℕ) → map (λ (a : Added). a.0) (begin_calls ids) ≡ ids
+begin_ids [] = refl
+begin_ids (id ∷ ids) = ap (λ (xs : List ℕ). id ∷ xs) (begin_ids ids)
 
 -- how often an id occurs among what was added, followed by tasks that are ready to begin
-pub times_both : (id : ℕ) (added : List Added) (ids : List ℕ) → times_next id (added ++ to_begin ids) ≡ times_next id added + times id ids
+pub times_both : (id : ℕ) (added : List Added) (ids : List ℕ) → times_next id (added ++ begin_calls ids) ≡ times_next id added + times id ids
 times_both id added ids =
-    ap (times id) (map-append (λ (a : Added). a.0) added (to_begin ids))
-    ∙ sum_by-append (λ (n : ℕ). one_if (n == id)) (map (λ (a : Added). a.0) added) (map (λ (a : Added). a.0) (to_begin ids))
-    ∙ ap (λ (n : ℕ). times_next id added + n) (times_begin id ids)
+    let key : Added → ℕ = λ a. a.0 in
+    ap (times id) (map-append key added (begin_calls ids) ∙ ap (λ (xs : List ℕ). map key added ++ xs) (begin_ids ids))
+    ∙ times_append id (map key added) ids
 
 -- ---- before the turn
 
 -- a task that has its turn now and may continue may have its turn
-pub may_turn : (id : ℕ) (r : Runner) (wake : Wake) → IsGoing (Some id) r →
-    IsSomeAnd (running_at r.task_table id) (λ (x : Running). MayGo r.world x.task wake) → turns.IsSound r.world.scopes →
+pub may_turn : {id : ℕ} {r : Runner} (wake : Wake) → IsGoing (Some id) r →
+    IsSomeAnd (running_at r.task_table id) (λ (x : Running). MayGo r.world x.task wake) → IsSound r.world.scopes →
     (x : Running) → running_at r.task_table id ≡ Some x → MayTurn r.world x.task wake
-may_turn id r wake going goes sound x lives =
-    let g = some_is (running_at r.task_table id) (λ (y : Running). MayGo r.world y.task wake) goes in
-    let is : g.0 ≡ x = one_of g.0 x (sym g.1 ∙ lives) in
-    let may : MayGo r.world x.task wake = subst (λ (y : Running). MayGo r.world y.task wake) is g.2 in
-    let k = meaning_table r.job.now r.input.now in
-    let c : Refines k r.job.now r.input.now r.world.tick (task_count r.task_table) None (state_in r) =
-    going.interleaving k (table_is_settled r.job.now r.input.now going.sound.names) in
-    let at : task_of r.task_table x.row ≡ Some x.task = task_at r.task_table going.shelved.agree id x lives in
+may_turn {id} {r} wake going goes sound x lives =
+    let may = some_of (running_at r.task_table id) (λ (y : Running). MayGo r.world y.task wake) x lives goes in
+    let c = meaning_run r going in
+    let at = task_at r.task_table going.shelved.consistent.agree id x lives in
     record {
-      fits = state_fits k r.job.now r.input.now r.world.tick (task_count r.task_table) None (state_in r) c sound x.row x.task at;
+      fits = state_fits (meaning_of r) r.job.now r.input.now r.world.tick (task_count r.task_table) None (state_in r) c sound x.row x.task at;
       in_range = (c.follows x.row x.task at).in_range;
       wake = may.fits;
     }
 
 -- a run had at most 2,000,001 turns
-pub turns_few : (away : Option ℕ) (r : Runner) → IsGoing away r → r.turns ≤ 2000001
-turns_few away r going =
-    let k = meaning_table r.job.now r.input.now in
-    let c : Refines k r.job.now r.input.now r.world.tick (task_count r.task_table) None (state_in r) =
-    going.interleaving k (table_is_settled r.job.now r.input.now going.sound.names) in
-    let few : r.turns ≤ 2 * size_of r.job.now.steps + 1 =
-    state_turns k r.job.now r.input.now r.world.tick (task_count r.task_table) None (state_in r) c in
+pub turns_few : {away : Option ℕ} (r : Runner) → IsGoing away r → r.turns ≤ 2000001
+turns_few r going =
+    let few = turns_bounded r going in
     let size : size_of r.job.now.steps ≤ most_steps r.job.now.format = going.sound.in_range.size in
     let most : most_steps r.job.now.format ≤ 1000000 = few_steps r.job.now.format in
     omega (arith, few, size, most)
 
+-- the tick and the number of tasks may be said otherwise
+stopped_in : {k : Table} {job : Job} {input : List ℕ} {t u m n s : ℕ} {stop : Stop} {state : RunState} → t ≡ u → m ≡ n →
+    StoppedIn k job input t m s stop state → StoppedIn k job input u n s stop state
+stopped_in e f h = rw (← e, ← f) h
+
 -- ---- the turn
 
-module _ (id : ℕ) (wake : Wake) (stop : Stop) (r new : Runner) (ro : TaskTable) (w : World) (going : IsGoing (Some id) r)
+module _ {id : ℕ} {wake : Wake} {stop : Stop} {r new : Runner} {ro : TaskTable} {w : World} (going : IsGoing (Some id) r)
     (goes : IsSomeAnd (running_at r.task_table id) (λ (x : Running). MayGo r.world x.task wake))
-    (turn : HasTurn r.task_table ro r.world w id wake stop) (sound : turns.IsSound r.world.scopes)
-    (sound_after : turns.IsSound w.scopes) (takes : TakesStarted (record r { world = w; task_table = ro; turns = r.turns + 1 }) new turn.row)
+    (turn : HasTurn r.task_table ro r.world w id wake stop) (sound : IsSound r.world.scopes) (sound_after : IsSound w.scopes)
+    (takes : TakesStarted (record r { world = w; task_table = ro; turns = r.turns + 1 }) new turn.row)
   where
-    job : Job
-    job = r.job.now
-
     abbrev t : ℕ
     t = r.world.tick
 
@@ -193,37 +167,36 @@ module _ (id : ℕ) (wake : Wake) (stop : Stop) (r new : Runner) (ro : TaskTable
     started_at : StartsAll ro new.task_table s w.started.items w.tick takes.ids
     started_at = takes.starts
 
-    row_at_all : HasRow r.task_table s id
-    row_at_all = going.shelved.agree.rows id (record { task = turn.before; row = s }) turn.lived
+    abbrev its : Running
+    its = record { task = turn.before; row = s }
 
     row_there : s < task_count ro
-    row_there = let lt : s < m = row_below r.task_table going.shelved.agree id (record { task = turn.before; row = s }) turn.lived in
+    row_there = let lt : s < m = row_below r.task_table going.shelved.consistent.agree id its turn.lived in
         omega (arith, lt, same_many)
 
     below : (p : ℕ) → p < m → p < task_count ro
     below p lt = omega (arith, lt, same_many)
 
     may : MayGo r.world turn.before wake
-    may =
-        let g = some_is (running_at r.task_table id) (λ (y : Running). MayGo r.world y.task wake) goes in
-        subst (λ (y : Running). MayGo r.world y.task wake) (one_of g.0 (record { task = turn.before; row = s }) (sym g.1 ∙ turn.lived)) g.2
+    may = some_of (running_at r.task_table id) (λ (y : Running). MayGo r.world y.task wake) its turn.lived goes
 
     gone_same : (p : ℕ) → gone_of new.task_table p ≡ gone_of r.task_table p
-    gone_same p = started_at.same_gone p ∙ by_test (eqb_tells p s)
-      where
-        by_test : (((p == s) ≡ true) × (p ≡ s)) ⊎ (((p == s) ≡ false) × (p ≢ s)) → gone_of ro p ≡ gone_of r.task_table p
-        by_test (inl h) = subst (λ (n : ℕ). gone_of ro n ≡ gone_of r.task_table n) (sym h.1) turn.gone
-        by_test (inr h) = turn.same.gone p h.1
+    gone_same p =
+        let here : gone_of ro p ≡ gone_of r.task_table p = elim (cases_eq p s) [
+          | inl e ↦ rw e turn.gone
+          | inr differs ↦ turn.same.gone p differs
+        ] in
+        started_at.same_gone p ∙ here
 
-    turn_taken : TakesTurn t m s (state_in r) that turn.before turn.after wake stop
+    turn_taken : StateTakesTurn t m s (state_in r) that turn.before turn.after wake stop
     turn_taken = record {
-      task = task_at r.task_table going.shelved.agree id (record { task = turn.before; row = s }) turn.lived;
+      task = task_at r.task_table going.shelved.consistent.agree id its turn.lived;
       goes = may;
       stays = turn.keeps.task;
       world = turn.keeps.world;
       sound = sound;
       sound_after = sound_after;
-      none_left = going.shelved.none_started;
+      none_left = going.shelved.consistent.none_started;
       fits_after = turn.fits;
       in_range = turn.keeps.in_range;
       turn = turn.turn;
@@ -270,20 +243,18 @@ module _ (id : ℕ) (wake : Wake) (stop : Stop) (r new : Runner) (ro : TaskTable
 
       -- what the turn leaves is a run of the definitions by that table, in which this task stopped so
       pub stopped_interleaving : StoppedIn k r.job.now r.input.now w.tick (task_count new.task_table) s stop (state_in left)
-      stopped_interleaving =
-          subst (λ (v : ℕ). StoppedIn k r.job.now r.input.now v (task_count new.task_table) s stop (state_in left)) (sym tick)
-          (subst (λ (n : ℕ). StoppedIn k r.job.now r.input.now t n s stop (state_in left)) count stopped_left)
+      stopped_interleaving = stopped_in (sym tick) count stopped_left
 
     -- ---- the other tasks
 
     abbrev table : Table
-    table = meaning_table r.job.now r.input.now
+    table = meaning_of r
 
     settled : IsSettled table r.job.now r.input.now
-    settled = table_is_settled r.job.now r.input.now going.sound.names
+    settled = meaning_settled r going.sound
 
     state : Refines table r.job.now r.input.now t m None (state_in r)
-    state = going.interleaving table settled
+    state = meaning_run r going
 
     wakes_so : MayWake state.interleaving.froms state.interleaving.tasks t (state.interleaving.at s) (wake_in r.world.book turn.before.task_state wake)
         (state.interleaving.at s).rest.stopped
@@ -298,19 +269,15 @@ module _ (id : ℕ) (wake : Wake) (stop : Stop) (r new : Runner) (ro : TaskTable
     abbrev T : Turning table r.job.now r.input.now t m s (state_in r) that state.numbers turn.before turn.after stop state.interleaving
     T = turned_so.0
 
+    -- each id is that of a started task
+    id_within : (i other : ℕ) → slice_get takes.ids i ≡ Some other → i < length w.started.items
+    id_within i other e = let a = slice_get_within takes.ids i other e in let b = started_at.as_many in omega (arith, a, b)
+
     -- under an id that something lived under right after the turn, nothing was started
     not_new : (other : ℕ) (y : Running) → running_at ro other ≡ Some y → times other takes.ids ≡ 0
-    not_new other y lives = by_order (cases_lt 0 (times other takes.ids))
-      where
-        by_order : (0 < times other takes.ids) ⊎ (times other takes.ids ≤ 0) → times other takes.ids ≡ 0
-        by_order (inl h) =
-            let g = got_once other takes.ids (omega (arith, h)) in
-            let lt : g.0 < length w.started.items =
-            (let a = below_length takes.ids g.0 other g.1 in let b = started_at.as_many in omega (arith, a, b)) in
-            let task = nth w.started.items g.0 lt in
-            let fresh = started_at.lives g.0 other task.0 g.1 task.1 in
-            absurd (let f : None ≡ Some y = sym fresh.0 ∙ lives in cc)
-        by_order (inr h) = omega (arith, h)
+    not_new other y lives = times_none other takes.ids (λ i e.
+        let task = value_at w.started.items i (id_within i other e) in
+        none-some y (sym (started_at.lives i other task.0 e task.1).0 ∙ lives))
 
     -- a task that had another id still has it
     lived_still : (other : ℕ) (y : Running) → other ≢ id → running_at r.task_table other ≡ Some y → running_at new.task_table other ≡ Some y
@@ -323,13 +290,13 @@ module _ (id : ℕ) (wake : Wake) (stop : Stop) (r new : Runner) (ro : TaskTable
 
     module _ (other : ℕ) (y : Running) (differs : other ≢ id) (lives : running_at r.task_table other ≡ Some y) where
       y_below : y.row < m
-      y_below = row_below r.task_table going.shelved.agree other y lives
+      y_below = row_below r.task_table going.shelved.consistent.agree other y lives
 
       y_else : y.row ≢ s
-      y_else = rows_apart r.task_table going.shelved.agree id other (record { task = turn.before; row = s }) y turn.lived lives differs
+      y_else = rows_apart r.task_table going.shelved.consistent.agree id other its y turn.lived lives differs
 
       y_task : task_of r.task_table y.row ≡ Some y.task
-      y_task = task_at r.task_table going.shelved.agree other y lives
+      y_task = task_at r.task_table going.shelved.consistent.agree other y lives
 
       y_follows : Follows that T.is.froms r.input.now t T.is.at (numbers_then state.numbers s m T.took.numbers_after)
           (leaving_by stop s) y.row
@@ -382,55 +349,47 @@ module _ (id : ℕ) (wake : Wake) (stop : Stop) (r new : Runner) (ro : TaskTable
     none_here = going.shelved.away id refl
 
     called_still : (key : ℕ) (call : Call) → key ≢ id → IsCalled r.task_table r.world key call → IsCalled new.task_table left.world key call
-    called_still key call differs h =
-        let y = some_is (running_at r.task_table key) (λ (x : Running). GoesBy r.world x.task call) h in
-        some_has (running_at new.task_table key) (λ (x : Running). GoesBy left.world x.task call) y.0 (lived_still key y.0 differs y.1)
-        (λ answer v right e. goes_still key y.0 differs y.1 v (y.2 answer v right e))
-
-    -- a task that has a timer is another task
-    timer_else : (key due : ℕ) → due_of r.clock key ≡ Some due → key ≢ id
-    timer_else key due f same =
-        none-some due (sym (no_timer (due_of r.clock id) (let a = none_here in omega (arith, a))) ∙ (ap (due_of r.clock) (sym same) ∙ f))
-
-    sleeper_still : (key due : ℕ) → due_of r.clock key ≡ Some due → (y : Running) × (running_at r.task_table key ≡ Some y)
-        × Dozes r.world due y.task
-    sleeper_still key due f = some_is (running_at r.task_table key) (λ (z : Running). Dozes r.world due z.task) (going.shelved.doze key due f)
+    called_still key call differs =
+        some_kept (running_at r.task_table key) (running_at new.task_table key) (λ (x : Running). GoesBy r.world x.task call)
+        (λ (x : Running). GoesBy left.world x.task call) (λ y lives. lived_still key y differs lives)
+        (λ y lives h answer v right e. goes_still key y differs lives v (h answer v right e))
 
     sleeps_still : (key due : ℕ) → due_of r.clock key ≡ Some due →
         IsSomeAnd (running_at new.task_table key) (λ (z : Running). Dozes left.world due z.task)
     sleeps_still key due f =
-        let y = sleeper_still key due f in
-        some_has (running_at new.task_table key) (λ (z : Running). Dozes left.world due z.task) y.0
-        (lived_still key y.0 (timer_else key due f) y.1)
-        (dozes_still key y.0 (timer_else key due f) y.1 due y.2)
+        let differs = timer_else going.shelved key due f in
+        some_kept (running_at r.task_table key) (running_at new.task_table key) (λ (z : Running). Dozes r.world due z.task)
+        (λ (z : Running). Dozes left.world due z.task) (λ y lives. lived_still key y differs lives)
+        (λ y lives h. dozes_still key y differs lives due h) (going.shelved.doze key due f)
+
+    -- a sleeper lives on as it did
+    sleeper_same : (key due : ℕ) → due_of r.clock key ≡ Some due → running_at new.task_table key ≡ running_at r.task_table key
+    sleeper_same key due f =
+        let y = some_is (running_at r.task_table key) (λ (z : Running). Dozes r.world due z.task) (going.shelved.doze key due f) in
+        lived_still key y.0 (timer_else going.shelved key due f) y.1 ∙ sym y.1
+
+    sights_still : (key scope : ℕ) → scope_in r.sleepers key ≡ Some scope → Shows left.world.scopes scope (sight_of r.sleepers scope)
+    sights_still key scope f =
+        let z = sleeps_in going.shelved.known key scope f in
+        let differs = timer_else going.shelved key z.due z.timer in
+        let h = shows_still settled going.sound.names going.sound.starts state T z.running.row (y_below key z.running differs z.lives)
+        (y_else key z.running differs z.lives) z.running.task
+        (y_task key z.running differs z.lives) (y_follows key z.running differs z.lives) scope z.in_scope (sight_of r.sleepers scope)
+        (going.shelved.known.sights key scope f) in
+        record { stack = h.stack; opened = h.opened; known = h.known }
 
     -- each sleeper is still known by its scope, and the scope by its effective deadline (`sight`)
     known_still : AreKnown new.task_table left.world r.clock r.sleepers
-    known_still = record { sleep_slots = λ key. going.shelved.known.sleep_slots key ∙ sleep_slot key (due_of r.clock key) refl; sights = sight_still }
-      where
-        sleep_slot : (key : ℕ) (d : Option ℕ) → due_of r.clock key ≡ d → sleep_slot_of (due_of r.clock key) (running_at r.task_table key)
-            ≡ sleep_slot_of (due_of r.clock key) (running_at new.task_table key)
-        sleep_slot key None f = ap (λ (o : Option ℕ). sleep_slot_of o (running_at r.task_table key)) f
-            ∙ sym (ap (λ (o : Option ℕ). sleep_slot_of o (running_at new.task_table key)) f)
-        sleep_slot key (Some due) f =
-            let y = sleeper_still key due f in
-            ap (sleep_slot_of (due_of r.clock key)) (y.1 ∙ sym (lived_still key y.0 (timer_else key due f) y.1))
-
-        sight_still : (key scope : ℕ) → scope_in r.sleepers key ≡ Some scope → Shows left.world.scopes scope (sight_of r.sleepers scope)
-        sight_still key scope f =
-            let z = sleeps_in r.task_table r.world r.clock r.sleepers going.shelved.known key scope f in
-            let differs = timer_else key z.due z.timer in
-            let h = shows_still settled going.sound.names going.sound.starts state T z.running.row (y_below key z.running differs z.lives)
-            (y_else key z.running differs z.lives) z.running.task
-            (y_task key z.running differs z.lives) (y_follows key z.running differs z.lives) scope z.in_scope (sight_of r.sleepers scope)
-            (going.shelved.known.sights key scope f) in
-            record { stack = h.stack; opened = h.opened; known = h.known }
+    known_still = record {
+      sleep_slots = λ key. going.shelved.known.sleep_slots key ∙ slots_kept r.task_table new.task_table r.clock sleeper_same key;
+      sights = sights_still;
+    }
 
     -- a task that was started has to begin
     begins : (i : ℕ) (task : Task) → slice_get w.started.items i ≡ Some task → task.task_state ≡ ToBegin
     begins i task e =
         let started : w.started.items ≡ T.took.tasks = T.took.started
-        ∙ ap (λ (ts : List Task). ts ++ T.took.tasks) going.shelved.none_started in
+        ∙ ap (λ (ts : List Task). ts ++ T.took.tasks) going.shelved.consistent.none_started in
         let b = begun_at T.took.numbers_after w.book (blocks_of turn.after.frames.items)
         (waits_of turn.after.task_state) T.took.tasks T.move.begun
         T.took.begun i task (sym (ap (λ (ts : List Task). slice_get ts i) started) ∙ e) in
@@ -439,26 +398,14 @@ module _ (id : ℕ) (wake : Wake) (stop : Stop) (r new : Runner) (ro : TaskTable
     new_task : (i key : ℕ) → slice_get takes.ids i ≡ Some key → (task : Task)
         × (running_at new.task_table key ≡ Some (record { task = task; row = task_count ro + i })) × (task.task_state ≡ ToBegin)
     new_task i key e =
-        let lt : i < length w.started.items = (let a = below_length takes.ids i key e in let b = started_at.as_many in omega (arith, a, b))
-        in
-        let task = nth w.started.items i lt in
+        let task = value_at w.started.items i (id_within i key e) in
         (task.0, (started_at.lives i key task.0 e task.1).1, begins i task.0 task.1)
-
-    begin_goes : (task : Task) → task.task_state ≡ ToBegin → GoesBy left.world task calls.Begin
-    begin_goes task e answer v right is =
-        let f : Some wakes.Begin ≡ Some v = is in
-        let g : wakes.Begin ≡ v = cc in
-        subst (MayGo left.world task) g
-        (record {
-          fits = subst (λ (h : TaskState). WakesFrom h task.part left.world.book wakes.Begin) (sym e) tt;
-          timely = subst (λ (h : TaskState). IsTimely left.world (scope_of task) h wakes.Begin) (sym e) tt;
-        })
 
     called_new : (i key : ℕ) → slice_get takes.ids i ≡ Some key → IsCalled new.task_table left.world key calls.Begin
     called_new i key e =
         let x = new_task i key e in
         some_has (running_at new.task_table key) (λ (z : Running). GoesBy left.world z.task calls.Begin)
-        (record { task = x.0; row = task_count ro + i }) x.1 (begin_goes x.0 x.2)
+        (record { task = x.0; row = task_count ro + i }) x.1 (begin_goes left.world x.0 x.2)
 
     -- how often each task is kept
     more_times : (other : ℕ) → times_shelved left.batch r.clock other ≡ times_shelved r.batch r.clock other + times other takes.ids
@@ -477,72 +424,76 @@ module _ (id : ℕ) (wake : Wake) (stop : Stop) (r new : Runner) (ro : TaskTable
         going.shelved.once other differs in
         let d = same_times other y differs e in
         omega (arith, a, b, c, d)
-    once_of other differs None e = by_order (cases_lt 0 (times other takes.ids))
-      where
-        before : times_shelved r.batch r.clock other ≡ 0
-        before = going.shelved.once other differs ∙ ap (running_times r.world.book) e
-
-        nothing : running_at ro other ≡ None
-        nothing = turn.others other differs ∙ e
-
-        by_order : (0 < times other takes.ids) ⊎ (times other takes.ids ≤ 0) →
-            times_shelved left.batch r.clock other ≡ running_times left.world.book (running_at new.task_table other)
-        by_order (inl h) =
-            let g = got_once other takes.ids (omega (arith, h)) in
-            let x = new_task g.0 other g.1 in
-            let a = more_times other in
-            let b = before in
-            let c : times other takes.ids ≤ 1 = started_at.once other in
-            let d : running_times left.world.book (running_at new.task_table other) ≡ 1 =
-            ap (running_times w.book) x.1 ∙ ap (task_state_times w.book) x.2 in
-            omega (arith, a, b, c, d, h)
-        by_order (inr h) =
-            let a = more_times other in
-            let b = before in
-            let none : times other takes.ids ≡ 0 = omega (arith, h) in
-            let d : running_times left.world.book (running_at new.task_table other) ≡ 0 =
-            ap (running_times w.book) (started_at.others other none ∙ nothing) in
-            omega (arith, a, b, none, d)
+    once_of other differs None e =
+        let a = more_times other in
+        let b : times_shelved r.batch r.clock other ≡ 0 = going.shelved.once other differs ∙ ap (running_times r.world.book) e in
+        elim (cases_lt 0 (times other takes.ids)) [
+          | inl some ↦
+              let g = place_of other takes.ids (omega (arith, some)) in
+              let x = new_task g.0 other g.1 in
+              let c : times other takes.ids ≤ 1 = started_at.once other in
+              let d : running_times left.world.book (running_at new.task_table other) ≡ 1 =
+              ap (running_times w.book) x.1 ∙ ap (task_state_times w.book) x.2 in
+              omega (arith, a, b, c, d, some)
+          | inr few ↦
+              let none : times other takes.ids ≡ 0 = omega (arith, few) in
+              let nothing : running_at ro other ≡ None = turn.others other differs ∙ e in
+              let d : running_times left.world.book (running_at new.task_table other) ≡ 0 =
+              ap (running_times w.book) (started_at.others other none ∙ nothing) in
+              omega (arith, a, b, none, d)
+        ]
 
     homes_there : AreHomesOf that (parent_of new.task_table)
     homes_there =
         homes_kept state T (parent_of r.task_table) (parent_of new.task_table) (λ p lt. started_at.same_parent p (below p lt) ∙ turn.same.parent p)
         (λ i lt. ap (λ (n : ℕ). parent_of new.task_table (n + i)) (sym same_many)
-        ∙ started_at.parent_is i (let e = turned_so.1 in omega (arith, lt, e))) going.shelved.homes
+        ∙ started_at.parent_is i (let e = turned_so.1 in omega (arith, lt, e))) going.shelved.consistent.homes
+
+    consistent_left : IsConsistent new.task_table left.world r.clock r.limit (r.turns + 1)
+    consistent_left = record {
+      agree = takes.agree;
+      homes = λ p task home lives at. (let h = homes_there p task home lives at in
+          record { task = h.task; lives = h.lives; owned = h.owned });
+      now = going.shelved.consistent.now ∙ sym tick;
+      limit = going.shelved.consistent.limit;
+      within = (let a = going.shelved.consistent.within in let b = tick in omega (arith, a, b));
+      bounded = going.shelved.consistent.bounded;
+      none_started = takes.none_left;
+    }
+
+    entries_still : All (IsCalledEntry new.task_table left.world) new.batch.current
+    entries_still =
+        let current = takes.current in
+        let none = none_here in
+        rw current (all_others (λ (e : Entry). e.task) id r.batch.current (omega (arith, none)) (IsCalledEntry r.task_table r.world)
+        (IsCalledEntry new.task_table left.world) going.shelved.current (λ e. called_still e.task e.call))
+
+    added_still : All (IsCalledAdded new.task_table left.world) new.batch.next
+    added_still =
+        let next = takes.next in
+        let none = none_here in
+        rw next (All-append (IsCalledAdded new.task_table left.world) r.batch.next (begin_calls takes.ids)
+        (all_others (λ (a : Added). a.0) id r.batch.next (omega (arith, none)) (IsCalledAdded r.task_table r.world)
+        (IsCalledAdded new.task_table left.world) going.shelved.next (λ a. called_still a.0 a.1))
+        (each_begins takes.ids (IsCalledAdded new.task_table left.world) called_new))
+
+    none_left : times_shelved left.batch r.clock id ≡ 0
+    none_left =
+        let a = more_times id in
+        let b = none_here in
+        let c = not_new id (record { task = turn.after; row = s }) turn.lives in
+        omega (arith, a, b, c)
 
     shelved_left : AreShelved (Some id) left
-    shelved_left =
-        record {
-          agree = takes.agree;
-          homes = λ p task home lives at. (let h = homes_there p task home lives at in
-              record { task = h.task; lives = h.lives; owned = h.owned });
-          now = going.shelved.now ∙ sym tick;
-          limit = going.shelved.limit;
-          within = (let a = going.shelved.within in let b = tick in omega (arith, a, b));
-          bounded = going.shelved.bounded;
-          none_started = takes.none_left;
-          doze = sleeps_still;
-          known = known_still;
-          current =
-              subst (All (λ (e : Entry). IsCalled new.task_table left.world e.task e.call)) (sym takes.current)
-              (each_not (λ (e : Entry). e.task) id r.batch.current (let a = none_here in omega (arith, a))
-              (λ (e : Entry). IsCalled r.task_table r.world e.task e.call)
-              (λ (e : Entry). IsCalled new.task_table left.world e.task e.call) going.shelved.current (λ e. called_still e.task e.call));
-          next =
-              subst (All (λ (a : Added). IsCalled new.task_table left.world a.0 a.1)) (sym takes.next)
-              (All-append (λ (a : Added). IsCalled new.task_table left.world a.0 a.1) r.batch.next (to_begin takes.ids)
-              (each_not (λ (a : Added). a.0) id r.batch.next (let a = none_here in omega (arith, a))
-              (λ (a : Added). IsCalled r.task_table r.world a.0 a.1)
-              (λ (a : Added). IsCalled new.task_table left.world a.0 a.1) going.shelved.next (λ a. called_still a.0 a.1))
-              (each_begins takes.ids (λ (a : Added). IsCalled new.task_table left.world a.0 a.1) called_new));
-          once = λ other differs. once_of other differs (running_at r.task_table other) refl;
-          away = λ key e.
-              let f : Some id ≡ Some key = e in
-              let same : id ≡ key = cc in
-              subst (λ (n : ℕ). times_shelved left.batch r.clock n ≡ 0) same
-              (let a = more_times id in let b = none_here in let c = not_new id (record { task = turn.after; row = s }) turn.lives in
-              omega (arith, a, b, c));
-        }
+    shelved_left = record {
+      consistent = consistent_left;
+      doze = sleeps_still;
+      known = known_still;
+      current = entries_still;
+      next = added_still;
+      once = λ other differs. once_of other differs (running_at r.task_table other) refl;
+      away = λ key e. (let same = same_Some id key e in rw (← same) none_left);
+    }
 
     lives_left : IsSomeAnd (running_at new.task_table id) (λ (x : Running). (x.row ≡ s) × StopSays left.world x.task stop)
     lives_left =
@@ -564,38 +515,33 @@ module _ (id : ℕ) (wake : Wake) (stop : Stop) (r new : Runner) (ro : TaskTable
 -- ---- for the code
 
 -- a turn is of the row that its task has
-pub row_is : (id row : ℕ) (r : Runner) (ro : TaskTable) (w : World) (wake : Wake) (stop : Stop) →
+pub row_is : {id : ℕ} {ro : TaskTable} {w : World} {wake : Wake} {stop : Stop} (r : Runner) (row : ℕ) →
     IsSomeAnd (running_at r.task_table id) (λ (x : Running). x.row ≡ row) →
     (turn : HasTurn r.task_table ro r.world w id wake stop) → turn.row ≡ row
-row_is id row r ro w wake stop at turn =
-    let g = some_is (running_at r.task_table id) (λ (x : Running). x.row ≡ row) at in
-    let same : g.0 ≡ record { task = turn.before; row = turn.row } =
-    one_of g.0 (record { task = turn.before; row = turn.row }) (sym g.1 ∙ turn.lived) in
-    sym (ap (λ (x : Running). x.row) same) ∙ g.2
+row_is {id} r row is turn =
+    some_of (running_at r.task_table id) (λ (x : Running). x.row ≡ row) (record { task = turn.before; row = turn.row }) turn.lived is
 
 -- the row of a task that had its turn is one of the table's
-pub row_within : (id row : ℕ) (r : Runner) (ro : TaskTable) (w : World) (wake : Wake) (stop : Stop) → IsGoing (Some id) r →
+pub row_within : {id : ℕ} {r : Runner} {ro : TaskTable} {w : World} {wake : Wake} {stop : Stop} (row : ℕ) → IsGoing (Some id) r →
     IsSomeAnd (running_at r.task_table id) (λ (x : Running). x.row ≡ row) →
     HasTurn r.task_table ro r.world w id wake stop → row < task_count ro
-row_within id row r ro w wake stop going at turn =
-    let e = row_is id row r ro w wake stop at turn in
+row_within {id} {r} {ro} row going is turn =
+    let e = row_is r row is turn in
     let lt : turn.row < task_count r.task_table =
-    row_below r.task_table going.shelved.agree id (record { task = turn.before; row = turn.row }) turn.lived in
+    row_below r.task_table going.shelved.consistent.agree id (record { task = turn.before; row = turn.row }) turn.lived in
     let same : task_count ro ≡ task_count r.task_table = turn.same.many in
     omega (arith, e, lt, same)
 
 -- after a turn whose started tasks were taken, its task is one that stopped so
-pub goes_stopping : (id row : ℕ) (r new : Runner) (ro : TaskTable) (w : World) (wake : Wake) (stop : Stop) → IsGoing (Some id) r →
+pub goes_stopping : {id : ℕ} {r new : Runner} {ro : TaskTable} {w : World} {wake : Wake} {stop : Stop} (row : ℕ) → IsGoing (Some id) r →
     IsSomeAnd (running_at r.task_table id) (λ (x : Running). MayGo r.world x.task wake) →
     IsSomeAnd (running_at r.task_table id) (λ (x : Running). x.row ≡ row) →
-    (turn : HasTurn r.task_table ro r.world w id wake stop) → turns.IsSound r.world.scopes → turns.IsSound w.scopes →
+    (turn : HasTurn r.task_table ro r.world w id wake stop) → IsSound r.world.scopes → IsSound w.scopes →
     TakesStarted (record r { world = w; task_table = ro; turns = r.turns + 1 }) new row → IsStopping id row stop new
-goes_stopping id row r new ro w wake stop going goes at turn sound sound_after takes =
-    let e = row_is id row r ro w wake stop at turn in
-    subst (λ (n : ℕ). IsStopping id n stop new) e
-    (is_stopping id wake stop r new ro w going goes turn sound sound_after
-    (subst (λ (n : ℕ). TakesStarted (record r { world = w; task_table = ro; turns = r.turns + 1 }) new n) (sym e) takes))
+goes_stopping {r = r} row going goes is turn sound sound_after takes =
+    let e = row_is r row is turn in
+    rw (← e) (is_stopping going goes turn sound sound_after (rw e takes))
 
 -- a tree is sound if its stacks are chains that begin with their own scopes, each once
-pub scopes_sound : (tree other : Tree) → tree ≡ other → IsOwn tree → IsChain tree → IsApart tree → turns.IsSound other
-scopes_sound tree other e own chain apart = subst turns.IsSound e (record { own = own; chain = chain; apart = apart })
+pub scopes_sound : {tree other : Tree} → tree ≡ other → IsOwn tree → IsChain tree → IsApart tree → IsSound other
+scopes_sound e own chain apart = rw (← e) (record { own = own; chain = chain; apart = apart })

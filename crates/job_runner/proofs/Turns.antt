@@ -1,9 +1,9 @@
 -- The turns of a batch, one after the other.
-use Rattle.std.proofs.Common.{◌≡◌, ℕ, ◌+◌, Option, List, [], map, refl, ap, sym, ◌∙◌, subst}
+use Rattle.std.proofs.Common.{◌≡◌, ℕ, ◌+◌, Option, List, [], map, refl, ap, ◌∙◌}
 use Rattle.std.specs.Prelude.{IsSomeAnd}
 use Rattle.exc_groups.specs.Exceptions.{Exc}
 use Rattle.exc_groups.specs.declared.exc.Exc as held
-use Rattle.batch_commit.specs.Batch.{Batches, HandsOut}
+use Rattle.batch_commit.specs.Batch.{Batches}
 use Rattle.batch_commit.specs.declared.entry.Entry.{Entry}
 use Rattle.batch_commit.specs.Entries.{Added, answers_placed, without_answer}
 use Rattle.line_kernels.specs.declared.answers.Answer.{Answer}
@@ -16,31 +16,24 @@ use Rattle.task_table.specs.declared.task_table.Running.{Running}
 use Rattle.task_table.specs.TaskTable.{running_at, HasTurn, Ends}
 use Rattle.job_runner.specs.declared.runner.Runner.{Runner}
 use Rattle.job_runner.specs.Steps.{TakesStarted, TellsEnd, SeesOnly}
-use Rattle.job_runner.specs.Turns.{GoesOn, IsSameRunState, ComesOf, TakesTurn, TakesTurns, no_turn, and_turn, with_answers, Commits}
+use Rattle.job_runner.specs.Turns.{GoesOn, ComesOf, TakesTurn, TakesTurns, no_turn, and_turn, with_answers, Commits}
 use Rattle.job_runner.proofs.Turning.{row_is}
 
 -- a task that had its turn, whose started tasks were taken, continued
-pub goes_on : (id row : ℕ) (r new : Runner) (ro : TaskTable) (w : World) (wake : Wake) (stop : Stop) →
+pub goes_on : {id : ℕ} {r new : Runner} {ro : TaskTable} {w : World} {wake : Wake} {stop : Stop} (row : ℕ) →
     IsSomeAnd (running_at r.task_table id) (λ (x : Running). x.row ≡ row) → HasTurn r.task_table ro r.world w id wake stop →
     TakesStarted (record r { world = w; task_table = ro; turns = r.turns + 1 }) new row → GoesOn id wake stop r new
-goes_on id row r new ro w wake stop at turn takes =
-    record {
-      task_table = ro;
-      world = w;
-      turn = turn;
-      started =
-          subst (λ (n : ℕ). TakesStarted (record r { world = w; task_table = ro; turns = r.turns + 1 }) new n)
-          (sym (row_is id row r ro w wake stop at turn)) takes;
-    }
+goes_on {r = r} {ro = ro} {w = w} row at turn takes =
+    let same = row_is r row at turn in
+    record { task_table = ro; world = w; turn = turn; started = rw same takes }
 
 -- a task that has ended left, and its end was recorded in its nursery
-pub told_comes : (r new : Runner) (ro : TaskTable) (id : ℕ) (exc : Option held.Exc) (nursery place : ℕ) (told : Option Exc) (waiter : ℕ) →
-    Ends r.task_table ro id r.world.tick exc → TellsEnd (record r { task_table = ro }) new nursery place told waiter →
+pub told_comes : {r new : Runner} {ro : TaskTable} {id : ℕ} {exc : Option held.Exc} {nursery place : ℕ} {end : Option Exc} {waiter : ℕ} →
+    Ends r.task_table ro id r.world.tick exc → TellsEnd (record r { task_table = ro }) new nursery place end waiter →
     ComesOf id (Ended exc) r new
-told_comes r new ro id exc nursery place told waiter ends tells = (
-  subst (λ (x : TaskTable). Ends r.task_table x id r.world.tick exc) (sym (ap (λ (x : Runner). x.task_table) tells.rest)) ends,
-  ap (λ (x : Runner). x.world) tells.rest,
-)
+told_comes ends tells =
+    let same = ap (λ (x : Runner). x.task_table) tells.rest in
+    (rw same ends, ap (λ (x : Runner). x.world) tells.rest)
 
 -- ---- the tick stays
 
@@ -68,8 +61,8 @@ pub first_turns : {P : Type 0} (picks : P → ℕ → ℕ → P → Type 0) (r :
     b.current ≡ answers_placed r.batch.current answers → b.next ≡ r.batch.next →
     TakesTurns picks (with_answers r answers) picker (record r { batch = b }) picker
 first_turns picks r b answers picker current next =
-    subst (λ (x : Batches). TakesTurns picks (with_answers r answers) picker (record r { batch = x }) picker)
-    (sym (same b current next)) (no_turn (with_answers r answers) picker)
+    let placed = same b current next in
+    rw placed (no_turn (with_answers r answers) picker)
   where
     same : (x : Batches) → x.current ≡ answers_placed r.batch.current answers → x.next ≡ r.batch.next →
         x ≡ record { current = answers_placed r.batch.current answers; next = r.batch.next }
@@ -78,11 +71,11 @@ first_turns picks r b answers picker current next =
         ∙ ap (λ (xs : List Added). record { current = answers_placed r.batch.current answers; next = xs }) f
 
 -- and once none is left every entry had one
-pub all_turns : {P : Type 0} (picks : P → ℕ → ℕ → P → Type 0) (was r told : Runner) (answers : List Answer) (left b : Batches)
-    (before after : P) → TakesTurns picks (with_answers was answers) before r after → left ≡ r.batch → r.batch.current ≡ [] →
+pub all_turns : {P : Type 0} {picks : P → ℕ → ℕ → P → Type 0} {r : Runner} {before after : P} (was told : Runner) (answers : List Answer)
+    (left b : Batches) → TakesTurns picks (with_answers was answers) before r after → left ≡ r.batch → r.batch.current ≡ [] →
     SeesOnly (record r { batch = left }) told → b.current ≡ map without_answer told.batch.next →
     Commits picks was (record told { batch = b }) answers before after
-all_turns picks was r told answers left b before after turns same over only current =
+all_turns {picks = picks} {r = r} {before = before} {after = after} was told answers left b turns same over only current =
     let world : told.world ≡ record r.world { scopes = record (r.world.scopes) { changed = told.world.scopes.changed } } =
     ap (λ (x : Runner). x.world) only in
     record {

@@ -1,28 +1,19 @@
 -- Sleepers in a new tick: which tasks continue, and that the others continue to sleep.
-use Rattle.std.proofs.Common.{◌≡◌, ◌≢◌, inl, inr, ℕ, zero, suc, ◌+◌, ◌<◌, ◌≤◌, Bool, true, false, Option, Some, None, List, [], ◌∷◌, ◌++◌, map, length, refl, ap, sym, ◌∙◌, subst, arith, if◌then◌else◌}
-use Rattle.std.specs.Prelude.{All, IsSome, IsSomeAnd, is_some, ◌==◌, ◌⊎◌, nat_le}
+use Rattle.std.proofs.Common.{◌≡◌, ◌≢◌, inl, inr, ℕ, ◌<◌, ◌≤◌, Bool, true, false, Option, Some, None, [], ◌∷◌, ◌++◌, length, refl, ap, sym, ◌∙◌, arith, if◌then◌else◌}
+use Rattle.std.specs.Prelude.{IsSome, IsSomeAnd, is_some, ◌==◌, ◌⊎◌}
 use Rattle.std.proofs.lemmas.Bool.{le-leb}
 use Rattle.std.proofs.lemmas.Bool.Decides.{eqb_tells, leb_tells}
-use Rattle.std.proofs.lemmas.List.{map-append}
 use Rattle.std.proofs.lemmas.List.Elements.{All-nil, All-push}
-use Rattle.std.proofs.lemmas.List.Sums.{sum_by_push}
 use Rattle.std.proofs.lemmas.Option.{same_Some, none-some}
 use Rattle.autojump_clock.specs.Clock.{Clock, now_of, due_of, SameTime, Updates, TakesDue, NoneDue}
 use Rattle.batch_commit.specs.declared.entry.Call.{Call}
 use Rattle.batch_commit.specs.declared.entry.Call.TheVariants as calls
-use Rattle.batch_commit.specs.declared.entry.Entry.{Entry}
-use Rattle.batch_commit.specs.Entries.{Added}
 use Rattle.cancel_scopes.specs.Sight.{Tick, is_reached, sight, seen}
 use Rattle.cancel_scopes.specs.Tree.{outer_of}
 use Rattle.task_machine.specs.declared.stop.TaskState.{TaskState}
 use Rattle.task_machine.specs.declared.stop.TaskState.TheVariants.{ToBegin, Asked, Asleep, Awaits, Over}
-use Rattle.task_machine.specs.declared.stop.Wake.TheVariants as wakes
-use Rattle.task_machine.specs.declared.task.Task.{Task}
 use Rattle.task_machine.specs.declared.world.World.{World}
 use Rattle.task_machine.specs.Tasks.{scope_of}
-use Rattle.task_machine.specs.Waking.{WakesFrom}
-use Rattle.run_refinement.specs.Ready.{MayGo, IsTimely}
-use Rattle.run_refinement.specs.Sights.{Shows}
 use Rattle.nursery_book.specs.Nursery.{Nursery, is_settled}
 use Rattle.nursery_book.specs.Book.{nursery_at}
 use Rattle.nursery_book.specs.declared.book.NurseryBook.{NurseryBook}
@@ -30,14 +21,16 @@ use Rattle.sleepers.specs.Sleeping.{Sleeping, Moves, KeepsSights, TakesSeen, Non
 use Rattle.task_table.specs.declared.task_table.TaskTable.{TaskTable}
 use Rattle.task_table.specs.declared.task_table.Running.{Running}
 use Rattle.task_table.specs.TaskTable.{running_at}
-use Rattle.task_table.specs.Rows.{times}
+use Rattle.task_table.proofs.Lists.{push_some}
 use Rattle.task_table.proofs.Times.{one_if}
 use Rattle.job_runner.specs.declared.runner.Runner.{Runner}
 use Rattle.job_runner.specs.Jumps.{sight_by, sight_in, Slept, IsAnyNow, IsWaking, NoneSees, WakesOnly}
-use Rattle.job_runner.specs.Shelves.{GoesBy, IsCalled, Dozes, sleep_slot_of, timer_times, times_shelved, running_times, task_state_times, settled_times, AreShelved}
+use Rattle.job_runner.specs.Shelves.{GoesBy, IsCalled, IsCalledAdded, IsCalledEntry, IsConsistent, Dozes, sleep_slot_of, timer_times, times_shelved, running_times, task_state_times, settled_times, AreShelved}
 use Rattle.job_runner.proofs.Counting.{count_below, fewer_below, found_within}
+use Rattle.job_runner.proofs.Goes.{due_goes, seen_goes}
 use Rattle.job_runner.proofs.Known.{SleepsIn, seen_by, known_without, sees_from}
-use Rattle.job_runner.proofs.Stopped.{some_is, some_has}
+use Rattle.job_runner.proofs.Options.{some_has, some_is, some_of}
+use Rattle.job_runner.proofs.Shelving.{none_away, shelved_more}
 
 -- ---- how often a task is kept
 
@@ -61,101 +54,106 @@ running_most book (Some x) = by_task_state x.task.task_state
     by_task_state (Awaits id since) = by_settled (nursery_at book id)
     by_task_state Over = omega arith
 
-not_empty : {X : Type 0} (xs : List X) (x : X) → xs ++ x ∷ [] ≢ []
-not_empty [] x e = let f : x ∷ [] ≡ [] = e in absurd (let n : suc zero ≡ zero = ap length f in omega (arith, n))
-not_empty (y ∷ xs) x e = absurd (let n : suc (length (xs ++ x ∷ [])) ≡ zero = ap length e in omega (arith, n))
+-- ---- the clock has fewer timers
 
--- ---- which tasks may continue
+-- what is consistent is so with another clock that shows the same time
+pub consistent_still : {task_table : TaskTable} {world : World} {old new : Clock} {last turns : ℕ} →
+    IsConsistent task_table world old last turns → SameTime old new → IsConsistent task_table world new last turns
+consistent_still h time = record {
+  agree = h.agree;
+  homes = h.homes;
+  now = time.now ∙ h.now;
+  limit = time.limit ∙ h.limit;
+  within = h.within;
+  bounded = h.bounded;
+  none_started = h.none_started;
+}
 
--- one that sees a cancellation
-seen_goes : (world : World) (due : ℕ) (task : Task) → Slept world due task →
-    seen (outer_of world.scopes (scope_of task)) world.tick ≡ true → GoesBy world task calls.Seen
-seen_goes world due task h saw answer wake right e =
-    let f : Some wakes.Seen ≡ Some wake = e in
-    subst (MayGo world task) (same_Some wakes.Seen wake f)
-    (record {
-      fits = subst (λ (z : TaskState). WakesFrom z task.part world.book wakes.Seen) (sym h.task_state) tt;
-      timely = subst (λ (z : TaskState). IsTimely world (scope_of task) z wakes.Seen) (sym h.task_state) (h.began, saw);
-    })
+-- how many timers there are
+abbrev pub timed : ℕ → Clock → ℕ
+timed n clock = count_below n (λ id. is_some (due_of clock id))
 
--- one that is due and sees none
-due_goes : (world : World) (due : ℕ) (task : Task) → Slept world due task → due ≤ world.tick →
-    seen (outer_of world.scopes (scope_of task)) world.tick ≡ false → GoesBy world task calls.Due
-due_goes world due task h come unseen answer wake right e =
-    let f : Some wakes.Due ≡ Some wake = e in
-    subst (MayGo world task) (same_Some wakes.Due wake f)
-    (record {
-      fits = subst (λ (z : TaskState). WakesFrom z task.part world.book wakes.Due) (sym h.task_state) tt;
-      timely =
-          subst (λ (z : TaskState). IsTimely world (scope_of task) z wakes.Due) (sym h.task_state)
-          ((let a = h.not_over in let b : due ≡ h.since + h.ticks = h.due_is in omega (arith, a, b, come)), unseen);
-    })
+-- the maximum number of timers of a runner's tasks
+abbrev pub most_timed : Runner → ℕ
+most_timed r = length r.task_table.live.slots.slots
+
+-- ---- a sleeper
+
+-- the task of a timer
+sleeper : {r : Runner} → IsWaking r → (id due : ℕ) → due_of r.clock id ≡ Some due →
+    (x : Running) × (running_at r.task_table id ≡ Some x) × Slept r.world due x.task
+sleeper {r} h id due e = some_is (running_at r.task_table id) (λ (x : Running). Slept r.world due x.task) (h.slept id due e)
+
+-- if no sleeper is left that sees a cancellation, it sees none
+unseen_sleeper : {r : Runner} (h : IsWaking r) → NoneSees r → (id due : ℕ) (e : due_of r.clock id ≡ Some due) →
+    seen (outer_of r.world.scopes (scope_of (sleeper h id due e).0.task)) r.world.tick ≡ false
+unseen_sleeper {r} h unseen id due e =
+    let x = sleeper h id due e in
+    some_of (running_at r.task_table id) (λ (y : Running). seen (outer_of r.world.scopes (scope_of y.task)) r.world.tick ≡ false) x.0 x.1
+    (unseen id due e)
 
 -- ---- one is woken
 
-module _ (old new : Runner) (id : ℕ) (call : Call) (h : IsWaking old) (due : ℕ) (timer : due_of old.clock id ≡ Some due)
-    (called : IsCalled old.task_table old.world id call)
-    (u : Updates old.clock new.clock id None) (time : SameTime old.clock new.clock) (moves : Moves old.sleepers new.sleepers id None)
-    (keeps : KeepsSights old.sleepers new.sleepers)
-    (current : new.batch.current ≡ old.batch.current) (next : new.batch.next ≡ old.batch.next ++ (id, call) ∷ []) where
-  abbrev woken : Runner
-  woken = record old { clock = new.clock; sleepers = new.sleepers; batch = new.batch }
+-- a sleeper has no timer any more, sleeps in no scope, and is ready by this call
+pub record WakesOne (old new : Runner) (id : ℕ) (call : Call) : Type 0 where
+  pub timers : Updates old.clock new.clock id None
+  pub time : SameTime old.clock new.clock
+  pub scopes : Moves old.sleepers new.sleepers id None
+  pub sights : KeepsSights old.sleepers new.sleepers
+  pub current : new.batch.current ≡ old.batch.current
+  pub next : new.batch.next ≡ old.batch.next ++ (id, call) ∷ []
+  pub only : WakesOnly old new
 
+only_again : (was old new : Runner) → WakesOnly was old → WakesOnly old new → WakesOnly was new
+only_again was old new a b =
+    b ∙ ap (λ (r : Runner). record r { clock = new.clock; sleepers = new.sleepers; batch = new.batch }) a
+
+module _ {old new : Runner} {id : ℕ} {call : Call} (h : IsWaking old) (w : WakesOne old new id call) (due : ℕ)
+    (timer : due_of old.clock id ≡ Some due) where
   -- a timer that is left was there before
-  left : (other tick : ℕ) → due_of new.clock other ≡ Some tick → (other ≢ id) × (due_of old.clock other ≡ Some tick)
-  left other tick e = (differs, sym (u.others other differs) ∙ e)
-    where
-      differs : other ≢ id
-      differs f = none-some tick (sym (ap (due_of new.clock) f ∙ u.changed) ∙ e)
+  left : (other tick : ℕ) → due_of new.clock other ≡ Some tick → due_of old.clock other ≡ Some tick
+  left other tick e =
+      sym (w.timers.others other (λ f. none-some tick (sym w.timers.changed ∙ (ap (due_of new.clock) (sym f) ∙ e)))) ∙ e
 
   once : (other : ℕ) → times_shelved new.batch new.clock other ≡ running_times old.world.book (running_at old.task_table other)
-  once other = by_test (eqb_tells id other)
-    where
-      all : times_shelved old.batch old.clock other ≡ running_times old.world.book (running_at old.task_table other)
-      all = h.once other
+  once other =
+      let all : times_shelved old.batch old.clock other ≡ running_times old.world.book (running_at old.task_table other) = h.once other in
+      let more = shelved_more old.batch new.batch old.clock id call w.current w.next other in
+      elim (eqb_tells id other) [
+        | inl same ↦
+            let one : one_if (id == other) ≡ 1 = ap one_if same.0 in
+            let was : timer_times (due_of old.clock other) ≡ 1 = ap timer_times (ap (due_of old.clock) (sym same.1) ∙ timer) in
+            let is : timer_times (due_of new.clock other) ≡ 0 = ap timer_times (ap (due_of new.clock) (sym same.1) ∙ w.timers.changed) in
+            omega (arith, all, more, one, was, is)
+        | inr else_ ↦
+            let none : one_if (id == other) ≡ 0 = ap one_if else_.0 in
+            let same : timer_times (due_of new.clock other) ≡ timer_times (due_of old.clock other) =
+            ap timer_times (w.timers.others other (λ e. else_.1 (sym e))) in
+            omega (arith, all, more, none, same)
+      ]
 
-      now : times other (map (λ (e : Entry). e.task) new.batch.current) ≡ times other (map (λ (e : Entry). e.task) old.batch.current)
-      now = ap (λ (es : List Entry). times other (map (λ (e : Entry). e.task) es)) current
-
-      more : times other (map (λ (a : Added). a.0) new.batch.next)
-          ≡ times other (map (λ (a : Added). a.0) old.batch.next) + one_if (id == other)
-      more =
-          ap (λ (es : List Added). times other (map (λ (a : Added). a.0) es)) next
-          ∙ ap (times other) (map-append (λ (a : Added). a.0) old.batch.next ((id, call) ∷ []))
-          ∙ sum_by_push (λ (n : ℕ). one_if (n == other)) (map (λ (a : Added). a.0) old.batch.next) id
-
-      by_test : (((id == other) ≡ true) × (id ≡ other)) ⊎ (((id == other) ≡ false) × (id ≢ other)) →
-          times_shelved new.batch new.clock other ≡ running_times old.world.book (running_at old.task_table other)
-      by_test (inl f) =
-          let one : one_if (id == other) ≡ 1 = ap one_if f.0 in
-          let was : timer_times (due_of old.clock other) ≡ 1 = ap timer_times (ap (due_of old.clock) (sym f.1) ∙ timer) in
-          let is : timer_times (due_of new.clock other) ≡ 0 = ap timer_times (ap (due_of new.clock) (sym f.1) ∙ u.changed) in
-          omega (arith, all, now, more, one, was, is)
-      by_test (inr f) =
-          let none : one_if (id == other) ≡ 0 = ap one_if f.0 in
-          let same : timer_times (due_of new.clock other) ≡ timer_times (due_of old.clock other) =
-          ap timer_times (u.others other (λ e. f.1 (sym e))) in
-          omega (arith, all, now, more, none, same)
-
-  waking_more : IsWaking woken
-  waking_more =
-      record {
-        agree = h.agree;
-        homes = λ s task home e f. (let k = h.homes s task home e f in record { task = k.task; lives = k.lives; owned = k.owned });
-        now = time.now ∙ h.now;
-        limit = time.limit ∙ h.limit;
-        within = h.within;
-        bounded = h.bounded;
-        none_started = h.none_started;
-        slept = λ other tick e. h.slept other tick (left other tick e).1;
-        known = known_without old.task_table old.world old.clock new.clock old.sleepers new.sleepers id h.known u moves keeps;
+  waking_more : IsCalled old.task_table old.world id call → IsWaking new
+  waking_more called =
+      rw w.only (record {
+        consistent = consistent_still h.consistent w.time;
+        slept = λ other tick e. h.slept other tick (left other tick e);
+        known = known_without h.known w.timers w.scopes w.sights;
         unchanged = h.unchanged;
-        none_current = current ∙ h.none_current;
-        next = subst (All (λ (a : Added). IsCalled old.task_table old.world a.0 a.1)) (sym next)
-            (All-push (λ (a : Added). IsCalled old.task_table old.world a.0 a.1) old.batch.next (id, call) h.next called);
+        none_current = w.current ∙ h.none_current;
+        next = rw w.next (All-push (IsCalledAdded old.task_table old.world) old.batch.next (id, call) h.next called);
         once = once;
-        someone = inl (λ e. not_empty old.batch.next (id, call) (sym next ∙ e));
-      }
+        someone = inl (λ e. push_some old.batch.next (id, call) (sym w.next ∙ e));
+      })
+
+  -- and fewer timers are left, of those that there may be
+  fewer : (was : Runner) → WakesOnly was old → timed (most_timed was) new.clock < timed (most_timed was) old.clock
+  fewer was only =
+      let x = sleeper h id due timer in
+      let below : id < most_timed old = found_within old.task_table.live.slots.slots id None (Some x.0) x.1 (λ f. none-some x.0 (sym f)) in
+      let same : most_timed old ≡ most_timed was = ap most_timed only in
+      fewer_below (most_timed was) (λ key. is_some (due_of old.clock key)) (λ key. is_some (due_of new.clock key)) id
+      (omega (arith, below, same)) (ap is_some timer) (ap is_some w.timers.changed)
+      (λ other differs. ap is_some (w.timers.others other differs))
 
 -- ---- those that see a cancellation
 
@@ -168,123 +166,80 @@ pub record IsSeeing (was r : Runner) : Type 0 where
 pub seeing_first : (r : Runner) → IsWaking r → IsSeeing r r
 seeing_first r h = record { waking = h; only = refl }
 
-only_again : (was old new : Runner) → WakesOnly was old → WakesOnly old new → WakesOnly was new
-only_again was old new a b =
-    b ∙ ap (λ (r : Runner). record r { clock = new.clock; sleepers = new.sleepers; batch = new.batch }) a
+module _ {was old : Runner} {id : ℕ} {sleepers : Sleeping} (s : IsSeeing was old) (takes : TakesSeen old.sleepers sleepers id old.world.tick)
+  where
+    seer : (z : SleepsIn old.task_table old.clock id takes.sees.scope)
+        × (sight (outer_of old.world.scopes (scope_of z.running.task)) ≡ Some takes.from)
+    seer = seen_by s.waking.known s.waking.unchanged id takes.from takes.sees
 
--- a timer's task is one that lives, and so is below a bound
-timed_below : (r : Runner) → ((id due : ℕ) → due_of r.clock id ≡ Some due →
-    IsSomeAnd (running_at r.task_table id) (λ (x : Running). Slept r.world due x.task)) → (id due : ℕ) →
-    due_of r.clock id ≡ Some due → id < length r.task_table.live.slots.slots
-timed_below r slept id due e =
-    let x = some_is (running_at r.task_table id) (λ (y : Running). Slept r.world due y.task) (slept id due e) in
-    found_within r.task_table.live.slots.slots id None (Some x.0) x.1 (λ f. none-some x.0 (sym f))
+    -- it has a timer
+    pub seer_timed : IsSome (due_of old.clock id)
+    seer_timed = ap is_some seer.0.timer
 
--- how many timers there are
-abbrev pub timed : ℕ → Clock → ℕ
-timed n clock = count_below n (λ id. is_some (due_of clock id))
+    seer_called : IsCalled old.task_table old.world id calls.Seen
+    seer_called =
+        let x = sleeper s.waking id seer.0.due seer.0.timer in
+        let same : seer.0.running ≡ x.0 = same_Some seer.0.running x.0 (sym seer.0.lives ∙ x.1) in
+        let saw : seen (outer_of old.world.scopes (scope_of x.0.task)) old.world.tick ≡ true =
+        ap (λ (y : Running). seen (outer_of old.world.scopes (scope_of y.task)) old.world.tick) (sym same)
+        ∙ (ap (λ (t : Tick). is_reached t old.world.tick) seer.1 ∙ le-leb takes.from old.world.tick takes.come) in
+        some_has (running_at old.task_table id) (λ (y : Running). GoesBy old.world y.task calls.Seen) x.0 x.1
+        (seen_goes old.world seer.0.due x.0.task x.2 saw)
 
-module _ (was old : Runner) (id : ℕ) (s : IsSeeing was old) (sleepers : Sleeping)
-    (takes : TakesSeen old.sleepers sleepers id old.world.tick) where
-  abbrev seer : SleepsIn old.task_table old.clock id takes.sees.scope
-  seer = (seen_by old.task_table old.world old.clock old.sleepers s.waking.known s.waking.unchanged id takes.from takes.sees).0
+    module _ {new : Runner} (w : WakesOne old new id calls.Seen) where
+      -- once one that sees a cancellation is woken, what holds while they are is true again
+      pub seeing_next : IsSeeing was new
+      seeing_next = record {
+        waking = waking_more s.waking w seer.0.due seer.0.timer seer_called;
+        only = only_again was old new s.only w.only;
+      }
 
-  -- it has a timer
-  pub seer_timed : IsSome (due_of old.clock id)
-  seer_timed = subst IsSome (sym seer.timer) refl
-
-  seer_called : IsCalled old.task_table old.world id calls.Seen
-  seer_called =
-      let x = some_is (running_at old.task_table id) (λ (y : Running). Slept old.world seer.due y.task)
-      (s.waking.slept id seer.due seer.timer) in
-      let same : seer.running ≡ x.0 = same_Some seer.running x.0 (sym seer.lives ∙ x.1) in
-      let sees : sight (outer_of old.world.scopes (scope_of seer.running.task)) ≡ Some takes.from =
-      (seen_by old.task_table old.world old.clock old.sleepers s.waking.known s.waking.unchanged id takes.from takes.sees).1 in
-      let saw : seen (outer_of old.world.scopes (scope_of x.0.task)) old.world.tick ≡ true =
-      ap (λ (y : Running). seen (outer_of old.world.scopes (scope_of y.task)) old.world.tick) (sym same)
-      ∙ (ap (λ (t : Tick). is_reached t old.world.tick) sees ∙ le-leb takes.from old.world.tick takes.come) in
-      some_has (running_at old.task_table id) (λ (y : Running). GoesBy old.world y.task calls.Seen) x.0 x.1
-      (seen_goes old.world seer.due x.0.task x.2 saw)
-
-  module _ (new : Runner) (is_new : new ≡ record old { clock = new.clock; sleepers = sleepers; batch = new.batch })
-      (u : Updates old.clock new.clock id None) (time : SameTime old.clock new.clock)
-      (current : new.batch.current ≡ old.batch.current) (next : new.batch.next ≡ old.batch.next ++ (id, calls.Seen) ∷ []) where
-    same_sleepers : new.sleepers ≡ sleepers
-    same_sleepers = ap (λ (r : Runner). r.sleepers) is_new
-
-    only_new : WakesOnly old new
-    only_new = is_new ∙ ap (λ (z : Sleeping). record old { clock = new.clock; sleepers = z; batch = new.batch }) (sym same_sleepers)
-
-    -- once one that sees a cancellation is woken, what holds while they are is true again
-    pub seeing_next : IsSeeing was new
-    seeing_next =
-        record {
-          waking =
-              subst IsWaking (sym only_new)
-              (waking_more old new id calls.Seen s.waking seer.due seer.timer seer_called u time
-              (subst (λ (z : Sleeping). Moves old.sleepers z id None) (sym same_sleepers) takes.scopes)
-              (subst (KeepsSights old.sleepers) (sym same_sleepers) takes.sights) current next);
-          only = only_again was old new s.only only_new;
-        }
-
-    -- and fewer timers are left
-    pub seeing_fewer : timed (length was.task_table.live.slots.slots) new.clock < timed (length was.task_table.live.slots.slots) old.clock
-    seeing_fewer =
-        fewer_below (length was.task_table.live.slots.slots) (λ key. is_some (due_of old.clock key)) (λ key. is_some (due_of new.clock key)) id
-        (subst (λ (r : TaskTable). id < length r.live.slots.slots) (ap (λ (r : Runner). r.task_table) s.only)
-        (timed_below old s.waking.slept id seer.due seer.timer)) (ap is_some seer.timer)
-        (ap is_some u.changed) (λ other differs. ap is_some (u.others other differs))
+      -- and fewer timers are left
+      pub seeing_fewer : timed (most_timed was) new.clock < timed (most_timed was) old.clock
+      seeing_fewer = fewer s.waking w seer.0.due seer.0.timer was s.only
 
 -- none is left
-pub seeing_last : (was r new : Runner) (sleepers : Sleeping) → IsSeeing was r → NoneSleeps r.sleepers sleepers r.world.tick →
-    new ≡ record r { sleepers = sleepers } →
-    IsWaking new × NoneSees new × WakesOnly was new
-seeing_last was r new sleepers s none is =
-    subst (λ (x : Runner). IsWaking x × NoneSees x × WakesOnly was x) (sym is) (
-      record {
-        agree = s.waking.agree;
-        homes = λ p task home e f. (let k = s.waking.homes p task home e f in record { task = k.task; lives = k.lives; owned = k.owned });
-        now = s.waking.now;
-        limit = s.waking.limit;
-        within = s.waking.within;
-        bounded = s.waking.bounded;
-        none_started = s.waking.none_started;
-        slept = s.waking.slept;
-        known =
-            record {
-              sleep_slots = λ id. none.scopes id ∙ s.waking.known.sleep_slots id;
-              sights = λ id key e. subst (Shows r.world.scopes key) (sym (none.sights id key e))
-                  (s.waking.known.sights id key (sym (none.scopes id) ∙ e));
-            };
-        unchanged = s.waking.unchanged;
-        none_current = s.waking.none_current;
-        next = s.waking.next;
-        once = s.waking.once;
-        someone = s.waking.someone;
-      },
-      unseen,
-      only_again was r (record r { sleepers = sleepers }) s.only refl,
-    )
-  where
-    unseen : NoneSees (record r { sleepers = sleepers })
-    unseen id due e = some_has (running_at r.task_table id) (λ (x : Running).
-        seen (outer_of r.world.scopes (scope_of x.task)) r.world.tick ≡ false) x.0 x.1
-        (by_sight (sight (outer_of r.world.scopes (scope_of x.0.task))) refl)
-      where
-        x : (y : Running) × (running_at r.task_table id ≡ Some y) × Slept r.world due y.task
-        x = some_is (running_at r.task_table id) (λ (y : Running). Slept r.world due y.task) (s.waking.slept id due e)
+module _ {was r : Runner} (sleepers : Sleeping) (s : IsSeeing was r) (none : NoneSleeps r.sleepers sleepers r.world.tick) where
+  abbrev all_seen : Runner
+  all_seen = record r { sleepers = sleepers }
 
-        by_sight : (t : Tick) → sight (outer_of r.world.scopes (scope_of x.0.task)) ≡ t → is_reached t r.world.tick ≡ false
-        by_sight None f = refl
-        by_sight (Some from) f =
-            let later : r.world.tick < from =
-            none.all id from (sees_from r.task_table r.world r.clock r.sleepers s.waking.known s.waking.unchanged id due x.0 from e x.1 f) in
-            by_test later (leb_tells from r.world.tick)
-          where
-            by_test : r.world.tick < from → ((nat_le from r.world.tick ≡ true) × (from ≤ r.world.tick))
-                ⊎ ((nat_le from r.world.tick ≡ false) × (r.world.tick < from)) → nat_le from r.world.tick ≡ false
-            by_test later (inl h) = absurd (let le = h.1 in omega (arith, le, later))
-            by_test later (inr h) = h.0
+  pub seen_waking : IsWaking all_seen
+  seen_waking = record {
+    consistent = s.waking.consistent;
+    slept = s.waking.slept;
+    known =
+        record {
+          sleep_slots = λ id. none.scopes id ∙ s.waking.known.sleep_slots id;
+          sights = λ id key e.
+              let kept = none.sights id key e in
+              rw kept (s.waking.known.sights id key (sym (none.scopes id) ∙ e));
+        };
+    unchanged = s.waking.unchanged;
+    none_current = s.waking.none_current;
+    next = s.waking.next;
+    once = s.waking.once;
+    someone = s.waking.someone;
+  }
+
+  pub seen_unseen : NoneSees all_seen
+  seen_unseen id due e =
+      let x = sleeper s.waking id due e in
+      some_has (running_at r.task_table id) (λ (x : Running). seen (outer_of r.world.scopes (scope_of x.task)) r.world.tick ≡ false) x.0 x.1
+      (by_sight x.0 x.1 (sight (outer_of r.world.scopes (scope_of x.0.task))) refl)
+    where
+      by_sight : (x : Running) → running_at r.task_table id ≡ Some x → (t : Tick) → sight (outer_of r.world.scopes (scope_of x.task)) ≡ t →
+          is_reached t r.world.tick ≡ false
+      by_sight x lives None f = refl
+      by_sight x lives (Some from) f =
+          let later : r.world.tick < from =
+          none.all id from (sees_from s.waking.known s.waking.unchanged id due x from e lives f) in
+          elim (leb_tells from r.world.tick) [
+            | inl h ↦ absurd (let le = h.1 in omega (arith, le, later))
+            | inr h ↦ h.0
+          ]
+
+  pub seen_only : WakesOnly was all_seen
+  seen_only = only_again was r all_seen s.only refl
 
 -- ---- those that are due
 
@@ -298,129 +253,93 @@ pub record IsDue (was r : Runner) : Type 0 where
 pub due_first : (r : Runner) → IsWaking r → NoneSees r → IsDue r r
 due_first r h unseen = record { waking = h; unseen = unseen; only = refl }
 
-module _ (was old : Runner) (id : ℕ) (s : IsDue was old) (clock : Clock) (takes : TakesDue old.clock id clock) where
-  sleeper : (y : Running) × (running_at old.task_table id ≡ Some y) × Slept old.world takes.due y.task
-  sleeper = some_is (running_at old.task_table id) (λ (y : Running). Slept old.world takes.due y.task) (s.waking.slept id takes.due takes.had)
-
+module _ {was old : Runner} {id : ℕ} {clock : Clock} (s : IsDue was old) (takes : TakesDue old.clock id clock) where
   due_called : IsCalled old.task_table old.world id calls.Due
   due_called =
-      let z = some_is (running_at old.task_table id) (λ (y : Running).
-      seen (outer_of old.world.scopes (scope_of y.task)) old.world.tick ≡ false) (s.unseen id takes.due takes.had) in
-      let same : z.0 ≡ sleeper.0 = same_Some z.0 sleeper.0 (sym z.1 ∙ sleeper.1) in
-      let now : now_of old.clock ≡ old.world.tick = s.waking.now in
+      let x = sleeper s.waking id takes.due takes.had in
+      let now : now_of old.clock ≡ old.world.tick = s.waking.consistent.now in
       let come : takes.due ≤ now_of old.clock = takes.is_due in
-      some_has (running_at old.task_table id) (λ (y : Running). GoesBy old.world y.task calls.Due) sleeper.0 sleeper.1
-      (due_goes old.world takes.due sleeper.0.task sleeper.2 (omega (arith, now, come))
-      (ap (λ (y : Running). seen (outer_of old.world.scopes (scope_of y.task)) old.world.tick) (sym same) ∙ z.2))
+      some_has (running_at old.task_table id) (λ (y : Running). GoesBy old.world y.task calls.Due) x.0 x.1
+      (due_goes old.world takes.due x.0.task x.2 (omega (arith, now, come)) (unseen_sleeper s.waking s.unseen id takes.due takes.had))
 
-  module _ (new : Runner) (is_new : new ≡ record old { clock = clock; sleepers = new.sleepers; batch = new.batch })
-      (moves : Moves old.sleepers new.sleepers id None)
-      (keeps : KeepsSights old.sleepers new.sleepers) (current : new.batch.current ≡ old.batch.current)
-      (next : new.batch.next ≡ old.batch.next ++ (id, calls.Due) ∷ []) where
-    same_clock : new.clock ≡ clock
-    same_clock = ap (λ (r : Runner). r.clock) is_new
-
-    only_due : WakesOnly old new
-    only_due = is_new ∙ ap (λ (z : Clock). record old { clock = z; sleepers = new.sleepers; batch = new.batch }) (sym same_clock)
-
-    timers_after : Updates old.clock new.clock id None
-    timers_after = subst (λ (z : Clock). Updates old.clock z id None) (sym same_clock) takes.timers
-
-    unseen_after : NoneSees (record old { clock = new.clock; sleepers = new.sleepers; batch = new.batch })
-    unseen_after other tick e = s.unseen other tick (sym (timers_after.others other differs) ∙ e)
-      where
-        differs : other ≢ id
-        differs f = none-some tick (sym (ap (due_of new.clock) f ∙ timers_after.changed) ∙ e)
-
+  module _ {new : Runner} (w : WakesOne old new id calls.Due) where
     -- once one that is due is woken, what holds while they are is true again
     pub due_next : IsDue was new
-    due_next =
-        record {
-          waking =
-              subst IsWaking (sym only_due)
-              (waking_more old new id calls.Due s.waking takes.due takes.had due_called timers_after
-              (subst (SameTime old.clock) (sym same_clock) takes.time) moves keeps current next);
-          unseen = subst NoneSees (sym only_due) unseen_after;
-          only = only_again was old new s.only only_due;
-        }
+    due_next = record {
+      waking = waking_more s.waking w takes.due takes.had due_called;
+      unseen = rw w.only (λ other tick e. s.unseen other tick (left s.waking w takes.due takes.had other tick e));
+      only = only_again was old new s.only w.only;
+    }
 
     -- and fewer timers are left
-    pub due_fewer : timed (length was.task_table.live.slots.slots) new.clock < timed (length was.task_table.live.slots.slots) old.clock
-    due_fewer =
-        fewer_below (length was.task_table.live.slots.slots) (λ key. is_some (due_of old.clock key)) (λ key. is_some (due_of new.clock key)) id
-        (subst (λ (r : TaskTable). id < length r.live.slots.slots) (ap (λ (r : Runner). r.task_table) s.only)
-        (timed_below old s.waking.slept id takes.due takes.had)) (ap is_some takes.had)
-        (ap is_some timers_after.changed) (λ other differs. ap is_some (timers_after.others other differs))
+    pub due_fewer : timed (most_timed was) new.clock < timed (most_timed was) old.clock
+    due_fewer = fewer s.waking w takes.due takes.had was s.only
 
 -- none is left: the others sleep on, and somebody was woken
-pub due_last : (was r new : Runner) (clock : Clock) → IsDue was r → NoneDue r.clock clock → new ≡ record r { clock = clock } →
-    AreShelved None new × (new.batch.next ≢ []) × (new.batch.current ≡ []) × WakesOnly was new
-due_last was r new clock s none is =
-    subst (λ (x : Runner). AreShelved None x × (x.batch.next ≢ []) × (x.batch.current ≡ []) × WakesOnly was x) (sym is) (
-      record {
-        agree = s.waking.agree;
-        homes = λ p task home e f. (let k = s.waking.homes p task home e f in record { task = k.task; lives = k.lives; owned = k.owned });
-        now = none.unchanged.time.now ∙ s.waking.now;
-        limit = none.unchanged.time.limit ∙ s.waking.limit;
-        within = s.waking.within;
-        bounded = s.waking.bounded;
-        none_started = s.waking.none_started;
-        doze = λ id due e. dozes id due (sym (none.unchanged.timers id) ∙ e);
-        known =
+module _ {was r : Runner} (clock : Clock) (s : IsDue was r) (none : NoneDue r.clock clock) where
+  abbrev all_due : Runner
+  all_due = record r { clock = clock }
+
+  later : (id due : ℕ) → due_of r.clock id ≡ Some due → r.world.tick < due
+  later id due e =
+      let a : now_of r.clock < due = none.all_later id due e in
+      let b : now_of r.clock ≡ r.world.tick = s.waking.consistent.now in
+      omega (arith, a, b)
+
+  dozes : (id due : ℕ) → due_of r.clock id ≡ Some due → IsSomeAnd (running_at r.task_table id) (λ (x : Running). Dozes r.world due x.task)
+  dozes id due e =
+      let x = sleeper s.waking id due e in
+      some_has (running_at r.task_table id) (λ (y : Running). Dozes r.world due y.task) x.0 x.1
+      (record {
+        asleep =
             record {
-              sleep_slots = λ id. s.waking.known.sleep_slots id ∙ ap (λ (d : Option ℕ). sleep_slot_of d (running_at r.task_table id))
-                  (sym (none.unchanged.timers id));
-              sights = s.waking.known.sights;
+              ticks = x.2.ticks;
+              since = x.2.since;
+              task_state = x.2.task_state;
+              due_is = x.2.due_is;
+              began = (let a = x.2.began in omega (arith, a));
+              later = later id due e;
             };
-        current = subst (All (λ (x : Entry). IsCalled r.task_table r.world x.task x.call)) (sym s.waking.none_current)
-            (All-nil (λ (x : Entry). IsCalled r.task_table r.world x.task x.call));
-        next = s.waking.next;
-        once = λ id other.
-            let all : times_shelved r.batch r.clock id ≡ running_times r.world.book (running_at r.task_table id) = s.waking.once id in
-            let same : timer_times (due_of clock id) ≡ timer_times (due_of r.clock id) = ap timer_times (none.unchanged.timers id) in
-            omega (arith, all, same);
-        away = λ x f. absurd (none-some x f);
-      },
-      some,
-      s.waking.none_current,
-      only_again was r (record r { clock = clock }) s.only refl,
-    )
-  where
-    later : (id due : ℕ) → due_of r.clock id ≡ Some due → r.world.tick < due
-    later id due e = let a : now_of r.clock < due = none.all_later id due e in let b : now_of r.clock ≡ r.world.tick =
-        s.waking.now in omega (arith, a, b)
+        unseen = unseen_sleeper s.waking s.unseen id due e;
+      })
 
-    dozes : (id due : ℕ) → due_of r.clock id ≡ Some due → IsSomeAnd (running_at r.task_table id) (λ (x : Running). Dozes r.world due x.task)
-    dozes id due e =
-        let x = some_is (running_at r.task_table id) (λ (y : Running). Slept r.world due y.task) (s.waking.slept id due e) in
-        let z = some_is (running_at r.task_table id) (λ (y : Running). seen (outer_of r.world.scopes (scope_of y.task)) r.world.tick ≡ false)
-        (s.unseen id due e) in
-        let same : z.0 ≡ x.0 = same_Some z.0 x.0 (sym z.1 ∙ x.1) in
-        some_has (running_at r.task_table id) (λ (y : Running). Dozes r.world due y.task) x.0 x.1
-        (record {
-          asleep =
-              record {
-                ticks = x.2.ticks;
-                since = x.2.since;
-                task_state = x.2.task_state;
-                due_is = x.2.due_is;
-                began = (let a = x.2.began in omega (arith, a));
-                later = later id due e;
-              };
-          unseen = ap (λ (y : Running). seen (outer_of r.world.scopes (scope_of y.task)) r.world.tick) (sym same) ∙ z.2;
-        })
+  pub due_shelved : AreShelved None all_due
+  due_shelved = record {
+    consistent = consistent_still s.waking.consistent none.unchanged.time;
+    doze = λ id due e. dozes id due (sym (none.unchanged.timers id) ∙ e);
+    known =
+        record {
+          sleep_slots = λ id. s.waking.known.sleep_slots id ∙ ap (λ (d : Option ℕ). sleep_slot_of d (running_at r.task_table id))
+              (sym (none.unchanged.timers id));
+          sights = s.waking.known.sights;
+        };
+    current =
+        let over = s.waking.none_current in
+        rw over (All-nil (IsCalledEntry r.task_table r.world));
+    next = s.waking.next;
+    once = λ id other.
+        let all : times_shelved r.batch r.clock id ≡ running_times r.world.book (running_at r.task_table id) = s.waking.once id in
+        let same : timer_times (due_of clock id) ≡ timer_times (due_of r.clock id) = ap timer_times (none.unchanged.timers id) in
+        omega (arith, all, same);
+    away = none_away (λ (x : ℕ). times_shelved r.batch clock x ≡ 0);
+  }
 
-    some : r.batch.next ≢ []
-    some = by_someone s.waking.someone
-      where
-        by_someone : (r.batch.next ≢ []) ⊎ IsAnyNow r.task_table r.world r.clock → r.batch.next ≢ []
-        by_someone (inl f) = f
-        by_someone (inr a) = absurd (by_timely a.timely)
-          where
-            by_timely : (a.due ≤ r.world.tick) ⊎ (is_reached (sight_in r.task_table r.world a.id) r.world.tick ≡ true) → ⊥
-            by_timely (inl le) = let lt = later a.id a.due a.timer in omega (arith, le, lt)
-            by_timely (inr saw) =
-                let z = some_is (running_at r.task_table a.id) (λ (y : Running).
-                seen (outer_of r.world.scopes (scope_of y.task)) r.world.tick ≡ false) (s.unseen a.id a.due a.timer) in
-                let f : true ≡ false = sym saw ∙ (ap (λ (o : Option Running). is_reached (sight_by r.world o) r.world.tick) z.1 ∙ z.2) in
-                cc
+  none_timely : IsAnyNow r.task_table r.world r.clock → ⊥
+  none_timely any = by_timely any.timely
+    where
+      by_timely : (any.due ≤ r.world.tick) ⊎ (is_reached (sight_in r.task_table r.world any.id) r.world.tick ≡ true) → ⊥
+      by_timely (inl le) = let lt = later any.id any.due any.timer in omega (arith, le, lt)
+      by_timely (inr saw) =
+          let x = sleeper s.waking any.id any.due any.timer in
+          let none_seen = unseen_sleeper s.waking s.unseen any.id any.due any.timer in
+          let f : true ≡ false = sym saw ∙ (ap (λ (o : Option Running). is_reached (sight_by r.world o) r.world.tick) x.1 ∙ none_seen) in
+          cc
+
+  pub due_some : r.batch.next ≢ []
+  due_some = elim s.waking.someone [
+    | inl some ↦ some
+    | inr any ↦ absurd (none_timely any)
+  ]
+
+  pub due_only : WakesOnly was all_due
+  due_only = only_again was r all_due s.only refl

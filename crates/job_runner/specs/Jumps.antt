@@ -1,22 +1,19 @@
 -- What a jump of the clock does: to which tick, and which tasks continue then.
 use Rattle.std.specs.Prelude.{◌≡◌, ◌≢◌, ◌⊎◌, ℕ, ◌+◌, ◌<◌, ◌≤◌, true, false, Option, Some, None, [], All, IsSomeAnd}
-use Rattle.autojump_clock.specs.Clock.{Clock, now_of, limit_of, due_of}
-use Rattle.batch_commit.specs.Entries.{Added}
+use Rattle.autojump_clock.specs.Clock.{Clock, due_of}
 use Rattle.cancel_scopes.specs.Sight.{Tick, is_reached, seen, sight}
 use Rattle.cancel_scopes.specs.Tree.{outer_of}
 use Rattle.task_machine.specs.declared.stop.TaskState.TheVariants.{Asleep}
 use Rattle.task_machine.specs.declared.task.Task.{Task}
 use Rattle.task_machine.specs.declared.world.World.{World}
 use Rattle.task_machine.specs.Tasks.{scope_of}
-use Rattle.run_refinement.specs.Ready.{AreHomesOf}
-use Rattle.job_meaning.specs.declared.limits.TheConstants.{LAST_TICK}
-use Rattle.task_table.specs.TaskTable.{running_at, parent_of, IsTaskTable}
+use Rattle.task_table.specs.TaskTable.{running_at}
 use Rattle.task_table.specs.declared.task_table.TaskTable.{TaskTable}
 use Rattle.task_table.specs.declared.task_table.Running.{Running}
 use Rattle.job_runner.specs.declared.fault.RunFault.{RunFault}
 use Rattle.job_runner.specs.declared.fault.RunFault.TheVariants.{Limit, NoMemory}
 use Rattle.job_runner.specs.declared.runner.Runner.{Runner}
-use Rattle.job_runner.specs.Shelves.{IsCalled, AreKnown, NoneChanged, times_shelved, running_times, state_in}
+use Rattle.job_runner.specs.Shelves.{AreKnown, IsCalledAdded, IsConsistent, NoneChanged, times_shelved, running_times}
 
 -- the tick from which the task with an id sees a cancellation
 abbrev pub sight_by : World → Option Running → Tick
@@ -68,18 +65,12 @@ pub record IsAnyNow (task_table : TaskTable) (world : World) (clock : Clock) : T
 -- The clock reached a later tick, and so did the world. Sleepers that may continue are being made
 -- ready.
 pub record IsWaking (r : Runner) : Type 0 where
-  pub agree : IsTaskTable r.task_table
-  pub homes : AreHomesOf (state_in r) (parent_of r.task_table)
-  pub now : now_of r.clock ≡ r.world.tick
-  pub limit : limit_of r.clock ≡ r.limit
-  pub within : r.world.tick ≤ r.limit
-  pub bounded : r.limit ≤ LAST_TICK
-  pub none_started : r.world.started.items ≡ []
+  pub consistent : IsConsistent r.task_table r.world r.clock r.limit r.turns
   pub slept : (id due : ℕ) → due_of r.clock id ≡ Some due → IsSomeAnd (running_at r.task_table id) (λ (x : Running). Slept r.world due x.task)
   pub known : AreKnown r.task_table r.world r.clock r.sleepers
   pub unchanged : NoneChanged r.world
   pub none_current : r.batch.current ≡ []
-  pub next : All (λ (a : Added). IsCalled r.task_table r.world a.0 a.1) r.batch.next
+  pub next : All (IsCalledAdded r.task_table r.world) r.batch.next
   pub once : (id : ℕ) → times_shelved r.batch r.clock id ≡ running_times r.world.book (running_at r.task_table id)
   pub someone : (r.batch.next ≢ []) ⊎ IsAnyNow r.task_table r.world r.clock
 

@@ -54,6 +54,13 @@ GoesBy world task call = (answer : Option Answer) (wake : Wake) → IsRight call
 abbrev pub IsCalled : TaskTable → World → ℕ → Call → Type 0
 IsCalled task_table world id call = IsSomeAnd (running_at task_table id) (λ x. GoesBy world x.task call)
 
+-- the same of an entry, and of what was added
+abbrev pub IsCalledEntry : TaskTable → World → Entry → Type 0
+IsCalledEntry task_table world e = IsCalled task_table world e.task e.call
+
+abbrev pub IsCalledAdded : TaskTable → World → Added → Type 0
+IsCalledAdded task_table world a = IsCalled task_table world a.0 a.1
+
 -- ---- sleepers
 
 -- A task sleeps until this tick. It fell asleep by now, and its sleep is over later.
@@ -127,19 +134,24 @@ IsElse (Some away) id = id ≢ away
 
 -- ---- a run between turns
 
+-- The tasks, what they share and the clock are consistent, for a run up to `last` after the given number of turns, and no started
+-- task waits in the world.
+pub record IsConsistent (task_table : TaskTable) (world : World) (clock : Clock) (last turns : ℕ) : Type 0 where
+  pub agree : IsTaskTable task_table
+  pub homes : AreHomesOf (run_state task_table world turns) (parent_of task_table)
+  pub now : now_of clock ≡ world.tick
+  pub limit : limit_of clock ≡ last
+  pub within : world.tick ≤ last
+  pub bounded : last ≤ LAST_TICK
+  pub none_started : world.started.items ≡ []
+
 -- What the runner keeps is consistent. The task with one id may be missing: it is having its turn.
 pub record AreShelved (turning : Option ℕ) (r : Runner) : Type 0 where
-  pub agree : IsTaskTable r.task_table
-  pub homes : AreHomesOf (run_state r.task_table r.world r.turns) (parent_of r.task_table)
-  pub now : now_of r.clock ≡ r.world.tick
-  pub limit : limit_of r.clock ≡ r.limit
-  pub within : r.world.tick ≤ r.limit
-  pub bounded : r.limit ≤ LAST_TICK
-  pub none_started : r.world.started.items ≡ []
+  pub consistent : IsConsistent r.task_table r.world r.clock r.limit r.turns
   pub doze : AllDoze r.task_table r.world r.clock
   pub known : AreKnown r.task_table r.world r.clock r.sleepers
-  pub current : All (λ (e : Entry). IsCalled r.task_table r.world e.task e.call) r.batch.current
-  pub next : All (λ (a : Added). IsCalled r.task_table r.world a.0 a.1) r.batch.next
+  pub current : All (IsCalledEntry r.task_table r.world) r.batch.current
+  pub next : All (IsCalledAdded r.task_table r.world) r.batch.next
   pub once : (id : ℕ) → IsElse turning id → times_shelved r.batch r.clock id ≡ running_times r.world.book (running_at r.task_table id)
   pub away : ForSome turning (λ (id : ℕ). times_shelved r.batch r.clock id ≡ 0)
 
@@ -159,14 +171,14 @@ pub record IsSameJob (old new : Runner) : Type 0 where
   pub limit : new.limit ≡ old.limit
 
 -- what holds for each job that was read
-pub record IsSound (job : Tree) : Type 0 where
+pub record IsSoundJob (job : Tree) : Type 0 where
   pub names : GivesNamesOnce job
   pub starts : StartsInNurseries job
   pub in_range : IsInRange job
 
 -- A run between two turns, or during the turn of the task with this id.
 pub record IsGoing (away : Option ℕ) (r : Runner) : Type 0 where
-  pub sound : IsSound r.job.now
+  pub sound : IsSoundJob r.job.now
   pub shelved : AreShelved away r
   pub interleaving : IsRefined r
 

@@ -16,7 +16,7 @@ use Rattle.task_table.specs.TaskTable.{running_at, task_of, gone_of, start_of, c
 use Rattle.task_table.specs.declared.task_table.TaskTable.{TaskTable}
 use Rattle.task_table.specs.declared.task_table.Running.{Running}
 use Rattle.job_runner.specs.declared.runner.Runner.{Runner}
-use Rattle.job_runner.specs.Shelves.{IsSound, AreShelved, state_in}
+use Rattle.job_runner.specs.Shelves.{IsSoundJob, AreShelved, state_in}
 
 -- ---- the tasks that a task started
 
@@ -42,8 +42,8 @@ pub record StartsAll (old new : TaskTable) (parent : ℕ) (tasks : List Task) (t
   pub same_parent : (p : ℕ) → p < task_count old → parent_of new p ≡ parent_of old p
   pub same_id : (p : ℕ) → p < task_count old → id_of new p ≡ id_of old p
 
-abbrev pub to_begin : List ℕ → List Added
-to_begin ids = map (λ (id : ℕ). (id, Begin)) ids
+abbrev pub begin_calls : List ℕ → List Added
+begin_calls ids = map (λ (id : ℕ). (id, Begin)) ids
 
 -- The tasks that waited in the world were taken, and are ready to begin.
 pub record TakesStarted (old new : Runner) (parent : ℕ) : Type 0 where
@@ -53,14 +53,14 @@ pub record TakesStarted (old new : Runner) (parent : ℕ) : Type 0 where
   pub world : new.world ≡ record old.world { started = new.world.started }
   pub none_left : new.world.started.items ≡ []
   pub current : new.batch.current ≡ old.batch.current
-  pub next : new.batch.next ≡ old.batch.next ++ to_begin ids
+  pub next : new.batch.next ≡ old.batch.next ++ begin_calls ids
   pub rest : new ≡ record old { world = new.world; task_table = new.task_table; batch = new.batch }
 
 -- ---- a task that stopped
 
 -- The task with an id and a row stopped so in its turn, and the runner has not handled the stop yet.
 pub record IsStopping (id row : ℕ) (stop : Stop) (r : Runner) : Type 0 where
-  pub sound : IsSound r.job.now
+  pub sound : IsSoundJob r.job.now
   pub shelved : AreShelved (Some id) r
   pub lives : IsSomeAnd (running_at r.task_table id) (λ (x : Running). (x.row ≡ row) × StopSays r.world x.task stop)
   pub interleaving : (k : Table) → IsSettled k r.job.now r.input.now →
@@ -76,15 +76,15 @@ pub record IsSameTurn (old new : Runner) : Type 0 where
 
 -- ---- the end of a child is recorded
 
-abbrev pub called_if : Bool → ℕ → List Added
-called_if true id = (id, Settled) ∷ []
-called_if false id = []
+abbrev pub call_if : Bool → ℕ → List Added
+call_if true id = (id, Settled) ∷ []
+call_if false id = []
 
 -- The end of the child at that place was recorded in the nursery, and the task with an id, which waits for it, is ready if it
 -- is settled now.
 pub record TellsEnd (old new : Runner) (nursery place : ℕ) (exc : Option Exc) (waiter : ℕ) : Type 0 where
   pub book : Changes old.world.book new.world.book nursery (with_child place exc)
-  pub next : HasNursery new.world.book nursery (λ (n : Nursery). new.batch.next ≡ old.batch.next ++ called_if (is_settled n) waiter)
+  pub next : HasNursery new.world.book nursery (λ (n : Nursery). new.batch.next ≡ old.batch.next ++ call_if (is_settled n) waiter)
   pub current : new.batch.current ≡ old.batch.current
   pub rest : new ≡ record old { world = record old.world { book = new.world.book }; batch = new.batch }
 

@@ -15,7 +15,7 @@ impl<'a> Run<'a> {
     ghost use Rattle.std.specs.Prelude.{◌≡◌};
     ghost use Rattle.job_runner.specs.Runs.{name_of, records_in, rows_of, froms_in, turns_of, root_is_well, root_end};
 
-    /// Returns a run of these parts.
+    // A run of these parts.
     pub(crate) fn new(
         name: Name,
         records: Vec<Record<'a>>,

@@ -169,7 +169,7 @@ impl<'a> Runner<'a> {
     {
         let row = self.task_table.row(id);
         let stop = self.go(id, row, wake)?;
-        self.stopped(id, row, stop)?;
+        self.handle_stop(id, row, stop)?;
         Ok(())
     }
 

@@ -110,7 +110,7 @@ fn run_until<'a, R: Threads + Sync, P: Pick, G: Gate + Sync>(
     let mut runner = Runner::open(alloc, job, input, limit)?;
     'phases: loop {
         match runner.phase() {
-            Phase::Ready => runner = answered(rt, alloc, workers, runner, picker, gate)?,
+            Phase::Ready => runner = run_batch(rt, alloc, workers, runner, picker, gate)?,
             Phase::Blocked => runner = runner.jump()?,
             Phase::Over => {
                 let run = runner.finish()?;
@@ -120,8 +120,8 @@ fn run_until<'a, R: Threads + Sync, P: Pick, G: Gate + Sync>(
     }
 }
 
-// The ready tasks have their turns, each with the answer to its request, which the workers compute.
-fn answered<'a, R: Threads + Sync, P: Pick, G: Gate + Sync>(
+// Executes the turns of the ready tasks, each with the answer to its request, which the workers compute.
+fn run_batch<'a, R: Threads + Sync, P: Pick, G: Gate + Sync>(
     rt: &R,
     alloc: Global,
     workers: usize,

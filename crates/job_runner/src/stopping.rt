@@ -19,7 +19,7 @@ use task_machine::Stop;
 
 impl<'a> Runner<'a> {
     // Handles the stop of the task with an id and a row.
-    pub(crate) fn stopped(
+    pub(crate) fn handle_stop(
         &mut self,
         id: TaskId,
         row: usize,
@@ -31,16 +31,16 @@ impl<'a> Runner<'a> {
         ensures same { OnOk result (IsSameTurn self.old self.new) }
     {
         match stop {
-            Stop::Ask(request) => self.asks(id, row, request)?,
-            Stop::Sleep(due) => self.falls_asleep(id, row, due)?,
-            Stop::Wait(nursery) => self.waits(id, row, nursery)?,
-            Stop::Ended(exc) => self.ends(id, row, exc)?,
+            Stop::Ask(request) => self.handle_ask(id, row, request)?,
+            Stop::Sleep(due) => self.handle_sleep(id, row, due)?,
+            Stop::Wait(nursery) => self.handle_wait(id, row, nursery)?,
+            Stop::Ended(exc) => self.handle_end(id, row, exc)?,
         }
         Ok(())
     }
 
     // The task is added to the next batch with its request.
-    fn asks(&mut self, id: TaskId, row: usize, request: Request<'a>) -> Result<(), AllocError>
+    fn handle_ask(&mut self, id: TaskId, row: usize, request: Request<'a>) -> Result<(), AllocError>
         requires { IsStopping id row (Ask request) self.old }
         ensures going { OnOk result (IsGoing None self.new) }
         ensures comes { OnOk result (ComesOf id (Ask request.entry) self.old self.new) }
@@ -52,7 +52,7 @@ impl<'a> Runner<'a> {
     }
 
     // The task is added to the sleepers.
-    fn falls_asleep(&mut self, id: TaskId, row: usize, due: u64) -> Result<(), AllocError>
+    fn handle_sleep(&mut self, id: TaskId, row: usize, due: u64) -> Result<(), AllocError>
         requires { IsStopping id row (Sleep due) self.old }
         ensures going { OnOk result (IsGoing None self.new) }
         ensures comes { OnOk result (ComesOf id (Sleep due) self.old self.new) }
@@ -68,7 +68,7 @@ impl<'a> Runner<'a> {
     }
 
     // The task is added to the next batch if its nursery is settled already, and waits otherwise.
-    fn waits(&mut self, id: TaskId, row: usize, nursery: NurseryId) -> Result<(), AllocError>
+    fn handle_wait(&mut self, id: TaskId, row: usize, nursery: NurseryId) -> Result<(), AllocError>
         requires { IsStopping id row (Wait nursery) self.old }
         ensures going { OnOk result (IsGoing None self.new) }
         ensures comes { OnOk result (ComesOf id (Wait nursery) self.old self.new) }
@@ -81,20 +81,24 @@ impl<'a> Runner<'a> {
         Ok(())
     }
 
-    // The task's end is recorded in its nursery, if it has one, and its row keeps what is left of
-    // it.
-    fn ends(&mut self, id: TaskId, row: usize, exc: Option<Exc>) -> Result<(), AllocError>
+    // The task's row keeps what is left of it, and its end is recorded in its nursery, if it has one.
+    //
+    // The exception of a child is then there twice: its row keeps it for the report, and its nursery raises it, in a group, when it
+    // is closed. Each owns its parts, so one of them is a copy. The root has no nursery, and its exception is not copied.
+    fn handle_end(&mut self, id: TaskId, row: usize, exc: Option<Exc>) -> Result<(), AllocError>
         requires { IsStopping id row (Ended exc) self.old }
         ensures going { OnOk result (IsGoing None self.new) }
         ensures comes { OnOk result (ComesOf id (Ended exc) self.old self.new) }
         ensures same { OnOk result (IsSameTurn self.old self.new) }
     {
-        let home = self.task_table.home(id);
-        let told = copy_of(self.alloc, &exc)?;
-        self.task_table.end(id, self.world.now(), exc)?;
-        if let Some(at) = home {
-            let (nursery, place) = at;
-            self.tell(row, nursery, place, told)?;
+        match self.task_table.home(id) {
+            None => self.task_table.end(id, self.world.now(), exc)?,
+            Some(home) => {
+                let (nursery, place) = home;
+                let copy = copy_of(self.alloc, &exc)?;
+                self.task_table.end(id, self.world.now(), exc)?;
+                self.tell(row, nursery, place, copy)?;
+            }
         }
         Ok(())
     }
@@ -122,7 +126,7 @@ impl<'a> Runner<'a> {
     }
 }
 
-// An equal exception.
+// Returns an equal exception.
 fn copy_of(alloc: Global, exc: &Option<Exc>) -> Result<Option<Exc>, AllocError>
     ensures { IfOk result (λ copy. option_map exc_of copy ≡ option_map exc_of exc.now) }
 {

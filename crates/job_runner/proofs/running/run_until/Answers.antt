@@ -14,8 +14,8 @@ phases-init g c =
 pub phase-requires : goal.phase-requires
 phase-requires g c = c.phases.invariant.underway
 
-pub answered-requires-clause-underway : goal.answered-requires-clause-underway
-answered-requires-clause-underway g c κs within = c.phases.invariant.underway
+pub run_batch-requires-clause-underway : goal.run_batch-requires-clause-underway
+run_batch-requires-clause-underway g c κs within = c.phases.invariant.underway
 
 pub phases-smaller-in-Ready : goal.phases-smaller-in-Ready
 phases-smaller-in-Ready g c =

@@ -1,12 +1,12 @@
-use Rattle.std.proofs.Common.{refl, sym, subst}
+use Rattle.std.proofs.Common.{refl}
 use Rattle.job_runner.proofs.Committing.{commits_first, commits_last, commits_next, commits_same, commits_turns, turn_fewer, turn_goes, turn_going}
-use Rattle.job_runner.specs.Turns.{TakesTurns, and_turn, with_answers}
+use Rattle.job_runner.specs.Turns.{and_turn}
 use Rattle.job_runner.proofs.Turns.{first_turns, all_turns}
 use Rattle.job_runner.proofs.runner.Runner.commit.Goals as goal
 
 pub turns-init : goal.turns-init
 turns-init g c = (
-  commits_first c.args.self c.place.new.self c.args.answers.items c.requires.underway c.requires.answers
+  commits_first c.place.new.self c.args.answers.items c.requires.underway c.requires.answers
       c.place.ensures.placed c.place.ensures.next c.place.ensures.all,
   first_turns g.P.Pick.picks c.args.self c.place.new.self c.args.answers.items c.args.picker.now c.place.ensures.placed c.place.ensures.next,
 )
@@ -15,53 +15,42 @@ pub next-requires : goal.next-requires
 next-requires g c = c.turns.invariant.0.answered
 
 pub take_turn-requires-clause-going : goal.take_turn-requires-clause-going
-take_turn-requires-clause-going g c = turn_going _ c.args.self c.turns.runner c.next.new.self _ _ c.in-Some.turn.0 c.in-Some.turn.1
-    c.turns.invariant.0 c.in-Some.ensures.hands_out
+take_turn-requires-clause-going g c = turn_going c.turns.invariant.0 c.in-Some.ensures.hands_out
 
 pub take_turn-requires-clause-goes : goal.take_turn-requires-clause-goes
-take_turn-requires-clause-goes g c = turn_goes _ c.args.self c.turns.runner c.next.new.self _ _ c.in-Some.turn.0 c.in-Some.turn.1
-    c.turns.invariant.0 c.in-Some.ensures.hands_out
+take_turn-requires-clause-goes g c = turn_goes c.turns.invariant.0 c.in-Some.ensures.hands_out
 
 pub turns-smaller : goal.turns-smaller
 turns-smaller g c =
-    turn_fewer _ c.args.self c.turns.runner c.next.new.self _ _ c.in-Some.turn.0 c.in-Some.turn.1 c.turns.invariant.0
-    c.in-Some.ensures.hands_out c.take_turn.new.self c.in_ok-take_turn.ensures.going
-    c.in_ok-take_turn.ensures.same c.in_ok-take_turn.ensures.current
+    turn_fewer c.turns.invariant.0 c.in-Some.ensures.hands_out c.in_ok-take_turn.ensures.going c.in_ok-take_turn.ensures.same
+    c.in_ok-take_turn.ensures.current
 
 pub turns-preserved : goal.turns-preserved
 turns-preserved g c = (
-  commits_next _ c.args.self c.turns.runner c.next.new.self _ _ c.in-Some.turn.0 c.in-Some.turn.1 c.turns.invariant.0
-      c.in-Some.ensures.hands_out c.take_turn.new.self c.in_ok-take_turn.ensures.going
-      c.in_ok-take_turn.ensures.same c.in_ok-take_turn.ensures.current c.in_ok-take_turn.ensures.turns c.in-Some.ensures.placed,
+  commits_next c.turns.invariant.0 c.in-Some.ensures.hands_out c.in_ok-take_turn.ensures.going c.in_ok-take_turn.ensures.same
+      c.in_ok-take_turn.ensures.current c.in_ok-take_turn.ensures.turns c.in-Some.ensures.placed,
   and_turn _ c.turns.runner c.take_turn.new.self _ _ _ c.next.new.self c.in-Some.turn.0 c.in-Some.turn.1 c.turns.invariant.1
       c.in-Some.ensures.hands_out c.in_ok-take_turn.ensures.takes,
 )
 
 pub returns-clause-underway : goal.returns-clause-underway
 returns-clause-underway g c =
-    commits_last c.args.self c.turns.runner c.see_changed.new.self c.next.new.self c.turn_over.new.self c.turns.invariant.0
-    c.in_default.ensures.idle.0 (c.in_default.ensures.none.0 refl)
+    commits_last c.next.new.self c.turn_over.new.self c.turns.invariant.0 c.in_default.ensures.idle.0 (c.in_default.ensures.none.0 refl)
     c.in_ok-see_changed.ensures.rest c.in_ok-see_changed.ensures.going c.in_ok-see_changed.ensures.unchanged c.turn_over.ensures.current
     c.turn_over.ensures.next c.turn_over.ensures.unplaced
 
 pub returns-clause-same : goal.returns-clause-same
 returns-clause-same g c =
-    commits_same c.args.self c.turns.runner c.see_changed.new.self c.next.new.self c.turn_over.new.self c.turns.invariant.0
-    c.in_default.ensures.idle.0 (c.in_default.ensures.none.0 refl)
-    c.in_ok-see_changed.ensures.rest c.in_ok-see_changed.ensures.going c.in_ok-see_changed.ensures.unchanged c.turn_over.ensures.current
-    c.turn_over.ensures.next c.turn_over.ensures.unplaced
+    commits_same c.next.new.self c.turn_over.new.self c.turns.invariant.0 c.in_default.ensures.idle.0 (c.in_default.ensures.none.0 refl)
+    c.in_ok-see_changed.ensures.rest
 
 pub returns-clause-turns : goal.returns-clause-turns
 returns-clause-turns g c =
-    commits_turns c.args.self c.turns.runner c.see_changed.new.self c.next.new.self c.turn_over.new.self c.turns.invariant.0
-    c.in_default.ensures.idle.0 (c.in_default.ensures.none.0 refl)
-    c.in_ok-see_changed.ensures.rest c.in_ok-see_changed.ensures.going c.in_ok-see_changed.ensures.unchanged c.turn_over.ensures.current
-    c.turn_over.ensures.next c.turn_over.ensures.unplaced
+    commits_turns c.next.new.self c.turn_over.new.self c.turns.invariant.0 c.in_default.ensures.idle.0 (c.in_default.ensures.none.0 refl)
+    c.in_ok-see_changed.ensures.rest
 
 pub returns-clause-commits : goal.returns-clause-commits
 returns-clause-commits g c =
-    all_turns g.P.Pick.picks c.args.self c.turns.runner c.see_changed.new.self c.args.answers.items c.next.new.self c.turn_over.new.self
-    c.args.picker.now c.next.new.picker
-    (subst (λ p. TakesTurns g.P.Pick.picks (with_answers c.args.self c.args.answers.items) c.args.picker.now c.turns.runner p)
-    (sym c.in_default.ensures.idle.1) c.turns.invariant.1)
+    let turns = rw (← c.in_default.ensures.idle.1) at c.turns.invariant.1 in
+    all_turns c.args.self c.see_changed.new.self c.args.answers.items c.next.new.self c.turn_over.new.self turns
     c.in_default.ensures.idle.0 (c.in_default.ensures.none.0 refl) c.in_ok-see_changed.ensures.rest c.turn_over.ensures.current

@@ -4,25 +4,20 @@ use Rattle.job_runner.proofs.runner.Runner.finish.Goals as goal
 
 pub records_of-requires-clause-ended : goal.records_of-requires-clause-ended
 records_of-requires-clause-ended c =
-    all_ended c.args.self c.requires.underway c.requires.over c.into_rows.result.items (ap (λ v. v.items) c.into_rows.ensures)
+    all_ended c.requires.underway c.requires.over c.into_rows.result.items (ap (λ v. v.items) c.into_rows.ensures)
 
 pub returns-clause-run : goal.returns-clause-run
 returns-clause-run c =
-    is_run c.args.self c.requires.underway c.requires.over c.into_rows.result.items (ap (λ v. v.items) c.into_rows.ensures)
-    c.in_ok-records.records.items c.in_ok-records.froms.items
-    c.in_ok-records.ensures c.new.result (c.new.ensures.name ∙ c.name.ensures) c.new.ensures.records c.new.ensures.froms
+    is_run c.requires.underway c.requires.over (ap (λ v. v.items) c.into_rows.ensures) c.in_ok-records.ensures c.new.result
+    (c.new.ensures.name ∙ c.name.ensures) c.new.ensures.records c.new.ensures.froms
 
 pub returns-clause-in_time : goal.returns-clause-in_time
 returns-clause-in_time c =
-    ends_in_time c.args.self c.requires.underway c.requires.over c.into_rows.result.items (ap (λ v. v.items) c.into_rows.ensures)
-    c.in_ok-records.records.items c.in_ok-records.froms.items
-    c.in_ok-records.ensures
+    ends_in_time c.requires.underway c.requires.over (ap (λ v. v.items) c.into_rows.ensures) c.in_ok-records.ensures
 
 pub returns-clause-follows : goal.returns-clause-follows
 returns-clause-follows c =
-    follows_each c.args.self c.requires.underway c.requires.over c.into_rows.result.items (ap (λ v. v.items) c.into_rows.ensures)
-    c.in_ok-records.records.items c.in_ok-records.froms.items
-    c.in_ok-records.ensures c.new.result
-    (is_run c.args.self c.requires.underway c.requires.over c.into_rows.result.items (ap (λ v. v.items) c.into_rows.ensures)
-    c.in_ok-records.records.items c.in_ok-records.froms.items
-    c.in_ok-records.ensures c.new.result (c.new.ensures.name ∙ c.name.ensures) c.new.ensures.records c.new.ensures.froms)
+    let same = ap (λ v. v.items) c.into_rows.ensures in
+    follows_each c.requires.underway c.requires.over same c.in_ok-records.ensures c.new.result
+    (is_run c.requires.underway c.requires.over same c.in_ok-records.ensures c.new.result
+    (c.new.ensures.name ∙ c.name.ensures) c.new.ensures.records c.new.ensures.froms)

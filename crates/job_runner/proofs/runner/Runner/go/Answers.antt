@@ -6,27 +6,21 @@ use Rattle.job_runner.proofs.runner.Runner.go.Goals as goal
 pub turn-requires-clause-may : goal.turn-requires-clause-may
 turn-requires-clause-may c =
     let e = c.stacks_are_chains.ensures in
-    may_turn c.args.id c.args.self.now c.args.wake c.requires.going c.requires.goes
-    (scopes_sound c.scopes.result.now c.args.self.now.world.scopes c.scopes.ensures e.own e.chain e.apart)
+    may_turn c.args.wake c.requires.going c.requires.goes (scopes_sound c.scopes.ensures e.own e.chain e.apart)
 
 pub overflow_add-self : goal.overflow_add-self
-overflow_add-self c = let few = turns_few _ c.args.self.now c.requires.going in omega (arith, few)
+overflow_add-self c = let few = turns_few c.args.self.now c.requires.going in omega (arith, few)
 
 pub take_started-requires-clause-row : goal.take_started-requires-clause-row
-take_started-requires-clause-row c =
-    row_within c.args.id c.args.row c.args.self.now c.turn.new.self c.turn.new.world c.args.wake c.in_ok-stop.stop c.requires.going
-    c.requires.row c.in_ok-stop.ensures.turn
+take_started-requires-clause-row c = row_within c.args.row c.requires.going c.requires.row c.in_ok-stop.ensures.turn
 
 pub returns-clause-stopping : goal.returns-clause-stopping
 returns-clause-stopping c =
     let e = c.stacks_are_chains.ensures in
     let f = c.stacks_are_chains-2.ensures in
-    goes_stopping c.args.id c.args.row c.args.self.now c.take_started.new.self c.turn.new.self c.turn.new.world c.args.wake
-    c.in_ok-stop.stop c.requires.going c.requires.goes c.requires.row
-    c.in_ok-stop.ensures.turn (scopes_sound c.scopes.result.now c.args.self.now.world.scopes c.scopes.ensures e.own e.chain e.apart)
-    (scopes_sound c.scopes-2.result.now c.turn.new.world.scopes c.scopes-2.ensures f.own f.chain f.apart) c.in_ok-take_started.ensures
+    goes_stopping c.args.row c.requires.going c.requires.goes c.requires.row c.in_ok-stop.ensures.turn
+    (scopes_sound c.scopes.ensures e.own e.chain e.apart) (scopes_sound c.scopes-2.ensures f.own f.chain f.apart)
+    c.in_ok-take_started.ensures
 
 pub returns-clause-goes : goal.returns-clause-goes
-returns-clause-goes c =
-    goes_on c.args.id c.args.row c.args.self.now c.take_started.new.self c.turn.new.self c.turn.new.world c.args.wake c.in_ok-stop.stop
-    c.requires.row c.in_ok-stop.ensures.turn c.in_ok-take_started.ensures
+returns-clause-goes c = goes_on c.args.row c.requires.row c.in_ok-stop.ensures.turn c.in_ok-take_started.ensures

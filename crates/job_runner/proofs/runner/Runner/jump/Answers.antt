@@ -1,54 +1,46 @@
-use Rattle.job_runner.proofs.Landing.{none_due, some_timer, next_cancel_later, past_limit, past_next, next_tick, no_earlier, jumped, both_woken, landed, ready_some}
 use Rattle.std.proofs.Common.{refl, ap, ◌∙◌}
 use Rattle.task_table.specs.TaskTable.{gone_of}
 use Rattle.job_runner.specs.declared.runner.Runner.{Runner}
+use Rattle.job_runner.proofs.Landing.{none_due, some_timer, next_cancel_later, past_limit, past_next, next_tick, no_earlier, jumped, both_woken, landed, ready_some}
 use Rattle.job_runner.proofs.runner.Runner.jump.Goals as goal
 
 pub jump-requires-clause-none_due : goal.jump-requires-clause-none_due
-jump-requires-clause-none_due c =
-    none_due c.args.self c.requires.underway c.requires.blocked c.first-next_cancel.result c.first-next_cancel.ensures
+jump-requires-clause-none_due c = none_due c.requires.underway c.requires.blocked c.first-next_cancel.ensures
 
 pub jump-requires-clause-some : goal.jump-requires-clause-some
-jump-requires-clause-some c = some_timer c.args.self c.requires.underway c.requires.blocked c.first-next_cancel.result
-    c.first-next_cancel.ensures
+jump-requires-clause-some c = some_timer c.requires.underway c.requires.blocked c.first-next_cancel.ensures
 
 pub jump-requires-clause-later : goal.jump-requires-clause-later
-jump-requires-clause-later c =
-    next_cancel_later c.args.self c.requires.underway c.requires.blocked c.first-next_cancel.result c.first-next_cancel.ensures
+jump-requires-clause-later c = next_cancel_later c.requires.underway c.requires.blocked c.first-next_cancel.ensures
 
 pub returns-in-Limit-clause-late : goal.returns-in-Limit-clause-late
-returns-in-Limit-clause-late c = past_limit c.args.self c.requires.underway c.requires.blocked c.first-next_cancel.result
-    c.first-next_cancel.ensures c.jump.new.self c.in-Limit.ensures
+returns-in-Limit-clause-late c = past_limit c.requires.underway c.requires.blocked c.first-next_cancel.ensures c.in-Limit.ensures
 
 pub set_now-requires-clause-later : goal.set_now-requires-clause-later
-set_now-requires-clause-later c = no_earlier c.args.self c.requires.underway c.requires.blocked c.first-next_cancel.result
-    c.first-next_cancel.ensures c.jump.new.self c.in-To.tick c.in-To.ensures
+set_now-requires-clause-later c = no_earlier c.requires.underway c.requires.blocked c.first-next_cancel.ensures c.in-To.ensures
 
 pub wake_seen-requires : goal.wake_seen-requires
-wake_seen-requires c = jumped c.args.self c.requires.underway c.requires.blocked c.first-next_cancel.result c.first-next_cancel.ensures
-    c.jump.new.self c.in-To.tick c.in-To.ensures c.set_now.new.self c.set_now.ensures
+wake_seen-requires c =
+    jumped c.requires.underway c.requires.blocked c.first-next_cancel.ensures c.in-To.ensures c.set_now.new.self c.set_now.ensures
 
 pub returns-clause-underway : goal.returns-clause-underway
 returns-clause-underway c =
-    landed c.args.self c.requires.underway c.requires.blocked c.first-next_cancel.result c.first-next_cancel.ensures c.jump.new.self
-    c.in-To.tick c.in-To.ensures c.set_now.new.self c.set_now.ensures
-    c.wake_due.new.self
-    (both_woken c.args.self c.requires.underway c.requires.blocked c.first-next_cancel.result c.first-next_cancel.ensures c.jump.new.self
-    c.in-To.tick c.in-To.ensures c.set_now.new.self c.set_now.ensures
-    c.wake_seen.new.self c.wake_due.new.self c.in_ok-wake_seen-in-To.ensures.rest c.in_ok-wake_due-in-To.ensures.rest)
-    c.in_ok-wake_due-in-To.ensures.shelved c.in_ok-wake_due-in-To.ensures.current c.turn_over.new.self c.turn_over.ensures.current
-    c.turn_over.ensures.next c.turn_over.ensures.unplaced
+    let woken = both_woken c.requires.underway c.requires.blocked c.first-next_cancel.ensures c.in-To.ensures c.set_now.new.self
+    c.set_now.ensures c.wake_seen.new.self c.wake_due.new.self c.in_ok-wake_seen-in-To.ensures.rest c.in_ok-wake_due-in-To.ensures.rest in
+    landed c.requires.underway c.requires.blocked c.first-next_cancel.ensures c.in-To.ensures c.set_now.new.self c.set_now.ensures
+    c.wake_due.new.self woken c.in_ok-wake_due-in-To.ensures.shelved c.in_ok-wake_due-in-To.ensures.current c.turn_over.new.self
+    c.turn_over.ensures.current c.turn_over.ensures.next c.turn_over.ensures.unplaced
 
 pub returns-clause-ready : goal.returns-clause-ready
 returns-clause-ready c = ready_some c.turn_over.new.self.current c.wake_due.new.self.batch.next (gone_of c.wake_due.new.self.task_table 0)
     c.turn_over.ensures.current c.in_ok-wake_due-in-To.ensures.some
 
 pub returns-in-Limit-clause-limit : goal.returns-in-Limit-clause-limit
-returns-in-Limit-clause-limit c = past_next c.args.self c.requires.underway c.requires.blocked c.first-next_cancel.result
-    c.first-next_cancel.ensures c.jump.new.self c.args.self.limit refl c.in-Limit.ensures
+returns-in-Limit-clause-limit c =
+    past_next c.requires.underway c.requires.blocked c.first-next_cancel.ensures c.args.self.limit refl c.in-Limit.ensures
 
 pub returns-clause-tick : goal.returns-clause-tick
 returns-clause-tick c =
-    next_tick c.args.self c.requires.underway c.requires.blocked c.first-next_cancel.result c.first-next_cancel.ensures c.jump.new.self
-    c.in-To.tick c.in-To.ensures c.set_now.new.self c.set_now.ensures c.wake_due.new.self
+    next_tick c.requires.underway c.requires.blocked c.first-next_cancel.ensures c.in-To.ensures c.set_now.new.self c.set_now.ensures
+    c.wake_due.new.self
     (ap (λ (x : Runner). x.world) c.in_ok-wake_due-in-To.ensures.rest ∙ ap (λ (x : Runner). x.world) c.in_ok-wake_seen-in-To.ensures.rest)

@@ -5,7 +5,7 @@ use Rattle.job_runner.proofs.runner.Runner.open.Goals as goal
 
 pub returns-clause-underway : goal.returns-clause-underway
 returns-clause-underway c =
-    opened _ c.in_ok-task.task c.in_ok-task_table.root
+    opened _
     (record {
       names = c.spelled_jobs_are_sound.ensures.names _ _ c.steps-steps.ensures.spelled;
       starts = c.spelled_jobs_are_sound.ensures.starts _ _ c.steps-steps.ensures.spelled;

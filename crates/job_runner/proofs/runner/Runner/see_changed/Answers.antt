@@ -1,5 +1,6 @@
 use Rattle.std.proofs.Common.{refl}
-use Rattle.job_runner.proofs.Telling.{taken_open, telling_first, telling_fewer, telling_next, told_all}
+use Rattle.job_runner.specs.declared.runner.Runner.{Runner}
+use Rattle.job_runner.proofs.Telling.{TellsOne, taken_open, telling_first, telling_fewer, telling_next, told_still, told_unchanged, told_only}
 use Rattle.job_runner.proofs.runner.Runner.see_changed.Goals as goal
 
 pub changed-init : goal.changed-init
@@ -7,19 +8,33 @@ changed-init c = telling_first c.args.self.now c.requires.going
 
 pub changed-smaller : goal.changed-smaller
 changed-smaller c =
-    telling_fewer c.args.self.now c.changed.self (record (c.changed.self)
-    { world = record (c.changed.self.world) { scopes = c.take_changed.new.self }; sleepers = c.see.new.self }) c.in-Some.scope
-    c.scopes_mut.result.now c.take_changed.new.self c.scopes.result.now c.seen_from-sight.result c.changed.invariant
-    c.scopes_mut.ensures.value c.in-Some.ensures.stacks c.in-Some.ensures.taken
-    c.scopes.ensures c.seen_from-sight.ensures c.see.ensures.scopes c.in_ok-see.ensures.sights refl
+    let new : Runner = record (c.changed.self)
+    { world = record (c.changed.self.world) { scopes = c.take_changed.new.self }; sleepers = c.see.new.self } in
+    let one : TellsOne c.changed.self new c.in-Some.scope = record {
+      seen = c.seen_from-sight.result;
+      stacks = rw c.scopes_mut.ensures.value at c.in-Some.ensures.stacks;
+      takes = rw c.scopes_mut.ensures.value at c.in-Some.ensures.taken;
+      sees = rw c.scopes.ensures at c.seen_from-sight.ensures;
+      same = c.see.ensures.scopes;
+      tells = c.in_ok-see.ensures.sights;
+      rest = refl;
+    } in
+    telling_fewer c.changed.invariant one
 
 pub changed-preserved : goal.changed-preserved
 changed-preserved c =
-    telling_next c.args.self.now c.changed.self (record (c.changed.self)
-    { world = record (c.changed.self.world) { scopes = c.take_changed.new.self }; sleepers = c.see.new.self }) c.in-Some.scope
-    c.scopes_mut.result.now c.take_changed.new.self c.scopes.result.now c.seen_from-sight.result c.changed.invariant
-    c.scopes_mut.ensures.value c.in-Some.ensures.stacks c.in-Some.ensures.taken
-    c.scopes.ensures c.seen_from-sight.ensures c.see.ensures.scopes c.in_ok-see.ensures.sights refl
+    let new : Runner = record (c.changed.self)
+    { world = record (c.changed.self.world) { scopes = c.take_changed.new.self }; sleepers = c.see.new.self } in
+    let one : TellsOne c.changed.self new c.in-Some.scope = record {
+      seen = c.seen_from-sight.result;
+      stacks = rw c.scopes_mut.ensures.value at c.in-Some.ensures.stacks;
+      takes = rw c.scopes_mut.ensures.value at c.in-Some.ensures.taken;
+      sees = rw c.scopes.ensures at c.seen_from-sight.ensures;
+      same = c.see.ensures.scopes;
+      tells = c.in_ok-see.ensures.sights;
+      rest = refl;
+    } in
+    telling_next c.changed.invariant one
 
 pub seen_from-sight-requires : goal.seen_from-sight-requires
 seen_from-sight-requires c =
@@ -28,21 +43,21 @@ seen_from-sight-requires c =
 
 pub returns-clause-going : goal.returns-clause-going
 returns-clause-going c =
-    (told_all c.args.self.now c.changed.self (record (c.changed.self)
-    { world = record (c.changed.self.world) { scopes = c.take_changed.new.self } }) c.scopes_mut.result.now c.take_changed.new.self
-    c.changed.invariant c.scopes_mut.ensures.value c.in_default.ensures.stacks c.in_default.ensures.taken (c.in_default.ensures.none refl)
-    refl).0
+    let stacks = rw c.scopes_mut.ensures.value at c.in_default.ensures.stacks in
+    let none = rw c.scopes_mut.ensures.value at c.in_default.ensures.taken in
+    let same = rw c.scopes_mut.ensures.value at (c.in_default.ensures.none refl) in
+    told_still c.take_changed.new.self c.changed.invariant stacks none same
 
 pub returns-clause-unchanged : goal.returns-clause-unchanged
 returns-clause-unchanged c =
-    (told_all c.args.self.now c.changed.self (record (c.changed.self)
-    { world = record (c.changed.self.world) { scopes = c.take_changed.new.self } }) c.scopes_mut.result.now c.take_changed.new.self
-    c.changed.invariant c.scopes_mut.ensures.value c.in_default.ensures.stacks c.in_default.ensures.taken (c.in_default.ensures.none refl)
-    refl).1
+    let stacks = rw c.scopes_mut.ensures.value at c.in_default.ensures.stacks in
+    let none = rw c.scopes_mut.ensures.value at c.in_default.ensures.taken in
+    let same = rw c.scopes_mut.ensures.value at (c.in_default.ensures.none refl) in
+    told_unchanged c.take_changed.new.self c.changed.invariant stacks none same
 
 pub returns-clause-rest : goal.returns-clause-rest
 returns-clause-rest c =
-    (told_all c.args.self.now c.changed.self (record (c.changed.self)
-    { world = record (c.changed.self.world) { scopes = c.take_changed.new.self } }) c.scopes_mut.result.now c.take_changed.new.self
-    c.changed.invariant c.scopes_mut.ensures.value c.in_default.ensures.stacks c.in_default.ensures.taken (c.in_default.ensures.none refl)
-    refl).2
+    let stacks = rw c.scopes_mut.ensures.value at c.in_default.ensures.stacks in
+    let none = rw c.scopes_mut.ensures.value at c.in_default.ensures.taken in
+    let same = rw c.scopes_mut.ensures.value at (c.in_default.ensures.none refl) in
+    told_only c.take_changed.new.self c.changed.invariant stacks none same

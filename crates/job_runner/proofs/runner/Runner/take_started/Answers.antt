@@ -1,4 +1,4 @@
-use Rattle.std.proofs.Common.{◌≡◌, ◌<◌, ◌∷◌, List, length, ap, arith}
+use Rattle.std.proofs.Common.{◌≡◌, ◌<◌, ◌∷◌, List, length, refl, ap, arith}
 use Rattle.task_machine.specs.declared.task.Task.{Task}
 use Rattle.job_runner.proofs.Starting.{taking_none, row_there, taking_more, taking_all}
 use Rattle.job_runner.proofs.runner.Runner.take_started.Goals as goal
@@ -10,7 +10,7 @@ pub start-requires-clause-agree : goal.start-requires-clause-agree
 start-requires-clause-agree c = c.started.invariant.agree
 
 pub start-requires-clause-parent : goal.start-requires-clause-parent
-start-requires-clause-parent c = row_there c.args.self.now c.started.self c.args.row c.started.invariant c.requires.row
+start-requires-clause-parent c = row_there c.started.invariant c.requires.row
 
 pub started-smaller : goal.started-smaller
 started-smaller c =
@@ -20,12 +20,18 @@ started-smaller c =
     f
 
 pub started-preserved : goal.started-preserved
-started-preserved c =
-    taking_more c.args.self.now c.started.self c.take_started.new.self c.start.new.self c.add.new.self c.args.row c.now.result
-    c.in-Some.task c.in_ok-id.id c.started.invariant c.requires.row
-    c.in-Some.ensures.task c.take_started.ensures.rest c.now.ensures c.in_ok-id.ensures.started c.in_ok-id.ensures.agree
-    c.in_ok-add.ensures.current c.in_ok-add.ensures.added
+started-preserved c = taking_more c.started.invariant c.requires.row (record {
+  task = c.in-Some.task;
+  id = c.in_ok-id.id;
+  first = c.in-Some.ensures.task;
+  world = c.take_started.ensures.rest;
+  starts = rw c.now.ensures at c.in_ok-id.ensures.started;
+  agree = c.in_ok-id.ensures.agree;
+  current = c.in_ok-add.ensures.current;
+  next = c.in_ok-add.ensures.added;
+  rest = refl;
+})
 
 pub returns : goal.returns
-returns c = taking_all c.args.self.now c.started.self c.take_started.new.self c.args.row c.started.invariant c.in_default.ensures.task.0
+returns c = taking_all c.take_started.new.self c.started.invariant c.in_default.ensures.task.0
     c.in_default.ensures.task.1 c.in_default.ensures.rest

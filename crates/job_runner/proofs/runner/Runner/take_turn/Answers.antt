@@ -6,5 +6,5 @@ returns-clause-takes c =
       stop = c.in_ok-stop.stop;
       went = c.go.new.self;
       goes = c.in_ok-stop.ensures.goes;
-      stopped = c.in_ok-stopped.ensures.comes;
+      stopped = c.in_ok-handle_stop.ensures.comes;
     }

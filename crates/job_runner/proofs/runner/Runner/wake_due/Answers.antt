@@ -1,5 +1,7 @@
 use Rattle.std.proofs.Common.{refl}
-use Rattle.job_runner.proofs.Waking.{due_first, due_next, due_fewer, due_last}
+use Rattle.batch_commit.specs.declared.entry.Call.TheVariants.{Due}
+use Rattle.job_runner.specs.declared.runner.Runner.{Runner}
+use Rattle.job_runner.proofs.Waking.{WakesOne, due_first, due_next, due_fewer, due_shelved, due_some, due_only}
 use Rattle.job_runner.proofs.runner.Runner.wake_due.Goals as goal
 
 pub due-init : goal.due-init
@@ -7,30 +9,40 @@ due-init c = due_first c.args.self.now c.requires.waking c.requires.unseen
 
 pub due-smaller : goal.due-smaller
 due-smaller c =
-    due_fewer c.args.self.now c.due.self c.in-Some.id c.due.invariant c.take_due.new.self c.in-Some.ensures
-    (record (c.due.self) { clock = c.take_due.new.self; sleepers = c.remove.new.self; batch = c.add.new.self }) refl c.remove.ensures.scopes
-    c.remove.ensures.sights c.in_ok-add.ensures.current
-    c.in_ok-add.ensures.added
+    let new : Runner = record (c.due.self) { clock = c.take_due.new.self; sleepers = c.remove.new.self; batch = c.add.new.self } in
+    let wakes : WakesOne c.due.self new c.in-Some.id Due = record {
+      timers = c.in-Some.ensures.timers;
+      time = c.in-Some.ensures.time;
+      scopes = c.remove.ensures.scopes;
+      sights = c.remove.ensures.sights;
+      current = c.in_ok-add.ensures.current;
+      next = c.in_ok-add.ensures.added;
+      only = refl;
+    } in
+    due_fewer c.due.invariant c.in-Some.ensures wakes
 
 pub due-preserved : goal.due-preserved
 due-preserved c =
-    due_next c.args.self.now c.due.self c.in-Some.id c.due.invariant c.take_due.new.self c.in-Some.ensures
-    (record (c.due.self) { clock = c.take_due.new.self; sleepers = c.remove.new.self; batch = c.add.new.self }) refl c.remove.ensures.scopes
-    c.remove.ensures.sights c.in_ok-add.ensures.current
-    c.in_ok-add.ensures.added
+    let new : Runner = record (c.due.self) { clock = c.take_due.new.self; sleepers = c.remove.new.self; batch = c.add.new.self } in
+    let wakes : WakesOne c.due.self new c.in-Some.id Due = record {
+      timers = c.in-Some.ensures.timers;
+      time = c.in-Some.ensures.time;
+      scopes = c.remove.ensures.scopes;
+      sights = c.remove.ensures.sights;
+      current = c.in_ok-add.ensures.current;
+      next = c.in_ok-add.ensures.added;
+      only = refl;
+    } in
+    due_next c.due.invariant c.in-Some.ensures wakes
 
 pub returns-clause-shelved : goal.returns-clause-shelved
-returns-clause-shelved c = (due_last c.args.self.now c.due.self (record (c.due.self) { clock = c.take_due.new.self }) c.take_due.new.self
-    c.due.invariant c.in_default.ensures refl).0
+returns-clause-shelved c = due_shelved c.take_due.new.self c.due.invariant c.in_default.ensures
 
 pub returns-clause-some : goal.returns-clause-some
-returns-clause-some c = (due_last c.args.self.now c.due.self (record (c.due.self) { clock = c.take_due.new.self }) c.take_due.new.self
-    c.due.invariant c.in_default.ensures refl).1
+returns-clause-some c = due_some c.take_due.new.self c.due.invariant c.in_default.ensures
 
 pub returns-clause-current : goal.returns-clause-current
-returns-clause-current c = (due_last c.args.self.now c.due.self (record (c.due.self) { clock = c.take_due.new.self }) c.take_due.new.self
-    c.due.invariant c.in_default.ensures refl).2
+returns-clause-current c = c.due.invariant.waking.none_current
 
 pub returns-clause-rest : goal.returns-clause-rest
-returns-clause-rest c = (due_last c.args.self.now c.due.self (record (c.due.self) { clock = c.take_due.new.self }) c.take_due.new.self
-    c.due.invariant c.in_default.ensures refl).3
+returns-clause-rest c = due_only c.take_due.new.self c.due.invariant c.in_default.ensures

@@ -1,6 +1,7 @@
-use Rattle.std.proofs.Common.{ℕ, refl, subst}
-use Rattle.sleepers.specs.Sleeping.{TakesSeen, NoneSees}
-use Rattle.job_runner.proofs.Waking.{seeing_first, seer_timed, seeing_next, seeing_fewer, seeing_last}
+use Rattle.std.proofs.Common.{refl}
+use Rattle.batch_commit.specs.declared.entry.Call.TheVariants.{Seen}
+use Rattle.job_runner.specs.declared.runner.Runner.{Runner}
+use Rattle.job_runner.proofs.Waking.{WakesOne, seeing_first, seer_timed, seeing_next, seeing_fewer, seen_waking, seen_unseen, seen_only}
 use Rattle.job_runner.proofs.runner.Runner.wake_seen.Goals as goal
 
 pub seen-init : goal.seen-init
@@ -8,39 +9,50 @@ seen-init c = seeing_first c.args.self.now c.requires
 
 pub wake-requires : goal.wake-requires
 wake-requires c =
-    seer_timed c.args.self.now c.seen.self c.in-Some.id c.seen.invariant c.take_seen.new.self
-    (subst (λ (t : ℕ). TakesSeen c.seen.self.sleepers c.take_seen.new.self c.in-Some.id t) c.now.ensures c.in-Some.ensures)
+    let takes = rw c.now.ensures at c.in-Some.ensures in
+    seer_timed c.seen.invariant takes
 
 pub seen-smaller : goal.seen-smaller
 seen-smaller c =
-    seeing_fewer c.args.self.now c.seen.self c.in-Some.id c.seen.invariant c.take_seen.new.self
-    (subst (λ (t : ℕ). TakesSeen c.seen.self.sleepers c.take_seen.new.self c.in-Some.id t) c.now.ensures c.in-Some.ensures)
-    (record (c.seen.self) { clock = c.wake.new.self; sleepers = c.take_seen.new.self; batch = c.add.new.self }) refl c.wake.ensures.timers
-    c.wake.ensures.time c.in_ok-add.ensures.current
-    c.in_ok-add.ensures.added
+    let takes = rw c.now.ensures at c.in-Some.ensures in
+    let new : Runner = record (c.seen.self) { clock = c.wake.new.self; sleepers = c.take_seen.new.self; batch = c.add.new.self } in
+    let wakes : WakesOne c.seen.self new c.in-Some.id Seen = record {
+      timers = c.wake.ensures.timers;
+      time = c.wake.ensures.time;
+      scopes = takes.scopes;
+      sights = takes.sights;
+      current = c.in_ok-add.ensures.current;
+      next = c.in_ok-add.ensures.added;
+      only = refl;
+    } in
+    seeing_fewer c.seen.invariant takes wakes
 
 pub seen-preserved : goal.seen-preserved
 seen-preserved c =
-    seeing_next c.args.self.now c.seen.self c.in-Some.id c.seen.invariant c.take_seen.new.self
-    (subst (λ (t : ℕ). TakesSeen c.seen.self.sleepers c.take_seen.new.self c.in-Some.id t) c.now.ensures c.in-Some.ensures)
-    (record (c.seen.self) { clock = c.wake.new.self; sleepers = c.take_seen.new.self; batch = c.add.new.self }) refl c.wake.ensures.timers
-    c.wake.ensures.time c.in_ok-add.ensures.current
-    c.in_ok-add.ensures.added
+    let takes = rw c.now.ensures at c.in-Some.ensures in
+    let new : Runner = record (c.seen.self) { clock = c.wake.new.self; sleepers = c.take_seen.new.self; batch = c.add.new.self } in
+    let wakes : WakesOne c.seen.self new c.in-Some.id Seen = record {
+      timers = c.wake.ensures.timers;
+      time = c.wake.ensures.time;
+      scopes = takes.scopes;
+      sights = takes.sights;
+      current = c.in_ok-add.ensures.current;
+      next = c.in_ok-add.ensures.added;
+      only = refl;
+    } in
+    seeing_next c.seen.invariant takes wakes
 
 pub returns-clause-waking : goal.returns-clause-waking
 returns-clause-waking c =
-    (seeing_last c.args.self.now c.seen.self (record (c.seen.self) { sleepers = c.take_seen.new.self }) c.take_seen.new.self
-    c.seen.invariant
-    (subst (λ (t : ℕ). NoneSees c.seen.self.sleepers c.take_seen.new.self t) c.now.ensures c.in_default.ensures) refl).0
+    let none = rw c.now.ensures at c.in_default.ensures in
+    seen_waking c.take_seen.new.self c.seen.invariant none
 
 pub returns-clause-unseen : goal.returns-clause-unseen
 returns-clause-unseen c =
-    (seeing_last c.args.self.now c.seen.self (record (c.seen.self) { sleepers = c.take_seen.new.self }) c.take_seen.new.self
-    c.seen.invariant
-    (subst (λ (t : ℕ). NoneSees c.seen.self.sleepers c.take_seen.new.self t) c.now.ensures c.in_default.ensures) refl).1
+    let none = rw c.now.ensures at c.in_default.ensures in
+    seen_unseen c.take_seen.new.self c.seen.invariant none
 
 pub returns-clause-rest : goal.returns-clause-rest
 returns-clause-rest c =
-    (seeing_last c.args.self.now c.seen.self (record (c.seen.self) { sleepers = c.take_seen.new.self }) c.take_seen.new.self
-    c.seen.invariant
-    (subst (λ (t : ℕ). NoneSees c.seen.self.sleepers c.take_seen.new.self t) c.now.ensures c.in_default.ensures) refl).2
+    let none = rw c.now.ensures at c.in_default.ensures in
+    seen_only c.take_seen.new.self c.seen.invariant none

@@ -2,7 +2,7 @@ use Rattle.std.proofs.Common.{length, ap, arith}
 use Rattle.task_table.specs.TaskTable.{gone_of}
 use Rattle.job_runner.proofs.FewRequests.{few_requests}
 use Rattle.job_runner.proofs.Rounds.{ready_some}
-use Rattle.job_runner.proofs.running.answered.Goals as goal
+use Rattle.job_runner.proofs.running.run_batch.Goals as goal
 
 pub returns-clause-turns : goal.returns-clause-turns
 returns-clause-turns g c =

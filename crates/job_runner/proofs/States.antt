@@ -1,0 +1,36 @@
+-- The run of the definitions by the table of the job's meaning.
+use Rattle.std.proofs.Common.{◌≡◌, ℕ, ◌+◌, ◌*◌, ◌≤◌, List, Option, None}
+use Rattle.job_meaning.specs.Follow.{IsSettled}
+use Rattle.job_meaning.specs.Log.{Table}
+use Rattle.job_meaning.specs.Meaning.{meaning_table}
+use Rattle.job_meaning.proofs.Settled.{table_is_settled}
+use Rattle.job_tree.specs.Names.{size_of}
+use Rattle.job_tree.specs.Tree.{Tree as Job}
+use Rattle.run_refinement.specs.RunState.{RunState, Refines}
+use Rattle.run_refinement.proofs.Blocks.{state_turns}
+use Rattle.task_table.specs.TaskTable.{task_count}
+use Rattle.job_runner.specs.declared.runner.Runner.{Runner}
+use Rattle.job_runner.specs.Shelves.{IsSoundJob, IsGoing, state_in}
+
+-- the table of the meaning of a runner's job over its input
+abbrev pub meaning_of : Runner → Table
+meaning_of r = meaning_table r.job.now r.input.now
+
+-- it is settled
+pub meaning_settled : (r : Runner) → IsSoundJob r.job.now → IsSettled (meaning_of r) r.job.now r.input.now
+meaning_settled r sound = table_is_settled r.job.now r.input.now sound.names
+
+-- so the tasks of the program are a run of the definitions by it
+pub meaning_run : {away : Option ℕ} (r : Runner) → IsGoing away r →
+    Refines (meaning_of r) r.job.now r.input.now r.world.tick (task_count r.task_table) None (state_in r)
+meaning_run r going = going.interleaving (meaning_of r) (meaning_settled r going.sound)
+
+-- a run had at most twice the job's size and one turns
+pub turns_bounded : {away : Option ℕ} (r : Runner) → IsGoing away r → r.turns ≤ 2 * size_of r.job.now.steps + 1
+turns_bounded r going =
+    state_turns (meaning_of r) r.job.now r.input.now r.world.tick (task_count r.task_table) None (state_in r) (meaning_run r going)
+
+-- the tick and the number of tasks of a run may be said otherwise
+pub run_in : {k : Table} {job : Job} {input : List ℕ} {t u m n : ℕ} {state : RunState} → t ≡ u → m ≡ n →
+    Refines k job input t m None state → Refines k job input u n None state
+run_in e f c = rw (← e, ← f) c
