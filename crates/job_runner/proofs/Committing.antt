@@ -1,5 +1,5 @@
 -- A batch whose tasks have their turns, one after another.
-use Rattle.std.proofs.Common.{◌≡◌, ℕ, zero, suc, ◌+◌, ◌<◌, ◌≤◌, Option, Some, None, List, [], ◌∷◌, length, refl, ap, sym, ◌∙◌, arith}
+use Rattle.std.proofs.Common.{◌≡◌, ℕ, zero, suc, ◌+◌, ◌<◌, Option, Some, None, List, [], ◌∷◌, length, refl, ap, sym, ◌∙◌, arith}
 use Rattle.std.specs.Prelude.{All, IsSomeAnd, ◌==◌, map, slice_get}
 use Rattle.std.specs.List.{remove}
 use Rattle.std.proofs.lemmas.List.Elements.{All-cons, All-head, All-nil, All-tail}
@@ -9,7 +9,7 @@ use Rattle.batch_commit.specs.declared.entry.Call.{Call}
 use Rattle.batch_commit.specs.declared.entry.Call.TheVariants.{Begin, Due, Seen, Settled, Ask}
 use Rattle.batch_commit.specs.declared.entry.Entry.{Entry}
 use Rattle.batch_commit.specs.Batch.{Batches, HandsOut}
-use Rattle.batch_commit.specs.Entries.{Added, AllPlaced, NonePlaced, answers_placed, request_in, requests_of, answers_after, with_placed, without_answer}
+use Rattle.batch_commit.specs.Entries.{AllPlaced, NonePlaced, answers_placed, request_in, requests_of, answers_after, with_placed, without_answer}
 use Rattle.line_kernels.specs.declared.answers.Answer.{Answer}
 use Rattle.scoped_workers.specs.Slots.{AreAnswers}
 use Rattle.task_machine.specs.declared.stop.Wake.{Wake}

@@ -1,5 +1,5 @@
 -- A task has ended: what it was before, and what stays of all others.
-use Rattle.std.proofs.Common.{◌≡◌, ◌≢◌, ℕ, ◌+◌, ◌<◌, Option, Some, None, List, refl, ap, sym, ◌∙◌, subst, arith}
+use Rattle.std.proofs.Common.{◌≡◌, ◌≢◌, ℕ, ◌<◌, Option, Some, None, refl, ap, sym, ◌∙◌, subst, arith}
 use Rattle.std.specs.Prelude.{All, slice_get, IsSomeAnd}
 use Rattle.std.specs.Option.{option_map}
 use Rattle.std.proofs.lemmas.Option.{none-some, same_Some}
@@ -23,7 +23,6 @@ use Rattle.task_machine.specs.Standing.{HasNurseryOf}
 use Rattle.run_refinement.specs.RunState.{LivesIn, HasHome, Refines}
 use Rattle.run_refinement.specs.Leaving.{EndIsTold, Leaving}
 use Rattle.run_refinement.specs.Ready.{Keeps, AreHomesOf}
-use Rattle.run_refinement.specs.Step.{StopSays}
 use Rattle.run_refinement.proofs.Found.{finds, puts}
 use Rattle.run_refinement.proofs.Keeping.{homes_left, goes_left}
 use Rattle.run_refinement.proofs.Left.{state_left}

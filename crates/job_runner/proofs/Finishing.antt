@@ -11,13 +11,13 @@ use Rattle.exc_groups.specs.Exceptions.{Label}
 use Rattle.job_meaning.specs.Follow.{follow}
 use Rattle.job_meaning.specs.Log.{Result, Table}
 use Rattle.job_meaning.specs.Meaning.{From, meaning, meaning_end, meaning_table, root_log, records_of, all_entered, froms_by}
-use Rattle.job_meaning.specs.Shown.{row_of, as_shown}
+use Rattle.job_meaning.specs.Shown.{row_of}
 use Rattle.job_meaning.proofs.Settled.{table_is_settled, settled_is_meaning, one_table_is_settled}
 use Rattle.task_machine.specs.declared.world.World.{World}
 use Rattle.task_table.specs.declared.record.Record.{Record}
 use Rattle.task_machine.specs.declared.entry.ScopeFrom.{ScopeFrom}
 use Rattle.task_machine.specs.Noted.{entry_of, from_of, IsSlice}
-use Rattle.task_table.specs.Records.{row_in, AreSlices}
+use Rattle.task_table.specs.Records.{row_in}
 use Rattle.interleavings.specs.Rows as interleaving
 use Rattle.run_refinement.specs.RunState.{Gone, Refines}
 use Rattle.run_refinement.specs.Over.{IsOver, ShowsRow}

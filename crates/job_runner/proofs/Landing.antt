@@ -1,6 +1,6 @@
 -- A runner whose clock jumped: whether it may, and its state when the sleepers that may continue
 -- are ready.
-use Rattle.std.proofs.Common.{◌≡◌, ◌≢◌, ℕ, ◌<◌, ◌≤◌, Option, Some, None, List, [], ◌∷◌, map, refl, ap, sym, ◌∙◌, arith}
+use Rattle.std.proofs.Common.{◌≡◌, ◌≢◌, ℕ, ◌<◌, ◌≤◌, Option, Some, None, List, [], ◌∷◌, map, refl, ap, ◌∙◌, arith}
 use Rattle.std.proofs.lemmas.List.Elements.{All-map, All-nil}
 use Rattle.autojump_clock.specs.Clock.{Clock, now_of, limit_of, HasTimer, AllLater, JumpsTo, MeetsLimit}
 use Rattle.batch_commit.specs.declared.entry.Entry.{Entry}
@@ -18,7 +18,7 @@ use Rattle.job_runner.specs.Jumps.{IsNextTick, IsPast, IsWaking, WakesOnly}
 use Rattle.job_runner.specs.Phases.{phase_by, phase_of}
 use Rattle.task_table.specs.TaskTable.{running_at, task_of, gone_of}
 use Rattle.task_table.specs.Rows.{times}
-use Rattle.job_runner.specs.Shelves.{IsCalledAdded, IsCalledEntry, AreShelved, IsRefined, IsSoundJob, IsUnderway, NoneChanged, running_times, times_shelved}
+use Rattle.job_runner.specs.Shelves.{IsCalledAdded, IsCalledEntry, AreShelved, IsRefined, IsUnderway, NoneChanged, running_times, times_shelved}
 use Rattle.job_runner.proofs.Jumped.{timers_later, cancel_later, has_timer, root_lives, is_next_tick, next_later, interleaving_jumps, ends_later, has_jumped}
 use Rattle.job_runner.proofs.Shelving.{none_away, times_next, times_now}
 

@@ -1,10 +1,10 @@
 -- A task that stopped is put where it belongs: in the next batch, among the sleepers, or nowhere while it waits.
 use Rattle.std.proofs.Common.{◌≡◌, ◌≢◌, ℕ, ◌+◌, Bool, true, false, inl, inr, Option, Some, None, [], ◌∷◌, ◌++◌, refl, ap, sym, ◌∙◌, arith, if◌then◌else◌}
-use Rattle.std.specs.Prelude.{◌==◌, ◌⊎◌, IsSomeAnd, IsSome}
+use Rattle.std.specs.Prelude.{◌==◌, IsSomeAnd, IsSome}
 use Rattle.std.specs.Option.{ForSome}
 use Rattle.std.proofs.lemmas.Bool.{cases_eq}
 use Rattle.std.proofs.lemmas.Bool.Decides.{eqb_tells}
-use Rattle.std.proofs.lemmas.Option.{none-some, same_Some}
+use Rattle.std.proofs.lemmas.Option.{same_Some}
 use Rattle.autojump_clock.specs.Clock.{Clock, due_of, Updates, SameTime}
 use Rattle.batch_commit.specs.declared.entry.Call.TheVariants as calls
 use Rattle.batch_commit.specs.Batch.{Batches}

@@ -50,7 +50,7 @@ use Rattle.sleepers.specs.Sleeping.{scope_in, sight_of}
 use Rattle.task_table.specs.declared.task_table.TaskTable.{TaskTable}
 use Rattle.task_table.specs.declared.task_table.Running.{Running}
 use Rattle.task_table.specs.Rows.{times}
-use Rattle.task_table.specs.TaskTable.{running_at, task_of, gone_of, start_of, children_of, parent_of, task_count, state_of, HasRow, MayTurn, HasTurn}
+use Rattle.task_table.specs.TaskTable.{running_at, task_of, gone_of, start_of, children_of, parent_of, task_count, state_of, MayTurn, HasTurn}
 use Rattle.task_table.proofs.Lists.{value_at}
 use Rattle.task_table.proofs.Times.{all_others, place_of, times_append, times_none}
 use Rattle.job_runner.specs.declared.runner.Runner.{Runner}

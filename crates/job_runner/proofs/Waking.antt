@@ -1,6 +1,6 @@
 -- Sleepers in a new tick: which tasks continue, and that the others continue to sleep.
-use Rattle.std.proofs.Common.{◌≡◌, ◌≢◌, inl, inr, ℕ, zero, suc, ◌+◌, ◌<◌, ◌≤◌, Bool, true, false, Option, Some, None, List, [], ◌∷◌, ◌++◌, length, refl, ap, sym, ◌∙◌, arith, if◌then◌else◌}
-use Rattle.std.specs.Prelude.{All, IsSome, IsSomeAnd, is_some, ◌==◌, ◌⊎◌, nat_le}
+use Rattle.std.proofs.Common.{◌≡◌, ◌≢◌, inl, inr, ℕ, ◌<◌, ◌≤◌, Bool, true, false, Option, Some, None, [], ◌∷◌, ◌++◌, length, refl, ap, sym, ◌∙◌, arith, if◌then◌else◌}
+use Rattle.std.specs.Prelude.{IsSome, IsSomeAnd, is_some, ◌==◌, ◌⊎◌}
 use Rattle.std.proofs.lemmas.Bool.{le-leb}
 use Rattle.std.proofs.lemmas.Bool.Decides.{eqb_tells, leb_tells}
 use Rattle.std.proofs.lemmas.List.Elements.{All-nil, All-push}
@@ -14,7 +14,6 @@ use Rattle.task_machine.specs.declared.stop.TaskState.{TaskState}
 use Rattle.task_machine.specs.declared.stop.TaskState.TheVariants.{ToBegin, Asked, Asleep, Awaits, Over}
 use Rattle.task_machine.specs.declared.world.World.{World}
 use Rattle.task_machine.specs.Tasks.{scope_of}
-use Rattle.run_refinement.specs.Sights.{Shows}
 use Rattle.nursery_book.specs.Nursery.{Nursery, is_settled}
 use Rattle.nursery_book.specs.Book.{nursery_at}
 use Rattle.nursery_book.specs.declared.book.NurseryBook.{NurseryBook}

@@ -1,5 +1,5 @@
 -- Depth first, one row after another.
-use Rattle.std.proofs.Common.{◌≡◌, ℕ, inl, inr, List, [], ◌∷◌, ◌++◌, Option, Some, None, refl, ap, sym, ◌∙◌, append_assoc}
+use Rattle.std.proofs.Common.{◌≡◌, ℕ, inl, inr, List, [], ◌∷◌, ◌++◌, Some, refl, ap, sym, ◌∙◌, append_assoc}
 use Rattle.std.specs.Prelude.{All, IsSome, map, reverse, slice_get, slice_set}
 use Rattle.std.specs.Option.{is_some}
 use Rattle.std.proofs.lemmas.Bool.{cases_eq, false≢true}
@@ -17,7 +17,7 @@ use Rattle.task_machine.specs.Noted.{IsSlice, from_of}
 use Rattle.task_table.specs.Records.{AreSlices, row_in}
 use Rattle.task_table.specs.declared.rows.TaskRow.{TaskRow}
 use Rattle.task_table.specs.declared.rows.Ended.{Ended}
-use Rattle.task_table.specs.Rows.{AreShown, EndIsShown, IsRecordOf, IsShown, ShowRecords, ShowsEnd}
+use Rattle.task_table.specs.Rows.{AreShown, IsRecordOf, IsShown, ShowRecords, ShowsEnd}
 use Rattle.task_table.proofs.Apart.{TakesTop}
 use Rattle.task_table.proofs.Lists.{changes_set}
 

@@ -1,10 +1,9 @@
 -- What rows and ids say once a task is started, has its turn or ends.
-use Rattle.std.proofs.Common.{◌≡◌, ◌≢◌, ℕ, zero, suc, ◌+◌, ◌<◌, List, [], ◌∷◌, ◌++◌, Option, Some, None, length, refl, ap, sym, ◌∙◌, arith}
-use Rattle.std.specs.Prelude.{IsSome, slice_get, slice_set}
-use Rattle.std.specs.Option.{is_some, option_map}
+use Rattle.std.proofs.Common.{◌≡◌, ◌≢◌, ℕ, ◌+◌, ◌<◌, List, [], ◌∷◌, ◌++◌, Option, Some, None, length, refl, ap, sym, ◌∙◌, arith}
+use Rattle.std.specs.Prelude.{slice_get, slice_set}
+use Rattle.std.specs.Option.{option_map}
 use Rattle.std.proofs.lemmas.List.{length_push, length-set}
 use Rattle.std.proofs.lemmas.Option.{none-some, same_Some, slice_get_past, slice_get_within}
-use Rattle.exc_groups.specs.Held.{exc_of}
 use Rattle.exc_groups.specs.declared.exc.Exc as held
 use Rattle.batch_commit.specs.declared.live.Live.{Live}
 use Rattle.batch_commit.specs.Live.{live_at, UpdatesLive}
@@ -15,7 +14,7 @@ use Rattle.task_table.specs.declared.rows.Ended.{Ended}
 use Rattle.task_table.specs.declared.task_table.Running.{Running}
 use Rattle.task_table.specs.declared.task_table.TaskTable.{TaskTable}
 use Rattle.task_table.specs.Rows.{ChildrenAreApart, IsNewRow}
-use Rattle.task_table.specs.TaskTable.{running_at, row_at, task_count, task_unless, task_by, gone_from, gone_by, start_by, children_by, parent_by, id_by, task_of, gone_of, HasRow, Lives, IsTaskTable, SameBut, HasRoot, Starts, Ends}
+use Rattle.task_table.specs.TaskTable.{running_at, row_at, task_count, task_unless, task_by, gone_from, gone_by, start_by, children_by, parent_by, id_by, task_of, HasRow, Lives, IsTaskTable, SameBut, HasRoot, Starts, Ends}
 use Rattle.task_table.proofs.Growth.{tree_first, tree_same, tree_more}
 use Rattle.task_table.proofs.Inverse.{AreInverse, inverse_same, inverse_added, inverse_removed, other_pair}
 use Rattle.task_table.proofs.Lists.{Changes, changes_set, changes_push, kept, set_same}

@@ -1,5 +1,5 @@
 -- How often a number occurs in a list.
-use Rattle.std.proofs.Common.{◌≡◌, ◌≢◌, ℕ, zero, suc, ◌+◌, ◌≤◌, Bool, cond, inl, inr, List, [], ◌∷◌, ◌++◌, Some, map, refl, ap, sym, ◌∙◌, arith}
+use Rattle.std.proofs.Common.{◌≡◌, ◌≢◌, ℕ, zero, suc, ◌+◌, ◌≤◌, Bool, cond, inl, inr, List, [], ◌∷◌, ◌++◌, Some, map, refl, ap, arith}
 use Rattle.std.specs.Prelude.{All, ◌==◌, reverse, slice_get}
 use Rattle.std.specs.List.{remove}
 use Rattle.std.proofs.lemmas.Bool.{cases_lt, eq-eqb, ne_eqb}

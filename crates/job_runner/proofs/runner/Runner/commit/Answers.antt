@@ -1,4 +1,4 @@
-use Rattle.std.proofs.Common.{refl, sym}
+use Rattle.std.proofs.Common.{refl}
 use Rattle.job_runner.proofs.Committing.{commits_first, commits_last, commits_next, commits_same, commits_turns, turn_fewer, turn_goes, turn_going}
 use Rattle.job_runner.specs.Turns.{and_turn}
 use Rattle.job_runner.proofs.Turns.{first_turns, all_turns}
