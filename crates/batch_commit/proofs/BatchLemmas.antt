@@ -1,5 +1,5 @@
 -- What the calls make of batches.
-use Rattle.std.proofs.Common.{◌≡◌, ℕ, ◌+◌, ◌-◌, ◌<◌, ◌≤◌, List, [], ◌∷◌, ◌++◌, Option, Some, None, length, map, refl, ap, sym, ◌∙◌, arith, length-append}
+use Rattle.std.proofs.Common.{◌≡◌, ℕ, ◌+◌, ◌<◌, ◌≤◌, List, [], ◌∷◌, ◌++◌, Option, Some, None, length, map, refl, ap, sym, ◌∙◌, arith, length-append}
 use Rattle.std.specs.Prelude.{slice_index_or, slice_get, slice_set, IsTrue, nat_eq, IsSome, ◌↔◌}
 use Rattle.std.specs.List.{remove}
 use Rattle.std.proofs.lemmas.List.{nil_from_length, length-map}

@@ -4,7 +4,7 @@ use Rattle.std.specs.List.{remove}
 use Rattle.std.proofs.Math.Seq.{get_or-append_seam, take-append_seam, drop-append-add}
 use Rattle.std.proofs.lemmas.List.{get_or_append_left, get_or-append_right}
 use Rattle.std.proofs.lemmas.List.Edits.{remove-append_left, remove-append_right}
-use Rattle.batch_commit.specs.Halves.{inner_nodes, place_if_left, places_by_counts, numbers, IsTree, Drawn}
+use Rattle.batch_commit.specs.Halves.{inner_nodes, places_by_counts, numbers, IsTree, Drawn}
 
 -- a list cut at its middle
 pub record Cut (d : ℕ) (ls l : List ℕ) (m : ℕ) (r : List ℕ) : Type 0 where
@@ -126,23 +126,6 @@ numbers_append base (suc a) b =
     let there : base + 1 + a ≡ base + suc a = omega arith in
     let sum : suc a + b ≡ suc (a + b) = omega arith in
     rw sum (ap (λ xs. base ∷ xs) (again ∙ ap (λ n. numbers (base + 1) a ++ numbers n b) there))
-
--- what is left of one place or none
-pub tip_tree : (depth c : ℕ) (ls : List ℕ) → depth ≡ 0 → c ≤ inner_nodes depth + 1 → IsTree depth ls c
-tip_tree depth c ls e le =
-    let le' : c ≤ 1 = rw e at le in
-    rw e le'
-
-at_numbers : (base c : ℕ) → c ≤ 1 → place_if_left base c ≡ numbers base c
-at_numbers base zero le = refl
-at_numbers base (suc zero) le = refl
-at_numbers base (suc (suc n)) le = absurd (omega (arith, le))
-
--- of one place or none, with no counts kept, the consecutive numbers from it on are left
-pub tip_all : (depth c : ℕ) (ls : List ℕ) → depth ≡ 0 → c ≤ inner_nodes depth + 1 → (base : ℕ) → places_by_counts depth base ls c ≡ numbers base c
-tip_all depth c ls e le base =
-    let le' : c ≤ 1 = rw e at le in
-    rw e (at_numbers base c le')
 
 -- how many places of the first half are left
 pub record InFirst (d c m : ℕ) : Type 0 where

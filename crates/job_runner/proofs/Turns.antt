@@ -1,8 +1,6 @@
 -- The turns of a batch, one after the other.
-use Rattle.std.proofs.Common.{◌≡◌, ℕ, ◌+◌, Option, List, [], map, refl, ap, ◌∙◌}
+use Rattle.std.proofs.Common.{◌≡◌, ℕ, ◌+◌, List, [], map, refl, ap, ◌∙◌}
 use Rattle.std.specs.Prelude.{IsSomeAnd}
-use Rattle.exc_groups.specs.Exceptions.{Exc}
-use Rattle.exc_groups.specs.declared.exc.Exc as held
 use Rattle.batch_commit.specs.Batch.{Batches}
 use Rattle.batch_commit.specs.declared.entry.Entry.{Entry}
 use Rattle.batch_commit.specs.Entries.{Added, answers_placed, without_answer}
@@ -13,9 +11,9 @@ use Rattle.task_machine.specs.declared.stop.Wake.{Wake}
 use Rattle.task_machine.specs.declared.world.World.{World}
 use Rattle.task_table.specs.declared.task_table.TaskTable.{TaskTable}
 use Rattle.task_table.specs.declared.task_table.Running.{Running}
-use Rattle.task_table.specs.TaskTable.{running_at, HasTurn, Ends}
+use Rattle.task_table.specs.TaskTable.{running_at, HasTurn}
 use Rattle.job_runner.specs.declared.runner.Runner.{Runner}
-use Rattle.job_runner.specs.Steps.{TakesStarted, TellsEnd, SeesOnly}
+use Rattle.job_runner.specs.Steps.{TakesStarted, SeesOnly}
 use Rattle.job_runner.specs.Turns.{GoesOn, ComesOf, TakesTurn, TakesTurns, no_turn, and_turn, with_answers, Commits}
 use Rattle.job_runner.proofs.Turning.{row_is}
 
@@ -26,14 +24,6 @@ pub goes_on : {id : ℕ} {r new : Runner} {ro : TaskTable} {w : World} {wake : W
 goes_on {r = r} {ro = ro} {w = w} row at turn takes =
     let same = row_is r row at turn in
     record { task_table = ro; world = w; turn = turn; started = rw same takes }
-
--- a task that has ended left, and its end was recorded in its nursery
-pub told_comes : {r new : Runner} {ro : TaskTable} {id : ℕ} {exc : Option held.Exc} {nursery place : ℕ} {end : Option Exc} {waiter : ℕ} →
-    Ends r.task_table ro id r.world.tick exc → TellsEnd (record r { task_table = ro }) new nursery place end waiter →
-    ComesOf id (Ended exc) r new
-told_comes ends tells =
-    let same = ap (λ (x : Runner). x.task_table) tells.rest in
-    (rw same ends, ap (λ (x : Runner). x.world) tells.rest)
 
 -- ---- the tick stays
 

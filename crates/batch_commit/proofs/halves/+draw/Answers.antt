@@ -1,4 +1,4 @@
-use Rattle.std.proofs.Common.{◌+◌, ◌-◌, ◌++◌, ◌∙◌, ap, arith}
+use Rattle.std.proofs.Common.{◌-◌, ◌++◌, ◌∙◌, ap, arith}
 use Rattle.batch_commit.proofs.HalvesLemmas.{drawn_first, drawn_last, tree_parts, above, half_of, inner_of}
 use Rattle.batch_commit.proofs.halves.+draw.Goals as goal
 

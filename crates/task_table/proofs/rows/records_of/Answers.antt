@@ -13,37 +13,29 @@ rows-init c =
       listed = λ input rs are. listed_first input rs c.args.rows.items _ _ _ stack c.new-records.ensures.items c.new-froms.ensures.items are;
     }
 
+abbrev takes_top : (c : goal.After-drop-below-in-Some) →
+    TakesTop c.rows.left c.take_row-start.new.rows c.rows.stack.items c.push_reversed.new.stack.items
+takes_top c = record {
+  place = c.in-Some.place;
+  popped = c.pop.new.self.items;
+  row = c.take_row-start.result;
+  top = c.in-Some.ensures.items;
+  was = c.take_row-start.ensures.taken;
+  out = c.take_row-start.ensures.left;
+  grows = c.in_ok-push_reversed.ensures;
+}
+
 pub rows-smaller : goal.rows-smaller
-rows-smaller c =
-    let top : TakesTop c.rows.left c.take_row-start.new.rows c.rows.stack.items c.push_reversed.new.stack.items = record {
-      place = c.in-Some.place;
-      popped = c.pop.new.self.items;
-      row = c.take_row-start.result;
-      top = c.in-Some.ensures.items;
-      was = c.take_row-start.ensures.taken;
-      out = c.take_row-start.ensures.left;
-      grows = c.in_ok-push_reversed.ensures;
-    } in
-    fewer_left top c.in-Some-end.ended c.in-Some-end.is
+rows-smaller c = fewer_left (takes_top c) c.in-Some-end.ended c.in-Some-end.is
 
 pub rows-preserved : goal.rows-preserved
-rows-preserved c =
-    let top : TakesTop c.rows.left c.take_row-start.new.rows c.rows.stack.items c.push_reversed.new.stack.items = record {
-      place = c.in-Some.place;
-      popped = c.pop.new.self.items;
-      row = c.take_row-start.result;
-      top = c.in-Some.ensures.items;
-      was = c.take_row-start.ensures.taken;
-      out = c.take_row-start.ensures.left;
-      grows = c.in_ok-push_reversed.ensures;
-    } in
-    record {
-      apart = apart_step c.rows.invariant.apart top;
-      listed = λ input rs are.
-          listed_step (c.rows.invariant.listed input rs are) top c.in-Some-end.ended c.in-Some-end.is c.record_and_froms-record.result.0
-          c.record_and_froms-record.ensures.record c.in_ok-push-2.ensures.items
-          (c.in_ok-append.ensures.items ∙ ap (λ (x : List ScopeFrom). c.rows.froms.items ++ x) c.record_and_froms-record.ensures.froms);
-    }
+rows-preserved c = record {
+  apart = apart_step c.rows.invariant.apart (takes_top c);
+  listed = λ input rs are.
+      listed_step (c.rows.invariant.listed input rs are) (takes_top c) c.in-Some-end.ended c.in-Some-end.is
+      c.record_and_froms-record.result.0 c.record_and_froms-record.ensures.record c.in_ok-push-2.ensures.items
+      (c.in_ok-append.ensures.items ∙ ap (λ (x : List ScopeFrom). c.rows.froms.items ++ x) c.record_and_froms-record.ensures.froms);
+}
 
 pub returns : goal.returns
 returns c = λ input rs are. listed_last

@@ -3,38 +3,31 @@ use Rattle.job_runner.specs.declared.runner.Runner.{Runner}
 use Rattle.job_runner.proofs.Telling.{TellsOne, taken_open, telling_first, telling_fewer, telling_next, told_still, told_unchanged, told_only}
 use Rattle.job_runner.proofs.runner.Runner.see_changed.Goals as goal
 
+abbrev after_see : goal.In_ok-see → Runner
+after_see c = record (c.changed.self) {
+  world = record (c.changed.self.world) { scopes = c.take_changed.new.self };
+  sleepers = c.see.new.self;
+}
+
+tells_one : (c : goal.In_ok-see) → TellsOne c.changed.self (after_see c) c.in-Some.scope
+tells_one c = record {
+  seen = c.seen_from-sight.result;
+  stacks = rw c.scopes_mut.ensures.value at c.in-Some.ensures.stacks;
+  takes = rw c.scopes_mut.ensures.value at c.in-Some.ensures.taken;
+  sees = rw c.scopes.ensures at c.seen_from-sight.ensures;
+  same = c.see.ensures.scopes;
+  tells = c.in_ok-see.ensures.sights;
+  rest = refl;
+}
+
 pub changed-init : goal.changed-init
 changed-init c = telling_first c.args.self.now c.requires.going
 
 pub changed-smaller : goal.changed-smaller
-changed-smaller c =
-    let new : Runner = record (c.changed.self)
-    { world = record (c.changed.self.world) { scopes = c.take_changed.new.self }; sleepers = c.see.new.self } in
-    let one : TellsOne c.changed.self new c.in-Some.scope = record {
-      seen = c.seen_from-sight.result;
-      stacks = rw c.scopes_mut.ensures.value at c.in-Some.ensures.stacks;
-      takes = rw c.scopes_mut.ensures.value at c.in-Some.ensures.taken;
-      sees = rw c.scopes.ensures at c.seen_from-sight.ensures;
-      same = c.see.ensures.scopes;
-      tells = c.in_ok-see.ensures.sights;
-      rest = refl;
-    } in
-    telling_fewer c.changed.invariant one
+changed-smaller c = telling_fewer c.changed.invariant (tells_one c)
 
 pub changed-preserved : goal.changed-preserved
-changed-preserved c =
-    let new : Runner = record (c.changed.self)
-    { world = record (c.changed.self.world) { scopes = c.take_changed.new.self }; sleepers = c.see.new.self } in
-    let one : TellsOne c.changed.self new c.in-Some.scope = record {
-      seen = c.seen_from-sight.result;
-      stacks = rw c.scopes_mut.ensures.value at c.in-Some.ensures.stacks;
-      takes = rw c.scopes_mut.ensures.value at c.in-Some.ensures.taken;
-      sees = rw c.scopes.ensures at c.seen_from-sight.ensures;
-      same = c.see.ensures.scopes;
-      tells = c.in_ok-see.ensures.sights;
-      rest = refl;
-    } in
-    telling_next c.changed.invariant one
+changed-preserved c = telling_next c.changed.invariant (tells_one c)
 
 pub seen_from-sight-requires : goal.seen_from-sight-requires
 seen_from-sight-requires c =

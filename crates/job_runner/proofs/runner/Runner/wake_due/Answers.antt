@@ -4,36 +4,28 @@ use Rattle.job_runner.specs.declared.runner.Runner.{Runner}
 use Rattle.job_runner.proofs.Waking.{WakesOne, due_first, due_next, due_fewer, due_shelved, due_some, due_only}
 use Rattle.job_runner.proofs.runner.Runner.wake_due.Goals as goal
 
+abbrev after_wake : goal.In_ok-add → Runner
+after_wake c = record (c.due.self) { clock = c.take_due.new.self; sleepers = c.remove.new.self; batch = c.add.new.self }
+
+wakes_one : (c : goal.In_ok-add) → WakesOne c.due.self (after_wake c) c.in-Some.id Due
+wakes_one c = record {
+  timers = c.in-Some.ensures.timers;
+  time = c.in-Some.ensures.time;
+  scopes = c.remove.ensures.scopes;
+  sights = c.remove.ensures.sights;
+  current = c.in_ok-add.ensures.current;
+  next = c.in_ok-add.ensures.added;
+  only = refl;
+}
+
 pub due-init : goal.due-init
 due-init c = due_first c.args.self.now c.requires.waking c.requires.unseen
 
 pub due-smaller : goal.due-smaller
-due-smaller c =
-    let new : Runner = record (c.due.self) { clock = c.take_due.new.self; sleepers = c.remove.new.self; batch = c.add.new.self } in
-    let wakes : WakesOne c.due.self new c.in-Some.id Due = record {
-      timers = c.in-Some.ensures.timers;
-      time = c.in-Some.ensures.time;
-      scopes = c.remove.ensures.scopes;
-      sights = c.remove.ensures.sights;
-      current = c.in_ok-add.ensures.current;
-      next = c.in_ok-add.ensures.added;
-      only = refl;
-    } in
-    due_fewer c.due.invariant c.in-Some.ensures wakes
+due-smaller c = due_fewer c.due.invariant c.in-Some.ensures (wakes_one c)
 
 pub due-preserved : goal.due-preserved
-due-preserved c =
-    let new : Runner = record (c.due.self) { clock = c.take_due.new.self; sleepers = c.remove.new.self; batch = c.add.new.self } in
-    let wakes : WakesOne c.due.self new c.in-Some.id Due = record {
-      timers = c.in-Some.ensures.timers;
-      time = c.in-Some.ensures.time;
-      scopes = c.remove.ensures.scopes;
-      sights = c.remove.ensures.sights;
-      current = c.in_ok-add.ensures.current;
-      next = c.in_ok-add.ensures.added;
-      only = refl;
-    } in
-    due_next c.due.invariant c.in-Some.ensures wakes
+due-preserved c = due_next c.due.invariant c.in-Some.ensures (wakes_one c)
 
 pub returns-clause-shelved : goal.returns-clause-shelved
 returns-clause-shelved c = due_shelved c.take_due.new.self c.due.invariant c.in_default.ensures

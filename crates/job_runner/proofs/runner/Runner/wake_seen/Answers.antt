@@ -4,6 +4,20 @@ use Rattle.job_runner.specs.declared.runner.Runner.{Runner}
 use Rattle.job_runner.proofs.Waking.{WakesOne, seeing_first, seer_timed, seeing_next, seeing_fewer, seen_waking, seen_unseen, seen_only}
 use Rattle.job_runner.proofs.runner.Runner.wake_seen.Goals as goal
 
+abbrev after_wake : goal.In_ok-add → Runner
+after_wake c = record (c.seen.self) { clock = c.wake.new.self; sleepers = c.take_seen.new.self; batch = c.add.new.self }
+
+wakes_one : (c : goal.In_ok-add) → WakesOne c.seen.self (after_wake c) c.in-Some.id Seen
+wakes_one c = record {
+  timers = c.wake.ensures.timers;
+  time = c.wake.ensures.time;
+  scopes = c.in-Some.ensures.scopes;
+  sights = c.in-Some.ensures.sights;
+  current = c.in_ok-add.ensures.current;
+  next = c.in_ok-add.ensures.added;
+  only = refl;
+}
+
 pub seen-init : goal.seen-init
 seen-init c = seeing_first c.args.self.now c.requires
 
@@ -15,32 +29,12 @@ wake-requires c =
 pub seen-smaller : goal.seen-smaller
 seen-smaller c =
     let takes = rw c.now.ensures at c.in-Some.ensures in
-    let new : Runner = record (c.seen.self) { clock = c.wake.new.self; sleepers = c.take_seen.new.self; batch = c.add.new.self } in
-    let wakes : WakesOne c.seen.self new c.in-Some.id Seen = record {
-      timers = c.wake.ensures.timers;
-      time = c.wake.ensures.time;
-      scopes = takes.scopes;
-      sights = takes.sights;
-      current = c.in_ok-add.ensures.current;
-      next = c.in_ok-add.ensures.added;
-      only = refl;
-    } in
-    seeing_fewer c.seen.invariant takes wakes
+    seeing_fewer c.seen.invariant takes (wakes_one c)
 
 pub seen-preserved : goal.seen-preserved
 seen-preserved c =
     let takes = rw c.now.ensures at c.in-Some.ensures in
-    let new : Runner = record (c.seen.self) { clock = c.wake.new.self; sleepers = c.take_seen.new.self; batch = c.add.new.self } in
-    let wakes : WakesOne c.seen.self new c.in-Some.id Seen = record {
-      timers = c.wake.ensures.timers;
-      time = c.wake.ensures.time;
-      scopes = takes.scopes;
-      sights = takes.sights;
-      current = c.in_ok-add.ensures.current;
-      next = c.in_ok-add.ensures.added;
-      only = refl;
-    } in
-    seeing_next c.seen.invariant takes wakes
+    seeing_next c.seen.invariant takes (wakes_one c)
 
 pub returns-clause-waking : goal.returns-clause-waking
 returns-clause-waking c =
