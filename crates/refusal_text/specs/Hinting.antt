@@ -1,5 +1,6 @@
 -- The hint that is added to the sentence of a refusal.
-use Rattle.std.specs.Prelude.{◌≡◌, ℕ, ◌-◌, Bool, true, false, is_some, ◌==◌, ◌&&◌, if◌then◌else◌, List, [], length, min, Option, Some, None, slice_get}
+use Rattle.std.specs.Prelude.{◌≡◌, ℕ, ◌-◌, Bool, true, false, is_some, ◌==◌, ◌&&◌, if◌then◌else◌, List, [], length, Option, Some, None, slice_get}
+use Rattle.std.specs.Io.Iter.{u64_saturate}
 use Rattle.job_tree.specs.Tree.{Tree}
 use Rattle.job_tree.specs.Names.{size_of}
 use Rattle.job_tree.specs.declared.format.Format.{Format}
@@ -160,7 +161,7 @@ IsReservedHint text at h = (tokens : List Token) × (fault : Option ℕ) × HasT
 -- the number of step instances of a job, or the maximum `u64` if it has more
 abbrev pub size_hint : Option Tree → Option Hint
 size_hint None = None
-size_hint (Some job) = Some (hint.Size (min (size_of job.steps) 18446744073709551615))
+size_hint (Some job) = Some (hint.Size (u64_saturate (size_of job.steps)))
 
 abbrev pub IsSizeHint : List ℕ → Option Hint → Type 0
 IsSizeHint text h = (tokens : List Token) × (fault : Option ℕ) × HasTokens text tokens fault
