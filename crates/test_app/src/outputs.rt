@@ -19,7 +19,6 @@ pub enum Output {
 
 impl Output {
     /// Returns every kind of output, in the order in which `nursery test` compares them.
-    #[tactic(auto, using(crate::proofs::EachKind::each_kind))]
     pub fn all() -> [Output; 5]
         ensures kinds { result ≡ all_outputs }
         ensures each { (kind : Output) → Contains result kind }
