@@ -2,6 +2,7 @@ ghost use Rattle.std.specs.Prelude.{◌≡◌, ◌<◌, ◌≤◌, length, IfOk,
 ghost use Rattle.job_meaning.specs.declared.limits.TheConstants.{MAX_INPUT};
 ghost use Rattle.nursery_app.specs.Verdict.{CountsFailure};
 ghost use Rattle.chart_app.specs.Charts.{IsJobVerdict, IsVerdict, IsSent, IsChartFault};
+ghost use Rattle.job_report.specs.declared.limits.TheConstants.{MAX_FAILURES};
 
 use crate::drawing::drawn_as;
 use crate::form::Form;
@@ -37,7 +38,7 @@ pub fn chart<R: Threads + Sync, P: Pick, G: Gate + Sync, W: Out>(
     out: &mut W,
 ) -> Result<Verdict, ServeFault>
     requires input { length input.now ≤ MAX_INPUT }
-    requires countable { W.failed out.old < 18446744073709551615 }
+    requires countable { W.failed out.old < MAX_FAILURES }
 
     // The bytes written are the chart of the meaning, or the refusal that the meaning names.
     ensures sent { IfOk result (IsSent form job_text.now input.now settings.limit (W.contents out.old) (W.contents out.new)) }

@@ -3,6 +3,7 @@ ghost use Rattle.job_meaning.specs.declared.limits.TheConstants.{MAX_INPUT};
 ghost use Rattle.job_grammar.specs.Refusals.{Spells, HasTokens};
 ghost use Rattle.nursery_app.specs.Verdict.{CountsFailure};
 ghost use Rattle.fault_app.specs.Verdicts.{IsVerdict, IsTable, IsSent, IsFaultsFault};
+ghost use Rattle.job_report.specs.declared.limits.TheConstants.{MAX_FAILURES};
 
 use crate::told::fault_lines;
 use crate::verdict::FaultsVerdict;
@@ -36,7 +37,7 @@ pub fn faults<R: Threads + Sync, G: Gate + Sync, W: Out>(
     out: &mut W,
 ) -> Result<FaultsVerdict, ServeFault>
     requires input { length input.now ≤ MAX_INPUT }
-    requires countable { W.failed out.old < 18446744073709551615 }
+    requires countable { W.failed out.old < MAX_FAILURES }
 
     // The bytes written are the table of all faults, or the refusal of the text.
     ensures sent { IfOk result (IsSent job_text.now input.now settings.limit name deny (W.contents out.old) (W.contents out.new)) }

@@ -1,6 +1,7 @@
 ghost use Rattle.std.specs.Prelude.{◌≡◌, ◌<◌, IfOk, IfErr, OnOk};
 ghost use Rattle.nursery_app.specs.Verdict.{CountsFailure};
 ghost use Rattle.format_app.specs.Formats.{IsAnswer, IsSent, IsFormatFault};
+ghost use Rattle.job_report.specs.declared.limits.TheConstants.{MAX_FAILURES};
 
 use crate::verdict::FormatVerdict;
 use job_layout::{FormatFault, format_text};
@@ -16,7 +17,7 @@ pub fn format<W: Out>(
     job_text: &[u8],
     out: &mut W,
 ) -> Result<FormatVerdict, ServeFault>
-    requires { W.failed out.old < 18446744073709551615 }
+    requires { W.failed out.old < MAX_FAILURES }
     ensures sent { IfOk result (IsSent job_text.now (W.contents out.old) (W.contents out.new)) }
     ensures well { OnOk result (W.failed out.new ≡ W.failed out.old) }
     ensures fault { IfErr result (IsFormatFault job_text.now (W.contents out.old) (W.contents out.new)) }

@@ -2,8 +2,8 @@
 use Rattle.std.specs.Prelude.{ℕ, ◌-◌, Bool, false, Option, Some, None, List, ◌==◌, if◌then◌else◌}
 use Rattle.job_report.specs.declared.mem_out.MemOut.{MemOut}
 
-abbrev pub held_by : MemOut → List ℕ
-held_by out = out.bytes.items
+abbrev pub bytes_of : MemOut → List ℕ
+bytes_of out = out.bytes.items
 
 abbrev pub room_of : MemOut → ℕ
 room_of out = out.room

@@ -49,8 +49,8 @@ abbrev pub stands_for_itself : ℕ → Bool
 stands_for_itself b = (nat_le 32 b && nat_le b 126) && not (b == 92)
 
 -- a byte as a report shows it: a backslash is doubled, and what is not plain is `\x` and two digits
-abbrev pub escaped : ℕ → List ℕ
-escaped b =
+abbrev pub byte_text : ℕ → List ℕ
+byte_text b =
     if stands_for_itself b then b ∷ []
     else (if b == 92 then 92 ∷ 92 ∷ [] else 92 ∷ 120 ∷ hex_digit (b / 16) ∷ hex_digit (b % 16) ∷ [])
 
@@ -61,7 +61,7 @@ caught_text false = codes " passed\n"
 -- the line of a report for an entry
 abbrev pub shown_text : Shown → List ℕ
 shown_text (line_shown at text) =
-    codes "  line " ++ decimal at ++ codes "+" ++ decimal (length text) ++ codes " " ++ flat_map escaped text ++ codes "\n"
+    codes "  line " ++ decimal at ++ codes "+" ++ decimal (length text) ++ codes " " ++ flat_map byte_text text ++ codes "\n"
 shown_text (scope_shown label tick caught) = codes "  scope " ++ label_text label ++ codes " " ++ decimal tick ++ caught_text caught
 shown_text (nursery_shown label tick caught) = codes "  nursery " ++ label_text label ++ codes " " ++ decimal tick ++ caught_text caught
 

@@ -18,7 +18,7 @@ fn push_whose(out: &mut Vec<u8>, whose: &Whose) -> Result<(), AllocError>
 
 // Appends an exception, a group with its parts in brackets.
 #[cycle(exc)]
-pub fn push_exc(out: &mut Vec<u8>, exc: &Exc) -> Result<(), AllocError>
+pub(crate) fn push_exc(out: &mut Vec<u8>, exc: &Exc) -> Result<(), AllocError>
     ensures { OnOk result (out.new.items ≡ out.old.items ++ exc_text (exc_of exc.now)) }
 {
     match exc {

@@ -7,7 +7,7 @@ use itoa::Buffer;
 use std::alloc::AllocError;
 
 // Appends a number in decimal digits.
-pub fn push_number(out: &mut Vec<u8>, n: u64) -> Result<(), AllocError>
+pub(crate) fn push_number(out: &mut Vec<u8>, n: u64) -> Result<(), AllocError>
     ensures { OnOk result (out.new.items ≡ out.old.items ++ decimal n) }
 {
     let mut buffer = Buffer::new();
@@ -15,7 +15,7 @@ pub fn push_number(out: &mut Vec<u8>, n: u64) -> Result<(), AllocError>
 }
 
 // Appends the label's name and its indices.
-pub fn push_label(out: &mut Vec<u8>, label: &Label) -> Result<(), AllocError>
+pub(crate) fn push_label(out: &mut Vec<u8>, label: &Label) -> Result<(), AllocError>
     ensures { OnOk result (out.new.items ≡ out.old.items ++ label_text label.now) }
 {
     let name = label.name();
@@ -35,7 +35,7 @@ fn push_indices(out: &mut Vec<u8>, indices: &[u64]) -> Result<(), AllocError>
 }
 
 // Appends the label and the tick, as `(p.1@7)`.
-pub fn push_place(out: &mut Vec<u8>, label: &Label, tick: u64) -> Result<(), AllocError>
+pub(crate) fn push_place(out: &mut Vec<u8>, label: &Label, tick: u64) -> Result<(), AllocError>
     ensures { OnOk result (out.new.items ≡ out.old.items ++ place_text label.now tick) }
 {
     out.extend_from_slice(b"(")?;

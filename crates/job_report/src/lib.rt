@@ -7,12 +7,14 @@
 mod escape;
 mod exc;
 mod label;
+mod limits;
 mod mem_out;
 mod out;
 mod rows;
 mod text;
 mod write_out;
 
+pub use limits::MAX_FAILURES;
 pub use mem_out::MemOut;
 pub use out::{Out, PutFault, SendFault, send};
 pub use text::report;

@@ -1,4 +1,5 @@
 ghost use Rattle.std.specs.Prelude.{◌≡◌, ◌≢◌, ℕ, ◌+◌, ◌-◌, ◌<◌, ◌≤◌, Option, Some, None, List, [], ◌++◌, length, take, min, IfOk, IfSome, IsOk, OnOk, OnErr, IfErr, IsErr, vec_capacity, vec_len, ◌↔◌, IsTrue, ◌||◌, nat_le};
+ghost use Rattle.job_report.specs.declared.limits.TheConstants.{MAX_FAILURES};
 
 use crate::out::{Out, PutFault};
 use std::alloc::{AllocError, Global};
@@ -17,7 +18,7 @@ pub struct MemOut {
 }
 
 impl MemOut {
-    ghost use Rattle.job_report.specs.MemOuts.{held_by, room_of, piece_of, puts_before_fault, puts_after, is_due, faults_of};
+    ghost use Rattle.job_report.specs.MemOuts.{bytes_of, room_of, piece_of, puts_before_fault, puts_after, is_due, faults_of};
 
     /// Returns a writer with space for `room` bytes, which takes at most `piece` bytes for each put. It fails at the
     /// put with the number `fail_at`, counted from 0, and at each put when no space is left. The caller must ensure
@@ -29,7 +30,7 @@ impl MemOut {
         fail_at: Option<u64>,
     ) -> Result<MemOut, AllocError>
         requires { 0 < piece }
-        ensures empty { IfOk result (λ out. held_by out ≡ []) }
+        ensures empty { IfOk result (λ out. bytes_of out ≡ []) }
         ensures room { IfOk result (λ out. room_of out ≡ room) }
         ensures piece { IfOk result (λ out. piece_of out ≡ piece) }
         ensures fault { IfOk result (λ out. puts_before_fault out ≡ fail_at) }
@@ -47,13 +48,13 @@ impl MemOut {
 
     /// Returns the bytes that were taken.
     pub fn taken(&self) -> &[u8]
-        ensures { result.now ≡ held_by self.now }
+        ensures { result.now ≡ bytes_of self.now }
     {
         self.bytes.as_slice()
     }
 
     // Counts a put, and returns whether it is the one that must fail.
-    fn is_told_to_fail(&mut self) -> bool
+    fn count_put(&mut self) -> bool
         ensures told { result ≡ is_due (puts_before_fault self.old) }
         ensures left { self.new ≡ record self.old { puts_left = puts_after (puts_before_fault self.old) } }
     {
@@ -73,30 +74,30 @@ impl MemOut {
 
 impl Out for MemOut {
     ghost use Rattle.std.specs.Io.KnownBytes.{Appends, Keeps};
-    ghost use Rattle.job_report.specs.MemOuts.{held_by, room_of, piece_of, puts_before_fault, puts_after, is_due, faults_of};
+    ghost use Rattle.job_report.specs.MemOuts.{bytes_of, room_of, piece_of, puts_before_fault, puts_after, is_due, faults_of};
 
     ghost failed = { faults_of };
 
-    ghost contents = { λ out. Some (held_by out) };
+    ghost contents = { λ out. Some (bytes_of out) };
 
     fn put(&mut self, bytes: &[u8]) -> Result<usize, PutFault>
         requires some { 0 < length bytes.now }
-        requires countable { faults_of self.old < 18446744073709551615 }
+        requires countable { faults_of self.old < MAX_FAILURES }
         ensures part { IfOk result (λ n. (0 < n) × (n ≤ length bytes.now)) }
-        ensures taken { IfOk result (λ n. Appends (Some (held_by self.old)) (Some (held_by self.new)) (take n bytes.now)) }
+        ensures taken { IfOk result (λ n. Appends (Some (bytes_of self.old)) (Some (bytes_of self.new)) (take n bytes.now)) }
         ensures well { OnOk result (faults_of self.new ≡ faults_of self.old) }
         ensures fault { OnErr result (faults_of self.new ≡ faults_of self.old + 1) }
-        ensures none_taken { OnErr result (Keeps (Some (held_by self.old)) (Some (held_by self.new))) }
+        ensures none_taken { OnErr result (Keeps (Some (bytes_of self.old)) (Some (bytes_of self.new))) }
         ensures most { IfOk result (λ n. n
-            ≡ min (min (length bytes.now) (piece_of self.old)) (room_of self.old - length (held_by self.old))) }
+            ≡ min (min (length bytes.now) (piece_of self.old)) (room_of self.old - length (bytes_of self.old))) }
         ensures fails { IsErr result ↔ IsTrue (is_due (puts_before_fault self.old)
-            || nat_le (room_of self.old) (length (held_by self.old))) }
+            || nat_le (room_of self.old) (length (bytes_of self.old))) }
         ensures same_room { room_of self.new ≡ room_of self.old }
         ensures same_piece { piece_of self.new ≡ piece_of self.old }
         ensures counted { puts_before_fault self.new ≡ puts_after (puts_before_fault self.old) }
     {
         let room = self.room - self.bytes.len();
-        if self.is_told_to_fail() || room == 0 {
+        if self.count_put() || room == 0 {
             self.failed += 1;
             return Err(PutFault);
         }

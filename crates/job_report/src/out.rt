@@ -1,5 +1,6 @@
 ghost use Rattle.std.specs.Prelude.{◌≡◌, ℕ, ◌+◌, ◌-◌, ◌<◌, ◌≤◌, Option, List, length, take, IfOk, OnOk, OnErr, IfErr};
 ghost use Rattle.std.specs.Io.KnownBytes.{Appends, Keeps};
+ghost use Rattle.job_report.specs.declared.limits.TheConstants.{MAX_FAILURES};
 
 use thiserror::Error;
 
@@ -20,7 +21,7 @@ pub trait Out {
     /// failure, and returns `PutFault`. The caller must ensure that `bytes` is not empty.
     fn put(&mut self, bytes: &[u8]) -> Result<usize, PutFault>
         requires some { 0 < length bytes.now }
-        requires countable { failed self.old < 18446744073709551615 }
+        requires countable { failed self.old < MAX_FAILURES }
         ensures part { IfOk result (λ n. (0 < n) × (n ≤ length bytes.now)) }
         ensures taken { IfOk result (λ n. Appends (contents self.old) (contents self.new) (take n bytes.now)) }
         ensures well { OnOk result (failed self.new ≡ failed self.old) }
@@ -43,7 +44,7 @@ pub struct SendFault {
 /// Sends all bytes to a writer. It stops only if the writer fails, and takes no memory. The error says how many bytes
 /// were taken before.
 pub fn send<W: Out>(bytes: &[u8], out: &mut W) -> Result<(), SendFault>
-    requires { W.failed out.old < 18446744073709551615 }
+    requires { W.failed out.old < MAX_FAILURES }
     ensures all { OnOk result (Appends (W.contents out.old) (W.contents out.new) bytes.now) }
     ensures well { OnOk result (W.failed out.new ≡ W.failed out.old) }
     ensures within { IfErr result (λ fault. fault.sent < length bytes.now) }

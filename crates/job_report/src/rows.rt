@@ -107,7 +107,7 @@ fn push_row(out: &mut Vec<u8>, row: &Record<'_>) -> Result<(), AllocError>
 }
 
 // Appends the lines for all tasks.
-pub fn push_rows(out: &mut Vec<u8>, rows: &[Record<'_>]) -> Result<(), AllocError>
+pub(crate) fn push_rows(out: &mut Vec<u8>, rows: &[Record<'_>]) -> Result<(), AllocError>
     ensures { OnOk result (out.new.items ≡ out.old.items ++ flat_map row_text (map row_in rows.now)) }
 {
     'rows: for row in rows {
@@ -118,7 +118,7 @@ pub fn push_rows(out: &mut Vec<u8>, rows: &[Record<'_>]) -> Result<(), AllocErro
 
 // An empty text with space for the lines of all tasks, at least if no byte of a line of the input is escaped. Otherwise it
 // grows.
-pub fn text_for(alloc: Global, rows: &[Record<'_>]) -> Result<Vec<u8>, AllocError>
+pub(crate) fn text_for(alloc: Global, rows: &[Record<'_>]) -> Result<Vec<u8>, AllocError>
     ensures { IfOk result (λ text. text.items ≡ []) }
 {
     let mut room: usize = 0;

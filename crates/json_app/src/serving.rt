@@ -2,6 +2,7 @@ ghost use Rattle.std.specs.Prelude.{◌≡◌, ◌<◌, ◌≤◌, length, IfOk,
 ghost use Rattle.job_meaning.specs.declared.limits.TheConstants.{MAX_INPUT};
 ghost use Rattle.nursery_app.specs.Verdict.{CountsFailure};
 ghost use Rattle.json_app.specs.Serving.{IsJobVerdict, IsVerdict, IsSent, IsJsonFault};
+ghost use Rattle.job_report.specs.declared.limits.TheConstants.{MAX_FAILURES};
 
 use crate::answers::{past_limit, refusal};
 use job_grammar::{Job, read_job};
@@ -29,7 +30,7 @@ pub fn serve_json<R: Threads + Sync, P: Pick, G: Gate + Sync, W: Out>(
     out: &mut W,
 ) -> Result<Verdict, ServeFault>
     requires input { length input.now ≤ MAX_INPUT }
-    requires countable { W.failed out.old < 18446744073709551615 }
+    requires countable { W.failed out.old < MAX_FAILURES }
 
     // The bytes written are the report of the meaning as JSON, or the refusal that it names.
     ensures sent { IfOk result (IsSent job_text.now input.now settings.limit (W.contents out.old) (W.contents out.new)) }

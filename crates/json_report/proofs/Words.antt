@@ -5,7 +5,7 @@ use Rattle.std.specs.Prelude.{◌&&◌, ◌||◌, ◌==◌, ◌⊎◌}
 use Rattle.std.specs.List.{flat_map, list_all}
 use Rattle.serde_json.specs.Data.{string}
 use Rattle.job_tree.specs.Words.{is_letter, is_digit, is_word_byte, starts_word}
-use Rattle.job_report.specs.Text.{escaped, stands_for_itself, index_text}
+use Rattle.job_report.specs.Text.{byte_text, stands_for_itself, index_text}
 use Rattle.json_report.specs.Laws.{LabelsAreAsInAReport}
 
 both : (a b : Bool) → (a && b) ≡ true → (a ≡ true) × (b ≡ true)
@@ -53,14 +53,14 @@ word_byte_plain b h =
       | inr line ↦ let is = eq_of_test b 95 line in plain b (omega arith) (omega arith) (λ other. absurd (omega arith))
     ]
 
-escaped_plain : (b : ℕ) → stands_for_itself b ≡ true → escaped b ≡ b ∷ []
+escaped_plain : (b : ℕ) → stands_for_itself b ≡ true → byte_text b ≡ b ∷ []
 escaped_plain b h = rw h refl
 
-bytes_plain : (bs : List ℕ) → list_all is_word_byte bs ≡ true → flat_map escaped bs ≡ bs
+bytes_plain : (bs : List ℕ) → list_all is_word_byte bs ≡ true → flat_map byte_text bs ≡ bs
 bytes_plain [] h = refl
 bytes_plain (b ∷ bs) h =
     let parts = both (is_word_byte b) (list_all is_word_byte bs) h in
-    let first : escaped b ≡ b ∷ [] = escaped_plain b (word_byte_plain b parts.0) in
+    let first : byte_text b ≡ b ∷ [] = escaped_plain b (word_byte_plain b parts.0) in
     rw (first, bytes_plain bs parts.1) refl
 
 pub labels_as_in_a_report : LabelsAreAsInAReport

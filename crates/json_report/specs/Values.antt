@@ -6,7 +6,7 @@ use Rattle.serde_json.specs.View.{items_of}
 use Rattle.serde_json.specs.Written.{compact_text}
 use Rattle.exc_groups.specs.Exceptions.{Label, Whose, by_nursery, by_handler, Exc, cancelled, raised, too_slow, group, Excs, no_parts, part}
 use Rattle.job_meaning.specs.Shown.{Shown, line_shown, scope_shown, nursery_shown, Ending, well, by_cancellation, with_exception, Row}
-use Rattle.job_report.specs.Text.{index_text, escaped, last_tick}
+use Rattle.job_report.specs.Text.{index_text, byte_text, last_tick}
 
 abbrev pub integer : ℕ → Data
 integer n = number (unsigned n)
@@ -19,11 +19,11 @@ list_of values = array (items_of values)
 
 -- bytes as a report shows them
 abbrev pub text_json : List ℕ → Data
-text_json bytes = string (flat_map escaped bytes)
+text_json bytes = string (flat_map byte_text bytes)
 
 -- a label: its name, and a dot and the index for each index
 abbrev pub label_json : Label → Data
-label_json l = string (flat_map escaped l.name ++ flat_map index_text l.indices)
+label_json l = string (flat_map byte_text l.name ++ flat_map index_text l.indices)
 
 -- ---- exceptions
 

@@ -2,7 +2,7 @@ ghost use Rattle.std.specs.Prelude.{◌≡◌, ◌++◌, ◌<◌, [], ◌∷◌,
 ghost use Rattle.std.specs.List.{flat_map};
 ghost use Rattle.serde_json.specs.View.{view};
 ghost use Rattle.serde_json.specs.Written.{has_float};
-ghost use Rattle.job_report.specs.Text.{escaped, hex_digit, index_text, stands_for_itself};
+ghost use Rattle.job_report.specs.Text.{byte_text, hex_digit, index_text, stands_for_itself};
 ghost use Rattle.json_report.specs.Values.{text_json, label_json, document};
 
 use exc_groups::Label;
@@ -63,7 +63,7 @@ fn push_index(out: &mut String, index: u64) -> Result<(), AllocError>
 
 // Appends bytes as a report shows them.
 fn push_escaped(out: &mut String, bytes: &[u8]) -> Result<(), AllocError>
-    ensures { OnOk result (string_bytes out.new ≡ string_bytes out.old ++ flat_map escaped bytes.now) }
+    ensures { OnOk result (string_bytes out.new ≡ string_bytes out.old ++ flat_map byte_text bytes.now) }
 {
     'bytes: for b in bytes {
         push_byte(out, *b)?;
@@ -73,7 +73,7 @@ fn push_escaped(out: &mut String, bytes: &[u8]) -> Result<(), AllocError>
 
 // Appends a byte as a report shows it.
 fn push_byte(out: &mut String, b: u8) -> Result<(), AllocError>
-    ensures { OnOk result (string_bytes out.new ≡ string_bytes out.old ++ escaped b) }
+    ensures { OnOk result (string_bytes out.new ≡ string_bytes out.old ++ byte_text b) }
 {
     if is_plain_byte(b) {
         return out.push(b as char);

@@ -3,6 +3,7 @@ ghost use Rattle.job_meaning.specs.declared.limits.TheConstants.{MAX_INPUT};
 ghost use Rattle.job_grammar.specs.Refusals.{Spells};
 ghost use Rattle.nursery_app.specs.Verdict.{CountsFailure};
 ghost use Rattle.json_tables_app.specs.Faults.{IsDocument, IsVerdict, IsSent, IsFaultsFault};
+ghost use Rattle.job_report.specs.declared.limits.TheConstants.{MAX_FAILURES};
 
 use fault_app::{FaultsVerdict, fault_lines};
 use fault_text::{Deny, denied};
@@ -38,7 +39,7 @@ pub fn faults_json<R: Threads + Sync, G: Gate + Sync, W: Out>(
     out: &mut W,
 ) -> Result<FaultsVerdict, ServeFault>
     requires input { length input.now ≤ MAX_INPUT }
-    requires countable { W.failed out.old < 18446744073709551615 }
+    requires countable { W.failed out.old < MAX_FAILURES }
 
     // The bytes written are the document of all faults, or that of the refusal of the text.
     ensures sent { IfOk result (IsSent job_text.now input.now settings.limit name deny (W.contents out.old) (W.contents out.new)) }

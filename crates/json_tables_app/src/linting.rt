@@ -2,6 +2,7 @@ ghost use Rattle.std.specs.Prelude.{◌≡◌, ◌<◌, [], length, IfOk, IfErr,
 ghost use Rattle.nursery_app.specs.Verdict.{CountsFailure};
 ghost use Rattle.job_lint.specs.Linted.{AreWarnings};
 ghost use Rattle.json_tables_app.specs.Lints.{IsVerdict, IsSent, IsLintsFault};
+ghost use Rattle.job_report.specs.declared.limits.TheConstants.{MAX_FAILURES};
 
 use crate::verdict::LintsVerdict;
 use job_lint::{Warning, lints};
@@ -21,7 +22,7 @@ pub fn lints_json<W: Out>(
     job_text: &[u8],
     out: &mut W,
 ) -> Result<LintsVerdict, ServeFault>
-    requires countable { W.failed out.old < 18446744073709551615 }
+    requires countable { W.failed out.old < MAX_FAILURES }
 
     // The bytes written are the document of all warnings, or that of the refusal of the text.
     ensures sent { IfOk result (IsSent job_text.now (W.contents out.old) (W.contents out.new)) }

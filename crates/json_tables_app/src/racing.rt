@@ -4,6 +4,7 @@ ghost use Rattle.job_grammar.specs.Refusals.{Spells};
 ghost use Rattle.nursery_app.specs.Verdict.{CountsFailure};
 ghost use Rattle.race_text.specs.Views.{line_held};
 ghost use Rattle.json_tables_app.specs.Races.{IsDocumentOf, IsVerdict, IsJobVerdict, IsSent, IsRacesFault};
+ghost use Rattle.job_report.specs.declared.limits.TheConstants.{MAX_FAILURES};
 
 use job_grammar::{Job, read_job};
 use job_report::{Out, send};
@@ -38,7 +39,7 @@ pub fn races_json<R: Threads + Sync, G: Gate + Sync, W: Out>(
     out: &mut W,
 ) -> Result<RacesVerdict, ServeFault>
     requires input { length input.now ≤ MAX_INPUT }
-    requires countable { W.failed out.old < 18446744073709551615 }
+    requires countable { W.failed out.old < MAX_FAILURES }
 
     // The bytes written are the document of all hairs, or that of the refusal of the text or of the limit, or there are none.
     ensures sent { IfOk result (IsSent job_text.now input.now settings.limit deny (W.contents out.old) (W.contents out.new)) }

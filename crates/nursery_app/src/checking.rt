@@ -3,6 +3,7 @@ ghost use Rattle.job_grammar.specs.Canon.{canon};
 ghost use Rattle.nursery_app.specs.Verdict.{CountsFailure};
 ghost use Rattle.job_meaning.specs.Laws.{in_format_2};
 ghost use Rattle.nursery_app.specs.Checking.{IsAnswer, IsAnswerSent, IsAnswerFault, as_it_is};
+ghost use Rattle.job_report.specs.declared.limits.TheConstants.{MAX_FAILURES};
 
 use crate::lines::refusal;
 use crate::verdict::{CheckVerdict, ServeFault};
@@ -18,7 +19,7 @@ pub fn check<W: Out>(
     job_text: &[u8],
     out: &mut W,
 ) -> Result<CheckVerdict, ServeFault>
-    requires { W.failed out.old < 18446744073709551615 }
+    requires { W.failed out.old < MAX_FAILURES }
     ensures sent { IfOk result (IsAnswerSent as_it_is job_text.now (W.contents out.old) (W.contents out.new)) }
     ensures well { OnOk result (W.failed out.new ≡ W.failed out.old) }
     ensures fault { IfErr result (IsAnswerFault as_it_is job_text.now (W.contents out.old) (W.contents out.new)) }
@@ -47,7 +48,7 @@ pub fn upgrade<W: Out>(
     job_text: &[u8],
     out: &mut W,
 ) -> Result<CheckVerdict, ServeFault>
-    requires { W.failed out.old < 18446744073709551615 }
+    requires { W.failed out.old < MAX_FAILURES }
     ensures sent { IfOk result (IsAnswerSent in_format_2 job_text.now (W.contents out.old) (W.contents out.new)) }
     ensures well { OnOk result (W.failed out.new ≡ W.failed out.old) }
     ensures fault { IfErr result (IsAnswerFault in_format_2 job_text.now (W.contents out.old) (W.contents out.new)) }

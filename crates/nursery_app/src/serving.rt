@@ -1,6 +1,7 @@
 ghost use Rattle.std.specs.Prelude.{◌≡◌, ◌<◌, ◌≤◌, length, IfOk, IfErr, OnOk};
 ghost use Rattle.job_meaning.specs.declared.limits.TheConstants.{MAX_INPUT};
 ghost use Rattle.nursery_app.specs.Verdict.{IsVerdict, IsSent, IsServeFault, CountsFailure, IsRunVerdict};
+ghost use Rattle.job_report.specs.declared.limits.TheConstants.{MAX_FAILURES};
 
 use crate::lines::{past_limit, refusal};
 use crate::verdict::{ServeFault, Verdict};
@@ -26,7 +27,7 @@ pub fn serve<R: Threads + Sync, P: Pick, G: Gate + Sync, W: Out>(
     out: &mut W,
 ) -> Result<Verdict, ServeFault>
     requires input { length input.now ≤ MAX_INPUT }
-    requires countable { W.failed out.old < 18446744073709551615 }
+    requires countable { W.failed out.old < MAX_FAILURES }
 
     // The bytes written are the report of the meaning, or the refusal that it names.
     ensures sent { IfOk result (IsSent job_text.now input.now settings.limit (W.contents out.old) (W.contents out.new)) }

@@ -5,6 +5,7 @@ ghost use Rattle.nursery_app.specs.Verdict.{CountsFailure};
 ghost use Rattle.race_text.specs.Table.{denied_text};
 ghost use Rattle.race_text.specs.Views.{line_held};
 ghost use Rattle.race_app.specs.Verdicts.{IsTableOf, IsVerdict, IsJobVerdict, IsSent, IsRacesFault};
+ghost use Rattle.job_report.specs.declared.limits.TheConstants.{MAX_FAILURES};
 
 use crate::told::{RaceAnswer, RaceLines, race_lines};
 use crate::verdict::RacesVerdict;
@@ -39,7 +40,7 @@ pub fn races<R: Threads + Sync, G: Gate + Sync, W: Out>(
     out: &mut W,
 ) -> Result<RacesVerdict, ServeFault>
     requires input { length input.now ≤ MAX_INPUT }
-    requires countable { W.failed out.old < 18446744073709551615 }
+    requires countable { W.failed out.old < MAX_FAILURES }
 
     // The bytes written are the table of all hairs, or the refusal of the text, or the line of the limit, or there are none.
     ensures sent { IfOk result (IsSent job_text.now input.now settings.limit deny (W.contents out.old) (W.contents out.new)) }

@@ -3,6 +3,7 @@ ghost use Rattle.std.specs.Option.{option_copied};
 ghost use Rattle.job_meaning.specs.declared.limits.TheConstants.{MAX_INPUT};
 ghost use Rattle.nursery_app.specs.Verdict.{CountsFailure};
 ghost use Rattle.story_app.specs.Stories.{IsVerdict, IsSent, IsStoryFault};
+ghost use Rattle.job_report.specs.declared.limits.TheConstants.{MAX_FAILURES};
 
 use crate::telling::job_verdict;
 use crate::verdict::StoryVerdict;
@@ -36,7 +37,7 @@ pub fn explain<R: Threads + Sync, P: Pick, G: Gate + Sync, W: Out>(
     out: &mut W,
 ) -> Result<StoryVerdict, ServeFault>
     requires input { length input.now ≤ MAX_INPUT }
-    requires countable { W.failed out.old < 18446744073709551615 }
+    requires countable { W.failed out.old < MAX_FAILURES }
 
     // The bytes written are the story of the meaning, or the refusal that the meaning names.
     ensures sent { IfOk result (IsSent job_text.now input.now settings.limit (option_copied task.entry) (W.contents out.old) (W.contents out.new)) }

@@ -3,6 +3,7 @@ ghost use Rattle.job_meaning.specs.declared.limits.TheConstants.{MAX_INPUT};
 ghost use Rattle.job_grammar.specs.Refusals.{Spells};
 ghost use Rattle.nursery_app.specs.Verdict.{CountsFailure};
 ghost use Rattle.sweep_app.specs.Verdicts.{IsVerdict, IsJobVerdict, IsSent, IsSweepFault};
+ghost use Rattle.job_report.specs.declared.limits.TheConstants.{MAX_FAILURES};
 
 use crate::told::{SweepAnswer, sweep_values};
 use crate::verdict::SweepVerdict;
@@ -37,7 +38,7 @@ pub fn sweep<R: Threads + Sync, G: Gate + Sync, W: Out>(
     out: &mut W,
 ) -> Result<SweepVerdict, ServeFault>
     requires input { length input.now ≤ MAX_INPUT }
-    requires countable { W.failed out.old < 18446744073709551615 }
+    requires countable { W.failed out.old < MAX_FAILURES }
 
     // The bytes written are the text of all values, or the refusal of the text, or there are none.
     ensures sent { IfOk result (IsSent job_text.now input.now settings.limit target values.now (W.contents out.old) (W.contents out.new)) }
