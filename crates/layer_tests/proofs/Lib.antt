@@ -1,1 +1,1 @@
-mod Rooted
+mod RootTasks

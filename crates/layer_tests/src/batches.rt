@@ -12,15 +12,15 @@ use std::alloc::{AllocError, Global};
 use std::test::Fail;
 use task_machine::Wake;
 
-/// A request that is identified by its number.
-fn numbered(number: u64) -> Request<'static> {
+// A request that is identified by its number.
+fn head_request(number: u64) -> Request<'static> {
     Request {
         kernel: Kernel::Head(number),
         part: Part::whole(b""),
     }
 }
 
-/// The numbers of requests, each with a space after it.
+// The numbers of requests, each with a space after it.
 fn numbers(alloc: Global, requests: &[Request<'_>]) -> Result<Vec<u8>, AllocError> {
     let mut text = Vec::new(alloc);
     for request in requests {
@@ -33,7 +33,7 @@ fn numbers(alloc: Global, requests: &[Request<'_>]) -> Result<Vec<u8>, AllocErro
     Ok(text)
 }
 
-/// The answer that is identified by the number of the request.
+// The answer that is identified by the number of the request.
 fn answer_to(kernel: Kernel<'_>) -> Answer<'static> {
     match kernel {
         Kernel::Head(number) => Answer::Count(number),
@@ -41,7 +41,7 @@ fn answer_to(kernel: Kernel<'_>) -> Answer<'static> {
     }
 }
 
-/// Answers that are identified by the numbers of their requests.
+// Answers that are identified by the numbers of their requests.
 fn answers_to(alloc: Global, requests: &[Request<'_>]) -> Result<Vec<Answer<'static>>, AllocError>
     ensures { IfOk result (λ answers. length answers.items ≡ length requests.now) }
 {
@@ -52,7 +52,7 @@ fn answers_to(alloc: Global, requests: &[Request<'_>]) -> Result<Vec<Answer<'sta
     Ok(answers)
 }
 
-/// Answers every request of the current batch.
+// Answers every request of the current batch.
 fn answer_all(alloc: Global, batch: &mut ReadyBatch<'static>) -> Result<(), AllocError>
     requires { NonePlaced batch.old.current }
     ensures { OnOk result (AllPlaced batch.new.current) }
@@ -63,7 +63,7 @@ fn answer_all(alloc: Global, batch: &mut ReadyBatch<'static>) -> Result<(), Allo
     Ok(())
 }
 
-/// Appends an answer, by its number.
+// Appends an answer, by its number.
 fn push_answer(text: &mut Vec<u8>, answer: &Answer<'_>) -> Result<(), AllocError> {
     match answer {
         Answer::Count(number) => push_number(text, *number),
@@ -71,7 +71,7 @@ fn push_answer(text: &mut Vec<u8>, answer: &Answer<'_>) -> Result<(), AllocError
     }
 }
 
-/// Appends why a task continues.
+// Appends why a task continues.
 fn push_wake(text: &mut Vec<u8>, wake: &Wake<'_>) -> Result<(), AllocError> {
     match wake {
         Wake::Begin => push_bytes(text, b"begin"),
@@ -82,7 +82,7 @@ fn push_wake(text: &mut Vec<u8>, wake: &Wake<'_>) -> Result<(), AllocError> {
     }
 }
 
-/// Appends a task's key and why it continues, as `2:20 `.
+// Appends a task's key and why it continues, as `2:20 `.
 fn push_turn(text: &mut Vec<u8>, turn: &(TaskId, Wake<'_>)) -> Result<(), AllocError> {
     push_number(text, turn.0.key() as u64)?;
     push_bytes(text, b":")?;
@@ -90,7 +90,7 @@ fn push_turn(text: &mut Vec<u8>, turn: &(TaskId, Wake<'_>)) -> Result<(), AllocE
     push_bytes(text, b" ")
 }
 
-/// One of the three orders of turns.
+// One of the three orders of turns.
 #[derive(Clone, Copy, Drop)]
 enum Order {
     Forward,
@@ -98,14 +98,14 @@ enum Order {
     InTurn,
 }
 
-/// A picker that picks as the one of its order does. It is one type, so what is generic in pickers is proved here only for it.
+// A picker that picks as the one of its order does. It is one type, so what is generic in pickers is proved here only for it.
 #[derive(Drop)]
 struct Chosen {
     order: Order,
     turn: Turn,
 }
 
-/// The picker of an order.
+// The picker of an order.
 fn picker_of(order: Order) -> Chosen {
     Chosen {
         order,
@@ -126,7 +126,7 @@ impl Pick for Chosen {
     }
 }
 
-/// The turns of the current batch, which is over then.
+// The turns of the current batch, which is over then.
 fn turns(
     alloc: Global,
     batch: &mut ReadyBatch<'static>,
@@ -142,8 +142,8 @@ fn turns(
     Ok(text)
 }
 
-/// A batch of these calls, which is the current one and has no answer yet.
-fn called(
+// A batch of these calls, which is the current one and has no answer yet.
+fn batch_of_calls(
     alloc: Global,
     calls: &[(usize, Call<'static>)],
 ) -> Result<ReadyBatch<'static>, AllocError>
@@ -157,20 +157,20 @@ fn called(
     Ok(batch)
 }
 
-/// The turns of four tasks, of which the second and the fourth make requests.
+// The turns of four tasks, of which the second and the fourth make requests.
 fn four_turns(alloc: Global, picker: &mut Chosen) -> Result<Vec<u8>, AllocError> {
     let calls = [
         (1, Call::Begin),
-        (2, Call::Ask(numbered(20))),
+        (2, Call::Ask(head_request(20))),
         (3, Call::Settled),
-        (4, Call::Ask(numbered(40))),
+        (4, Call::Ask(head_request(40))),
     ];
-    let mut batch = called(alloc, &calls)?;
+    let mut batch = batch_of_calls(alloc, &calls)?;
     answer_all(alloc, &mut batch)?;
     turns(alloc, &mut batch, picker)
 }
 
-/// Whether four tasks have these turns in an order, and the picker in turn was called this often.
+// Whether four tasks have these turns in an order, and the picker in turn was called this often.
 fn have_turns(alloc: Global, order: Order, wanted: &[u8], calls: u64) -> Result<bool, AllocError> {
     let mut picker = picker_of(order);
     let found = four_turns(alloc, &mut picker)?;
@@ -188,18 +188,18 @@ fn turns_come_as_the_picker_picks(rt: HostRuntime) -> Result<(), Fail> {
     Ok(())
 }
 
-/// The turns of three tasks that begin, and how many requests they make.
+// The turns of three tasks that begin, and how many requests they make.
 fn three_begin(alloc: Global, order: Order) -> Result<(Vec<u8>, usize), AllocError> {
     let calls = [(0, Call::Begin), (1, Call::Begin), (2, Call::Begin)];
-    let mut batch = called(alloc, &calls)?;
+    let mut batch = batch_of_calls(alloc, &calls)?;
     let requests = batch.requests()?.len();
     answer_all(alloc, &mut batch)?;
     let text = turns(alloc, &mut batch, &mut picker_of(order))?;
     Ok((text, requests))
 }
 
-/// Whether three tasks that begin make no request, and have these turns in an order.
-fn begin_so(alloc: Global, order: Order, wanted: &[u8]) -> Result<bool, AllocError> {
+// Whether three tasks that begin make no request, and have these turns in an order.
+fn begin_in_order(alloc: Global, order: Order, wanted: &[u8]) -> Result<bool, AllocError> {
     let (text, requests) = three_begin(alloc, order)?;
     Ok(requests == 0 && text.as_slice() == wanted)
 }
@@ -207,21 +207,21 @@ fn begin_so(alloc: Global, order: Order, wanted: &[u8]) -> Result<bool, AllocErr
 #[test]
 fn three_tasks_begin_as_the_picker_picks(rt: HostRuntime) -> Result<(), Fail> {
     let forward = b"0:begin 1:begin 2:begin ";
-    assert!(rt; begin_so(rt.alloc(), Order::Forward, forward)?);
+    assert!(rt; begin_in_order(rt.alloc(), Order::Forward, forward)?);
     let reverse = b"2:begin 1:begin 0:begin ";
-    assert!(rt; begin_so(rt.alloc(), Order::Reverse, reverse)?);
+    assert!(rt; begin_in_order(rt.alloc(), Order::Reverse, reverse)?);
     let in_turn = b"0:begin 2:begin 1:begin ";
-    assert!(rt; begin_so(rt.alloc(), Order::InTurn, in_turn)?);
+    assert!(rt; begin_in_order(rt.alloc(), Order::InTurn, in_turn)?);
     Ok(())
 }
 
-/// The number of requests before a batch is the current one, and then their numbers.
-fn numbers_asked(alloc: Global) -> Result<(usize, Vec<u8>), AllocError> {
+// The number of requests before a batch is the current one, and then their numbers.
+fn request_numbers(alloc: Global) -> Result<(usize, Vec<u8>), AllocError> {
     let mut batch = ReadyBatch::new(alloc);
     batch.add(TaskId::of(1), Call::Due)?;
-    batch.add(TaskId::of(2), Call::Ask(numbered(20)))?;
+    batch.add(TaskId::of(2), Call::Ask(head_request(20)))?;
     batch.add(TaskId::of(3), Call::Seen)?;
-    batch.add(TaskId::of(4), Call::Ask(numbered(40)))?;
+    batch.add(TaskId::of(4), Call::Ask(head_request(40)))?;
     let before = batch.requests()?.len();
     batch.turn_over();
     let requests = batch.requests()?;
@@ -230,12 +230,12 @@ fn numbers_asked(alloc: Global) -> Result<(usize, Vec<u8>), AllocError> {
 
 #[test]
 fn requests_come_in_the_order_of_their_tasks(rt: HostRuntime) -> Result<(), Fail> {
-    let (before, then) = numbers_asked(rt.alloc())?;
+    let (before, then) = request_numbers(rt.alloc())?;
     assert!(rt; before == 0);
     same(then.as_slice(), b"20 40 ")
 }
 
-/// The turns of a batch, while a task is added to the next one.
+// The turns of a batch, while a task is added to the next one.
 fn turns_before(alloc: Global, batch: &mut ReadyBatch<'static>) -> Result<Vec<u8>, AllocError>
     requires { NonePlaced batch.old.current }
     ensures { OnOk result (batch.new.current ≡ []) }
@@ -245,7 +245,7 @@ fn turns_before(alloc: Global, batch: &mut ReadyBatch<'static>) -> Result<Vec<u8
     turns(alloc, batch, &mut picker_of(Order::Forward))
 }
 
-/// Whether the batch is over, and not after the next one is the current one; and the turns of that one.
+// Whether the batch is over, and not after the next one is the current one; and the turns of that one.
 fn turns_after(
     alloc: Global,
     batch: &mut ReadyBatch<'static>,
@@ -260,9 +260,9 @@ fn turns_after(
     Ok((before, then, text))
 }
 
-/// Fails if what is added does not wait for the next batch.
+// Fails if what is added does not wait for the next batch.
 fn waits(alloc: Global) -> Result<(), Fail> {
-    let mut batch = called(alloc, &[(1, Call::Due)])?;
+    let mut batch = batch_of_calls(alloc, &[(1, Call::Due)])?;
     let first = turns_before(alloc, &mut batch)?;
     same(first.as_slice(), b"1:due ")?;
     let (before, then, second) = turns_after(alloc, &mut batch)?;
@@ -277,8 +277,8 @@ fn what_is_added_waits_for_the_next_batch(rt: HostRuntime) -> Result<(), Fail> {
     waits(rt.alloc())
 }
 
-/// A batch of the given number of tasks that begin.
-fn begun(alloc: Global, count: usize) -> Result<ReadyBatch<'static>, AllocError>
+// A batch of the given number of tasks that begin.
+fn batch_of_begins(alloc: Global, count: usize) -> Result<ReadyBatch<'static>, AllocError>
     ensures { IfOk result (λ batch. NonePlaced batch.current) }
 {
     let mut batch = ReadyBatch::new(alloc);
@@ -289,7 +289,7 @@ fn begun(alloc: Global, count: usize) -> Result<ReadyBatch<'static>, AllocError>
     Ok(batch)
 }
 
-/// A sum of the keys of tasks, which depends on the order of their turns.
+// A sum of the keys of tasks, which depends on the order of their turns.
 fn order_of(batch: &mut ReadyBatch<'static>, picker: &mut Chosen) -> u64
     requires { AllPlaced batch.old.current }
 {
@@ -300,9 +300,9 @@ fn order_of(batch: &mut ReadyBatch<'static>, picker: &mut Chosen) -> u64
     sum
 }
 
-/// The sum for the given number of tasks, where the picker picks in turn.
+// The sum for the given number of tasks, where the picker picks in turn.
 fn order_in_turn(alloc: Global, count: usize) -> Result<u64, AllocError> {
-    let mut batch = begun(alloc, count)?;
+    let mut batch = batch_of_begins(alloc, count)?;
     answer_all(alloc, &mut batch)?;
     Ok(order_of(&mut batch, &mut picker_of(Order::InTurn)))
 }
@@ -314,7 +314,7 @@ fn a_hundred_thousand_turns(rt: HostRuntime) -> Result<(), Fail> {
     Ok(())
 }
 
-/// Whether a value could be written under an id.
+// Whether a value could be written under an id.
 fn write(live: &mut Live<u64>, id: TaskId, value: u64) -> bool {
     match live.get_mut(id) {
         Some(place) => {
@@ -325,7 +325,7 @@ fn write(live: &mut Live<u64>, id: TaskId, value: u64) -> bool {
     }
 }
 
-/// Whether this value is under an id.
+// Whether this value is under an id.
 fn has(live: &Live<u64>, id: TaskId, value: u64) -> bool {
     match live.get(id) {
         Some(found) => *found == value,
@@ -333,14 +333,14 @@ fn has(live: &Live<u64>, id: TaskId, value: u64) -> bool {
     }
 }
 
-/// Whether this value is taken from an id, and nothing is there then.
+// Whether this value is taken from an id, and nothing is there then.
 fn takes_once(live: &mut Live<u64>, id: TaskId, value: u64) -> bool {
     let taken = live.take(id);
     let again = live.take(id);
     taken == Some(value) && again == None && live.get(id).is_none()
 }
 
-/// Whether each id has the value that was put there last, and an id is reused.
+// Whether each id has the value that was put there last, and an id is reused.
 fn gives_ids_again(alloc: Global) -> Result<bool, AllocError> {
     let mut live = Live::new(alloc);
     let first = live.put(10)?;

@@ -9,6 +9,7 @@ use job_tree::{Body, Deadline, Handler, Name, Step};
 use std::alloc::Global;
 use std::test::Fail;
 
+// The token of a name at a place.
 fn token(at: usize, name: Name) -> Token {
     Token {
         at,
@@ -16,14 +17,14 @@ fn token(at: usize, name: Name) -> Token {
     }
 }
 
-/// A block of one step.
+// A block of one step.
 fn block(alloc: Global, step: Step) -> Result<Body, Fail> {
     let mut steps = Vec::new(alloc);
     steps.push(step)?;
     Ok(Body::new(steps))
 }
 
-/// A block of two steps.
+// A block of two steps.
 fn block_of_two(alloc: Global, first: Step, second: Step) -> Result<Body, Fail> {
     let mut steps = Vec::new(alloc);
     steps.push(first)?;
@@ -31,6 +32,7 @@ fn block_of_two(alloc: Global, first: Step, second: Step) -> Result<Body, Fail> 
     Ok(Body::new(steps))
 }
 
+// A scope of one step, without a deadline or a shield.
 fn scope(alloc: Global, name: &[u8], step: Step) -> Result<Step, Fail> {
     Ok(Step::Scope {
         name: word(name)?,
@@ -41,7 +43,7 @@ fn scope(alloc: Global, name: &[u8], step: Step) -> Result<Step, Fail> {
     })
 }
 
-/// A nursery that starts one child.
+// A nursery that starts one child.
 fn nursery(alloc: Global, child: &[u8], over: Option<u64>, step: Step) -> Result<Step, Fail> {
     let name = word(b"n")?;
     let child = word(child)?;
@@ -60,14 +62,14 @@ fn nursery(alloc: Global, child: &[u8], over: Option<u64>, step: Step) -> Result
     })
 }
 
-/// The place where a `cancel` of that name is stray, which is at 9 after the job's name.
+// The place where a `cancel` of that name is stray, which is at 9 after the job's name.
 fn place_of_stray(body: &Body, name: &[u8]) -> Result<Option<usize>, Fail> {
     let tokens = [token(3, word(b"main")?), token(9, word(name)?)];
     let roles = [Role::Given, Role::Target];
     Ok(stray_cancel(body.as_slice(), &tokens, &roles))
 }
 
-/// The place where a name is given twice among `a b a b`, of which the first two are given.
+// The place where a name is given twice among `a b a b`, of which the first two are given.
 fn place_of_twice(alloc: Global, third: Role, fourth: Role) -> Result<Option<usize>, Fail> {
     let (a, b) = (word(b"a")?, word(b"b")?);
     let tokens = [token(0, a), token(2, b), token(4, a), token(6, b)];
@@ -75,7 +77,7 @@ fn place_of_twice(alloc: Global, third: Role, fourth: Role) -> Result<Option<usi
     Ok(given_twice(alloc, &tokens, &roles)?)
 }
 
-/// The roles of the third and the fourth name, and where a name is given twice then.
+// The roles of the third and the fourth name, and where a name is given twice then.
 const TWICE: &[(Role, Role, Option<usize>)] = &[
     (Role::Given, Role::Given, Some(4)),
     (Role::Raised, Role::Given, Some(6)),
@@ -83,7 +85,7 @@ const TWICE: &[(Role, Role, Option<usize>)] = &[
     (Role::Target, Role::Plain, None),
 ];
 
-/// Fails at the first row with another place.
+// Fails at the first row with another place.
 fn twice_is_found(alloc: Global) -> Result<(), Fail> {
     for i in 0..TWICE.len() {
         let (third, fourth, wanted) = TWICE[i];
@@ -99,19 +101,19 @@ fn a_name_is_given_once(rt: HostRuntime) -> Result<(), Fail> {
     twice_is_found(rt.alloc())
 }
 
-/// A `cancel` of a scope in a child that is started inside the scope.
+// A `cancel` of a scope in a child that is started inside the scope.
 fn across_a_start(alloc: Global) -> Result<Body, Fail> {
     let inner = nursery(alloc, b"t", None, Step::Cancel(word(b"s")?))?;
     block(alloc, scope(alloc, b"s", inner)?)
 }
 
-/// A `cancel` of a scope after the scope.
+// A `cancel` of a scope after the scope.
 fn behind_a_scope(alloc: Global) -> Result<Body, Fail> {
     let beside = scope(alloc, b"s", Step::Checkpoint)?;
     block_of_two(alloc, beside, Step::Cancel(word(b"s")?))
 }
 
-/// A `cancel` of a child in the child.
+// A `cancel` of a child in the child.
 fn in_a_child(alloc: Global) -> Result<Body, Fail> {
     let inner = nursery(alloc, b"t", None, Step::Cancel(word(b"t")?))?;
     block(alloc, inner)
@@ -140,13 +142,13 @@ fn a_cancel_cannot_name_a_task(rt: HostRuntime) -> Result<(), Fail> {
     Ok(())
 }
 
-/// The place of a name that is reserved where its token at 5 has that role.
+// The place of a name that is reserved where its token at 5 has that role.
 fn place_of_reserved(text: &[u8], role: Role) -> Result<Option<usize>, Fail> {
     let tokens = [token(5, word(text)?)];
     Ok(reserved_name(&tokens, &[role]))
 }
 
-/// A name, its role, and where it is reserved.
+// A name, its role, and where it is reserved.
 const RESERVED: &[(&'static [u8], Role, Option<usize>)] = &[
     (b"TooSlow", Role::Handled, None),
     (b"TooSlow", Role::Raised, Some(5)),
@@ -169,7 +171,7 @@ fn reserved_names_are_refused_by_their_role() -> Result<(), Fail> {
     Ok(())
 }
 
-/// A block of three nested nurseries, each of which starts 64 children.
+// A block of three nested nurseries, each of which starts 64 children.
 fn three_nurseries(alloc: Global) -> Result<Body, Fail> {
     let third = nursery(alloc, b"c", Some(64), Step::Sleep(1))?;
     let second = nursery(alloc, b"b", Some(64), third)?;
@@ -177,13 +179,13 @@ fn three_nurseries(alloc: Global) -> Result<Body, Fail> {
     block(alloc, first)
 }
 
-/// A nursery that starts more children than there are numbers.
+// A nursery that starts more children than there are numbers.
 fn many_children(alloc: Global) -> Result<Body, Fail> {
     let many = nursery(alloc, b"a", Some(u64::MAX), Step::Checkpoint)?;
     block(alloc, many)
 }
 
-/// A `try` with a handler and a cleanup, and a step after it.
+// A `try` with a handler and a cleanup, and a step after it.
 fn attempt_and_checkpoint(alloc: Global) -> Result<Body, Fail> {
     let handler = Handler {
         name: word(b"E")?,
@@ -197,7 +199,7 @@ fn attempt_and_checkpoint(alloc: Global) -> Result<Body, Fail> {
     block_of_two(alloc, attempt, Step::Checkpoint)
 }
 
-/// The size of a block.
+// The size of a block.
 fn size_in(body: &Body) -> u64 {
     size_of(body.as_slice())
 }

@@ -9,7 +9,7 @@ use std::test::Fail;
 use std::thread;
 use std::thread::Threads;
 
-/// Whether two tickets draw two numbers in order, and nothing is left for the first then.
+// Whether two tickets draw two numbers in order, and nothing is left for the first then.
 fn draw_two(alloc: Global) -> Result<bool, Fail> {
     let (claims, mut passes) = Claims::new(alloc, 2, 2)?;
     let first = claims.claim(&mut passes[0]);
@@ -31,7 +31,7 @@ fn two_passes_claim_two_requests(rt: HostRuntime) -> Result<(), Fail> {
     Ok(())
 }
 
-/// Whether nothing is left if there are no numbers, and none was drawn.
+// Whether nothing is left if there are no numbers, and none was drawn.
 fn draw_none(alloc: Global) -> Result<bool, Fail> {
     let (claims, mut passes) = Claims::new(alloc, 0, 1)?;
     let first = claims.claim(&mut passes[0]);
@@ -47,13 +47,14 @@ fn there_is_nothing_to_claim_of_no_requests(rt: HostRuntime) -> Result<(), Fail>
     Ok(())
 }
 
-/// A worker's ticket and the number that it drew.
+// A worker's ticket and the number that it drew.
 #[derive(Drop)]
 struct Worker {
     pass: Pass,
     number: Option<usize>,
 }
 
+// Lets each of two threads draw a number with its worker's ticket.
 fn claim_in_two_threads<R: Threads + Sync>(rt: &R, claims: &Claims, workers: &mut [Worker])
     requires { All (λ worker. IsPassOf claims.now worker.pass × (was_told worker.pass ≡ false)) workers.old }
 {

@@ -10,7 +10,7 @@ use autojump_clock::{Jump, MockClock, TaskId};
 use std::alloc::Global;
 use std::test::Fail;
 
-/// Sets a timer. If memory is refused nothing changes, and it is set again.
+// Sets a timer. If memory is refused nothing changes, and it is set again.
 fn sleep_again(clock: &mut MockClock, task: TaskId, due: u64) -> Result<(), Fail>
     requires awake { due_of clock.old task ≡ None }
     ensures timers { OnOk result (Updates clock.old clock.new task (Some due)) }
@@ -25,7 +25,7 @@ fn sleep_again(clock: &mut MockClock, task: TaskId, due: u64) -> Result<(), Fail
     Ok(())
 }
 
-/// Jumps, if no task is due.
+// Jumps, if no task is due.
 fn jump(clock: &mut MockClock, next_cancel: Option<u64>) -> Result<Jump, Fail>
     requires some { HasTimer clock.old }
     ensures timers { OnOk result ((task : ℕ) → due_of clock.new task ≡ due_of clock.old task) }
@@ -42,7 +42,7 @@ fn jump(clock: &mut MockClock, next_cancel: Option<u64>) -> Result<Jump, Fail>
     Ok(clock.jump(Some(cancel)))
 }
 
-/// Takes the task that is due.
+// Takes the task that is due.
 fn take(clock: &mut MockClock, task: TaskId) -> Result<(), Fail>
     ensures timers { OnOk result (Updates clock.old clock.new task None) }
 {
@@ -55,7 +55,7 @@ fn take(clock: &mut MockClock, task: TaskId) -> Result<(), Fail>
     Ok(())
 }
 
-/// A clock on which three tasks sleep, none of which is due.
+// A clock on which three tasks sleep, none of which is due.
 fn three_timers(alloc: Global) -> Result<MockClock, Fail>
     ensures third { IfOk result (λ clock. due_of clock 3 ≡ Some 9) }
 {
@@ -66,7 +66,7 @@ fn three_timers(alloc: Global) -> Result<MockClock, Fail>
     Ok(clock)
 }
 
-/// Jumps to the first timers, and takes the two tasks that are due then.
+// Jumps to the first timers, and takes the two tasks that are due then.
 fn wake_two(clock: &mut MockClock) -> Result<(), Fail>
     requires third { due_of clock.old 3 ≡ Some 9 }
     ensures first { OnOk result (due_of clock.new 1 ≡ None) }
@@ -80,7 +80,7 @@ fn wake_two(clock: &mut MockClock) -> Result<(), Fail>
     Ok(())
 }
 
-/// Jumps to a cancellation, which wakes the third task, and lets the first one sleep past the limit.
+// Jumps to a cancellation, which wakes the third task, and lets the first one sleep past the limit.
 fn wake_third(clock: &mut MockClock) -> Result<(), Fail>
     requires first { due_of clock.old 1 ≡ None }
     requires third { due_of clock.old 3 ≡ Some 9 }
@@ -94,7 +94,7 @@ fn wake_third(clock: &mut MockClock) -> Result<(), Fail>
     Ok(())
 }
 
-/// Does not move if the next timer is past the limit.
+// Does not move if the next timer is past the limit.
 fn meet_limit(clock: &mut MockClock) -> Result<(), Fail>
     requires first { due_of clock.old 1 ≡ Some 101 }
 {
@@ -107,7 +107,7 @@ fn meet_limit(clock: &mut MockClock) -> Result<(), Fail>
     Ok(())
 }
 
-/// Timers and cancellations, one after another.
+// Timers and cancellations, one after another.
 fn move_clock(alloc: Global) -> Result<(), Fail> {
     let mut clock = three_timers(alloc)?;
     wake_two(&mut clock)?;

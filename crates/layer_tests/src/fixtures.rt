@@ -9,7 +9,7 @@ use std::alloc::{AllocError, Global};
 use std::test::Fail;
 use task_machine::Task;
 
-/// The name of these bytes.
+// The name of these bytes.
 pub(crate) fn word(text: &[u8]) -> Result<Name, Fail> {
     match Name::new(text) {
         Some(name) => Ok(name),
@@ -17,12 +17,12 @@ pub(crate) fn word(text: &[u8]) -> Result<Name, Fail> {
     }
 }
 
-/// The label of that name, with no index.
+// The label of that name, with no index.
 pub(crate) fn label(alloc: Global, text: &[u8]) -> Result<Label, Fail> {
     Ok(Label::new(alloc, word(text)?))
 }
 
-/// The job of a text.
+// The job of a text.
 pub(crate) fn job(alloc: Global, text: &[u8]) -> Result<Job, Fail> {
     match read_job(alloc, text) {
         Ok(job) => Ok(job),
@@ -30,7 +30,7 @@ pub(crate) fn job(alloc: Global, text: &[u8]) -> Result<Job, Fail> {
     }
 }
 
-/// The root of a job on two lines, about which nothing else is known here.
+// The root of a job on two lines, about which nothing else is known here.
 pub(crate) fn root<'a>(alloc: Global, job: &'a Job) -> Result<Task<'a>, Fail> {
     let part = Part::whole(b"one\ntwo\n");
     if part.text().len() > MAX_INPUT {
@@ -39,8 +39,8 @@ pub(crate) fn root<'a>(alloc: Global, job: &'a Job) -> Result<Task<'a>, Fail> {
     Ok(Task::root(alloc, job, part)?)
 }
 
-/// What the task of that name raised at tick 0.
-pub(crate) fn raised(alloc: Global, exc: &[u8], task: &[u8]) -> Result<Exc, Fail> {
+// What the task of that name raised at tick 0.
+pub(crate) fn raised_exc(alloc: Global, exc: &[u8], task: &[u8]) -> Result<Exc, Fail> {
     Ok(Exc::Raised {
         name: word(exc)?,
         task: label(alloc, task)?,
@@ -48,12 +48,12 @@ pub(crate) fn raised(alloc: Global, exc: &[u8], task: &[u8]) -> Result<Exc, Fail
     })
 }
 
-/// The failure of a row of a table, with its number from 0 on.
+// The failure of a row of a table, with its number from 0 on.
 pub(crate) fn wrong(row: usize) -> Fail {
     Fail::from(("row", row))
 }
 
-/// Fails if a text is not as expected, and prints it.
+// Fails if a text is not as expected, and prints it.
 pub(crate) fn same(found: &[u8], expected: &[u8]) -> Result<(), Fail> {
     if found == expected {
         return Ok(());
@@ -64,13 +64,13 @@ pub(crate) fn same(found: &[u8], expected: &[u8]) -> Result<(), Fail> {
     }
 }
 
-/// Appends bytes. Its contract says nothing of the text then, so that a proof carries no facts
-/// about it.
+// Appends bytes. Its contract says nothing of the text then, so that a proof carries no facts
+// about it.
 pub(crate) fn push_bytes(text: &mut Vec<u8>, bytes: &[u8]) -> Result<(), AllocError> {
     text.extend_from_slice(bytes)
 }
 
-/// Appends a digit, and a question mark for a number that has more than one.
+// Appends a digit, and a question mark for a number that has more than one.
 pub(crate) fn push_digit(text: &mut Vec<u8>, number: u64) -> Result<(), AllocError> {
     match b"0123456789".get(number as usize) {
         Some(digit) => push_bytes(text, &[*digit]),
@@ -78,7 +78,7 @@ pub(crate) fn push_digit(text: &mut Vec<u8>, number: u64) -> Result<(), AllocErr
     }
 }
 
-/// Appends a number below 100.
+// Appends a number below 100.
 pub(crate) fn push_number(text: &mut Vec<u8>, number: u64) -> Result<(), AllocError> {
     if number >= 10 {
         push_digit(text, number / 10)?;
@@ -86,7 +86,7 @@ pub(crate) fn push_number(text: &mut Vec<u8>, number: u64) -> Result<(), AllocEr
     push_digit(text, number % 10)
 }
 
-/// Appends a label, as `p.1`.
+// Appends a label, as `p.1`.
 pub(crate) fn push_label(text: &mut Vec<u8>, label: &Label) -> Result<(), AllocError> {
     let name = label.name();
     push_bytes(text, name.bytes())?;
@@ -97,6 +97,7 @@ pub(crate) fn push_label(text: &mut Vec<u8>, label: &Label) -> Result<(), AllocE
     Ok(())
 }
 
+// Appends a label and a tick, as `@a@0`.
 fn push_place(text: &mut Vec<u8>, label: &Label, tick: u64) -> Result<(), AllocError> {
     push_bytes(text, b"@")?;
     push_label(text, label)?;
@@ -104,13 +105,13 @@ fn push_place(text: &mut Vec<u8>, label: &Label, tick: u64) -> Result<(), AllocE
     push_number(text, tick)
 }
 
-/// Appends what was raised, as `A@task@0`.
+// Appends what was raised_exc, as `A@task@0`.
 fn push_raised(text: &mut Vec<u8>, name: &Name, task: &Label, tick: u64) -> Result<(), AllocError> {
     push_bytes(text, name.bytes())?;
     push_place(text, task, tick)
 }
 
-/// Appends the origin of a group.
+// Appends the origin of a group.
 fn push_whose(text: &mut Vec<u8>, whose: &Whose) -> Result<(), AllocError> {
     match whose {
         Whose::Nursery(label) => push_label(text, label),
@@ -118,7 +119,7 @@ fn push_whose(text: &mut Vec<u8>, whose: &Whose) -> Result<(), AllocError> {
     }
 }
 
-/// Appends an exception; of a group only its origin.
+// Appends an exception; of a group only its origin.
 fn push_head(text: &mut Vec<u8>, exc: &Exc) -> Result<(), AllocError> {
     match exc {
         Exc::Cancelled => push_bytes(text, b"!"),
@@ -128,7 +129,7 @@ fn push_head(text: &mut Vec<u8>, exc: &Exc) -> Result<(), AllocError> {
     }
 }
 
-/// Appends an exception, and for a group its parts, as `n[A@a@0;!;]`.
+// Appends an exception, and for a group its parts, as `n[A@a@0;!;]`.
 pub(crate) fn push_exc(text: &mut Vec<u8>, exc: &Exc) -> Result<(), AllocError> {
     push_head(text, exc)?;
     let Exc::Group { parts, .. } = exc else {

@@ -6,35 +6,35 @@ use job_grammar::{Job, JobFault, JobKind, read_job, to_format_2, write_job};
 use std::alloc::{AllocError, Global};
 use std::test::Fail;
 
-/// A text, and the number and the place of its refusal: two zeros for a job.
+// A text, and the number and the place of its refusal: two zeros for a job.
 type Row = (&'static [u8], u64, usize);
 
-/// A text, and its canonical text.
+// A text, and its canonical text.
 type Pair = (&'static [u8], &'static [u8]);
 
-/// The number of a refusal and its place. It is an error if memory was refused.
-fn told(fault: JobFault) -> Result<(u64, usize), JobFault> {
+// The number of a refusal and its place. It is an error if memory was refused.
+fn number_and_place(fault: JobFault) -> Result<(u64, usize), JobFault> {
     match fault.kind {
         JobKind::NoMemory => Err(fault),
         kind => Ok((kind.number(), fault.at)),
     }
 }
 
-/// The number and the place of a text's refusal, and two zeros for a job. It is an error if memory was refused.
+// The number and the place of a text's refusal, and two zeros for a job. It is an error if memory was refused.
 fn answer(alloc: Global, text: &[u8]) -> Result<(u64, usize), JobFault> {
     match read_job(alloc, text) {
         Ok(_) => Ok((0, 0)),
-        Err(fault) => told(fault),
+        Err(fault) => number_and_place(fault),
     }
 }
 
-/// Whether a text has that result.
+// Whether a text has that result.
 fn is_answered(alloc: Global, text: &[u8], number: u64, at: usize) -> Result<bool, Fail> {
     let (kind, place) = answer(alloc, text)?;
     Ok(kind == number && place == at)
 }
 
-/// Fails at the first row whose text has another result.
+// Fails at the first row whose text has another result.
 fn are_answered(alloc: Global, rows: &[Row]) -> Result<(), Fail> {
     for i in 0..rows.len() {
         let (text, number, at) = rows[i];
@@ -45,7 +45,7 @@ fn are_answered(alloc: Global, rows: &[Row]) -> Result<(), Fail> {
     Ok(())
 }
 
-/// Refusals of texts up to their grammar.
+// Refusals of texts up to their grammar.
 const REFUSALS: &[Row] = &[
     (b"", 3, 0),
     (b"trio-job 3\njob main { }", 3, 0),
@@ -82,7 +82,7 @@ fn refused_texts_have_their_kind_and_place(rt: HostRuntime) -> Result<(), Fail> 
     are_answered(rt.alloc(), REFUSALS)
 }
 
-/// Refusals of names.
+// Refusals of names.
 const NAMES: &[Row] = &[
     (b"trio-job 1\njob main { scope s { } scope s { } }", 8, 40),
     (
@@ -109,7 +109,7 @@ fn refused_names_have_their_kind_and_place(rt: HostRuntime) -> Result<(), Fail> 
     are_answered(rt.alloc(), NAMES)
 }
 
-/// A job of 270,465 step instances.
+// A job of 270,465 step instances.
 const LARGE: &[Row] = &[(
     b"trio-job 1\njob main { nursery n { start a over 64 { nursery m { start b over 64 { nursery q { start c over 64 { } } } } } } }",
     11,
@@ -121,7 +121,7 @@ fn a_job_with_too_many_steps_is_refused(rt: HostRuntime) -> Result<(), Fail> {
     are_answered(rt.alloc(), LARGE)
 }
 
-/// Texts that are jobs.
+// Texts that are jobs.
 const JOBS: &[Row] = &[
     (
         b"trio-job 1\njob main{sleep 5;find\"\\x00\\\\\";raise A;}",
@@ -142,7 +142,7 @@ fn texts_at_the_limits_of_the_rules_are_read(rt: HostRuntime) -> Result<(), Fail
     are_answered(rt.alloc(), JOBS)
 }
 
-/// Appends these bytes the given number of times.
+// Appends these bytes the given number of times.
 fn push_times(text: &mut Vec<u8>, count: usize, bytes: &[u8]) -> Result<(), AllocError> {
     for _ in 0..count {
         push_bytes(text, bytes)?;
@@ -150,8 +150,13 @@ fn push_times(text: &mut Vec<u8>, count: usize, bytes: &[u8]) -> Result<(), Allo
     Ok(())
 }
 
-/// A job of the given number of nested blocks, each with these bytes before and after it.
-fn nested(alloc: Global, depth: usize, front: &[u8], behind: &[u8]) -> Result<Vec<u8>, AllocError> {
+// A job of the given number of nested blocks, each with these bytes before and after it.
+fn nested_blocks(
+    alloc: Global,
+    depth: usize,
+    front: &[u8],
+    behind: &[u8],
+) -> Result<Vec<u8>, AllocError> {
     let mut text = Vec::new(alloc);
     push_bytes(&mut text, b"trio-job 1\njob main {")?;
     push_times(&mut text, depth, front)?;
@@ -160,14 +165,14 @@ fn nested(alloc: Global, depth: usize, front: &[u8], behind: &[u8]) -> Result<Ve
     Ok(text)
 }
 
-/// The number of nested blocks inside the job's own, and the result.
+// The number of nested blocks inside the job's own, and the result.
 const DEPTHS: &[(usize, u64, usize)] = &[(31, 0, 0), (32, 7, 212), (3_000, 7, 212)];
 
-/// Fails at the first of those depths with another result.
+// Fails at the first of those depths with another result.
 fn depths_are_answered(alloc: Global) -> Result<(), Fail> {
     for i in 0..DEPTHS.len() {
         let (depth, number, at) = DEPTHS[i];
-        let text = nested(alloc, depth, b" try {", b" } finally { }")?;
+        let text = nested_blocks(alloc, depth, b" try {", b" } finally { }")?;
         if !is_answered(alloc, text.as_slice(), number, at)? {
             return Err(wrong(i));
         }
@@ -175,7 +180,7 @@ fn depths_are_answered(alloc: Global) -> Result<(), Fail> {
     Ok(())
 }
 
-/// Appends the front of a scope with that number as its name.
+// Appends the front of a scope with that number as its name.
 fn push_scope(text: &mut Vec<u8>, number: u64) -> Result<(), AllocError> {
     push_bytes(text, b" scope s")?;
     push_digit(text, number / 10)?;
@@ -183,7 +188,7 @@ fn push_scope(text: &mut Vec<u8>, number: u64) -> Result<(), AllocError> {
     push_bytes(text, b" {")
 }
 
-/// A job of 32 nested scopes.
+// A job of 32 nested scopes.
 fn nested_scopes(alloc: Global) -> Result<Vec<u8>, AllocError> {
     let mut text = Vec::new(alloc);
     push_bytes(&mut text, b"trio-job 1\njob main {")?;
@@ -202,17 +207,17 @@ fn blocks_nested_more_than_32_deep_are_refused(rt: HostRuntime) -> Result<(), Fa
     Ok(())
 }
 
-/// The number of spaces of a text, and its result.
+// The number of spaces of a text, and its result.
 const LENGTHS: &[(usize, u64, usize)] = &[(65_537, 1, 65_536), (65_536, 3, 0)];
 
-/// Whether a text of the given number of spaces has that result.
+// Whether a text of the given number of spaces has that result.
 fn spaces_are_answered(alloc: Global, count: usize, number: u64, at: usize) -> Result<bool, Fail> {
     let mut text = Vec::new(alloc);
     push_times(&mut text, count, b" ")?;
     is_answered(alloc, text.as_slice(), number, at)
 }
 
-/// Fails at the first of those lengths with another result.
+// Fails at the first of those lengths with another result.
 fn lengths_are_answered(alloc: Global) -> Result<(), Fail> {
     for i in 0..LENGTHS.len() {
         let (count, number, at) = LENGTHS[i];
@@ -228,7 +233,7 @@ fn a_text_of_more_than_65536_bytes_is_refused(rt: HostRuntime) -> Result<(), Fai
     lengths_are_answered(rt.alloc())
 }
 
-/// The result for the first bytes, as many as given, of the text below.
+// The result for the first bytes, as many as given, of the text below.
 fn answer_for_prefix(len: usize) -> (u64, usize) {
     match len {
         0..11 => (3, 0),
@@ -242,7 +247,7 @@ fn answer_for_prefix(len: usize) -> (u64, usize) {
     }
 }
 
-/// Fails at the first length of a front of the text that has another result.
+// Fails at the first length of a front of the text that has another result.
 fn prefixes_are_answered(alloc: Global) -> Result<(), Fail> {
     let whole = b"trio-job 1\njob main{find\"er\";}".as_slice();
     for len in 0..31 {
@@ -259,24 +264,24 @@ fn each_prefix_of_a_job_text_is_refused(rt: HostRuntime) -> Result<(), Fail> {
     prefixes_are_answered(rt.alloc())
 }
 
-/// The job, as it is or in format 2.
-fn upgraded(job: Job, upgrades: bool) -> Job {
+// The job, as it is or in format 2.
+fn upgrade_if(job: Job, upgrades: bool) -> Job {
     if upgrades { to_format_2(job) } else { job }
 }
 
-/// The canonical text of a job, as it is or in format 2.
-fn canonical(alloc: Global, text: &[u8], upgrades: bool) -> Result<Vec<u8>, Fail> {
-    let job = upgraded(job(alloc, text)?, upgrades);
+// The canonical text of a job, as it is or in format 2.
+fn canonical_text(alloc: Global, text: &[u8], upgrades: bool) -> Result<Vec<u8>, Fail> {
+    let job = upgrade_if(job(alloc, text)?, upgrades);
     Ok(write_job(alloc, &job)?)
 }
 
-/// Whether a text has that canonical text, as it is or in format 2.
+// Whether a text has that canonical text, as it is or in format 2.
 fn is_canonical(alloc: Global, text: &[u8], wanted: &[u8], upgrades: bool) -> Result<bool, Fail> {
-    let written = canonical(alloc, text, upgrades)?;
+    let written = canonical_text(alloc, text, upgrades)?;
     Ok(written.as_slice() == wanted)
 }
 
-/// Fails at the first row whose text has another canonical text.
+// Fails at the first row whose text has another canonical text.
 fn are_canonical(alloc: Global, rows: &[Pair], upgrades: bool) -> Result<(), Fail> {
     for i in 0..rows.len() {
         let (text, wanted) = rows[i];
@@ -287,24 +292,24 @@ fn are_canonical(alloc: Global, rows: &[Pair], upgrades: bool) -> Result<(), Fai
     Ok(())
 }
 
-/// The format of a job, how many steps its block has, and its size.
+// The format of a job, how many steps its block has, and its size.
 fn numbers(alloc: Global, text: &[u8]) -> Result<(u64, usize, u64), Fail> {
     let job = job(alloc, text)?;
     Ok((job.format(), job.steps().len(), job.size()))
 }
 
-/// The format of a job that was upgraded to format 2.
+// The format of a job that was upgraded to format 2.
 fn format_of_upgraded(alloc: Global, text: &[u8]) -> Result<u64, Fail> {
     Ok(to_format_2(job(alloc, text)?).format())
 }
 
-/// Whether a job has that name.
+// Whether a job has that name.
 fn is_named(alloc: Global, text: &[u8], name: &[u8]) -> Result<bool, Fail> {
     let found = job(alloc, text)?.name();
     Ok(found.bytes() == name)
 }
 
-/// Texts with their canonical texts.
+// Texts with their canonical texts.
 const CANONICAL: &[Pair] = &[
     (
         b"trio-job 1\njob main { find \"er\"; }",
@@ -353,7 +358,7 @@ fn a_refusal_is_printed_as_one_line(rt: HostRuntime) -> Result<(), Fail> {
     Ok(())
 }
 
-/// Texts with different results in the two formats.
+// Texts with different results in the two formats.
 const FORMATS: &[Row] = &[
     (b"trio-job 1\njob main { repeat 1001 { } }", 6, 22),
     (b"trio-job 2\njob main { repeat 1001 { } }", 5, 29),
@@ -380,7 +385,7 @@ fn each_format_has_its_own_rules(rt: HostRuntime) -> Result<(), Fail> {
     are_answered(rt.alloc(), FORMATS)
 }
 
-/// A job of format 2.
+// A job of format 2.
 const PASSES: &[u8] = b"trio-job 2\njob main { repeat 1000 { repeat 100 { } } }";
 
 #[test]
@@ -391,10 +396,10 @@ fn passes_are_counted_and_written_in_format_2(rt: HostRuntime) -> Result<(), Fai
     Ok(())
 }
 
-/// A job of format 1.
+// A job of format 1.
 const PLAIN: &[u8] = b"trio-job 1\njob main { find \"er\"; }";
 
-/// Texts with their canonical texts in format 2. The job of the second row is in format 2, and is unchanged.
+// Texts with their canonical texts in format 2. The job of the second row is in format 2, and is unchanged.
 const UPGRADES: &[Pair] = &[
     (PLAIN, b"trio-job 2\njob main{find\"er\";}"),
     (

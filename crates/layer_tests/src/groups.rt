@@ -1,15 +1,16 @@
 //! `exc_groups`: splits of exceptions and groups, copies, and the labels of what raised them.
 
-use crate::fixtures::{label, push_bytes, push_exc, push_label, raised, same, word};
+use crate::fixtures::{label, push_bytes, push_exc, push_label, raised_exc, same, word};
 use exc_groups::{Exc, Label, Match, Parts, Whose, group, holds_cancelled, split};
 use std::alloc::{AllocError, Global};
 use std::test::Fail;
 
+// The origin of a nursery's group.
 fn nursery(alloc: Global, name: &[u8]) -> Result<Whose, Fail> {
     Ok(Whose::Nursery(label(alloc, name)?))
 }
 
-/// The nursery's group of two exceptions.
+// The nursery's group of two exceptions.
 fn group_of_two(alloc: Global, name: &[u8], first: Exc, second: Exc) -> Result<Exc, Fail> {
     let mut parts = Vec::new(alloc);
     parts.push(first)?;
@@ -20,7 +21,7 @@ fn group_of_two(alloc: Global, name: &[u8], first: Exc, second: Exc) -> Result<E
     }
 }
 
-/// Appends one side of a split: no bytes if it is empty.
+// Appends one side of a split: no bytes if it is empty.
 fn push_side(text: &mut Vec<u8>, side: &Option<Exc>) -> Result<(), AllocError> {
     if let Some(exc) = side {
         push_exc(text, exc)?;
@@ -28,7 +29,7 @@ fn push_side(text: &mut Vec<u8>, side: &Option<Exc>) -> Result<(), AllocError> {
     Ok(())
 }
 
-/// The two sides of a split, about which nothing else is known here.
+// The two sides of a split, about which nothing else is known here.
 fn split_in_two(
     alloc: Global,
     exc: Exc,
@@ -38,7 +39,7 @@ fn split_in_two(
     Ok(sides)
 }
 
-/// The texts of the two sides of a split, with a bar between them.
+// The texts of the two sides of a split, with a bar between them.
 fn sides(alloc: Global, exc: Exc, wanted: Match) -> Result<Vec<u8>, AllocError> {
     let (kept, dropped) = split_in_two(alloc, exc, wanted)?;
     let mut text = Vec::new(alloc);
@@ -48,9 +49,9 @@ fn sides(alloc: Global, exc: Exc, wanted: Match) -> Result<Vec<u8>, AllocError> 
     Ok(text)
 }
 
-/// The two sides of a group that is split by `Cancelled`.
+// The two sides of a group that is split by `Cancelled`.
 fn sides_by_cancelled(alloc: Global) -> Result<Vec<u8>, Fail> {
-    let exc = group_of_two(alloc, b"n", raised(alloc, b"A", b"a")?, Exc::Cancelled)?;
+    let exc = group_of_two(alloc, b"n", raised_exc(alloc, b"A", b"a")?, Exc::Cancelled)?;
     Ok(sides(alloc, exc, Match::Cancelled)?)
 }
 
@@ -60,10 +61,10 @@ fn groups_split_by_cancelled(rt: HostRuntime) -> Result<(), Fail> {
     same(found.as_slice(), b"n[!;]|n[A@a@0;]")
 }
 
-/// The two sides of an exception `A` that is split by a name.
+// The two sides of an exception `A` that is split by a name.
 fn sides_by_name(alloc: Global, name: &[u8]) -> Result<Vec<u8>, Fail> {
     let wanted = Match::Name(word(name)?);
-    let exc = raised(alloc, b"A", b"a")?;
+    let exc = raised_exc(alloc, b"A", b"a")?;
     Ok(sides(alloc, exc, wanted)?)
 }
 
@@ -75,7 +76,7 @@ fn leaves_split_by_name(rt: HostRuntime) -> Result<(), Fail> {
     same(its_own.as_slice(), b"A@a@0|")
 }
 
-/// The two sides of a `TooSlow` that is split by its name.
+// The two sides of a `TooSlow` that is split by its name.
 fn sides_of_too_slow(alloc: Global) -> Result<Vec<u8>, Fail> {
     let wanted = Match::Name(word(b"TooSlow")?);
     let exc = Exc::TooSlow {
@@ -91,15 +92,15 @@ fn too_slow_has_its_name(rt: HostRuntime) -> Result<(), Fail> {
     same(found.as_slice(), b"@s@2|")
 }
 
-/// A copy of an exception, about which nothing else is known here.
+// A copy of an exception, about which nothing else is known here.
 fn copy_of(alloc: Global, exc: &Exc) -> Result<Exc, AllocError> {
     let copy = exc.copy(alloc)?;
     Ok(copy)
 }
 
-/// The texts of a group and of its copy.
+// The texts of a group and of its copy.
 fn text_of_copies(alloc: Global) -> Result<Vec<u8>, Fail> {
-    let exc = group_of_two(alloc, b"n", raised(alloc, b"A", b"a")?, Exc::Cancelled)?;
+    let exc = group_of_two(alloc, b"n", raised_exc(alloc, b"A", b"a")?, Exc::Cancelled)?;
     let copy = copy_of(alloc, &exc)?;
     let mut text = Vec::new(alloc);
     push_exc(&mut text, &exc)?;
@@ -114,27 +115,27 @@ fn copies_are_equal(rt: HostRuntime) -> Result<(), Fail> {
     same(found.as_slice(), b"n[A@a@0;!;]|n[A@a@0;!;]")
 }
 
-/// The label of that name with one index, about which nothing else is known here.
-fn indexed(alloc: Global, name: &[u8], index: u64) -> Result<Label, Fail> {
+// The label of that name with one index, about which nothing else is known here.
+fn label_with_index(alloc: Global, name: &[u8], index: u64) -> Result<Label, Fail> {
     Ok(label(alloc, name)?.with_index(index)?)
 }
 
-/// A copy of a label.
+// A copy of a label.
 fn same_label(alloc: Global, label: &Label) -> Result<Label, AllocError> {
     let copy = label.copy(alloc)?;
     Ok(copy)
 }
 
-/// The label of another name.
-fn renamed(alloc: Global, label: &Label, name: &[u8]) -> Result<Label, Fail> {
+// The label of another name.
+fn label_with_name(alloc: Global, label: &Label, name: &[u8]) -> Result<Label, Fail> {
     Ok(label.with_name(alloc, word(name)?)?)
 }
 
-/// The texts of a label, of its copy, and of one of another name.
+// The texts of a label, of its copy, and of one of another name.
 fn text_of_labels(alloc: Global) -> Result<Vec<u8>, Fail> {
-    let first = indexed(alloc, b"p", 1)?;
+    let first = label_with_index(alloc, b"p", 1)?;
     let copy = same_label(alloc, &first)?;
-    let other = renamed(alloc, &first, b"q")?;
+    let other = label_with_name(alloc, &first, b"q")?;
     let mut text = Vec::new(alloc);
     push_label(&mut text, &first)?;
     push_bytes(&mut text, b" ")?;
@@ -157,27 +158,27 @@ fn group_of_no_parts(rt: HostRuntime) -> Result<(), Fail> {
     Ok(())
 }
 
-/// A group of what was raised and of a group that holds `Cancelled`.
-fn nested(alloc: Global) -> Result<Exc, Fail> {
+// A group of what was raised and of a group that holds `Cancelled`.
+fn nested_group(alloc: Global) -> Result<Exc, Fail> {
     let mut parts = Vec::new(alloc);
     parts.push(Exc::Cancelled)?;
     let inner = Exc::Group {
         whose: nursery(alloc, b"m")?,
         parts: Parts::new(parts),
     };
-    group_of_two(alloc, b"n", raised(alloc, b"A", b"a")?, inner)
+    group_of_two(alloc, b"n", raised_exc(alloc, b"A", b"a")?, inner)
 }
 
-/// Whether the nested group and what was raised alone hold `Cancelled`.
-fn holding(alloc: Global) -> Result<(bool, bool), Fail> {
-    let exc = nested(alloc)?;
+// Whether the nested group and what was raised alone hold `Cancelled`.
+fn hold_cancelled(alloc: Global) -> Result<(bool, bool), Fail> {
+    let exc = nested_group(alloc)?;
     let in_group = holds_cancelled(&exc);
-    let exc = raised(alloc, b"A", b"a")?;
+    let exc = raised_exc(alloc, b"A", b"a")?;
     Ok((in_group, holds_cancelled(&exc)))
 }
 
 #[test]
 fn cancelled_below_a_nested_group(rt: HostRuntime) -> Result<(), Fail> {
-    assert!(rt; holding(rt.alloc())? == (true, false));
+    assert!(rt; hold_cancelled(rt.alloc())? == (true, false));
     Ok(())
 }

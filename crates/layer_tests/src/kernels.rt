@@ -7,14 +7,14 @@ use line_kernels::{Answer, Kernel, answer};
 use std::alloc::{AllocError, Global};
 use std::test::Fail;
 
-/// Three lines of two, one and four bytes.
+// Three lines of two, one and four bytes.
 const BUFFER: &[u8] = b"aa\nb\ncccc\n";
 
-/// Four lines of 32 bytes with their newlines, and 3 bytes more.
+// Four lines of 32 bytes with their newlines, and 3 bytes more.
 const LONG: &[u8] =
     b"-------------------------------\n-------------------------------\n-------------------------------\n-------------------------------\nend";
 
-/// Appends a line by its place and its length.
+// Appends a line by its place and its length.
 fn push_line(text: &mut Vec<u8>, at: u64, length: u64) -> Result<(), AllocError> {
     push_bytes(text, b"[")?;
     push_number(text, at)?;
@@ -23,8 +23,8 @@ fn push_line(text: &mut Vec<u8>, at: u64, length: u64) -> Result<(), AllocError>
     push_bytes(text, b"]")
 }
 
-/// The lines that a kernel answers on a whole buffer, each as `[3+6]` by its place and its length.
-fn shown(alloc: Global, kernel: Kernel<'_>, buffer: &[u8]) -> Result<Vec<u8>, Fail> {
+// The lines that a kernel answers on a whole buffer, each as `[3+6]` by its place and its length.
+fn text_of_lines(alloc: Global, kernel: Kernel<'_>, buffer: &[u8]) -> Result<Vec<u8>, Fail> {
     let answer = answer(alloc, &kernel, Part::whole(buffer))?;
     let Answer::Lines(lines) = &answer else {
         return Err("no lines")?;
@@ -36,27 +36,27 @@ fn shown(alloc: Global, kernel: Kernel<'_>, buffer: &[u8]) -> Result<Vec<u8>, Fa
     Ok(text)
 }
 
-/// Whether a kernel answers those lines on a whole buffer.
+// Whether a kernel answers those lines on a whole buffer.
 fn shows(alloc: Global, kernel: Kernel<'_>, buffer: &[u8], expected: &[u8]) -> Result<bool, Fail> {
-    let found = shown(alloc, kernel, buffer)?;
+    let found = text_of_lines(alloc, kernel, buffer)?;
     Ok(found.as_slice() == expected)
 }
 
-/// The count that `Count` answers on a whole buffer.
-fn counted(alloc: Global, buffer: &[u8]) -> Result<u64, Fail> {
+// The count that `Count` answers on a whole buffer.
+fn count_of(alloc: Global, buffer: &[u8]) -> Result<u64, Fail> {
     match answer(alloc, &Kernel::Count, Part::whole(buffer))? {
         Answer::Count(lines) => Ok(lines),
         _ => Err("no count")?,
     }
 }
 
-/// Whether no line of a whole buffer has the string.
+// Whether no line of a whole buffer has the string.
 fn is_missing(alloc: Global, needle: &[u8], buffer: &[u8]) -> Result<bool, Fail> {
     let answer = answer(alloc, &Kernel::Need(needle), Part::whole(buffer))?;
     Ok(matches!(answer, Answer::Missing))
 }
 
-/// A string, a buffer, and the lines of the buffer that have the string.
+// A string, a buffer, and the lines of the buffer that have the string.
 const FINDS: &[(&'static [u8], &'static [u8], &'static [u8])] = &[
     (b"c", BUFFER, b"[5+4]"),
     (b"ab", b"ab\nxab ab\nb\nab", b"[0+2][3+6][12+2]"),
@@ -64,7 +64,7 @@ const FINDS: &[(&'static [u8], &'static [u8], &'static [u8])] = &[
     (b"a\nb", b"a\nb\n", b""),
 ];
 
-/// Fails at the first row for which `Find` answers other lines.
+// Fails at the first row for which `Find` answers other lines.
 fn finds_are_shown(alloc: Global) -> Result<(), Fail> {
     for i in 0..FINDS.len() {
         let (needle, buffer, expected) = FINDS[i];
@@ -82,14 +82,14 @@ fn find_and_need_answer_lines_with_a_string(rt: HostRuntime) -> Result<(), Fail>
     Ok(())
 }
 
-/// The number of lines requested, a buffer, and the lines answered.
+// The number of lines requested, a buffer, and the lines answered.
 const HEADS: &[(u64, &'static [u8], &'static [u8])] = &[
     (0, BUFFER, b""),
     (2, BUFFER, b"[0+2][3+1]"),
     (5, b"\n", b"[0+0]"),
 ];
 
-/// Fails at the first row for which `Head` answers other lines.
+// Fails at the first row for which `Head` answers other lines.
 fn heads_are_shown(alloc: Global) -> Result<(), Fail> {
     for i in 0..HEADS.len() {
         let (count, buffer, expected) = HEADS[i];
@@ -105,7 +105,7 @@ fn head_answers_the_first_lines(rt: HostRuntime) -> Result<(), Fail> {
     heads_are_shown(rt.alloc())
 }
 
-/// A buffer, and the first of its longest lines.
+// A buffer, and the first of its longest lines.
 const LONGEST: &[(&'static [u8], &'static [u8])] = &[
     (BUFFER, b"[5+4]"),
     (b"aa\nb\ncc\n", b"[0+2]"),
@@ -114,7 +114,7 @@ const LONGEST: &[(&'static [u8], &'static [u8])] = &[
     (b"a\nb\n\nccc\ndd\neee\nffff", b"[16+4]"),
 ];
 
-/// Fails at the first row for which `Longest` answers another line.
+// Fails at the first row for which `Longest` answers another line.
 fn longest_are_shown(alloc: Global) -> Result<(), Fail> {
     for i in 0..LONGEST.len() {
         let (buffer, expected) = LONGEST[i];
@@ -130,31 +130,31 @@ fn longest_answers_the_first_of_the_longest_lines(rt: HostRuntime) -> Result<(),
     longest_are_shown(rt.alloc())
 }
 
-/// A buffer, and its number of lines.
+// A buffer, and its number of lines.
 const COUNTS: &[(&'static [u8], u64)] = &[(BUFFER, 3), (b"", 0), (b"\n\nlast", 3), (LONG, 5)];
 
-/// Fails at the first row with another count.
+// Fails at the first row with another count.
 fn counts_are_right(alloc: Global) -> Result<(), Fail> {
     for i in 0..COUNTS.len() {
         let (buffer, expected) = COUNTS[i];
-        if counted(alloc, buffer)? != expected {
+        if count_of(alloc, buffer)? != expected {
             return Err(wrong(i));
         }
     }
     Ok(())
 }
 
-/// The count of the lines of the given number of newlines.
-fn counted_newlines(alloc: Global, count: usize) -> Result<u64, Fail> {
+// The count of the lines of the given number of newlines.
+fn count_of_newlines(alloc: Global, count: usize) -> Result<u64, Fail> {
     let newlines = Vec::from_elem(alloc, b'\n', count)?;
-    counted(alloc, newlines.as_slice())
+    count_of(alloc, newlines.as_slice())
 }
 
 #[test]
 fn lines_are_counted(rt: HostRuntime) -> Result<(), Fail> {
     counts_are_right(rt.alloc())?;
     // There are more newlines than the lanes of a count can hold.
-    assert!(rt; counted_newlines(rt.alloc(), 20000)? == 20000);
+    assert!(rt; count_of_newlines(rt.alloc(), 20000)? == 20000);
     Ok(())
 }
 

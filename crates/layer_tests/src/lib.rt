@@ -31,7 +31,7 @@ mod queues;
 #[cfg(test)]
 mod scopes;
 #[cfg(test)]
-mod sights;
+mod sleepers;
 #[cfg(test)]
 mod syntax;
 #[cfg(test)]

@@ -5,7 +5,7 @@ use job_tree::{Body, Format, Name, Step, Text, is_digit, is_letter, is_word_byte
 use std::alloc::{AllocError, Global};
 use std::test::Fail;
 
-/// Bytes, and whether they are a name.
+// Bytes, and whether they are a name.
 const WORDS: &[(&'static [u8], bool)] = &[
     (b"a_1", true),
     (b"job", true),
@@ -27,7 +27,7 @@ fn words_are_names() -> Result<(), Fail> {
     Ok(())
 }
 
-/// A byte, and whether it is a letter, a digit and a byte of words.
+// A byte, and whether it is a letter, a digit and a byte of words.
 const BYTES: &[(u8, bool, bool, bool)] = &[
     (b'a', true, false, true),
     (b'Z', true, false, true),
@@ -49,7 +49,7 @@ fn letters_digits_and_underscores_are_word_bytes() -> Result<(), Fail> {
     Ok(())
 }
 
-/// Whether names and strings keep their bytes, and names are equal if their bytes are.
+// Whether names and strings keep their bytes, and names are equal if their bytes are.
 fn keep_bytes() -> Result<bool, Fail> {
     let first = word(b"a_1")?;
     let text = Text::new(b"\x00\\\xff").ok_or("a string")?;
@@ -63,7 +63,7 @@ fn names_and_texts_keep_their_bytes(rt: HostRuntime) -> Result<(), Fail> {
     Ok(())
 }
 
-/// The number of bytes of a string, and whether it is a text.
+// The number of bytes of a string, and whether it is a text.
 const LENGTHS: &[(usize, bool)] = &[(0, false), (1, true), (64, true), (65, false)];
 
 #[test]
@@ -81,7 +81,7 @@ fn strings_have_1_to_64_bytes() -> Result<(), Fail> {
     Ok(())
 }
 
-/// A block of two steps.
+// A block of two steps.
 fn two_steps(alloc: Global) -> Result<Body, AllocError> {
     let mut steps = Vec::new(alloc);
     steps.push(Step::Sleep(1))?;

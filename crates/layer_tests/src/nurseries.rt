@@ -4,7 +4,7 @@ ghost use Rattle.std.specs.Prelude.{◌≡◌, true, None, [], ◌∷◌, IfOk, 
 ghost use Rattle.nursery_book.specs.Nursery.{is_settled};
 ghost use Rattle.nursery_book.specs.Book.{HasNursery};
 
-use crate::fixtures::{label, push_exc, raised, same};
+use crate::fixtures::{label, push_exc, raised_exc, same};
 use autojump_clock::TaskId;
 use cancel_scopes::{ScopeId, ScopeTree};
 use exc_groups::{Exc, Label};
@@ -12,12 +12,12 @@ use nursery_book::{NurseryBook, NurseryId};
 use std::alloc::{AllocError, Global};
 use std::test::Fail;
 
-/// The id of a scope.
+// The id of a scope.
 fn scope(alloc: Global) -> Result<ScopeId, AllocError> {
     ScopeTree::new(alloc).open(None, false, None)
 }
 
-/// Opens a nursery in a scope, and starts two children.
+// Opens a nursery in a scope, and starts two children.
 fn open_with_two(book: &mut NurseryBook, scope: ScopeId, label: Label) -> Result<NurseryId, Fail>
     ensures { IfOk result (λ id. HasNursery book.new id (λ n. (n.body ≡ None) × (n.children ≡ None ∷ None ∷ []))) }
 {
@@ -34,7 +34,7 @@ fn open_with_two(book: &mut NurseryBook, scope: ScopeId, label: Label) -> Result
     Ok(id)
 }
 
-/// The second child ends, then the body, and then the first child.
+// The second child ends, then the body, and then the first child.
 fn end_out_of_order(
     book: &mut NurseryBook,
     id: NurseryId,
@@ -54,8 +54,8 @@ fn end_out_of_order(
     Ok(())
 }
 
-/// What a nursery raises if its second child ends before its first.
-fn raised_in(
+// What a nursery raises if its second child ends before its first.
+fn exc_of_nursery(
     alloc: Global,
     scope: ScopeId,
     label: Label,
@@ -68,15 +68,15 @@ fn raised_in(
     Ok(book.close(id)?)
 }
 
-/// The same for two exceptions.
-fn raised_by_two(alloc: Global) -> Result<Option<Exc>, Fail> {
+// The same for two exceptions.
+fn exc_of_two_children(alloc: Global) -> Result<Option<Exc>, Fail> {
     let scope = scope(alloc)?;
-    let first = raised(alloc, b"A", b"a")?;
-    let second = raised(alloc, b"B", b"b")?;
-    raised_in(alloc, scope, label(alloc, b"n")?, first, second)
+    let first = raised_exc(alloc, b"A", b"a")?;
+    let second = raised_exc(alloc, b"B", b"b")?;
+    exc_of_nursery(alloc, scope, label(alloc, b"n")?, first, second)
 }
 
-/// The text of an exception, and no bytes for `None`.
+// The text of an exception, and no bytes for `None`.
 fn text_of(alloc: Global, exc: Option<Exc>) -> Result<Vec<u8>, AllocError> {
     let mut text = Vec::new(alloc);
     if let Some(exc) = &exc {
@@ -87,11 +87,11 @@ fn text_of(alloc: Global, exc: Option<Exc>) -> Result<Vec<u8>, AllocError> {
 
 #[test]
 fn group_of_children_that_end_out_of_order(rt: HostRuntime) -> Result<(), Fail> {
-    let text = text_of(rt.alloc(), raised_by_two(rt.alloc())?)?;
+    let text = text_of(rt.alloc(), exc_of_two_children(rt.alloc())?)?;
     same(text.as_slice(), b"n[A@a@0;B@b@0;]")
 }
 
-/// Whether a nursery whose body ended without an exception, and which has no child, is settled and raises nothing.
+// Whether a nursery whose body ended without an exception, and which has no child, is settled and raises nothing.
 fn raises_nothing(alloc: Global, scope: ScopeId, label: Label) -> Result<bool, Fail> {
     let mut book = NurseryBook::new(alloc);
     let id = book.open(scope, TaskId::of(4), label)?;
@@ -102,7 +102,7 @@ fn raises_nothing(alloc: Global, scope: ScopeId, label: Label) -> Result<bool, F
     Ok(book.close(id)?.is_none())
 }
 
-/// The same for a nursery of some scope and label.
+// The same for a nursery of some scope and label.
 fn some_raises_nothing(alloc: Global) -> Result<bool, Fail> {
     let scope = scope(alloc)?;
     raises_nothing(alloc, scope, label(alloc, b"n")?)

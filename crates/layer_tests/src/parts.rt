@@ -5,24 +5,24 @@ use buffer_parts::{Line, Part};
 use std::alloc::{AllocError, Global};
 use std::test::Fail;
 
-/// Three lines of two, one and four bytes.
+// Three lines of two, one and four bytes.
 const BUFFER: &[u8] = b"aa\nb\ncccc\n";
 
-/// Where a part starts, and how many bytes it has.
+// Where a part starts, and how many bytes it has.
 type Place = (usize, usize);
 
-/// Where a part starts, and how many bytes it has.
+// Where a part starts, and how many bytes it has.
 fn place(part: Part<'_>) -> Place {
     (part.at(), part.text().len())
 }
 
-/// The same, and how many bytes its buffer has.
-fn shown(part: Part<'_>) -> (usize, usize, usize) {
+// The same, and how many bytes its buffer has.
+fn place_and_buffer(part: Part<'_>) -> (usize, usize, usize) {
     (part.at(), part.text().len(), part.buffer().len())
 }
 
-/// Cut `i` of `k` of a part.
-fn cut(part: Part<'_>, at: (usize, usize)) -> Part<'_> {
+// Cut `i` of `k` of a part.
+fn cut_of(part: Part<'_>, at: (usize, usize)) -> Part<'_> {
     let (k, i) = at;
     if k > 64 || i >= k {
         return part;
@@ -30,10 +30,10 @@ fn cut(part: Part<'_>, at: (usize, usize)) -> Part<'_> {
     part.cut(k, i)
 }
 
-/// The one cut of one, which is the part itself.
+// The one cut of one, which is the part itself.
 const ALL: (usize, usize) = (1, 0);
 
-/// How many cuts and which one, the same for that cut, and the result for the cut of the cut.
+// How many cuts and which one, the same for that cut, and the result for the cut of the cut.
 const CUTS: &[((usize, usize), (usize, usize), (usize, usize, usize))] = &[
     ((3, 0), ALL, (0, 3, 10)),
     ((3, 1), ALL, (3, 7, 10)),
@@ -46,26 +46,26 @@ const CUTS: &[((usize, usize), (usize, usize), (usize, usize, usize))] = &[
     ((2, 1), (2, 1), (10, 0, 10)),
 ];
 
-/// The number of cuts, and the result for the first of them and the rest.
+// The number of cuts, and the result for the first of them and the rest.
 const FIRSTS: &[(usize, (usize, usize, usize), (usize, usize, usize))] = &[
     (3, (0, 3, 10), (3, 7, 10)),
     (1, (0, 10, 10), (10, 0, 10)),
 ];
 
-/// The result for the first of the given number of cuts and the rest.
+// The result for the first of the given number of cuts and the rest.
 fn first_and_rest(k: usize) -> ((usize, usize, usize), (usize, usize, usize)) {
     if k == 0 || k > 64 {
         return ((0, 0, 0), (0, 0, 0));
     }
     let (first, rest) = Part::whole(BUFFER).first_of(k);
-    (shown(first), shown(rest))
+    (place_and_buffer(first), place_and_buffer(rest))
 }
 
-/// Fails at the first row of cuts with another result.
+// Fails at the first row of cuts with another result.
 fn cuts_are_shown() -> Result<(), Fail> {
     for i in 0..CUTS.len() {
         let (first, second, expected) = CUTS[i];
-        if shown(cut(cut(Part::whole(BUFFER), first), second)) != expected {
+        if place_and_buffer(cut_of(cut_of(Part::whole(BUFFER), first), second)) != expected {
             return Err(wrong(i));
         }
     }
@@ -84,14 +84,14 @@ fn cuts_start_where_lines_start() -> Result<(), Fail> {
     Ok(())
 }
 
-/// A buffer, and its three cuts. The second row is one line: all of it is in its first cut.
+// A buffer, and its three cuts. The second row is one line: all of it is in its first cut.
 const THREE: &[(&'static [u8], Place, Place, Place)] = &[
     (BUFFER, (0, 3), (3, 7), (10, 0)),
     (b"aaaaaaaa", (0, 8), (8, 0), (8, 0)),
     (b"", (0, 0), (0, 0), (0, 0)),
 ];
 
-/// The three cuts of a buffer, one after another.
+// The three cuts of a buffer, one after another.
 fn three_cuts(buffer: &[u8]) -> (Place, Place, Place) {
     let mut cuts = Part::whole(buffer).cuts(3);
     let first = place(cuts.next_cut());
@@ -110,8 +110,8 @@ fn cuts_come_in_order() -> Result<(), Fail> {
     Ok(())
 }
 
-/// The place where two parts that are cuts of the buffer meet.
-fn joined(first: usize, next: usize) -> Option<Place> {
+// The place where two parts that are cuts of the buffer meet.
+fn join_place(first: usize, next: usize) -> Option<Place> {
     if first >= 3 || next >= 3 {
         return None;
     }
@@ -122,12 +122,12 @@ fn joined(first: usize, next: usize) -> Option<Place> {
 
 #[test]
 fn parts_join_where_they_meet(rt: HostRuntime) {
-    assert!(rt; joined(0, 1) == Some((0, 10)));
-    assert!(rt; joined(1, 0) == None);
-    assert!(rt; joined(0, 2) == None);
+    assert!(rt; join_place(0, 1) == Some((0, 10)));
+    assert!(rt; join_place(1, 0) == None);
+    assert!(rt; join_place(0, 2) == None);
 }
 
-/// A buffer, and its lines, each by its place and its length.
+// A buffer, and its lines, each by its place and its length.
 const LINES: &[(&'static [u8], &'static [Place])] = &[
     (BUFFER, &[(0, 2), (3, 1), (5, 4)]),
     (b"", &[]),
@@ -135,7 +135,7 @@ const LINES: &[(&'static [u8], &'static [Place])] = &[
     (b"a\n\n\r\nlast", &[(0, 1), (2, 0), (3, 1), (5, 4)]),
 ];
 
-/// The lines of a buffer, each by its place and its length.
+// The lines of a buffer, each by its place and its length.
 fn lines(alloc: Global, buffer: &[u8]) -> Result<Vec<Place>, AllocError> {
     let mut places = Vec::new(alloc);
     for line in Part::whole(buffer).lines() {
@@ -144,13 +144,13 @@ fn lines(alloc: Global, buffer: &[u8]) -> Result<Vec<Place>, AllocError> {
     Ok(places)
 }
 
-/// Whether a buffer has those lines.
+// Whether a buffer has those lines.
 fn has_lines(alloc: Global, buffer: &[u8], expected: &[Place]) -> Result<bool, AllocError> {
     let found = lines(alloc, buffer)?;
     Ok(found.as_slice() == expected)
 }
 
-/// Fails at the first row with other lines.
+// Fails at the first row with other lines.
 fn lines_are_found(alloc: Global) -> Result<(), Fail> {
     for i in 0..LINES.len() {
         let (buffer, expected) = LINES[i];
@@ -166,7 +166,7 @@ fn lines_come_in_order(rt: HostRuntime) -> Result<(), Fail> {
     lines_are_found(rt.alloc())
 }
 
-/// A buffer, a length, and the first two lines that are longer.
+// A buffer, a length, and the first two lines that are longer.
 const LONGER: &[(&'static [u8], usize, Option<Place>, Option<Place>)] = &[
     (BUFFER, 0, Some((0, 2)), Some((3, 1))),
     (BUFFER, 1, Some((0, 2)), Some((5, 4))),
@@ -178,13 +178,13 @@ const LONGER: &[(&'static [u8], usize, Option<Place>, Option<Place>)] = &[
     (b"", 0, None, None),
 ];
 
-/// Where a line starts, and how many bytes it has.
+// Where a line starts, and how many bytes it has.
 fn line_place(line: Option<Line<'_>>) -> Option<Place> {
     let line = line?;
     Some((line.at(), line.text().len()))
 }
 
-/// The first two lines of a buffer that are longer.
+// The first two lines of a buffer that are longer.
 fn two_longer(buffer: &[u8], length: usize) -> (Option<Place>, Option<Place>) {
     let mut lines = Part::whole(buffer).lines();
     let first = line_place(lines.next_longer_than(length));

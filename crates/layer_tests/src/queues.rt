@@ -4,7 +4,7 @@ use std::alloc::{AllocError, Global};
 use std::test::Fail;
 use tick_queue::TickQueue;
 
-/// A queue of three keys, about which nothing else is known here.
+// A queue of three keys, about which nothing else is known here.
 fn three_keys(alloc: Global) -> Result<TickQueue, AllocError> {
     let mut queue = TickQueue::new(alloc);
     queue.add(4, 9)?;
@@ -13,7 +13,7 @@ fn three_keys(alloc: Global) -> Result<TickQueue, AllocError> {
     Ok(queue)
 }
 
-/// The first key with its tick, at the start and after each change of a queue of three keys.
+// The first key with its tick, at the start and after each change of a queue of three keys.
 fn firsts(queue: &mut TickQueue) -> Result<[Option<(u64, usize)>; 4], AllocError> {
     let first = queue.first();
     queue.set(2, 7)?;
@@ -27,7 +27,7 @@ fn firsts(queue: &mut TickQueue) -> Result<[Option<(u64, usize)>; 4], AllocError
     Ok([first, second, third, queue.first()])
 }
 
-/// The same for three keys.
+// The same for three keys.
 fn firsts_of_three(alloc: Global) -> Result<[Option<(u64, usize)>; 4], AllocError> {
     let mut queue = three_keys(alloc)?;
     firsts(&mut queue)

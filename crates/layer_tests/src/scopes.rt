@@ -9,7 +9,7 @@ use cancel_scopes::{ScopeId, ScopeTree, earlier, is_reached, stacks_are_chains};
 use std::alloc::Global;
 use std::test::Fail;
 
-/// Opens a scope in one that is open, or an outermost one.
+// Opens a scope in one that is open, or an outermost one.
 fn open(
     tree: &mut ScopeTree,
     parent: Option<ScopeId>,
@@ -27,7 +27,7 @@ fn open(
     Ok(tree.open(Some(id), shield, deadline)?)
 }
 
-/// Cancels a scope, if it is open.
+// Cancels a scope, if it is open.
 fn cancel(tree: &mut ScopeTree, id: ScopeId, tick: u64)
     requires { tick < 2 ^ 62 }
 {
@@ -36,7 +36,7 @@ fn cancel(tree: &mut ScopeTree, id: ScopeId, tick: u64)
     }
 }
 
-/// The tick from which a task in the scope sees a cancellation. The outer `None` is for a scope that is closed.
+// The tick from which a task in the scope sees a cancellation. The outer `None` is for a scope that is closed.
 fn seen_from(tree: &ScopeTree, id: ScopeId) -> Option<Option<u64>> {
     if !tree.is_open(id) {
         return None;
@@ -44,7 +44,7 @@ fn seen_from(tree: &ScopeTree, id: ScopeId) -> Option<Option<u64>> {
     Some(tree.seen_from(id))
 }
 
-/// Whether a task in the scope sees a cancellation in that tick.
+// Whether a task in the scope sees a cancellation in that tick.
 fn seen_at(tree: &ScopeTree, id: ScopeId, tick: u64) -> Option<bool> {
     if !tree.is_open(id) {
         return None;
@@ -52,7 +52,7 @@ fn seen_at(tree: &ScopeTree, id: ScopeId, tick: u64) -> Option<bool> {
     Some(tree.seen(id, tick))
 }
 
-/// Whether the scope catches a cancellation that leaves it in that tick.
+// Whether the scope catches a cancellation that leaves it in that tick.
 fn caught_at(tree: &ScopeTree, id: ScopeId, tick: u64) -> Option<bool> {
     if !tree.is_open(id) {
         return None;
@@ -60,7 +60,7 @@ fn caught_at(tree: &ScopeTree, id: ScopeId, tick: u64) -> Option<bool> {
     Some(tree.may_catch(id, tick))
 }
 
-/// The scope that encloses a scope.
+// The scope that encloses a scope.
 fn parent(tree: &ScopeTree, id: ScopeId) -> Option<Option<ScopeId>> {
     if !tree.is_open(id) {
         return None;
@@ -68,8 +68,8 @@ fn parent(tree: &ScopeTree, id: ScopeId) -> Option<Option<ScopeId>> {
     Some(tree.parent(id))
 }
 
-/// What is seen in a scope with a deadline and in a shielded one inside it, as first the inner and then the outer one is
-/// cancelled.
+// What is seen in a scope with a deadline and in a shielded one inside it, as first the inner and then the outer one is
+// cancelled.
 fn seen_round_a_shield(alloc: Global) -> Result<[Option<Option<u64>>; 3], Fail> {
     let mut tree = ScopeTree::new(alloc);
     let outer = open(&mut tree, None, false, Some(3))?;
@@ -81,9 +81,9 @@ fn seen_round_a_shield(alloc: Global) -> Result<[Option<Option<u64>>; 3], Fail> 
     Ok([before, then, seen_from(&tree, outer)])
 }
 
-/// Whether a scope with a deadline at 3 sees a cancellation at 2 and at 3, and whether a shielded one inside it catches its
-/// own cancellation, which is seen from 5 on.
-fn seen_and_caught(alloc: Global) -> Result<[Option<bool>; 3], Fail> {
+// Whether a scope with a deadline at 3 sees a cancellation at 2 and at 3, and whether a shielded one inside it catches its
+// own cancellation, which is seen from 5 on.
+fn sees_and_catches(alloc: Global) -> Result<[Option<bool>; 3], Fail> {
     let mut tree = ScopeTree::new(alloc);
     let outer = open(&mut tree, None, false, Some(3))?;
     let inner = open(&mut tree, Some(outer), true, None)?;
@@ -97,13 +97,13 @@ fn seen_and_caught(alloc: Global) -> Result<[Option<bool>; 3], Fail> {
 fn a_shield_hides_what_is_outside(rt: HostRuntime) -> Result<(), Fail> {
     let seen = seen_round_a_shield(rt.alloc())?;
     assert!(rt; seen == [Some(None), Some(Some(5)), Some(Some(2))]);
-    let found = seen_and_caught(rt.alloc())?;
+    let found = sees_and_catches(rt.alloc())?;
     assert!(rt; found == [Some(false), Some(true), Some(true)]);
     Ok(())
 }
 
-/// The changed scopes that are taken, as first the inner and then the outer one of two is cancelled, and the two.
-fn handed_out(alloc: Global) -> Result<([Option<ScopeId>; 4], ScopeId, ScopeId), Fail> {
+// The changed scopes that are taken, as first the inner and then the outer one of two is cancelled, and the two.
+fn changed_scopes(alloc: Global) -> Result<([Option<ScopeId>; 4], ScopeId, ScopeId), Fail> {
     let mut tree = ScopeTree::new(alloc);
     let outer = open(&mut tree, None, false, Some(3))?;
     let inner = open(&mut tree, Some(outer), true, None)?;
@@ -117,12 +117,12 @@ fn handed_out(alloc: Global) -> Result<([Option<ScopeId>; 4], ScopeId, ScopeId),
 
 #[test]
 fn lowered_scopes_are_returned_once(rt: HostRuntime) -> Result<(), Fail> {
-    let (found, outer, inner) = handed_out(rt.alloc())?;
+    let (found, outer, inner) = changed_scopes(rt.alloc())?;
     assert!(rt; found == [Some(inner), None, Some(outer), None]);
     Ok(())
 }
 
-/// Whether the inner and the outer one of two scopes with the same deadline catch a cancellation in its tick.
+// Whether the inner and the outer one of two scopes with the same deadline catch a cancellation in its tick.
 fn caught_by_two(alloc: Global) -> Result<[Option<bool>; 2], Fail> {
     let mut tree = ScopeTree::new(alloc);
     let outer = open(&mut tree, None, false, Some(3))?;
@@ -136,7 +136,7 @@ fn the_outermost_of_two_catches(rt: HostRuntime) -> Result<(), Fail> {
     Ok(())
 }
 
-/// Three nested scopes, the outermost first, and the scope that encloses each.
+// Three nested scopes, the outermost first, and the scope that encloses each.
 fn three_scopes(alloc: Global) -> Result<([ScopeId; 3], [Option<Option<ScopeId>>; 3]), Fail> {
     let mut tree = ScopeTree::new(alloc);
     let outer = open(&mut tree, None, false, None)?;
@@ -159,9 +159,9 @@ fn scopes_have_their_parents(rt: HostRuntime) -> Result<(), Fail> {
     Ok(())
 }
 
-/// The tick from which a scope was cancelled that is closed then, whether its id is reused, and which changed scopes are
-/// taken.
-fn closed_and_opened(alloc: Global) -> Result<(Option<u64>, bool, Option<ScopeId>), Fail> {
+// The tick from which a scope was cancelled that is closed then, whether its id is reused, and which changed scopes are
+// taken.
+fn close_and_open(alloc: Global) -> Result<(Option<u64>, bool, Option<ScopeId>), Fail> {
     let mut tree = ScopeTree::new(alloc);
     let first = tree.open(None, false, None)?;
     tree.cancel(first, 4);
@@ -172,12 +172,12 @@ fn closed_and_opened(alloc: Global) -> Result<(Option<u64>, bool, Option<ScopeId
 
 #[test]
 fn a_closed_scope_is_not_returned(rt: HostRuntime) -> Result<(), Fail> {
-    assert!(rt; closed_and_opened(rt.alloc())? == (Some(5), true, None));
+    assert!(rt; close_and_open(rt.alloc())? == (Some(5), true, None));
     Ok(())
 }
 
-/// Whether an id is open before its scope is closed, after that, and when it is reused; and the ticks from which the two
-/// scopes were cancelled.
+// Whether an id is open before its scope is closed, after that, and when it is reused; and the ticks from which the two
+// scopes were cancelled.
 fn open_by_turns(alloc: Global) -> Result<([bool; 3], [Option<u64>; 2]), Fail> {
     let mut tree = ScopeTree::new(alloc);
     let first = tree.open(None, false, Some(7))?;

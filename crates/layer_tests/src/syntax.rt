@@ -8,7 +8,7 @@ use job_tree::Format;
 use std::alloc::Global;
 use std::test::Fail;
 
-/// Whether a text is a job, as far as its grammar, its numbers and its depth are concerned.
+// Whether a text is a job, as far as its grammar, its numbers and its depth are concerned.
 fn is_followed(alloc: Global, text: &[u8]) -> Result<bool, Fail> {
     let lexed = lex(alloc, text, text.len())?;
     let tokens = lexed.tokens.as_slice();
@@ -21,7 +21,7 @@ fn is_followed(alloc: Global, text: &[u8]) -> Result<bool, Fail> {
     )
 }
 
-/// Whether the tokens of a text are a job.
+// Whether the tokens of a text are a job.
 fn is_job(alloc: Global, text: &[u8]) -> Result<bool, Fail> {
     let lexed = lex(alloc, text, text.len())?;
     let job = job_at(alloc, lexed.tokens.as_slice())?;
@@ -36,7 +36,7 @@ fn the_grammar_check_reaches_the_end_of_a_job(rt: HostRuntime) -> Result<(), Fai
     Ok(())
 }
 
-/// A text, and where its tokens leave the grammar.
+// A text, and where its tokens leave the grammar.
 const FAULTS: &[(&'static [u8], Option<usize>)] = &[
     (b"job main { sleep", Some(16)),
     (b"job main { start a { } }", Some(11)),
@@ -44,14 +44,14 @@ const FAULTS: &[(&'static [u8], Option<usize>)] = &[
     (b"", Some(0)),
 ];
 
-/// Where the tokens of a text leave the grammar.
+// Where the tokens of a text leave the grammar.
 fn fault(alloc: Global, text: &[u8]) -> Result<Option<usize>, Fail> {
     let lexed = lex(alloc, text, text.len())?;
     let checked = check_grammar(alloc, Format::One, lexed.tokens.as_slice(), text.len())?;
     Ok(checked.fault)
 }
 
-/// Fails at the first row whose tokens leave the grammar elsewhere.
+// Fails at the first row whose tokens leave the grammar elsewhere.
 fn faults_are_found(alloc: Global) -> Result<(), Fail> {
     for i in 0..FAULTS.len() {
         let (text, expected) = FAULTS[i];

@@ -16,8 +16,8 @@ use std::test::Fail;
 use task_machine::ScopeFrom;
 use task_table::{Ended, Record, TaskRow, TaskTable, records_of};
 
-/// The row of a task that was started in one tick and ended without an exception in another.
-fn ended<'a>(
+// The row of a task that was started in one tick and ended without an exception in another.
+fn ended_row<'a>(
     alloc: Global,
     name: Name,
     start: u64,
@@ -45,7 +45,7 @@ fn ended<'a>(
     })
 }
 
-/// Adds a row, as `ended` makes it.
+// Adds a row, as `ended_row` makes it.
 fn push_ended<'a>(
     alloc: Global,
     rows: &mut Vec<TaskRow<'a>>,
@@ -57,12 +57,12 @@ fn push_ended<'a>(
     ensures { OnOk result ((row : TaskRow) × (rows.new.items ≡ rows.old.items ++ row ∷ []) × (row.children.items ≡ children.now)
         × IsSome row.end) }
 {
-    let row = ended(alloc, name, start, children)?;
+    let row = ended_row(alloc, name, start, children)?;
     rows.push(row)?;
     Ok(())
 }
 
-/// Four rows, of which the first started the second and the third, and the second the fourth.
+// Four rows, of which the first started the second and the third, and the second the fourth.
 fn four_rows<'a>(alloc: Global, name: Name) -> Result<Vec<TaskRow<'a>>, AllocError>
     ensures ended { IfOk result (λ rows. All (λ r. IsSome r.end) rows.items) }
     ensures tree { IfOk result (λ rows. ChildrenAreApart rows.items) }
@@ -75,14 +75,14 @@ fn four_rows<'a>(alloc: Global, name: Name) -> Result<Vec<TaskRow<'a>>, AllocErr
     Ok(rows)
 }
 
-/// The records of four rows.
+// The records of four rows.
 fn records_of_four(alloc: Global) -> Result<(Vec<Record<'static>>, Vec<ScopeFrom>), Fail> {
     let rows = four_rows(alloc, word(b"main")?)?;
     let told = records_of(alloc, rows)?;
     Ok(told)
 }
 
-/// When the tasks of records were started, each tick with a space after it.
+// When the tasks of records were started, each tick with a space after it.
 fn starts(alloc: Global, records: &[Record<'_>]) -> Result<Vec<u8>, AllocError> {
     let mut text = Vec::new(alloc);
     for record in records {
@@ -92,7 +92,7 @@ fn starts(alloc: Global, records: &[Record<'_>]) -> Result<Vec<u8>, AllocError> 
     Ok(text)
 }
 
-/// When the tasks of those records were started, and whether no scope is among their froms.
+// When the tasks of those records were started, and whether no scope is among their froms.
 fn starts_of_four(alloc: Global) -> Result<(Vec<u8>, bool), Fail> {
     let (records, froms) = records_of_four(alloc)?;
     let text = starts(alloc, records.as_slice())?;
@@ -106,8 +106,8 @@ fn rows_come_depth_first(rt: HostRuntime) -> Result<(), Fail> {
     same(found.as_slice(), b"0 1 3 2 ")
 }
 
-/// A task table with a job's root, which has that id.
-fn rooted<'a>(alloc: Global, job: &'a Job) -> Result<(TaskTable<'a>, TaskId), Fail>
+// A task table with a job's root, which has that id.
+fn table_of_root<'a>(alloc: Global, job: &'a Job) -> Result<(TaskTable<'a>, TaskId), Fail>
     ensures agree { IfOk result (λ r. IsTaskTable r.0) }
     ensures one { IfOk result (λ r. task_count r.0 ≡ 1) }
     ensures lives { IfOk result (λ r. IsSome (running_at r.0 r.1)) }
@@ -117,7 +117,7 @@ fn rooted<'a>(alloc: Global, job: &'a Job) -> Result<(TaskTable<'a>, TaskId), Fa
     Ok(begun)
 }
 
-/// Starts a child of the root at tick 3, which has another id.
+// Starts a child of the root at tick 3, which has another id.
 fn start_child<'a>(
     alloc: Global,
     task_table: &mut TaskTable<'a>,
@@ -142,22 +142,22 @@ fn start_child<'a>(
     Ok(child)
 }
 
-/// Whether the root has the first row, and is in no scope and no nursery.
+// Whether the root has the first row, and is in no scope and no nursery.
 fn begins_with_root(alloc: Global, job: &Job) -> Result<bool, Fail> {
-    let begun = rooted(alloc, job)?;
+    let begun = table_of_root(alloc, job)?;
     let (task_table, id) = begun;
     Ok(task_table.row(id) == 0 && task_table.scope(id).is_none() && task_table.home(id).is_none())
 }
 
-/// Whether a task that the root started has the second row, and the root as its parent.
+// Whether a task that the root started has the second row, and the root as its parent.
 fn starts_a_child(alloc: Global, job: &Job) -> Result<bool, Fail> {
-    let begun = rooted(alloc, job)?;
+    let begun = table_of_root(alloc, job)?;
     let (mut task_table, id) = begun;
     let child = start_child(alloc, &mut task_table, id, job)?;
     Ok(task_table.row(child) == 1 && task_table.parent(1) == id)
 }
 
-/// Whether a run is over after its child has ended and after its root has.
+// Whether a run is over after its child has ended and after its root has.
 fn over_by_turns(
     task_table: &mut TaskTable<'_>,
     root_id: TaskId,
@@ -175,9 +175,9 @@ fn over_by_turns(
     Ok((before, task_table.is_over()))
 }
 
-/// The same for a job, and its number of rows then.
+// The same for a job, and its number of rows then.
 fn ends(alloc: Global, job: &Job) -> Result<(bool, bool, usize), Fail> {
-    let begun = rooted(alloc, job)?;
+    let begun = table_of_root(alloc, job)?;
     let (mut task_table, id) = begun;
     let child = start_child(alloc, &mut task_table, id, job)?;
     let (before, then) = over_by_turns(&mut task_table, id, child)?;
@@ -185,7 +185,7 @@ fn ends(alloc: Global, job: &Job) -> Result<(bool, bool, usize), Fail> {
     Ok((before, then, rows.len()))
 }
 
-/// Fails if a task does not come or go as it has to.
+// Fails if a task does not come or go as it has to.
 fn come_and_go(alloc: Global, job: &Job) -> Result<(), Fail> {
     if !begins_with_root(alloc, job)? {
         return Err("the root has the first row, and is in no scope and no nursery")?;

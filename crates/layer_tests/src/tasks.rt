@@ -18,7 +18,7 @@ use std::alloc::{AllocError, Global};
 use std::test::Fail;
 use task_machine::{Entry, ScopeFrom, Stop, Task, Wake, World};
 
-/// The result of a root's first turn.
+// The result of a root's first turn.
 #[derive(Drop)]
 struct Turned<'a> {
     task: Task<'a>,
@@ -26,7 +26,7 @@ struct Turned<'a> {
     stop: Stop<'a>,
 }
 
-/// The first turn of a job's root, in a new world at that tick. A root that fell asleep may continue.
+// The first turn of a job's root, in a new world at that tick. A root that fell asleep may continue.
 fn first_turn<'a>(alloc: Global, job: &'a Job, tick: u64) -> Result<Turned<'a>, Fail>
     requires { tick ≤ 2 ^ 62 }
     ensures tick { IfOk result (λ t. t.world.tick ≡ tick) }
@@ -48,7 +48,7 @@ fn first_turn<'a>(alloc: Global, job: &'a Job, tick: u64) -> Result<Turned<'a>, 
     Ok(Turned { task, world, stop })
 }
 
-/// Appends a scope or a nursery that was left, as `a@0;`, with a mark if it caught a `Cancelled`.
+// Appends a scope or a nursery that was left, as `a@0;`, with a mark if it caught a `Cancelled`.
 fn push_left(text: &mut Vec<u8>, label: &Label, tick: u64, caught: bool) -> Result<(), AllocError> {
     push_label(text, label)?;
     push_bytes(text, b"@")?;
@@ -56,7 +56,7 @@ fn push_left(text: &mut Vec<u8>, label: &Label, tick: u64, caught: bool) -> Resu
     push_bytes(text, if caught { b"!;" } else { b";" })
 }
 
-/// Appends something that a task noted.
+// Appends something that a task noted.
 fn push_entry(text: &mut Vec<u8>, entry: &Entry<'_>) -> Result<(), AllocError> {
     match entry {
         Entry::Line(_) => push_bytes(text, b"line;"),
@@ -73,7 +73,7 @@ fn push_entry(text: &mut Vec<u8>, entry: &Entry<'_>) -> Result<(), AllocError> {
     }
 }
 
-/// Appends what a task noted.
+// Appends what a task noted.
 fn push_entries(text: &mut Vec<u8>, entries: &[Entry<'_>]) -> Result<(), AllocError> {
     for entry in entries {
         push_entry(text, entry)?;
@@ -81,7 +81,7 @@ fn push_entries(text: &mut Vec<u8>, entries: &[Entry<'_>]) -> Result<(), AllocEr
     Ok(())
 }
 
-/// Appends the tick from which each scope was cancelled, as `a=1;b=-;`.
+// Appends the tick from which each scope was cancelled, as `a=1;b=-;`.
 fn push_froms(text: &mut Vec<u8>, froms: &[ScopeFrom]) -> Result<(), AllocError> {
     for from in froms {
         push_label(text, &from.label)?;
@@ -95,7 +95,7 @@ fn push_froms(text: &mut Vec<u8>, froms: &[ScopeFrom]) -> Result<(), AllocError>
     Ok(())
 }
 
-/// Appends where a turn stopped: `end` if the task ended without an exception, and the exception if it ended with one.
+// Appends where a turn stopped: `end` if the task ended without an exception, and the exception if it ended with one.
 fn push_stop(text: &mut Vec<u8>, stop: &Stop<'_>) -> Result<(), AllocError> {
     match stop {
         Stop::Ask(_) => push_bytes(text, b"ask"),
@@ -106,7 +106,7 @@ fn push_stop(text: &mut Vec<u8>, stop: &Stop<'_>) -> Result<(), AllocError> {
     }
 }
 
-/// Appends what a task noted, from which ticks its scopes were cancelled, and where its turn stopped.
+// Appends what a task noted, from which ticks its scopes were cancelled, and where its turn stopped.
 fn push_turned(text: &mut Vec<u8>, turned: &Turned<'_>) -> Result<(), AllocError> {
     push_entries(text, turned.task.entries())?;
     push_bytes(text, b"|")?;
@@ -115,7 +115,7 @@ fn push_turned(text: &mut Vec<u8>, turned: &Turned<'_>) -> Result<(), AllocError
     push_stop(text, &turned.stop)
 }
 
-/// The text of a root's first turn.
+// The text of a root's first turn.
 fn text_of_turn(alloc: Global, job: &Job, tick: u64) -> Result<Vec<u8>, Fail>
     requires { tick ≤ 2 ^ 62 }
 {
@@ -125,15 +125,15 @@ fn text_of_turn(alloc: Global, job: &Job, tick: u64) -> Result<Vec<u8>, Fail>
     Ok(text)
 }
 
-/// The text of the first turn of the root of a job that is given as text.
-fn shown(alloc: Global, text: &[u8], tick: u64) -> Result<Vec<u8>, Fail>
+// The text of the first turn of the root of a job that is given as text.
+fn text_of_first_turn(alloc: Global, text: &[u8], tick: u64) -> Result<Vec<u8>, Fail>
     requires { tick ≤ 2 ^ 62 }
 {
     let job = job(alloc, text)?;
     text_of_turn(alloc, &job, tick)
 }
 
-/// The tick of a new world, and the tick that it was set to.
+// The tick of a new world, and the tick that it was set to.
 fn ticks(alloc: Global) -> (u64, u64) {
     let mut world = World::new(alloc);
     let first = world.now();
@@ -141,7 +141,7 @@ fn ticks(alloc: Global) -> (u64, u64) {
     (first, world.now())
 }
 
-/// Whether a task was started in a new world.
+// Whether a task was started in a new world.
 fn has_started(alloc: Global) -> bool {
     let mut world = World::new(alloc);
     world.take_started().is_some()
@@ -153,8 +153,8 @@ fn a_new_world_is_at_tick_0(rt: HostRuntime) {
     assert!(rt; !has_started(rt.alloc()));
 }
 
-/// A scope that is opened in a world, whether it is open there, and the scope of a nursery that is opened in it.
-fn opened(alloc: Global) -> Result<(ScopeId, bool, ScopeId), Fail> {
+// A scope that is opened in a world, whether it is open there, and the scope of a nursery that is opened in it.
+fn open_in_world(alloc: Global) -> Result<(ScopeId, bool, ScopeId), Fail> {
     let whose = label(alloc, b"n")?;
     let mut world = World::new(alloc);
     let scope = world.scopes_mut().open(None, false, Some(3))?;
@@ -165,12 +165,12 @@ fn opened(alloc: Global) -> Result<(ScopeId, bool, ScopeId), Fail> {
 
 #[test]
 fn parts_of_a_world_are_lent(rt: HostRuntime) -> Result<(), Fail> {
-    let (scope, is_open, of_nursery) = opened(rt.alloc())?;
+    let (scope, is_open, of_nursery) = open_in_world(rt.alloc())?;
     assert!(rt; is_open && of_nursery == scope);
     Ok(())
 }
 
-/// Whether a task has nothing but a label, which is of that name.
+// Whether a task has nothing but a label, which is of that name.
 fn is_bare(task: &Task<'_>, name: &[u8]) -> bool {
     let label = task.label().name();
     label.bytes() == name
@@ -180,7 +180,7 @@ fn is_bare(task: &Task<'_>, name: &[u8]) -> bool {
         && task.froms().is_empty()
 }
 
-/// Whether the root of a job has nothing but a label of that name.
+// Whether the root of a job has nothing but a label of that name.
 fn has_bare_root(alloc: Global, job: &Job, name: &[u8]) -> Result<bool, Fail> {
     let task = root(alloc, job)?;
     Ok(is_bare(&task, name))
@@ -193,18 +193,18 @@ fn a_root_is_in_no_scope(rt: HostRuntime) -> Result<(), Fail> {
     Ok(())
 }
 
-/// A job, and the text of the first turn of its root.
+// A job, and the text of the first turn of its root.
 type Pair = (&'static [u8], &'static [u8]);
 
-/// Whether the first turn of a job's root at that tick has that text.
+// Whether the first turn of a job's root at that tick has that text.
 fn is_shown(alloc: Global, text: &[u8], tick: u64, expected: &[u8]) -> Result<bool, Fail>
     requires { tick ≤ 2 ^ 62 }
 {
-    let found = shown(alloc, text, tick)?;
+    let found = text_of_first_turn(alloc, text, tick)?;
     Ok(found.as_slice() == expected)
 }
 
-/// Fails at the first row whose job has another first turn at tick 0.
+// Fails at the first row whose job has another first turn at tick 0.
 fn are_shown(alloc: Global, rows: &[Pair]) -> Result<(), Fail> {
     for i in 0..rows.len() {
         let (text, expected) = rows[i];
@@ -215,7 +215,7 @@ fn are_shown(alloc: Global, rows: &[Pair]) -> Result<(), Fail> {
     Ok(())
 }
 
-/// Jobs with passes.
+// Jobs with passes.
 const PASSES: &[Pair] = &[
     (
         b"trio-job 2\njob main { repeat 2 { scope s { } } }",
@@ -233,7 +233,7 @@ fn passes_are_numbered_from_0_until_an_exception(rt: HostRuntime) -> Result<(), 
     are_shown(rt.alloc(), PASSES)
 }
 
-/// Jobs that cancel one of two scopes.
+// Jobs that cancel one of two scopes.
 const SIGNED: &[Pair] = &[
     (
         b"trio-job 1\njob main { scope a { cancel a; checkpoint; } }",
@@ -262,7 +262,7 @@ fn a_scope_is_seen_and_catches_from_its_tick_on(rt: HostRuntime) -> Result<(), F
     Ok(())
 }
 
-/// Where the next turn of a task that slept until that tick stops.
+// Where the next turn of a task that slept until that tick stops.
 fn stop_when_due<'a>(
     task: &mut Task<'a>,
     world: &mut World<'a>,
@@ -278,8 +278,8 @@ fn stop_when_due<'a>(
     task.turn(TaskId::of(0), Wake::Due, world)
 }
 
-/// Until when the root of a job that begins at tick 0 sleeps, and whether it ends without an exception in its next turn, at
-/// tick 2.
+// Until when the root of a job that begins at tick 0 sleeps, and whether it ends without an exception in its next turn, at
+// tick 2.
 fn sleeps_and_ends(alloc: Global, job: &Job) -> Result<(u64, bool), Fail> {
     let turned = first_turn(alloc, job, 0)?;
     let Turned {
@@ -301,7 +301,7 @@ fn a_root_sleeps_and_ends(rt: HostRuntime) -> Result<(), Fail> {
     Ok(())
 }
 
-/// Whether the task is a child of that name, started at that place in a nursery of that scope.
+// Whether the task is a child of that name, started at that place in a nursery of that scope.
 fn is_child(task: &Task<'_>, name: &[u8], place: usize, scope: ScopeId) -> bool {
     let Some((_, found)) = task.home() else {
         return false;
@@ -310,8 +310,8 @@ fn is_child(task: &Task<'_>, name: &[u8], place: usize, scope: ScopeId) -> bool 
     label.bytes() == name && found == place && task.scope() == Some(scope)
 }
 
-/// Whether the root of a job, in whose nursery two children are started, is in a scope of its own inside the nursery's, and
-/// whether the children are taken in the order of their starts.
+// Whether the root of a job, in whose nursery two children are started, is in a scope of its own inside the nursery's, and
+// whether the children are taken in the order of their starts.
 fn starts_two(alloc: Global, job: &Job) -> Result<(bool, bool), Fail> {
     let mut turned = first_turn(alloc, job, 0)?;
     let Some(outer) = scope_round(&turned) else {
@@ -323,7 +323,7 @@ fn starts_two(alloc: Global, job: &Job) -> Result<(bool, bool), Fail> {
     Ok((true, first && second && is_last))
 }
 
-/// The scope that encloses the innermost one of a task.
+// The scope that encloses the innermost one of a task.
 fn scope_round(turned: &Turned<'_>) -> Option<ScopeId> {
     let own = turned.task.scope()?;
     let scopes = turned.world.scopes();
@@ -333,7 +333,7 @@ fn scope_round(turned: &Turned<'_>) -> Option<ScopeId> {
     scopes.parent(own)
 }
 
-/// Whether the task that is taken next is a child of that name, started at that place in a nursery of that scope.
+// Whether the task that is taken next is a child of that name, started at that place in a nursery of that scope.
 fn takes_child(world: &mut World<'_>, name: &[u8], place: usize, scope: ScopeId) -> bool {
     match world.take_started() {
         Some(task) => is_child(&task, name, place, scope),

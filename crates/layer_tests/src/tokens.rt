@@ -5,7 +5,7 @@ use job_tokens::{Mark, Shape, Token, lex, push_canon};
 use std::alloc::{AllocError, Global};
 use std::test::Fail;
 
-/// The places of tokens.
+// The places of tokens.
 fn places(alloc: Global, tokens: &[Token]) -> Result<Vec<usize>, AllocError> {
     let mut places = Vec::new(alloc);
     for token in tokens {
@@ -14,8 +14,8 @@ fn places(alloc: Global, tokens: &[Token]) -> Result<Vec<usize>, AllocError> {
     Ok(places)
 }
 
-/// The canonical text of tokens.
-fn canonical(alloc: Global, tokens: &[Token]) -> Result<Vec<u8>, AllocError> {
+// The canonical text of tokens.
+fn canonical_text(alloc: Global, tokens: &[Token]) -> Result<Vec<u8>, AllocError> {
     let mut shapes = Vec::new(alloc);
     for token in tokens {
         shapes.push(token.shape)?;
@@ -31,11 +31,11 @@ fn tokens_have_their_places(rt: HostRuntime) -> Result<(), Fail> {
     assert!(rt; lexed.fault == None);
     let places = places(rt.alloc(), lexed.tokens.as_slice())?;
     assert!(rt; places.as_slice() == [11, 17, 21, 23, 25].as_slice());
-    let text = canonical(rt.alloc(), lexed.tokens.as_slice())?;
+    let text = canonical_text(rt.alloc(), lexed.tokens.as_slice())?;
     same(text.as_slice(), b"find\"er\";{7")
 }
 
-/// Bytes, how many tokens can be read, and the place where no other can.
+// Bytes, how many tokens can be read, and the place where no other can.
 const ENDS: &[(&'static [u8], usize, Option<usize>)] = &[
     (b"find #", 1, Some(5)),
     (b"7a", 0, Some(0)),
@@ -43,13 +43,13 @@ const ENDS: &[(&'static [u8], usize, Option<usize>)] = &[
     (b"", 0, None),
 ];
 
-/// How many tokens can be read, and the place where no other can.
+// How many tokens can be read, and the place where no other can.
 fn end(alloc: Global, bytes: &[u8]) -> Result<(usize, Option<usize>), AllocError> {
     let lexed = lex(alloc, bytes, bytes.len())?;
     Ok((lexed.tokens.len(), lexed.fault))
 }
 
-/// Fails at the first row with another end.
+// Fails at the first row with another end.
 fn ends_are_right(alloc: Global) -> Result<(), Fail> {
     for i in 0..ENDS.len() {
         let (bytes, tokens, fault) = ENDS[i];

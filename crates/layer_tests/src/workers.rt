@@ -8,16 +8,16 @@ use std::alloc::{AllocError, Global};
 use std::sync::atomic::{AtomicU64, Ordering};
 use std::test::Fail;
 
-/// Three lines of two, one and four bytes.
+// Three lines of two, one and four bytes.
 const BUFFER: &[u8] = b"aa\nb\ncccc\n";
 
-/// A hundred empty lines.
+// A hundred empty lines.
 const LINES: &[u8] = &[b'\n'; 100];
 
-/// How often a gate checks whether both requests were begun.
+// How often a gate checks whether both requests were begun.
 const LOOKS: u32 = 100_000_000;
 
-/// The counts of the first line, of the two lines after it, and of nothing.
+// The counts of the first line, of the two lines after it, and of nothing.
 fn counts<'a>(buffer: &'a [u8]) -> [Request<'a>; 3] {
     let whole = Part::whole(buffer);
     let (first, rest) = whole.first_of(3);
@@ -27,8 +27,8 @@ fn counts<'a>(buffer: &'a [u8]) -> [Request<'a>; 3] {
     })
 }
 
-/// Answers as text: each count with a space after it.
-fn shown(alloc: Global, answers: &[Answer<'_>]) -> Result<Vec<u8>, AllocError> {
+// Answers as text: each count with a space after it.
+fn text_of_answers(alloc: Global, answers: &[Answer<'_>]) -> Result<Vec<u8>, AllocError> {
     let mut text = Vec::new(alloc);
     for answer in answers {
         match answer {
@@ -45,7 +45,7 @@ fn workers_answer_in_the_order_of_the_requests(rt: HostRuntime) -> Result<(), Fa
     let requests = counts(BUFFER);
     for workers in [1, 2, 3, 64] {
         let answers = work(&rt, rt.alloc(), workers, &requests, &NoGate)?;
-        let text = shown(rt.alloc(), answers.as_slice())?;
+        let text = text_of_answers(rt.alloc(), answers.as_slice())?;
         same(text.as_slice(), b"1 2 0 ")?;
     }
     Ok(())
@@ -58,16 +58,16 @@ fn no_requests_have_no_answers(rt: HostRuntime) -> Result<(), Fail> {
     Ok(())
 }
 
-/// The count in a slot, if there is one.
-fn counted(slot: &Slot<'_>) -> Option<u64> {
+// The count in a slot, if there is one.
+fn count_in(slot: &Slot<'_>) -> Option<u64> {
     match &slot.content {
         Content::Done(Answer::Count(lines)) => Some(*lines),
         _ => None,
     }
 }
 
-/// What two benches write into one row.
-fn filled_by_two(alloc: Global) -> [Option<u64>; 2] {
+// What two benches write into one row.
+fn fill_by_two(alloc: Global) -> [Option<u64>; 2] {
     let requests = counts(BUFFER);
     let mut row = [
         Slot {
@@ -80,12 +80,12 @@ fn filled_by_two(alloc: Global) -> [Option<u64>; 2] {
     let (first, second) = Bench::new(&requests[..2], &mut row).cut(1);
     first.fill(alloc);
     second.fill(alloc);
-    [counted(&row[0]), counted(&row[1])]
+    [count_in(&row[0]), count_in(&row[1])]
 }
 
 #[test]
 fn two_benches_fill_one_row(rt: HostRuntime) {
-    assert!(rt; filled_by_two(rt.alloc()) == [Some(1), Some(2)]);
+    assert!(rt; fill_by_two(rt.alloc()) == [Some(1), Some(2)]);
 }
 
 #[test]
@@ -105,7 +105,7 @@ fn a_bench_takes_what_is_put(rt: HostRuntime) -> Result<(), Fail> {
     Ok(())
 }
 
-/// A gate that counts its calls, and at which each of two requests waits for the other, though not forever.
+// A gate that counts its calls, and at which each of two requests waits for the other, though not forever.
 #[derive(Drop)]
 struct Both {
     begun: [AtomicU64; 2],
@@ -120,7 +120,7 @@ impl Gate for Both {
         if i < 2 {
             self.begun[i].store(1, Ordering::SeqCst);
         }
-        if !self.both_begun() {
+        if !self.await_both() {
             self.missed.store(1, Ordering::SeqCst);
         }
     }
@@ -131,6 +131,7 @@ impl Gate for Both {
 }
 
 impl Both {
+    // A gate at which no request was begun.
     fn new() -> Both {
         Both {
             begun: [AtomicU64::new(0), AtomicU64::new(0)],
@@ -140,7 +141,7 @@ impl Both {
         }
     }
 
-    /// Whether this many requests were begun, the first two among them, and ended.
+    // Whether this many requests were begun, the first two among them, and ended.
     fn has_seen(&self, requests: u64) -> bool {
         self.before.load(Ordering::SeqCst) == requests
             && self.after.load(Ordering::SeqCst) == requests
@@ -148,8 +149,8 @@ impl Both {
             && self.begun[1].load(Ordering::SeqCst) == 1
     }
 
-    /// Checks until both requests were begun, or for a limited number of times.
-    fn both_begun(&self) -> bool {
+    // Checks until both requests were begun, or for a limited number of times.
+    fn await_both(&self) -> bool {
         for _ in 0..LOOKS {
             if self.begun[0].load(Ordering::SeqCst) == 1
                 && self.begun[1].load(Ordering::SeqCst) == 1
@@ -165,13 +166,13 @@ impl Both {
 fn two_workers_compute_at_once(rt: HostRuntime) -> Result<(), Fail> {
     let gate = Both::new();
     let answers = work(&rt, rt.alloc(), 2, &counts(BUFFER)[..2], &gate)?;
-    let text = shown(rt.alloc(), answers.as_slice())?;
+    let text = text_of_answers(rt.alloc(), answers.as_slice())?;
     assert!(rt; gate.has_seen(2));
     assert!(rt; gate.missed.load(Ordering::SeqCst) == 0);
     same(text.as_slice(), b"1 2 ")
 }
 
-/// Requests for the counts of no line, of one, and so on, up to 99 lines.
+// Requests for the counts of no line, of one, and so on, up to 99 lines.
 fn hundred_requests(alloc: Global) -> Result<Vec<Request<'static>>, AllocError> {
     let mut requests = Vec::new(alloc);
     for lines in 0..LINES.len() {
@@ -183,7 +184,7 @@ fn hundred_requests(alloc: Global) -> Result<Vec<Request<'static>>, AllocError> 
     Ok(requests)
 }
 
-/// Whether answers are the counts from 0 on, in order.
+// Whether answers are the counts from 0 on, in order.
 fn count_up(answers: &[Answer<'_>]) -> bool {
     let mut lines: u64 = 0;
     for answer in answers {

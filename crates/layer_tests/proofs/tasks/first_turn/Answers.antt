@@ -2,7 +2,7 @@ use Rattle.std.proofs.Common.{◌≡◌, ℕ, None, sym, subst, arith}
 use Rattle.std.proofs.lemmas.Grind.{common_steps}
 use Rattle.cancel_scopes.specs.Tree.{stack_of}
 use Rattle.task_machine.specs.declared.world.World.{World}
-use Rattle.layer_tests.proofs.Rooted.{root_fits, root_sleeps}
+use Rattle.layer_tests.proofs.RootTasks.{root_fits, root_sleeps}
 use Rattle.layer_tests.proofs.tasks.first_turn.Goals as goal
 
 pub turn-requires-clause-fits : goal.turn-requires-clause-fits

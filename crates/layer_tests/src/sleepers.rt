@@ -6,7 +6,7 @@ use sleepers::Sleepers;
 use std::alloc::{AllocError, Global};
 use std::test::Fail;
 
-/// An outer scope and one inside it, about which nothing else is known here.
+// An outer scope and one inside it, about which nothing else is known here.
 fn two_scopes(alloc: Global) -> Result<(ScopeId, ScopeId), AllocError> {
     let mut tree = ScopeTree::new(alloc);
     let outer = tree.open(None, false, Some(9))?;
@@ -14,7 +14,7 @@ fn two_scopes(alloc: Global) -> Result<(ScopeId, ScopeId), AllocError> {
     Ok((outer, inner))
 }
 
-/// Three sleepers: the first in the outer scope and the others in the inner one.
+// Three sleepers: the first in the outer scope and the others in the inner one.
 fn three_sleepers(alloc: Global, outer: ScopeId, inner: ScopeId) -> Result<Sleepers, AllocError> {
     let mut sleepers = Sleepers::new(alloc);
     sleepers.add(TaskId::of(1), outer, Some(9))?;
@@ -23,9 +23,11 @@ fn three_sleepers(alloc: Global, outer: ScopeId, inner: ScopeId) -> Result<Sleep
     Ok(sleepers)
 }
 
-/// The first effective deadline (`sight`), which sleeper sees a cancellation by 3, which one by 4 when the second sleeper is
-/// gone, and the first effective deadline then.
-fn seen(sleepers: &mut Sleepers) -> (Option<u64>, Option<TaskId>, Option<TaskId>, Option<u64>) {
+// The first effective deadline (`sight`), which sleeper sees a cancellation by 3, which one by 4 when the second sleeper is
+// gone, and the first effective deadline then.
+fn take_seen_in_order(
+    sleepers: &mut Sleepers,
+) -> (Option<u64>, Option<TaskId>, Option<TaskId>, Option<u64>) {
     let before = sleepers.first();
     let early = sleepers.take_seen(3);
     sleepers.remove(TaskId::of(2));
@@ -33,9 +35,9 @@ fn seen(sleepers: &mut Sleepers) -> (Option<u64>, Option<TaskId>, Option<TaskId>
     (before, early, then, sleepers.first())
 }
 
-/// The first effective deadline (`sight`), as the outer scope sees a cancellation from 6 on, then the inner one, in which no
-/// task sleeps, from 1 on, and the outer one none.
-fn first_sights(
+// The first effective deadline (`sight`), as the outer scope sees a cancellation from 6 on, then the inner one, in which no
+// task sleeps, from 1 on, and the outer one none.
+fn first_deadlines(
     sleepers: &mut Sleepers,
     outer: ScopeId,
     inner: ScopeId,
@@ -48,14 +50,14 @@ fn first_sights(
     Ok([first, second, sleepers.first()])
 }
 
-/// Whether sleepers are found by the effective deadlines of their scopes.
+// Whether sleepers are found by the effective deadlines of their scopes.
 fn are_found(alloc: Global) -> Result<bool, AllocError> {
     let (outer, inner) = two_scopes(alloc)?;
     let mut sleepers = three_sleepers(alloc, outer, inner)?;
-    if seen(&mut sleepers) != (Some(4), None, Some(TaskId::of(3)), Some(9)) {
+    if take_seen_in_order(&mut sleepers) != (Some(4), None, Some(TaskId::of(3)), Some(9)) {
         return Ok(false);
     }
-    Ok(first_sights(&mut sleepers, outer, inner)? == [Some(6), Some(6), None])
+    Ok(first_deadlines(&mut sleepers, outer, inner)? == [Some(6), Some(6), None])
 }
 
 #[test]
