@@ -69,16 +69,17 @@ module _ (job : Job) (root : Task) (home : root.home ≡ None) (own : root.own.i
   root_fits world in_range starting small none =
       record {
         runs = record {
-        in_range = subst AreInRangeFrames (sym (frames no_numbers)) (in_range, tt);
-        starts = subst StartsFit (sym (frames no_numbers)) (starting, tt);
-        home = subst (λ (o : Option ℕ). ForSome o (IsOpen world.scopes)) (sym no_home) (λ x e. absurd (let f : None ≡ Some x = e in cc));
-        scope = subst (λ (o : Option ℕ). ForSome o (IsOpen world.scopes)) (sym no_scope) (λ x e. absurd (let f : None ≡ Some x = e in cc));
-        first = subst (OwnFirst world.scopes (home_scope root)) (sym own) refl;
-        froms = subst (λ (os : List Own). All (λ (o : Own). o.at < length root.froms.items) os) (sym own)
-            (All-nil (λ (o : Own). o.at < length root.froms.items));
-        opened = subst (λ (bs : List Block). Opened (label_at world) world.book bs root.own.items (waits_of root.task_state)) (sym blocks)
-            (subst (λ (os : List Own). Opened (label_at world) world.book [] os (waits_of root.task_state)) (sym own)
-            (subst (λ (w : Option ℕ). Opened (label_at world) world.book [] [] w) (sym (ap waits_of task_state)) tt)); };
+          in_range = subst AreInRangeFrames (sym (frames no_numbers)) (in_range, tt);
+          starts = subst StartsFit (sym (frames no_numbers)) (starting, tt);
+          home = subst (λ (o : Option ℕ). ForSome o (IsOpen world.scopes)) (sym no_home) (λ x e. absurd (let f : None ≡ Some x = e in cc));
+          scope = subst (λ (o : Option ℕ). ForSome o (IsOpen world.scopes)) (sym no_scope) (λ x e. absurd (let f : None ≡ Some x = e in cc));
+          first = subst (OwnFirst world.scopes (home_scope root)) (sym own) refl;
+          froms = subst (λ (os : List Own). All (λ (o : Own). o.at < length root.froms.items) os) (sym own)
+              (All-nil (λ (o : Own). o.at < length root.froms.items));
+          opened = subst (λ (bs : List Block). Opened (label_at world) world.book bs root.own.items (waits_of root.task_state)) (sym blocks)
+              (subst (λ (os : List Own). Opened (label_at world) world.book [] os (waits_of root.task_state)) (sym own)
+              (subst (λ (w : Option ℕ). Opened (label_at world) world.book [] [] w) (sym (ap waits_of task_state)) tt));
+        };
         small = small;
         others = λ key st found apart i o at inside. absurd (let f : None ≡ Some st = sym (none key) ∙ found in cc);
       }
