@@ -13,6 +13,7 @@ mod claims;
 #[cfg(test)]
 mod clocks;
 #[cfg(test)]
+mod deadlines;
 mod fixtures;
 #[cfg(test)]
 mod grammar;
@@ -31,7 +32,6 @@ mod queues;
 #[cfg(test)]
 mod scopes;
 #[cfg(test)]
-mod sleepers;
 #[cfg(test)]
 mod syntax;
 #[cfg(test)]
