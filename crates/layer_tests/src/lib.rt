@@ -32,7 +32,6 @@ mod queues;
 #[cfg(test)]
 mod scopes;
 #[cfg(test)]
-#[cfg(test)]
 mod syntax;
 #[cfg(test)]
 mod task_tables;
