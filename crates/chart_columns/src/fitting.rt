@@ -3,8 +3,9 @@ ghost use Rattle.chart_columns.specs.Columns.{fits_from, fits, framed_columns, f
 ghost use Rattle.chart_columns.specs.Held.{column_of};
 
 use crate::column::Column;
-use crate::gaps::{digits, gap};
+use crate::gaps::gap;
 use crate::sorting::{sort_by_count, sort_by_tick};
+use digits::digit_count;
 use std::alloc::{AllocError, Global};
 
 /// Returns the columns that are shown in `room` characters: all of them if they fit. Otherwise the columns with the least counts are
@@ -139,5 +140,5 @@ fn fits_from(room: usize, tick: u64, after: &[Column]) -> bool
         left -= wanted;
         at = column.tick;
     }
-    digits(at) <= left
+    digit_count(at) <= left
 }

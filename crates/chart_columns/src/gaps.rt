@@ -1,16 +1,16 @@
-ghost use Rattle.std.specs.Prelude.{◌≡◌, ◌≤◌, length, decimal, map};
+ghost use Rattle.std.specs.Prelude.{◌≡◌, ◌≤◌, length, map};
 ghost use Rattle.chart_columns.specs.Columns.{log2, gap, gap_to};
 ghost use Rattle.chart_columns.specs.Held.{column_of};
 
 use crate::column::Column;
-use itoa::Buffer;
+use digits::digit_count;
 
 /// Returns the room from a tick to the next one that is shown, in characters: the number of its digits, one space, and the
 /// logarithm to base 2, rounded down, of the ticks between them.
 pub fn gap(tick: u64, next: u64) -> usize
     ensures { result ≡ gap tick next }
 {
-    digits(tick) + 1 + log2(next.saturating_sub(tick))
+    digit_count(tick) + 1 + log2(next.saturating_sub(tick))
 }
 
 /// Returns the room from a column to the first of those in `after`, in characters, or 1 if `after` is empty.
@@ -21,15 +21,6 @@ pub fn gap_to(column: &Column, after: &[Column]) -> usize
         Some(next) => gap(column.tick, next.tick),
         None => 1,
     }
-}
-
-// Returns how many decimal digits a number has.
-pub(crate) fn digits(n: u64) -> usize
-    ensures value { result ≡ length (decimal n) }
-    ensures small { result ≤ 20 }
-{
-    let mut buffer = Buffer::new();
-    buffer.format(n).len()
 }
 
 // Returns the logarithm of a number to base 2, rounded down, and 0 for 0.

@@ -3,7 +3,7 @@
 //! The layer promises that `columns_of` returns each of the ticks at which something happens once and in order, and that `shown_columns` drops
 //! those at which the fewest things happen, and no more than it must (`specs/Columns.antt`). The gap from a column to the next grows
 //! with the logarithm of the time between them. What happens at a tick that is not shown is drawn at the last column before it
-//! (`column_at`). It uses `itoa`.
+//! (`column_at`). It uses `digits`.
 #![tactic(auto)]
 
 mod column;

@@ -18,10 +18,11 @@ use crate::layout::MAX_TOLD;
 use crate::shapes::Size;
 use crate::sheet::Sheet;
 use chart_bars::Bar;
+use digits::push_number;
 use exc_groups::Exc;
 use job_story::{Event, Happening, Kind, What};
 use std::alloc::{AllocError, Global};
-use story_text::{kept_text, push_number};
+use story_text::kept_text;
 use svg_text::{Tag, begin, end, inside, text};
 
 const TASK: Size = Size {

@@ -23,10 +23,11 @@ use crate::ticks::push_tick_lines;
 use chart_bars::{Bar, all_ticks};
 use chart_columns::{columns_of, last_tick};
 use chart_text::{columns_for, longest_name, longest_outcome, push_name};
+use digits::push_number;
 use job_story::{Event, Froms};
 use std::alloc::{AllocError, Global};
 use story_causes::Causes;
-use story_text::{Known, push_number};
+use story_text::Known;
 use svg_text::{Attr, Tag, attribute, begin, end, inside, number, text};
 
 /// Returns a chart as an SVG document, which is always well formed. The story is given by its events in the order of the walk

@@ -6,8 +6,8 @@ ghost use Rattle.chart_svg.specs.declared.layout.TheConstants.{ROW};
 use crate::layout::{LEFT, MAX_ROWS, ROW};
 use crate::shapes::push_words;
 use chart_text::push_left_out;
+use digits::push_number;
 use std::alloc::{AllocError, Global};
-use story_text::push_number;
 
 // Numbers about what a drawing does not show.
 #[derive(Clone, Copy)]

@@ -12,8 +12,8 @@ use crate::layout::TOP;
 use crate::shapes::{begin_line, push_words};
 use crate::sheet::Sheet;
 use chart_columns::Column;
+use digits::push_number;
 use std::alloc::{AllocError, Global};
-use story_text::push_number;
 use svg_text::{Tag, end, text};
 
 // Appends each of these columns' tick, with a line down to the bottom.

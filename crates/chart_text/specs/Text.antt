@@ -4,7 +4,8 @@ use Rattle.exc_groups.specs.Exceptions.{Label}
 use Rattle.cancel_scopes.specs.Sight.{Tick}
 use Rattle.job_story.specs.Story.{enters, leaves}
 use Rattle.job_story.specs.Events.{What, starts, happens, ends, Event}
-use Rattle.job_story.specs.Sentences.{label_text, kind_text, end_text, padded_text}
+use Rattle.job_story.specs.Sentences.{kind_text, padded_text}
+use Rattle.exc_text.specs.Texts.{label_text, end_text}
 use Rattle.chart_bars.specs.Bars.{Bar}
 use Rattle.chart_bars.specs.Ticks.{all_ticks}
 use Rattle.chart_columns.specs.Columns.{Column, columns_of, shown_columns, gap_to}

@@ -1,8 +1,8 @@
 ghost use Rattle.std.specs.Prelude.{◌≡◌, ◌++◌, OnOk};
 ghost use Rattle.chart_text.specs.Text.{left_out_note};
 
+use digits::push_number;
 use std::alloc::AllocError;
-use story_text::push_number;
 
 /// Appends how many of `all` columns are not shown, if `shown` columns are. Returns `AllocError` if memory is refused.
 pub fn push_left_out(out: &mut Vec<u8>, shown: usize, all: usize) -> Result<(), AllocError>

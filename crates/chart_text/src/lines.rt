@@ -10,8 +10,8 @@ use crate::names::{push_name, push_outcome};
 use crate::row::row_of;
 use chart_bars::Bar;
 use chart_columns::{Column, gap_to};
+use digits::push_number;
 use std::alloc::{AllocError, Global};
-use story_text::push_number;
 
 // Appends a line and a newline. A line that is longer than the width is cut, and ends in `..`.
 pub(crate) fn push_cut(out: &mut Vec<u8>, width: usize, line: &[u8]) -> Result<(), AllocError>

@@ -1,15 +1,16 @@
 ghost use Rattle.std.specs.Prelude.{◌≡◌, ◌++◌, Some, OnOk, codes, if◌then◌else◌};
 ghost use Rattle.exc_groups.specs.Held.{exc_of};
 ghost use Rattle.job_story.specs.Held.{unboxed_exc, kind_of, what_of};
-ghost use Rattle.job_story.specs.Sentences.{label_text, kind_text, end_text};
+ghost use Rattle.job_story.specs.Sentences.{kind_text};
+ghost use Rattle.exc_text.specs.Texts.{label_text, end_text};
 ghost use Rattle.chart_bars.specs.Held.{bar_of};
 ghost use Rattle.chart_text.specs.Text.{name_by, name_of, ended_text, open_text, outcome_of};
 
 use chart_bars::Bar;
 use exc_groups::{Exc, Label};
+use exc_text::{push_label, push_raised};
 use job_story::{Happening, Kind, What};
 use std::alloc::AllocError;
-use story_text::{push_exc, push_label};
 
 /// Appends the name of a row: the label of a task, or, indented, the word `scope` or `nursery` and its label. Returns
 /// `AllocError` if memory is refused.
@@ -85,17 +86,4 @@ fn push_end(out: &mut Vec<u8>, exc: &Option<Box<Exc>>) -> Result<(), AllocError>
         return out.extend_from_slice(b"done");
     };
     push_raised(out, exc)
-}
-
-// Appends how a task ended, if it ended with an exception.
-fn push_raised(out: &mut Vec<u8>, exc: &Exc) -> Result<(), AllocError>
-    ensures { OnOk result (out.new.items ≡ out.old.items ++ end_text (Some (exc_of exc.now))) }
-{
-    match exc {
-        Exc::Cancelled => out.extend_from_slice(b"cancelled"),
-        Exc::Raised { .. } | Exc::TooSlow { .. } | Exc::Group { .. } => {
-            out.extend_from_slice(b"raised ")?;
-            push_exc(out, exc)
-        }
-    }
 }

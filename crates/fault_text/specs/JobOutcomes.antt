@@ -7,7 +7,7 @@ use Rattle.job_meaning.specs.Shown.{Ending, well, by_cancellation, with_exceptio
 use Rattle.job_story.specs.Tell.{story_by}
 use Rattle.job_story.specs.Events.{Event, events_of, in_order}
 use Rattle.job_story.specs.Limit.{by_limit}
-use Rattle.job_story.specs.Sentences.{label_text, end_text}
+use Rattle.exc_text.specs.Texts.{label_text, end_text}
 use Rattle.fault_notes.specs.Notes.{sleeping_in, cut_in, is_lost, is_raised}
 
 -- A text is refused; or the job does not end by the limit, and these tasks sleep forever; or it ended at a tick, with or

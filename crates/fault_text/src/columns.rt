@@ -3,9 +3,9 @@ ghost use Rattle.fault_text.specs.Table.{fault_text, place_text, step_text, widt
 ghost use Rattle.fault_text.specs.Views.{line_held};
 
 use crate::line::Line;
+use digits::push_number;
 use job_edits::{Fault, push_wait};
 use std::alloc::{AllocError, Global};
-use story_text::push_number;
 
 // The widths of the columns: places, steps and faults.
 #[derive(Clone, Copy)]

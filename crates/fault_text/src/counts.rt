@@ -4,8 +4,8 @@ ghost use Rattle.fault_text.specs.Table.{count, is_unreached, faults_text, refus
 ghost use Rattle.fault_text.specs.Views.{line_held};
 
 use crate::line::Line;
+use digits::push_number;
 use std::alloc::AllocError;
-use story_text::push_number;
 
 // Appends how many lines there are of each kind.
 pub(crate) fn push_counts(out: &mut Vec<u8>, lines: &[Line]) -> Result<(), AllocError>

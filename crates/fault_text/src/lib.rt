@@ -2,7 +2,7 @@
 //!
 //! `table` returns the text of these outcomes, as `specs/Table.antt` defines it: the outcome of the job without a fault, a line
 //! for each fault, in columns, and the counts. `denied_text` returns those of its lines that should make a build fail. The crate
-//! uses `job_edits` for the faults and `story_text` for labels and exceptions.
+//! uses `job_edits` for the faults and `exc_text` for labels and exceptions.
 #![tactic(auto)]
 
 mod columns;

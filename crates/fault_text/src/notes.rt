@@ -1,14 +1,15 @@
 ghost use Rattle.std.specs.Prelude.{◌≡◌, ◌++◌, Some, OnOk, codes, decimal};
 ghost use Rattle.std.specs.Option.{option_map};
 ghost use Rattle.exc_groups.specs.Held.{exc_of};
-ghost use Rattle.job_story.specs.Sentences.{end_text};
+ghost use Rattle.exc_text.specs.Texts.{end_text};
 ghost use Rattle.fault_text.specs.JobOutcomes.{more_names, names_text, names_note, reached_note, lost_note, job_outcome_text};
 ghost use Rattle.fault_text.specs.Views.{job_outcome_held};
 
 use crate::job_outcome::JobOutcome;
+use digits::push_number;
 use exc_groups::{Exc, Label};
+use exc_text::{push_label, push_raised};
 use std::alloc::AllocError;
-use story_text::{push_exc, push_label, push_number};
 
 // Appends the outcome of a job up to the limit, and notes. `reached` says whether the fault was reached.
 pub(crate) fn push_job_outcome(
@@ -59,20 +60,7 @@ fn push_outcome(out: &mut Vec<u8>, exc: &Option<Exc>) -> Result<(), AllocError>
     let Some(exc) = exc else {
         return out.extend_from_slice(b"done");
     };
-    push_end_exc(out, exc)
-}
-
-// Appends the exception with which a job ended: a cancellation, or another one.
-fn push_end_exc(out: &mut Vec<u8>, exc: &Exc) -> Result<(), AllocError>
-    ensures { OnOk result (out.new.items ≡ out.old.items ++ end_text (Some (exc_of exc.now))) }
-{
-    match exc {
-        Exc::Cancelled => out.extend_from_slice(b"cancelled"),
-        Exc::Raised { .. } | Exc::TooSlow { .. } | Exc::Group { .. } => {
-            out.extend_from_slice(b"raised ")?;
-            push_exc(out, exc)
-        }
-    }
+    push_raised(out, exc)
 }
 
 // Appends the note that a fault was not reached.

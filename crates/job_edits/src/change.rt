@@ -1,6 +1,7 @@
 ghost use Rattle.std.specs.Prelude.{◌≡◌, ◌-◌, ◌++◌, take, drop, decimal, IfOk, OnOk};
 ghost use Rattle.job_edits.specs.Changes.{piece_text, changed_text};
 
+use digits::push_number;
 use job_tree::Name;
 use std::alloc::{AllocError, Global};
 
@@ -51,7 +52,7 @@ pub fn changed_text(alloc: Global, text: &[u8], changes: &[Change]) -> Result<Ve
     let mut at = 0;
     'changes: for change in changes {
         push_between(&mut out, text, at, change.from)?;
-        push_piece(alloc, &mut out, change.piece)?;
+        push_piece(&mut out, change.piece)?;
         at = change.to;
     }
     out.extend_from_slice(rest_from(text, at))?;
@@ -75,7 +76,7 @@ fn push_between(out: &mut Vec<u8>, text: &[u8], from: usize, to: usize) -> Resul
 }
 
 // Appends a piece.
-fn push_piece(alloc: Global, out: &mut Vec<u8>, piece: Piece) -> Result<(), AllocError>
+fn push_piece(out: &mut Vec<u8>, piece: Piece) -> Result<(), AllocError>
     ensures { OnOk result (out.new.items ≡ out.old.items ++ piece_text piece) }
 {
     match piece {
@@ -91,30 +92,22 @@ fn push_piece(alloc: Global, out: &mut Vec<u8>, piece: Piece) -> Result<(), Allo
             out.extend_from_slice(b" ")
         }
         Piece::Close => out.extend_from_slice(b" }"),
-        Piece::Number(n) => push_number(alloc, out, n),
+        Piece::Number(n) => push_number(out, n),
         Piece::Sleep(n) => {
             out.extend_from_slice(b"sleep ")?;
-            push_number(alloc, out, n)
+            push_number(out, n)
         }
         Piece::ThenSleep(n) => {
             out.extend_from_slice(b" sleep ")?;
-            push_number(alloc, out, n)?;
+            push_number(out, n)?;
             out.extend_from_slice(b";")
         }
         Piece::OpenRepeat(n) => {
             out.extend_from_slice(b"repeat ")?;
-            push_number(alloc, out, n)?;
+            push_number(out, n)?;
             out.extend_from_slice(b" { ")
         }
     }
-}
-
-// Appends a number in decimal digits.
-fn push_number(alloc: Global, out: &mut Vec<u8>, n: u64) -> Result<(), AllocError>
-    ensures { OnOk result (out.new.items ≡ out.old.items ++ decimal n) }
-{
-    let digits = n.to_string(alloc)?;
-    out.extend_from_slice(digits.as_bytes())
 }
 
 // Appends some words and a name.

@@ -1,6 +1,7 @@
 ghost use Rattle.std.specs.Prelude.{◌≡◌, IfOk};
 ghost use Rattle.job_edits.specs.Fresh.{occurs, numbered_word, fresh_word};
 
+use digits::push_number;
 use job_tokens::Token;
 use job_tree::Name;
 use std::alloc::{AllocError, Global};
@@ -46,7 +47,6 @@ fn numbered_word(alloc: Global, word: Name, n: usize) -> Result<Name, AllocError
     let mut bytes = Vec::new(alloc);
     bytes.extend_from_slice(word.bytes())?;
     bytes.extend_from_slice(b"_")?;
-    let digits = n.to_string(alloc)?;
-    bytes.extend_from_slice(digits.as_bytes())?;
+    push_number(&mut bytes, n as u64)?;
     Ok(Name::new(bytes.as_slice()).unwrap_or(word))
 }

@@ -3,6 +3,7 @@ ghost use Rattle.job_edits.specs.Numbers.{number_of, number_at, number_first, de
 
 use crate::change::{Change, Piece};
 use crate::waiting::{first_name, keyword_in};
+use digits::digit_count;
 use job_syntax::Keyword;
 use job_tokens::Token;
 use job_tree::Name;
@@ -47,40 +48,31 @@ impl Number {
 }
 
 /// Returns the number at a place of the job text with these tokens. Returns `None` if no token begins there, or if that token
-/// is not a number with a value (a number with a leading zero or above 1,000,000,000 has none). The only error is that memory
-/// was refused.
-pub fn number_at(
-    alloc: Global,
-    place: usize,
-    tokens: &[Token],
-) -> Result<Option<Number>, AllocError>
-    ensures { IfOk result (λ number. number ≡ number_at place tokens.now) }
+/// is not a number with a value (a number with a leading zero or above 1,000,000,000 has none).
+pub fn number_at(place: usize, tokens: &[Token]) -> Option<Number>
+    ensures { result ≡ number_at place tokens.now }
 {
     'tokens: for token in tokens {
         if token.at == place {
-            return number_of(alloc, *token);
+            return number_of(*token);
         }
     }
-    Ok(None)
+    None
 }
 
 /// Returns the deadline of the first scope or nursery with this name in the job text with these tokens. Returns `None` if no
-/// scope or nursery has this name, or if the first one that has it has no deadline. The only error is that memory was refused.
-pub fn deadline_of(
-    alloc: Global,
-    name: Name,
-    tokens: &[Token],
-) -> Result<Option<Number>, AllocError>
-    ensures { IfOk result (λ number. number ≡ deadline_of name tokens.now) }
+/// scope or nursery has this name, or if the first one that has it has no deadline.
+pub fn deadline_of(name: Name, tokens: &[Token]) -> Option<Number>
+    ensures { result ≡ deadline_of name tokens.now }
 {
     let mut rest = tokens;
     'tokens: while let Some((token, others)) = rest.split_first() {
         if block_at(*token, others) == Some(name) {
-            return after_name(alloc, others);
+            return after_name(others);
         }
         rest = others;
     }
-    Ok(None)
+    None
 }
 
 /// Returns the names of the scopes and nurseries of the job text with these tokens, in the order of their places. The only
@@ -98,63 +90,48 @@ pub fn block_names(alloc: Global, tokens: &[Token]) -> Result<Vec<Name>, AllocEr
 }
 
 // Returns the number that a token is, if it is one.
-fn number_of(alloc: Global, token: Token) -> Result<Option<Number>, AllocError>
-    ensures { IfOk result (λ number. number ≡ number_of token) }
+fn number_of(token: Token) -> Option<Number>
+    ensures { result ≡ number_of token }
 {
     let from = token.at;
-    let Some(value) = token.shape.number() else {
-        return Ok(None);
-    };
-    let digits = value.to_string(alloc)?;
-    let Some(to) = from.checked_add(digits.len()) else {
-        return Ok(None);
-    };
-    Ok(Some(Number { from, to, value }))
+    let value = token.shape.number()?;
+    let to = from.checked_add(digit_count(value))?;
+    Some(Number { from, to, value })
 }
 
 // Returns the number that the first token is, if it is one.
-pub(crate) fn number_first(alloc: Global, tokens: &[Token]) -> Result<Option<Number>, AllocError>
-    ensures { IfOk result (λ number. number ≡ number_first tokens.now) }
+pub(crate) fn number_first(tokens: &[Token]) -> Option<Number>
+    ensures { result ≡ number_first tokens.now }
 {
-    let Some((token, _)) = tokens.split_first() else {
-        return Ok(None);
-    };
-    number_of(alloc, *token)
+    let (token, _) = tokens.split_first()?;
+    number_of(*token)
 }
 
 // Returns the number of a deadline, given its keyword and the tokens after the keyword.
-fn deadline_if(
-    alloc: Global,
-    keyword: Option<Keyword>,
-    tokens: &[Token],
-) -> Result<Option<Number>, AllocError>
-    ensures { IfOk result (λ number. number ≡ deadline_if keyword tokens.now) }
+fn deadline_if(keyword: Option<Keyword>, tokens: &[Token]) -> Option<Number>
+    ensures { result ≡ deadline_if keyword tokens.now }
 {
     match keyword {
-        Some(Keyword::After) => number_first(alloc, tokens),
-        Some(Keyword::At) => number_first(alloc, tokens),
-        _ => Ok(None),
+        Some(Keyword::After) => number_first(tokens),
+        Some(Keyword::At) => number_first(tokens),
+        _ => None,
     }
 }
 
 // Returns the number of the deadline that begins with the first token, if there is one.
-fn deadline_in(alloc: Global, tokens: &[Token]) -> Result<Option<Number>, AllocError>
-    ensures { IfOk result (λ number. number ≡ deadline_in tokens.now) }
+fn deadline_in(tokens: &[Token]) -> Option<Number>
+    ensures { result ≡ deadline_in tokens.now }
 {
-    let Some((token, others)) = tokens.split_first() else {
-        return Ok(None);
-    };
-    deadline_if(alloc, keyword_in(*token), others)
+    let (token, others) = tokens.split_first()?;
+    deadline_if(keyword_in(*token), others)
 }
 
 // Returns the number of the deadline of a scope or nursery. The first token is its name.
-fn after_name(alloc: Global, tokens: &[Token]) -> Result<Option<Number>, AllocError>
-    ensures { IfOk result (λ number. number ≡ after_name tokens.now) }
+fn after_name(tokens: &[Token]) -> Option<Number>
+    ensures { result ≡ after_name tokens.now }
 {
-    let Some((_, others)) = tokens.split_first() else {
-        return Ok(None);
-    };
-    deadline_in(alloc, others)
+    let (_, others) = tokens.split_first()?;
+    deadline_in(others)
 }
 
 // Returns the name of a scope or nursery, given its keyword and the tokens after the keyword.

@@ -58,19 +58,14 @@ pub fn sites(alloc: Global, tokens: &[Token]) -> Result<Vec<Site>, AllocError>
     let mut sites = Vec::new(alloc);
     let mut rest = tokens;
     'tokens: while let Some((token, others)) = rest.split_first() {
-        push_site(alloc, &mut sites, *token, others)?;
+        push_site(&mut sites, *token, others)?;
         rest = others;
     }
     Ok(sites)
 }
 
 // Appends the site that begins at this token, if there is one. `others` are the tokens after it.
-fn push_site(
-    alloc: Global,
-    sites: &mut Vec<Site>,
-    token: Token,
-    others: &[Token],
-) -> Result<(), AllocError>
+fn push_site(sites: &mut Vec<Site>, token: Token, others: &[Token]) -> Result<(), AllocError>
     ensures { OnOk result (sites.new.items
         ≡ sites.old.items ++ with_site token.at (moment_if (keyword_in (word_in token.shape)) others.now) []) }
 {
@@ -78,7 +73,7 @@ fn push_site(
     let Some(keyword) = keyword_in(token) else {
         return Ok(());
     };
-    let Some(moment) = moment_by(alloc, keyword, others)? else {
+    let Some(moment) = moment_by(keyword, others) else {
         return Ok(());
     };
     sites.push(Site { from, moment })?;
@@ -86,30 +81,16 @@ fn push_site(
 }
 
 // Returns what begins at a keyword. `others` are the tokens after the keyword.
-fn moment_by(
-    alloc: Global,
-    keyword: Keyword,
-    others: &[Token],
-) -> Result<Option<Moment>, AllocError>
-    ensures { IfOk result (λ moment. moment ≡ moment_by keyword others.now) }
+fn moment_by(keyword: Keyword, others: &[Token]) -> Option<Moment>
+    ensures { result ≡ moment_by keyword others.now }
 {
     match keyword {
-        Keyword::Sleep => sleep_in(alloc, others),
-        Keyword::Scope | Keyword::Nursery => deadline_from(alloc, others),
-        Keyword::Checkpoint => Ok(checkpoint_in(others)),
-        Keyword::Pace => Ok(pace_in(others)),
-        Keyword::Start => Ok(start_in(others)),
-        _ => Ok(None),
-    }
-}
-
-// Returns a `sleep`, given the tokens after the keyword.
-fn sleep_in(alloc: Global, others: &[Token]) -> Result<Option<Moment>, AllocError>
-    ensures { IfOk result (λ moment. moment ≡ moment_by keyword.Sleep others.now) }
-{
-    match number_first(alloc, others)? {
-        Some(number) => Ok(Some(Moment::Sleep(number))),
-        None => Ok(None),
+        Keyword::Sleep => Some(Moment::Sleep(number_first(others)?)),
+        Keyword::Scope | Keyword::Nursery => deadline_from(others),
+        Keyword::Checkpoint => checkpoint_in(others),
+        Keyword::Pace => pace_in(others),
+        Keyword::Start => start_in(others),
+        _ => None,
     }
 }
 
@@ -140,62 +121,43 @@ fn start_in(others: &[Token]) -> Option<Moment>
 }
 
 // Returns the deadline of a scope or nursery, given the tokens from its name on.
-fn deadline_from(alloc: Global, tokens: &[Token]) -> Result<Option<Moment>, AllocError>
-    ensures { IfOk result (λ moment. moment ≡ deadline_from tokens.now) }
+fn deadline_from(tokens: &[Token]) -> Option<Moment>
+    ensures { result ≡ deadline_from tokens.now }
 {
-    let Some((named, others)) = tokens.split_first() else {
-        return Ok(None);
-    };
-    let Some(name) = named.shape.word() else {
-        return Ok(None);
-    };
-    let Some((token, others)) = others.split_first() else {
-        return Ok(None);
-    };
-    deadline_by(alloc, name, keyword_in(*token), others)
+    let (named, others) = tokens.split_first()?;
+    let name = named.shape.word()?;
+    let (token, others) = others.split_first()?;
+    deadline_by(name, keyword_in(*token), others)
 }
 
 // Returns the deadline of the scope or nursery with this name, given the keyword of the deadline and the tokens after it.
-fn deadline_by(
-    alloc: Global,
-    name: Name,
-    keyword: Option<Keyword>,
-    tokens: &[Token],
-) -> Result<Option<Moment>, AllocError>
-    ensures { IfOk result (λ moment. moment ≡ deadline_by name keyword tokens.now) }
+fn deadline_by(name: Name, keyword: Option<Keyword>, tokens: &[Token]) -> Option<Moment>
+    ensures { result ≡ deadline_by name keyword tokens.now }
 {
-    let at = match keyword {
-        Some(Keyword::After) => false,
-        Some(Keyword::At) => true,
-        _ => return Ok(None),
-    };
-    let Some(number) = number_first(alloc, tokens)? else {
-        return Ok(None);
-    };
-    if at {
-        Ok(Some(Moment::At(name, number)))
-    } else {
-        Ok(Some(Moment::After(name, number)))
+    match keyword {
+        Some(Keyword::After) => Some(Moment::After(name, number_first(tokens)?)),
+        Some(Keyword::At) => Some(Moment::At(name, number_first(tokens)?)),
+        _ => None,
     }
 }
 
 /// Appends what is at a site, as it is printed: `sleep 5`, `limit after 5` or `limit at 5` for the deadline of `limit`,
 /// `checkpoint`, `pace 5` or `start reader`. The only error is that memory was refused.
-pub fn push_moment(alloc: Global, out: &mut Vec<u8>, moment: Moment) -> Result<(), AllocError>
+pub fn push_moment(out: &mut Vec<u8>, moment: Moment) -> Result<(), AllocError>
     ensures { OnOk result (out.new.items ≡ out.old.items ++ moment_text moment) }
 {
     match moment {
-        Moment::Sleep(number) => push_counted(alloc, out, b"sleep ", number.value),
+        Moment::Sleep(number) => push_counted(out, b"sleep ", number.value),
         Moment::After(name, number) => {
             out.extend_from_slice(name.bytes())?;
-            push_counted(alloc, out, b" after ", number.value)
+            push_counted(out, b" after ", number.value)
         }
         Moment::At(name, number) => {
             out.extend_from_slice(name.bytes())?;
-            push_counted(alloc, out, b" at ", number.value)
+            push_counted(out, b" at ", number.value)
         }
         Moment::Checkpoint { .. } => out.extend_from_slice(b"checkpoint"),
-        Moment::Pace { lines, .. } => push_counted(alloc, out, b"pace ", lines),
+        Moment::Pace { lines, .. } => push_counted(out, b"pace ", lines),
         Moment::Start { name, .. } => {
             out.extend_from_slice(b"start ")?;
             out.extend_from_slice(name.bytes())

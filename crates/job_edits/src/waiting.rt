@@ -2,6 +2,7 @@ ghost use Rattle.std.specs.Prelude.{◌≡◌, [], ◌++◌, decimal, IfOk, OnOk
 ghost use Rattle.job_tokens.specs.Shapes.{word_in};
 ghost use Rattle.job_edits.specs.Waiting.{wait_of, wait_if, keyword_in, need_in, first_number, first_name, first_mark, waiting_at, with_waiting, waiting_in, wait_text};
 
+use digits::push_number;
 use job_syntax::Keyword;
 use job_tokens::{Mark, Shape, Token, push_canon};
 use job_tree::{Name, Text};
@@ -135,10 +136,10 @@ pub fn push_wait(alloc: Global, out: &mut Vec<u8>, wait: Wait) -> Result<(), All
     ensures { OnOk result (out.new.items ≡ out.old.items ++ wait_text wait) }
 {
     match wait {
-        Wait::Sleep(ticks) => push_counted(alloc, out, b"sleep ", ticks),
+        Wait::Sleep(ticks) => push_counted(out, b"sleep ", ticks),
         Wait::Checkpoint => out.extend_from_slice(b"checkpoint"),
         Wait::Forever => out.extend_from_slice(b"forever"),
-        Wait::Pace(lines) => push_counted(alloc, out, b"pace ", lines),
+        Wait::Pace(lines) => push_counted(out, b"pace ", lines),
         Wait::Need(text, name) => {
             out.extend_from_slice(b"need ")?;
             push_canon(alloc, out, &[Shape::Text(text)])?;
@@ -149,15 +150,9 @@ pub fn push_wait(alloc: Global, out: &mut Vec<u8>, wait: Wait) -> Result<(), All
 }
 
 // Appends some words and a number.
-pub(crate) fn push_counted(
-    alloc: Global,
-    out: &mut Vec<u8>,
-    words: &[u8],
-    n: u64,
-) -> Result<(), AllocError>
+pub(crate) fn push_counted(out: &mut Vec<u8>, words: &[u8], n: u64) -> Result<(), AllocError>
     ensures { OnOk result (out.new.items ≡ out.old.items ++ (words.now ++ decimal n)) }
 {
     out.extend_from_slice(words)?;
-    let digits = n.to_string(alloc)?;
-    out.extend_from_slice(digits.as_bytes())
+    push_number(out, n)
 }

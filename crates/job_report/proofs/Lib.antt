@@ -1,3 +1,2 @@
-pub mod PartsText
 pub mod Escaped
 pub mod Sent

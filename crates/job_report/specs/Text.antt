@@ -1,48 +1,14 @@
 -- The text of a report.
-use Rattle.std.specs.Prelude.{ℕ, ◌+◌, ◌/◌, ◌%◌, Bool, true, false, ◌&&◌, not, ◌==◌, nat_le, nat_lt, if◌then◌else◌, List, [], ◌∷◌, ◌++◌, length, codes, decimal}
+use Rattle.std.specs.Prelude.{ℕ, ◌/◌, ◌%◌, Bool, true, false, ◌&&◌, not, ◌==◌, nat_le, if◌then◌else◌, List, [], ◌∷◌, ◌++◌, length, codes, decimal}
 use Rattle.std.specs.List.{flat_map}
-use Rattle.exc_groups.specs.Exceptions.{Label, Whose, by_nursery, by_handler, Exc, cancelled, raised, too_slow, group, Excs, no_parts, part}
+use Rattle.digits.specs.Hex.{hex_digit}
+use Rattle.exc_text.specs.Texts.{label_text, exc_text}
 use Rattle.job_meaning.specs.Shown.{Shown, line_shown, scope_shown, nursery_shown, Ending, well, by_cancellation, with_exception, Row}
-
-abbrev pub index_text : ℕ → List ℕ
-index_text i = codes "." ++ decimal i
-
--- a label: its name, and a dot and the index for each index
-abbrev pub label_text : Label → List ℕ
-label_text l = l.name ++ flat_map index_text l.indices
-
--- where and when: the label, `@`, and the tick, in brackets
-abbrev pub place_text : Label → ℕ → List ℕ
-place_text label tick = codes "(" ++ label_text label ++ codes "@" ++ decimal tick ++ codes ")"
-
-abbrev pub whose_text : Whose → List ℕ
-whose_text (by_nursery label) = label_text label
-whose_text by_handler = codes "*"
-
--- an exception; the parts of a group are separated by a comma and a space
-abbrev mutual
-  pub exc_text : Exc → List ℕ
-  exc_text cancelled = codes "Cancelled"
-  exc_text (raised name task tick) = name ++ place_text task tick
-  exc_text (too_slow scope tick) = codes "TooSlow" ++ place_text scope tick
-  exc_text (group whose parts) = whose_text whose ++ codes "[" ++ parts_text parts ++ codes "]"
-
-  pub parts_text : Excs → List ℕ
-  parts_text no_parts = []
-  parts_text (part e es) = exc_text e ++ more_text es
-
-  pub more_text : Excs → List ℕ
-  more_text no_parts = []
-  more_text (part e es) = codes ", " ++ exc_text e ++ more_text es
 
 abbrev pub ending_text : Ending → List ℕ
 ending_text well = codes "done"
 ending_text by_cancellation = codes "cancelled"
 ending_text (with_exception e) = codes "raised " ++ exc_text e
-
--- `0` to `9` and `a` to `f`
-abbrev pub hex_digit : ℕ → ℕ
-hex_digit n = if nat_lt n 10 then n + 48 else n + 87
 
 -- a byte that is not escaped: 32 to 126, but no backslash
 abbrev pub stands_for_itself : ℕ → Bool

@@ -1,7 +1,8 @@
 ghost use Rattle.std.specs.Prelude.{◌≡◌, ◌++◌, [], ◌∷◌, OnOk, IfSome, IfNone, ◌<◌, ◌≤◌, ℕ, false, true, length, slice_index};
 ghost use Rattle.std.specs.List.{flat_map};
-ghost use Rattle.job_report.specs.Text.{byte_text, hex_digit, stands_for_itself};
+ghost use Rattle.job_report.specs.Text.{byte_text, stands_for_itself};
 
+use digits::hex_digit;
 use std::alloc::AllocError;
 
 // Appends the bytes of a line as the report shows them; a run of bytes that are not escaped is
@@ -62,16 +63,8 @@ fn push_special(out: &mut Vec<u8>, b: u8) -> Result<(), AllocError>
         out.extend_from_slice(b"\\\\")
     } else {
         out.extend_from_slice(b"\\x")?;
-        out.push(hex_byte(b / 16))?;
-        out.push(hex_byte(b % 16))?;
+        out.push(hex_digit(b / 16))?;
+        out.push(hex_digit(b % 16))?;
         Ok(())
     }
-}
-
-// A hexadecimal digit.
-fn hex_byte(n: u8) -> u8
-    requires { n < 16 }
-    ensures { result ≡ hex_digit n }
-{
-    if n < 10 { b'0' + n } else { b'a' - 10 + n }
 }

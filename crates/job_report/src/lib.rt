@@ -5,8 +5,6 @@
 #![tactic(auto)]
 
 mod escape;
-mod exc;
-mod label;
 mod limits;
 mod mem_out;
 mod out;

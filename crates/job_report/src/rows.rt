@@ -7,9 +7,9 @@ ghost use Rattle.task_table.specs.Records.{ending_in, row_in};
 ghost use Rattle.job_report.specs.Text.{shown_text, ending_text, row_text, caught_text};
 
 use crate::escape::push_escaped;
-use crate::exc::push_exc;
-use crate::label::{push_label, push_number};
 use buffer_parts::Line;
+use digits::push_number;
+use exc_text::{push_exc, push_label};
 use job_runner::{Entry, Outcome, Record};
 use std::alloc::{AllocError, Global};
 

@@ -3,8 +3,8 @@ ghost use Rattle.task_table.specs.Records.{row_in};
 ghost use Rattle.job_runner.specs.Runs.{name_of, rows_of};
 ghost use Rattle.job_report.specs.Text.{report_text, last_tick};
 
-use crate::label::push_number;
 use crate::rows::{push_rows, text_for};
+use digits::push_number;
 use job_runner::{Record, Run};
 use std::alloc::{AllocError, Global};
 

@@ -7,7 +7,8 @@ use Rattle.job_meaning.specs.Log.{Table, same_label}
 use Rattle.job_story.specs.Story.{is_cancelled}
 use Rattle.job_story.specs.Events.{What, starts, happens, ends, Event, in_order}
 use Rattle.job_story.specs.Causes.{Cause, by_deadline, by_task, by_failure, by_cancellation, cause_of}
-use Rattle.job_story.specs.Sentences.{label_text, kept_text, job_events}
+use Rattle.job_story.specs.Sentences.{kept_text, job_events}
+use Rattle.exc_text.specs.Texts.{label_text}
 use Rattle.job_story.specs.Limit.{kept_text_to, walked_to}
 
 -- the task of a cause, or `None` where the cause is a deadline

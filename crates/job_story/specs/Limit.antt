@@ -7,7 +7,8 @@ use Rattle.job_meaning.specs.Meaning.{root_label}
 use Rattle.job_story.specs.Story.{sleeps, waits}
 use Rattle.job_story.specs.Tell.{story_by}
 use Rattle.job_story.specs.Events.{What, starts, happens, ends, Event, events_of, in_order}
-use Rattle.job_story.specs.Sentences.{label_text, until_text, padded_text, label_width, kept_text}
+use Rattle.job_story.specs.Sentences.{until_text, padded_text, label_width, kept_text}
+use Rattle.exc_text.specs.Texts.{label_text}
 
 -- the events up to a tick
 abbrev pub by_limit : ℕ → List Event → List Event

@@ -1,6 +1,7 @@
 -- The text of a story.
 use Rattle.std.specs.Prelude.{ℕ, ◌+◌, ◌-◌, ◌==◌, Bool, true, false, Option, Some, None, List, [], ◌∷◌, ◌++◌, length, codes, decimal, max, if◌then◌else◌, replicate}
-use Rattle.exc_groups.specs.Exceptions.{Label, Whose, by_nursery, by_handler, Exc, cancelled, raised, too_slow, group, Excs, no_parts, part}
+use Rattle.exc_groups.specs.Exceptions.{Label, Exc}
+use Rattle.exc_text.specs.Texts.{label_text, exc_text, end_text}
 use Rattle.exc_groups.specs.Split.{is_cancelled as by_cancelled, drop}
 use Rattle.cancel_scopes.specs.Sight.{Tick}
 use Rattle.job_tree.specs.Tree.{Tree}
@@ -11,37 +12,6 @@ use Rattle.job_story.specs.Story.{Happening, enters, sleeps, is_cancelled, finds
 use Rattle.job_story.specs.Tell.{is_from, story_by}
 use Rattle.job_story.specs.Events.{What, starts, happens, ends, Event, events_of, in_order}
 use Rattle.job_story.specs.Causes.{Cause, by_deadline, by_task, by_failure, by_cancellation, Entering, entering_of, cause_of}
-
--- ---- labels and exceptions, as in a report
-
-abbrev pub indices_text : List ℕ → List ℕ
-indices_text [] = []
-indices_text (i ∷ is) = codes "." ++ decimal i ++ indices_text is
-
-abbrev pub label_text : Label → List ℕ
-label_text l = l.name ++ indices_text l.indices
-
-abbrev pub at_text : Label → ℕ → List ℕ
-at_text label tick = codes "(" ++ label_text label ++ codes "@" ++ decimal tick ++ codes ")"
-
-abbrev pub whose_text : Whose → List ℕ
-whose_text (by_nursery label) = label_text label
-whose_text by_handler = codes "*"
-
-abbrev mutual
-  pub exc_text : Exc → List ℕ
-  exc_text cancelled = codes "Cancelled"
-  exc_text (raised name task tick) = name ++ at_text task tick
-  exc_text (too_slow scope tick) = codes "TooSlow" ++ at_text scope tick
-  exc_text (group whose parts) = whose_text whose ++ codes "[" ++ parts_text parts ++ codes "]"
-
-  pub parts_text : Excs → List ℕ
-  parts_text no_parts = []
-  parts_text (part e es) = exc_text e ++ more_text es
-
-  pub more_text : Excs → List ℕ
-  more_text no_parts = []
-  more_text (part e es) = codes ", " ++ exc_text e ++ more_text es
 
 -- ---- sentences
 
@@ -97,11 +67,6 @@ abbrev pub leaving_text : Option Exc → Bool → Option Exc → List ℕ
 leaving_text None caught outside = codes "completed"
 leaving_text (Some e) false outside = exc_text e ++ codes " propagates"
 leaving_text (Some e) true outside = codes "cancellation caught" ++ caught_text (drop by_cancelled e) outside
-
-abbrev pub end_text : Option Exc → List ℕ
-end_text None = codes "done"
-end_text (Some cancelled) = codes "cancelled"
-end_text (Some e) = codes "raised " ++ exc_text e
 
 -- a task that ends with an exception cancels its nursery from the next tick on, if the table says so
 abbrev pub sign_text : Table → Option Label → Option Exc → ℕ → List ℕ

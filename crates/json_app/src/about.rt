@@ -8,13 +8,13 @@ ghost use Rattle.story_app.specs.Stories.{label_or_nothing};
 ghost use Rattle.json_app.specs.Explaining.{IsTold};
 
 use exc_groups::Label;
+use exc_text::push_label;
 use job_grammar::Job;
 use job_story::Event;
 use json_story::story_json;
 use std::alloc::{AllocError, Global};
 use story_app::{Meaning, StoryVerdict};
 use story_focus::{nearest_task, task_named};
-use story_text::push_label;
 
 // Returns the verdict on a story with these events, and its document: of all tasks, or of what concerns the one that is
 // requested.

@@ -4,7 +4,7 @@ ghost use Rattle.job_grammar.specs.declared.fault.JobKind.TheVariants as kinds;
 ghost use Rattle.json_report.specs.Values.{document};
 ghost use Rattle.json_app.specs.Answers.{refusal_json, limit_json};
 
-use itoa::Buffer;
+use digits::push_str_number;
 use job_grammar::{JobFault, JobKind};
 use json_report::document;
 use nursery_app::{column_of, line_of};
@@ -43,8 +43,7 @@ fn kind_code(alloc: Global, number: u64) -> Result<String, AllocError>
     ensures { IfOk result (λ text. string_bytes text ≡ codes "J" ++ decimal number) }
 {
     let mut text = String::from_str(alloc, "J")?;
-    let mut buffer = Buffer::new();
-    text.push_str(buffer.format(number))?;
+    push_str_number(&mut text, number)?;
     Ok(text)
 }
 

@@ -5,7 +5,8 @@ use Rattle.std.specs.Prelude.{◌&&◌, ◌||◌, ◌==◌, ◌⊎◌}
 use Rattle.std.specs.List.{flat_map, list_all}
 use Rattle.serde_json.specs.Data.{string}
 use Rattle.job_tree.specs.Words.{is_letter, is_digit, is_word_byte, starts_word}
-use Rattle.job_report.specs.Text.{byte_text, stands_for_itself, index_text}
+use Rattle.job_report.specs.Text.{byte_text, stands_for_itself}
+use Rattle.exc_text.specs.Texts.{index_text}
 use Rattle.json_report.specs.Laws.{LabelsAreAsInAReport}
 
 both : (a b : Bool) → (a && b) ≡ true → (a ≡ true) × (b ≡ true)

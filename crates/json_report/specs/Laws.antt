@@ -3,7 +3,7 @@ use Rattle.std.specs.Prelude.{◌≡◌, true}
 use Rattle.serde_json.specs.Data.{string}
 use Rattle.job_tree.specs.Words.{is_word}
 use Rattle.exc_groups.specs.Exceptions.{Label}
-use Rattle.job_report.specs.Text.{label_text}
+use Rattle.exc_text.specs.Texts.{label_text}
 use Rattle.json_report.specs.Values.{label_json}
 
 -- a label whose name is a word, as all names of a job text are, is the text that a report shows

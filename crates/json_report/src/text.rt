@@ -2,11 +2,12 @@ ghost use Rattle.std.specs.Prelude.{◌≡◌, ◌++◌, ◌<◌, [], ◌∷◌,
 ghost use Rattle.std.specs.List.{flat_map};
 ghost use Rattle.serde_json.specs.View.{view};
 ghost use Rattle.serde_json.specs.Written.{has_float};
-ghost use Rattle.job_report.specs.Text.{byte_text, hex_digit, index_text, stands_for_itself};
+ghost use Rattle.job_report.specs.Text.{byte_text, stands_for_itself};
+ghost use Rattle.exc_text.specs.Texts.{index_text};
 ghost use Rattle.json_report.specs.Values.{text_json, label_json, document};
 
+use digits::{hex_digit, push_str_number};
 use exc_groups::Label;
-use itoa::Buffer;
 use serde_json::Value;
 use std::alloc::{AllocError, Global};
 
@@ -57,8 +58,7 @@ fn push_index(out: &mut String, index: u64) -> Result<(), AllocError>
     ensures { OnOk result (string_bytes out.new ≡ string_bytes out.old ++ index_text index) }
 {
     out.push_str(".")?;
-    let mut buffer = Buffer::new();
-    out.push_str(buffer.format(index))
+    push_str_number(out, index)
 }
 
 // Appends bytes as a report shows them.
@@ -82,8 +82,8 @@ fn push_byte(out: &mut String, b: u8) -> Result<(), AllocError>
         return out.push_str("\\\\");
     }
     out.push_str("\\x")?;
-    out.push(hex_digit_of(b / 16))?;
-    out.push(hex_digit_of(b % 16))
+    out.push(hex_digit(b / 16) as char)?;
+    out.push(hex_digit(b % 16) as char)
 }
 
 // Returns whether a byte is shown as it is.
@@ -92,17 +92,4 @@ fn is_plain_byte(b: u8) -> bool
     ensures ascii { IsTrue result → b < 128 }
 {
     32 <= b && b <= 126 && b != 92
-}
-
-// Returns a hexadecimal digit.
-fn hex_digit_of(n: u8) -> char
-    requires { n < 16 }
-    ensures value { result ≡ hex_digit n }
-    ensures ascii { result < 128 }
-{
-    if n < 10 {
-        (b'0' + n) as char
-    } else {
-        (b'a' - 10 + n) as char
-    }
 }

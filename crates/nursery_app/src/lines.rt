@@ -2,17 +2,9 @@ ghost use Rattle.std.specs.Prelude.{◌≡◌, ◌≢◌, ◌++◌, IfOk, OnOk, 
 ghost use Rattle.job_grammar.specs.declared.fault.JobKind.TheVariants as kinds;
 ghost use Rattle.nursery_app.specs.Verdict.{refusal_line, limit_line};
 
-use itoa::Buffer;
+use digits::push_number;
 use job_grammar::{JobFault, JobKind};
 use std::alloc::{AllocError, Global};
-
-// Appends a number in decimal digits.
-fn push_number(out: &mut Vec<u8>, n: u64) -> Result<(), AllocError>
-    ensures { OnOk result (out.new.items ≡ out.old.items ++ decimal n) }
-{
-    let mut buffer = Buffer::new();
-    out.extend_from_slice(buffer.format(n).as_bytes())
-}
 
 /// Returns the line for a refused job text, such as `refused J6 Syntax at 27`, with its newline. It is an error if memory was
 /// refused for the line, or if the fault itself is `NoMemory`, which is not a refusal.

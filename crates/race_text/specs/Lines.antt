@@ -1,7 +1,7 @@
 -- What the lines of the table say of a job with one of its places moved by a hair.
 use Rattle.std.specs.Prelude.{ℕ, zero, suc, Bool, true, false, List, [], ◌∷◌, ◌++◌, length, codes, decimal}
 use Rattle.exc_groups.specs.Exceptions.{Label}
-use Rattle.job_story.specs.Sentences.{label_text}
+use Rattle.exc_text.specs.Texts.{label_text}
 use Rattle.job_edits.specs.declared.site.Moment.{Moment}
 use Rattle.job_edits.specs.declared.shift.Hair.{Hair}
 use Rattle.race_rows.specs.Differences.{Difference, otherwise, inside}

@@ -1,6 +1,6 @@
 -- The table of the places of a job where a hair changes the outcome.
 use Rattle.std.specs.Prelude.{ℕ, ◌==◌, Bool, max, if◌then◌else◌, List, [], ◌∷◌, ◌++◌, length, codes, decimal}
-use Rattle.job_story.specs.Sentences.{label_text}
+use Rattle.exc_text.specs.Texts.{label_text}
 use Rattle.job_edits.specs.declared.shift.Hair.{Hair}
 use Rattle.job_edits.specs.declared.shift.Hair.TheVariants.{Earlier, Later}
 use Rattle.job_edits.specs.Sites.{moment_text}

@@ -3,9 +3,9 @@ ghost use Rattle.race_text.specs.Table.{at_text, place_text, step_text, hair_nam
 ghost use Rattle.race_text.specs.Views.{line_held};
 
 use crate::line::Line;
+use digits::push_number;
 use job_edits::{Hair, push_moment};
 use std::alloc::{AllocError, Global};
-use story_text::push_number;
 
 // The widths of the columns: places, steps and hairs.
 #[derive(Clone, Copy)]
@@ -48,7 +48,7 @@ pub fn step_of(alloc: Global, line: &Line) -> Result<Vec<u8>, AllocError>
         Line::Finer(_) => {}
         Line::Moved { moment, .. } => {
             let moment = *moment;
-            push_moment(alloc, &mut text, moment)?;
+            push_moment(&mut text, moment)?;
         }
         Line::Copies { name, count, .. } => {
             text.extend_from_slice(b"start ")?;

@@ -2,7 +2,7 @@
 //!
 //! The layer promises that `race_table` returns the text of these lines, as `specs/Table.antt` defines it: each line that is
 //! shown, in columns, followed by the counts; and that `race_denied` returns those lines of it that are races. It uses
-//! `job_edits` for places and hairs, `race_rows` for what differs, and `fault_text` and `story_text` for columns, counts and
+//! `job_edits` for places and hairs, `race_rows` for what differs, and `fault_text` and `exc_text` for columns, counts and
 //! labels.
 #![tactic(auto)]
 

@@ -5,10 +5,11 @@ ghost use Rattle.race_text.specs.Table.{told_text};
 ghost use Rattle.race_text.specs.Views.{found_held, line_held};
 
 use crate::line::{Found, Line};
+use digits::push_number;
+use exc_text::push_label;
 use fault_text::push_count;
 use race_rows::Difference;
 use std::alloc::AllocError;
-use story_text::{push_label, push_number};
 
 // How many differences are shown after the first one.
 const MORE: usize = 2;

@@ -9,7 +9,7 @@ ghost use Rattle.nursery_app.specs.Places.{line_of, column_of};
 use crate::findings::{Findings, findings_of};
 use crate::hinting::Hint;
 use crate::sentences::sentence_of;
-use itoa::Buffer;
+use digits::push_str_number;
 use job_grammar::JobFault;
 use job_syntax::Keyword;
 use job_tree::Name;
@@ -92,8 +92,7 @@ fn push_place(message: &mut String, n: usize) -> Result<(), AllocError>
     ensures { OnOk result (string_bytes message.new ≡ string_bytes message.old ++ codes ":" ++ decimal n) }
 {
     message.push_str(":")?;
-    let mut buffer = Buffer::new();
-    message.push_str(buffer.format(n as u64))
+    push_str_number(message, n as u64)
 }
 
 // Returns the last `count` bytes. Requires that there are as many.
@@ -197,17 +196,9 @@ fn push_size(message: &mut String, size: u64) -> Result<(), AllocError>
     ensures { OnOk result (string_bytes message.new ≡ string_bytes message.old ++ size_line size) }
 {
     message.push_str("the job has ")?;
-    push_number(message, size)?;
+    push_str_number(message, size)?;
     message.push_str(" steps\n")?;
     Ok(())
-}
-
-// Appends a number in decimal digits.
-fn push_number(message: &mut String, n: u64) -> Result<(), AllocError>
-    ensures { OnOk result (string_bytes message.new ≡ string_bytes message.old ++ decimal n) }
-{
-    let mut buffer = Buffer::new();
-    message.push_str(buffer.format(n))
 }
 
 // Appends the line that lists what could be cancelled, if it is to be listed.

@@ -2,4 +2,3 @@ pub mod Statuses
 pub mod Stories
 pub mod Tellings
 pub mod Running
-pub mod Laws

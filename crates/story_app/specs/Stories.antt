@@ -7,7 +7,8 @@ use Rattle.job_grammar.specs.Refusals.{Spells, IsRefused}
 use Rattle.job_meaning.specs.Meaning.{root_label, meaning, meaning_end, meaning_table}
 use Rattle.job_story.specs.Tell.{story_by}
 use Rattle.job_story.specs.Events.{Event, events_of}
-use Rattle.job_story.specs.Sentences.{label_text, story_text}
+use Rattle.job_story.specs.Sentences.{story_text}
+use Rattle.exc_text.specs.Texts.{label_text}
 use Rattle.job_story.specs.Limit.{walked_to, story_to}
 use Rattle.job_story.specs.Focus.{story_of_task, story_of_task_to, task_named}
 use Rattle.nursery_app.specs.Verdict.{refusal_line}

@@ -6,10 +6,10 @@ ghost use Rattle.story_app.specs.Tellings.{IsAsked};
 ghost use Rattle.story_app.specs.Stories.{label_or_nothing};
 
 use exc_groups::Label;
+use exc_text::push_label;
 use job_story::Event;
 use std::alloc::{AllocError, Global};
 use story_focus::{nearest_task, task_named};
-use story_text::push_label;
 
 /// What a story covers.
 #[derive(Drop)]

@@ -9,7 +9,6 @@
 
 mod about;
 mod explaining;
-mod laws;
 mod meaning;
 mod running;
 mod table;
@@ -18,7 +17,6 @@ mod text;
 mod verdict;
 
 pub use explaining::explain;
-pub use laws::law_texts_agree;
 pub use meaning::{Ending, Meaning, meaning_of};
 pub use running::running_at_limit;
 pub use table::table_of;

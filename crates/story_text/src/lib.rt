@@ -7,7 +7,6 @@
 #![tactic(auto)]
 
 mod answers;
-mod exc;
 mod known;
 mod label;
 mod limit;
@@ -17,9 +16,7 @@ mod sentences;
 mod tasks;
 mod ticks;
 
-pub use exc::{push_exc, push_whose};
 pub use known::Known;
-pub use label::{push_label, push_number};
 pub use limit::{kept_text_to, running_text};
 pub use lines::kept_text;
 pub use order::in_order;

@@ -9,11 +9,13 @@ ghost use Rattle.story_text.specs.Tasks.{sorted_in, walked_in};
 ghost use Rattle.story_causes.specs.Seen.{event_in};
 
 use crate::known::Known;
-use crate::label::{push_label, push_number, push_padded};
+use crate::label::push_padded;
 use crate::lines::{label_width, push_lines};
 use crate::sentences::push_until;
 use crate::tasks::Tasks;
+use digits::push_number;
 use exc_groups::Label;
+use exc_text::push_label;
 use job_story::{Event, Happening, What};
 use std::alloc::{AllocError, Global};
 

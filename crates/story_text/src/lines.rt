@@ -5,9 +5,11 @@ ghost use Rattle.story_text.specs.Told.{events_in, froms_in};
 ghost use Rattle.story_causes.specs.Seen.{event_in};
 
 use crate::known::Known;
-use crate::label::{push_label, push_number, push_padded};
+use crate::label::push_padded;
 use crate::sentences::push_what;
 use crate::ticks::is_tick;
+use digits::push_number;
+use exc_text::push_label;
 use job_story::Event;
 use std::alloc::{AllocError, Global};
 

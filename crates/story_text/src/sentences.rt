@@ -3,15 +3,16 @@ ghost use Rattle.std.specs.Option.{option_map};
 ghost use Rattle.exc_groups.specs.Held.{exc_of};
 ghost use Rattle.exc_groups.specs.Split.{is_cancelled, drop};
 ghost use Rattle.job_story.specs.Held.{unboxed_exc, kind_of, happening_of, what_of};
-ghost use Rattle.job_story.specs.Sentences.{label_text, exc_text, kind_text, with_exc, entering_text, until_text, since_text, cleanup_text, cause_text, entered_text, count_text, caught_text, leaving_text, end_text, sign_text, cancel_text, cancelled_text, happening_text, home_text, what_text};
+ghost use Rattle.job_story.specs.Sentences.{kind_text, with_exc, entering_text, until_text, since_text, cleanup_text, cause_text, entered_text, count_text, caught_text, leaving_text, sign_text, cancel_text, cancelled_text, happening_text, home_text, what_text};
+ghost use Rattle.exc_text.specs.Texts.{label_text, exc_text, end_text};
 ghost use Rattle.story_causes.specs.Found.{entering_in_code, cause_in_code};
 ghost use Rattle.story_text.specs.Told.{events_in, froms_in};
 
-use crate::exc::push_exc;
 use crate::known::Known;
-use crate::label::{push_label, push_number};
 use crate::ticks::next_from;
+use digits::push_number;
 use exc_groups::{Exc, Label};
+use exc_text::{push_exc, push_label, push_raised};
 use job_story::{Event, Happening, Kind, What};
 use job_tree::Name;
 use std::alloc::AllocError;
@@ -473,20 +474,7 @@ fn push_end(out: &mut Vec<u8>, exc: &Option<Box<Exc>>) -> Result<(), AllocError>
     let Some(exc) = exc else {
         return out.extend_from_slice(b"done");
     };
-    push_outcome(out, exc)
-}
-
-// Appends how a task ended, if it ended with an exception.
-fn push_outcome(out: &mut Vec<u8>, exc: &Exc) -> Result<(), AllocError>
-    ensures { OnOk result (out.new.items ≡ out.old.items ++ end_text (Some (exc_of exc.now))) }
-{
-    match exc {
-        Exc::Cancelled => out.extend_from_slice(b"cancelled"),
-        Exc::Raised { .. } | Exc::TooSlow { .. } | Exc::Group { .. } => {
-            out.extend_from_slice(b"raised ")?;
-            push_exc(out, exc)
-        }
-    }
+    push_raised(out, exc)
 }
 
 // Appends the nursery in which a task starts, if there is one.

@@ -30,7 +30,7 @@ pub(crate) fn number_for(
 {
     match target {
         Target::DeadlineOf(name) => deadline_for(alloc, text, tokens, name),
-        Target::At { line, column } => number_on(alloc, text, tokens, line, column),
+        Target::At { line, column } => Ok(number_on(text, tokens, line, column)),
     }
 }
 
@@ -48,27 +48,21 @@ fn deadline_for(
         let nearest = nearest_in(alloc, name, blocks.as_slice())?;
         return Ok(Found::Missing(Missing::NoBlock { nearest }));
     }
-    match deadline_of(alloc, name, tokens)? {
+    match deadline_of(name, tokens) {
         Some(number) => Ok(Found::Number(number)),
         None => Ok(Found::Missing(Missing::NoDeadline)),
     }
 }
 
 // Returns the number at a line and a column.
-fn number_on(
-    alloc: Global,
-    text: &[u8],
-    tokens: &[Token],
-    line: usize,
-    column: usize,
-) -> Result<Found, AllocError>
-    ensures { IfOk result (IsFound text.now tokens.now (target.At line column)) }
+fn number_on(text: &[u8], tokens: &[Token], line: usize, column: usize) -> Found
+    ensures { IsFound text.now tokens.now (target.At line column) result }
 {
     let Some(at) = place_at(text, line, column) else {
-        return Ok(Found::Missing(Missing::NoPlace));
+        return Found::Missing(Missing::NoPlace);
     };
-    match number_at(alloc, at, tokens)? {
-        Some(number) => Ok(Found::Number(number)),
-        None => Ok(Found::Missing(Missing::NoNumber { at })),
+    match number_at(at, tokens) {
+        Some(number) => Found::Number(number),
+        None => Found::Missing(Missing::NoNumber { at }),
     }
 }

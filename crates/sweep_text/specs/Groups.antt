@@ -2,7 +2,7 @@
 use Rattle.std.specs.Prelude.{ℕ, Bool, ◌&&◌, min, max, if◌then◌else◌, Option, Some, None, List, [], ◌∷◌, ◌++◌, codes, decimal}
 use Rattle.std.specs.Str.{bytes_eq}
 use Rattle.exc_groups.specs.Exceptions.{Exc, cancelled, raised, too_slow, group, Excs, no_parts, part}
-use Rattle.job_story.specs.Sentences.{label_text, whose_text}
+use Rattle.exc_text.specs.Texts.{label_text, whose_text}
 use Rattle.fault_text.specs.JobOutcomes.{JobOutcome, refused, stuck, ended, names_note}
 
 -- ---- the outcome of a job, without ticks

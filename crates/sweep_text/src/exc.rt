@@ -4,8 +4,8 @@ ghost use Rattle.exc_groups.specs.Held.{exc_of, excs_of};
 ghost use Rattle.sweep_text.specs.Groups.{sans_text, sans_parts, sans_more};
 
 use exc_groups::Exc;
+use exc_text::{push_label, push_whose};
 use std::alloc::AllocError;
-use story_text::{push_label, push_whose};
 
 /// Appends an exception without the ticks at which it was raised, and a group with its parts in brackets. The only error is
 /// that memory was refused.

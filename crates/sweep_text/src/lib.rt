@@ -2,7 +2,7 @@
 //!
 //! `sweep_table` returns the text of these values, as `specs/Sweeps.antt` defines it: the outcome of the job with its own
 //! value, then a line for each group of neighbouring values with the same outcome, apart from ticks (`specs/Groups.antt`), and
-//! then the counts. The crate uses `fault_text` for the outcome of a job and `story_text` for labels.
+//! then the counts. The crate uses `fault_text` for the outcome of a job and `exc_text` for labels.
 #![tactic(auto)]
 
 mod counts;

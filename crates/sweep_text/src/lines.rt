@@ -10,9 +10,9 @@ use crate::counts::push_counts;
 use crate::group::{Ends, Group};
 use crate::groups::groups_of;
 use crate::value::Value;
+use digits::push_number;
 use fault_text::{JobOutcome, push_left};
 use std::alloc::{AllocError, Global};
-use story_text::push_number;
 
 /// Returns the text of a sweep: the outcome of the job with its own value (`first`), the outcome for each group of neighbouring
 /// values with the same outcome apart from ticks, and how many values there are of each kind. `limit` is the last tick at which

@@ -5,10 +5,10 @@ ghost use Rattle.fault_text.specs.Views.{job_outcome_held};
 ghost use Rattle.sweep_text.specs.Groups.{end_sans, head_text, notes_text};
 
 use crate::exc::push_sans;
+use digits::push_number;
 use exc_groups::Exc;
 use fault_text::{JobOutcome, push_names_note};
 use std::alloc::AllocError;
-use story_text::push_number;
 
 // Appends the outcome of a job up to the limit, without ticks.
 pub(crate) fn push_head(

@@ -1,4 +1,3 @@
-use itoa::Buffer;
 use job_tokens::{Shape, push_canon};
 use job_tree::Text;
 use std::alloc::{AllocError, Global};
@@ -24,12 +23,6 @@ pub(crate) fn push_gap(out: &mut Vec<u8>) -> Result<(), AllocError> {
         return Ok(());
     }
     out.extend_from_slice(b"\n")
-}
-
-// Appends a number in decimal digits.
-pub(crate) fn push_number(out: &mut Vec<u8>, n: u64) -> Result<(), AllocError> {
-    let mut buffer = Buffer::new();
-    out.extend_from_slice(buffer.format(n).as_bytes())
 }
 
 // Appends a string of a job as a Python string, which has the same escapes.

@@ -1,7 +1,8 @@
 use crate::names::{push_class, push_handled, push_name};
-use crate::pieces::{begin, push_gap, push_line, push_number, push_text};
+use crate::pieces::{begin, push_gap, push_line, push_text};
 use crate::place::Place;
 use crate::words::Words;
+use digits::push_number;
 use job_tree::{Body, Deadline, Handler, Name, Step};
 use std::alloc::{AllocError, Global};
 

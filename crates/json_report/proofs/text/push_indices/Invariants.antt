@@ -1,6 +1,6 @@
 use Rattle.std.proofs.Common.{◌≡◌, ◌++◌, string_bytes, take}
 use Rattle.std.specs.List.{flat_map}
-use Rattle.job_report.specs.Text.{index_text}
+use Rattle.exc_text.specs.Texts.{index_text}
 use Rattle.json_report.proofs.text.push_indices.Given as goal
 
 abbrev pub invariant-indices : goal.invariant-indices

@@ -2,4 +2,4 @@ use Rattle.refusal_text.proofs.Told.{three_pieces}
 use Rattle.refusal_text.proofs.explaining.push_size.Goals as goal
 
 pub returns : goal.returns
-returns c = three_pieces _ _ _ _ _ _ _ c.in_ok-push_str.ensures.bytes c.in_ok-push_number.ensures c.in_ok-push_str-2.ensures.bytes
+returns c = three_pieces _ _ _ _ _ _ _ c.in_ok-push_str.ensures.bytes c.in_ok-push_str_number.ensures c.in_ok-push_str-2.ensures.bytes

@@ -1,8 +1,8 @@
 use Rattle.std.proofs.Common.{◌≡◌, ◌++◌, ◌+◌, ◌*◌, take}
 use Rattle.exc_groups.specs.Held.{exc_of, excs_of}
 use Rattle.exc_groups.specs.Weigh.{weight_of, weight_in}
-use Rattle.job_report.specs.Text.{more_text}
-use Rattle.job_report.proofs.exc.+exc.Given as goal
+use Rattle.exc_text.specs.Texts.{more_text}
+use Rattle.exc_text.proofs.exc.+exc.Given as goal
 
 abbrev pub invariant-push_more-parts : goal.invariant-push_more-parts
 invariant-push_more-parts l = l.out.items ≡ l.fn.out.items ++ more_text (excs_of (take l.part-index l.parts))

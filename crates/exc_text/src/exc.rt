@@ -1,13 +1,14 @@
-ghost use Rattle.std.specs.Prelude.{◌≡◌, ◌++◌, [], ◌∷◌, OnOk, decimal, codes, take};
+ghost use Rattle.std.specs.Prelude.{◌≡◌, ◌++◌, [], ◌∷◌, OnOk, Some, decimal, codes, take};
 ghost use Rattle.exc_groups.specs.Held.{exc_of, excs_of, whose_of};
-ghost use Rattle.job_report.specs.Text.{exc_text, parts_text, more_text, whose_text};
+ghost use Rattle.exc_text.specs.Texts.{exc_text, parts_text, more_text, whose_text, end_text};
 
 use crate::label::{push_label, push_place};
 use exc_groups::{Exc, Whose};
 use std::alloc::AllocError;
 
-// Appends the origin of a group.
-fn push_whose(out: &mut Vec<u8>, whose: &Whose) -> Result<(), AllocError>
+/// Appends the origin of a group of exceptions: the label of a nursery, or `*` for a handler. Returns `AllocError` if memory is
+/// refused.
+pub fn push_whose(out: &mut Vec<u8>, whose: &Whose) -> Result<(), AllocError>
     ensures { OnOk result (out.new.items ≡ out.old.items ++ whose_text (whose_of whose.now)) }
 {
     match whose {
@@ -16,9 +17,10 @@ fn push_whose(out: &mut Vec<u8>, whose: &Whose) -> Result<(), AllocError>
     }
 }
 
-// Appends an exception, a group with its parts in brackets.
+/// Appends the text of an exception, as `DiskFull(writer@4)`. A group has its parts in brackets, as `workers[DiskFull(writer@4)]`.
+/// Returns `AllocError` if memory is refused.
 #[cycle(exc)]
-pub(crate) fn push_exc(out: &mut Vec<u8>, exc: &Exc) -> Result<(), AllocError>
+pub fn push_exc(out: &mut Vec<u8>, exc: &Exc) -> Result<(), AllocError>
     ensures { OnOk result (out.new.items ≡ out.old.items ++ exc_text (exc_of exc.now)) }
 {
     match exc {
@@ -52,7 +54,7 @@ fn push_parts(out: &mut Vec<u8>, parts: &[Exc]) -> Result<(), AllocError>
     push_more(out, others)
 }
 
-// Appends each part, preceded by a comma and a space.
+// Appends each part, with a comma and a space before it.
 #[cycle(exc)]
 fn push_more(out: &mut Vec<u8>, parts: &[Exc]) -> Result<(), AllocError>
     ensures { OnOk result (out.new.items ≡ out.old.items ++ more_text (excs_of parts.now)) }
@@ -62,4 +64,18 @@ fn push_more(out: &mut Vec<u8>, parts: &[Exc]) -> Result<(), AllocError>
         push_exc(out, part)?;
     }
     Ok(())
+}
+
+/// Appends how a task ended that ended with this exception: `cancelled`, or `raised` and the exception. Returns `AllocError` if memory
+/// is refused.
+pub fn push_raised(out: &mut Vec<u8>, exc: &Exc) -> Result<(), AllocError>
+    ensures { OnOk result (out.new.items ≡ out.old.items ++ end_text (Some (exc_of exc.now))) }
+{
+    match exc {
+        Exc::Cancelled => out.extend_from_slice(b"cancelled"),
+        Exc::Raised { .. } | Exc::TooSlow { .. } | Exc::Group { .. } => {
+            out.extend_from_slice(b"raised ")?;
+            push_exc(out, exc)
+        }
+    }
 }

@@ -5,7 +5,7 @@ use Rattle.exc_groups.specs.declared.exc.Exc.{Exc}
 use Rattle.exc_groups.specs.Exceptions.{Excs, no_parts, part}
 use Rattle.exc_groups.specs.Held.{exc_of, excs_of}
 use Rattle.exc_groups.specs.Weigh.{weight_of, weight_in}
-use Rattle.job_report.specs.Text.{exc_text, more_text}
+use Rattle.exc_text.specs.Texts.{exc_text, more_text}
 
 -- a further part follows a comma and a space
 pub more_text-take : (es : List Exc) (i : ℕ) (d : Exc) → i < length es →

@@ -1,6 +1,6 @@
 use Rattle.std.proofs.Common.{arith, append_assoc}
-use Rattle.job_report.proofs.PartsText.{more_text-take, weight_in-at}
-use Rattle.job_report.proofs.exc.+exc.Goals as goal
+use Rattle.exc_text.proofs.Parts.{more_text-take, weight_in-at}
+use Rattle.exc_text.proofs.exc.+exc.Goals as goal
 
 pub push_more-push_exc-requires : goal.push_more-push_exc-requires
 push_more-push_exc-requires t c =

@@ -1,21 +1,14 @@
 ghost use Rattle.std.specs.Prelude.{◌≡◌, ◌++◌, [], ◌∷◌, OnOk, decimal, codes, take};
 ghost use Rattle.std.specs.List.{flat_map};
-ghost use Rattle.job_report.specs.Text.{label_text, place_text, index_text};
+ghost use Rattle.exc_text.specs.Texts.{label_text, place_text, index_text};
 
+use digits::push_number;
 use exc_groups::Label;
-use itoa::Buffer;
 use std::alloc::AllocError;
 
-// Appends a number in decimal digits.
-pub(crate) fn push_number(out: &mut Vec<u8>, n: u64) -> Result<(), AllocError>
-    ensures { OnOk result (out.new.items ≡ out.old.items ++ decimal n) }
-{
-    let mut buffer = Buffer::new();
-    out.extend_from_slice(buffer.format(n).as_bytes())
-}
-
-// Appends the label's name and its indices.
-pub(crate) fn push_label(out: &mut Vec<u8>, label: &Label) -> Result<(), AllocError>
+/// Appends the text of a label, as `p.1`: its name, and then a dot and the number for each index. Returns `AllocError` if memory is
+/// refused.
+pub fn push_label(out: &mut Vec<u8>, label: &Label) -> Result<(), AllocError>
     ensures { OnOk result (out.new.items ≡ out.old.items ++ label_text label.now) }
 {
     let name = label.name();
@@ -23,7 +16,7 @@ pub(crate) fn push_label(out: &mut Vec<u8>, label: &Label) -> Result<(), AllocEr
     push_indices(out, label.indices())
 }
 
-// Appends a dot and the index for each index.
+// Appends a dot and the number for each index.
 fn push_indices(out: &mut Vec<u8>, indices: &[u64]) -> Result<(), AllocError>
     ensures { OnOk result (out.new.items ≡ out.old.items ++ flat_map index_text indices.now) }
 {
@@ -34,7 +27,7 @@ fn push_indices(out: &mut Vec<u8>, indices: &[u64]) -> Result<(), AllocError>
     Ok(())
 }
 
-// Appends the label and the tick, as `(p.1@7)`.
+// Appends a label and a tick, as `(p.1@7)`.
 pub(crate) fn push_place(out: &mut Vec<u8>, label: &Label, tick: u64) -> Result<(), AllocError>
     ensures { OnOk result (out.new.items ≡ out.old.items ++ place_text label.now tick) }
 {
