@@ -7,9 +7,9 @@ use Rattle.std.proofs.lemmas.List.{at_drop_more, length-append, length-map}
 use Rattle.chart_columns.specs.Columns as columns
 use Rattle.chart_columns.specs.Columns.{gap, fits_from, fits, framed_columns, tick_of}
 use Rattle.chart_columns.specs.Held.{column_of}
-use Rattle.chart_columns.specs.Sorting.{put_by, sorted_by}
+use Rattle.stable_sort.specs.Sorting.{put_by, sorted_by}
 use Rattle.chart_columns.specs.declared.column.Column.{Column}
-use Rattle.chart_columns.proofs.Ranks.{put_by-stays, put_by-past}
+use Rattle.stable_sort.proofs.Ranks.{put_by-stays, put_by-past}
 
 test_false : (m n : ℕ) → n < m → nat_le m n ≡ false
 test_false m n h = grind (arith, nat_tests)

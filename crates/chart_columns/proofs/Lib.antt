@@ -1,4 +1,3 @@
-pub mod Ranks
 pub mod Halvings
 pub mod Lists
 pub mod Counts

@@ -1,6 +1,6 @@
 -- The columns of a chart: the ticks at which something happens, or as many of them as there is room for.
 use Rattle.std.specs.Prelude.{ℕ, zero, suc, ◌+◌, ◌-◌, ◌*◌, ◌/◌, ◌==◌, Bool, true, ◌&&◌, List, [], ◌∷◌, ◌++◌, length, decimal, nat_le, if◌then◌else◌}
-use Rattle.chart_columns.specs.Sorting.{sorted_by}
+use Rattle.stable_sort.specs.Sorting.{sorted_by}
 
 -- a tick, and the number of things that happen at it
 pub record Column : Type 0 where

@@ -1,3 +1,2 @@
-pub mod Sorting
 pub mod Columns
 pub mod Held

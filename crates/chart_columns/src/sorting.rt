@@ -1,5 +1,5 @@
 ghost use Rattle.std.specs.Prelude.{◌≡◌, OnOk, map};
-ghost use Rattle.chart_columns.specs.Sorting.{sorted_by};
+ghost use Rattle.stable_sort.specs.Sorting.{sorted_by};
 ghost use Rattle.chart_columns.specs.Columns.{identity, tick_of, count_of};
 ghost use Rattle.chart_columns.specs.Held.{column_of};
 

@@ -1,5 +1,6 @@
 -- The events of a story, one after the other.
-use Rattle.std.specs.Prelude.{ℕ, Option, List, [], ◌∷◌, ◌++◌, nat_le, if◌then◌else◌}
+use Rattle.std.specs.Prelude.{ℕ, Option, List, [], ◌∷◌, ◌++◌}
+use Rattle.stable_sort.specs.Sorting.{sorted_by}
 use Rattle.buffer_parts.specs.Lines.{Range}
 use Rattle.exc_groups.specs.Exceptions.{Label, Exc}
 use Rattle.job_story.specs.Story.{Happening, Story, no_more, happened, started}
@@ -25,12 +26,9 @@ events_of me (happened t what rest) = event t me (happens what) ∷ events_of me
 events_of me (started l home part s u e own rest) =
     event s l (starts home part) ∷ (events_of l own ++ event u l (ends home e) ∷ events_of me rest)
 
--- inserts an event before those that are later or in the same tick
-abbrev pub put_in : Event → List Event → List Event
-put_in e [] = e ∷ []
-put_in e (x ∷ xs) = if nat_le e.tick x.tick then e ∷ x ∷ xs else x ∷ put_in e xs
+abbrev pub tick_of : Event → ℕ
+tick_of e = e.tick
 
 -- the events sorted by tick, and within a tick in the order of the walk
 abbrev pub in_order : List Event → List Event
-in_order [] = []
-in_order (e ∷ es) = put_in e (in_order es)
+in_order events = sorted_by tick_of events

@@ -1,5 +1,3 @@
-pub mod Ranks
-pub mod Sorted
 pub mod Caught
 pub mod Joined
 pub mod Noted

@@ -4,7 +4,7 @@ use Rattle.std.proofs.lemmas.Result.{on_ok_weaker}
 use Rattle.chart_columns.specs.Columns.{tick_of}
 use Rattle.chart_columns.specs.Held.{column_of}
 use Rattle.chart_columns.specs.declared.column.Column.{Column}
-use Rattle.chart_columns.proofs.Ranks.{viewed_from_sort}
+use Rattle.stable_sort.proofs.Ranks.{viewed_from_sort}
 use Rattle.chart_columns.proofs.sorting.sort_by_tick.Goals as goal
 
 pub returns : goal.returns

@@ -2,7 +2,7 @@ use Rattle.std.proofs.Common.{rules}
 use Rattle.std.proofs.lemmas.List.Sorted.{answers_always, IsNonDecreasingBy-from_sort}
 use Rattle.std.proofs.lemmas.Result.{on_ok_weaker}
 use Rattle.chart_columns.specs.Columns.{identity}
-use Rattle.chart_columns.proofs.Ranks.{sorted_by_from_sort}
+use Rattle.stable_sort.proofs.Ranks.{sorted_by_from_sort}
 use Rattle.chart_columns.proofs.sorting.sort_ticks.Goals as goal
 
 pub returns : goal.returns

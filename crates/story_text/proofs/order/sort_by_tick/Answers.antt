@@ -1,12 +1,18 @@
 use Rattle.std.proofs.Common.{rules}
 use Rattle.std.proofs.lemmas.List.Sorted.{answers_always, IsNonDecreasingBy-from_sort}
 use Rattle.std.proofs.lemmas.Result.{on_ok_weaker}
-use Rattle.story_text.proofs.Sorted.{tick_of, in_order_from_sort}
+use Rattle.std.specs.Borrow.{Bor}
+use Rattle.job_story.specs.Events.{tick_of}
+use Rattle.job_story.specs.declared.event.Event.{Event}
+use Rattle.stable_sort.proofs.Ranks.{viewed_from_sort}
+use Rattle.story_causes.specs.Seen.{event_in}
 use Rattle.story_text.proofs.order.sort_by_tick.Goals as goal
 
 pub returns : goal.returns
 returns c =
+    let key = λ (event : Bor Event). event.now.tick in
     let keys = answers_always _ _ _ (λ f a r next called. search rules) in
-    let stable = c.sort_by_key.ensures.stable tick_of keys in
+    let stable = c.sort_by_key.ensures.stable key keys in
     on_ok_weaker c.sort_by_key.result
-    (λ sorted. in_order_from_sort _ _ (IsNonDecreasingBy-from_sort tick_of _ (sorted tick_of keys)) stable) c.sort_by_key.ensures.sorted
+    (λ sorted. viewed_from_sort tick_of event_in _ _ (IsNonDecreasingBy-from_sort key _ (sorted key keys)) stable)
+    c.sort_by_key.ensures.sorted
