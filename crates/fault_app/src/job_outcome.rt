@@ -4,7 +4,7 @@ ghost use Rattle.job_story.specs.Events.{in_order};
 ghost use Rattle.job_story.specs.Held.{event_of};
 ghost use Rattle.job_story.specs.Limit.{by_limit};
 ghost use Rattle.fault_notes.specs.Notes.{sleeping_in, cut_in, is_raised};
-ghost use Rattle.fault_notes.specs.Lasts.{labels_in};
+ghost use Rattle.fault_notes.specs.Labels.{labels_in};
 ghost use Rattle.std.specs.Option.{option_map};
 ghost use Rattle.exc_groups.specs.Held.{exc_of};
 ghost use Rattle.fault_text.specs.JobOutcomes as job_outcomes;

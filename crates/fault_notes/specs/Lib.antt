@@ -1,2 +1,2 @@
 pub mod Notes
-pub mod Lasts
+pub mod Labels

@@ -2,30 +2,28 @@
 use Rattle.std.specs.Prelude.{ℕ, Bool, true, false, ◌&&◌, ◌||◌, not, Option, Some, None, List, [], ◌∷◌, ◌++◌, if◌then◌else◌}
 use Rattle.std.specs.Str.{bytes_eq}
 use Rattle.exc_groups.specs.Exceptions.{Label, Exc, cancelled, raised, too_slow, group, Excs, no_parts, part}
-use Rattle.job_meaning.specs.Log.{same_label}
 use Rattle.job_story.specs.Story.{sleeps, is_cancelled, raises, handles}
 use Rattle.job_story.specs.Events.{What, happens, ends, Event}
-use Rattle.job_story.specs.Limit.{is_start, start_if}
+use Rattle.job_story.specs.Limit.{is_start, start_if, last_event}
 use Rattle.job_story.specs.Focus.{is_among}
 
--- ---- the last event of each task
-
--- what the last event of a task is, given the events in the order of the walk; if no event is of the task, the
--- given one
-abbrev pub last_what : Label → List Event → Option What → Option What
-last_what l [] what = what
-last_what l (e ∷ es) what = last_what l es (if same_label l e.task then Some e.what else what)
+-- ---- tasks that sleep forever
 
 -- a task fell asleep without a tick at which it is due
-abbrev pub sleeps_forever : Option What → Bool
-sleeps_forever (Some (happens (sleeps None))) = true
-sleeps_forever _ = false
+abbrev pub is_endless : What → Bool
+is_endless (happens (sleeps None)) = true
+is_endless _ = false
+
+-- that is the last event of a task
+abbrev pub sleeps_forever : Option Event → Bool
+sleeps_forever None = false
+sleeps_forever (Some e) = is_endless e.what
 
 -- the tasks whose last event is that they fell asleep forever, in the order in which the walk starts them
 abbrev pub sleeping_among : List Event → List Event → List Label
 sleeping_among all [] = []
 sleeping_among all (e ∷ es) =
-    start_if (is_start e.what && sleeps_forever (last_what e.task all None)) e.task (sleeping_among all es)
+    start_if (is_start e.what && sleeps_forever (last_event e.task all None)) e.task (sleeping_among all es)
 
 abbrev pub sleeping_in : List Event → List Label
 sleeping_in es = sleeping_among es es

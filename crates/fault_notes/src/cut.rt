@@ -2,7 +2,7 @@ ghost use Rattle.std.specs.Prelude.{◌≡◌, IfOk, OnOk, map, if◌then◌else
 ghost use Rattle.job_story.specs.Held.{what_of};
 ghost use Rattle.story_causes.specs.Seen.{event_in};
 ghost use Rattle.fault_notes.specs.Notes.{cuts, with_label, cut_in};
-ghost use Rattle.fault_notes.specs.Lasts.{labels_in};
+ghost use Rattle.fault_notes.specs.Labels.{labels_in};
 
 use exc_groups::Label;
 use indexmap::IndexSet;

@@ -1,5 +1,5 @@
 -- The story up to a limit, of a job that does not end by then.
-use Rattle.std.specs.Prelude.{ℕ, Bool, true, false, ◌&&◌, ◌||◌, not, List, [], ◌∷◌, ◌++◌, codes, decimal, nat_le, if◌then◌else◌}
+use Rattle.std.specs.Prelude.{ℕ, Bool, true, false, ◌&&◌, ◌||◌, not, Option, Some, None, List, [], ◌∷◌, ◌++◌, codes, decimal, nat_le, if◌then◌else◌}
 use Rattle.exc_groups.specs.Exceptions.{Label}
 use Rattle.job_tree.specs.Tree.{Tree}
 use Rattle.job_meaning.specs.Log.{Table, same_label}
@@ -49,15 +49,20 @@ doing_text t (happens (sleeps until)) = codes "sleeping " ++ until_text until ++
 doing_text t (happens (waits nursery exc)) = codes "waiting for nursery " ++ label_text nursery ++ codes " since " ++ decimal t
 doing_text t _ = []
 
+-- the last of these events that is one of a task, or the given event if there is none
+abbrev pub last_event : Label → List Event → Option Event → Option Event
+last_event l [] found = found
+last_event l (e ∷ es) found = last_event l es (if same_label l e.task then Some e else found)
+
 -- what a task does after the last event of its own
-abbrev pub last_of : Label → List Event → List ℕ → List ℕ
-last_of l [] text = text
-last_of l (e ∷ es) text = last_of l es (if same_label l e.task then doing_text e.tick e.what else text)
+abbrev pub last_text : Option Event → List ℕ
+last_text None = []
+last_text (Some e) = doing_text e.tick e.what
 
 abbrev pub running_text : ℕ → List Event → List Label → List ℕ
 running_text width es [] = []
 running_text width es (l ∷ ls) =
-    codes "  " ++ padded_text width (label_text l) ++ codes "  " ++ last_of l es [] ++ codes "\n" ++ running_text width es ls
+    codes "  " ++ padded_text width (label_text l) ++ codes "  " ++ last_text (last_event l es None) ++ codes "\n" ++ running_text width es ls
 
 -- ---- the text
 

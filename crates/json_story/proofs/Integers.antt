@@ -12,12 +12,11 @@ use Rattle.cancel_scopes.specs.Sight.{Tick}
 use Rattle.job_meaning.specs.Log.{Table}
 use Rattle.job_story.specs.Story.{Happening, enters, sleeps, is_cancelled, finds, misses, raises, cancels, handles, cleans, replaces, waits, leaves}
 use Rattle.job_story.specs.Events.{What, starts, happens, ends, Event}
-use Rattle.job_story.specs.Limit.{running_in}
+use Rattle.job_story.specs.Limit.{running_in, last_event}
 use Rattle.job_story.specs.Causes.{Cause, by_deadline, by_task, by_failure, by_cancellation, cause_of}
 use Rattle.json_report.specs.Values.{integer, word, list_of, text_json, label_json, exc_json}
 use Rattle.json_report.proofs.Integers.{exc_without_float}
 use Rattle.json_story.specs.Events.{tick_json, label_or_null, exc_or_null, cause_json, why_json, cancel_from, failure_from, kind_key, span_json, with_happening, with_what, event_head, event_json}
-use Rattle.json_story.specs.Lasts.{last_event}
 use Rattle.json_story.specs.Running.{with_idle, with_doing, with_last, task_json}
 use Rattle.json_story.specs.Stories.{running_json, kept_json}
 

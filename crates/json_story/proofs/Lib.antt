@@ -1,2 +1,1 @@
-pub mod Noted
 pub mod Integers

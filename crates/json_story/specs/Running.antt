@@ -6,7 +6,7 @@ use Rattle.job_story.specs.Story.{sleeps, waits}
 use Rattle.job_story.specs.Events.{What, happens, Event}
 use Rattle.json_report.specs.Values.{integer, word, label_json}
 use Rattle.json_story.specs.Events.{tick_json}
-use Rattle.json_story.specs.Lasts.{last_event}
+use Rattle.job_story.specs.Limit.{last_event}
 
 -- nothing that a task waits for
 abbrev pub with_idle : Members → Members

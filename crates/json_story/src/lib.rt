@@ -10,7 +10,6 @@ mod acts;
 mod event;
 mod happening;
 mod known;
-mod lasts;
 mod optional;
 mod running;
 mod story;

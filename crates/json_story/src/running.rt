@@ -7,17 +7,17 @@ ghost use Rattle.job_story.specs.Events as told;
 ghost use Rattle.job_story.specs.Limit.{has_ended, start_if, is_start, running_in};
 ghost use Rattle.story_causes.specs.Seen.{event_in};
 ghost use Rattle.json_report.specs.Values.{integer, word};
-ghost use Rattle.json_story.specs.Lasts.{seen_last};
+ghost use Rattle.story_causes.specs.Lasts.{seen_last};
 ghost use Rattle.json_story.specs.Running.{with_idle, with_doing, with_last, task_json};
-ghost use Rattle.json_story.specs.Tasks.{sorted_in, walked_in};
+ghost use Rattle.story_causes.specs.Tasks.{sorted_in, walked_in};
 
-use crate::lasts::Tasks;
 use crate::optional::tick_value;
 use exc_groups::Label;
 use job_story::{Event, Happening, What};
 use json_report::label_value;
 use serde_json::{Map, Value, put};
 use std::alloc::{AllocError, Global};
+use story_causes::Tasks;
 
 // Returns the tasks that have not ended as JSON objects, in the order in which the walk starts them.
 pub(crate) fn running_values(
@@ -47,30 +47,12 @@ fn push_if_running(
         ≡ map view values.old.items ++ map (task_json (sorted_in tasks.now))
         (start_if (is_start (what_of event.now.what) && not (has_ended event.now.task (walked_in tasks.now))) event.now.task others)) }
 {
-    if !is_running(event, tasks) {
+    if !tasks.is_running(event) {
         return Ok(());
     }
     let value = task_value(alloc, tasks, &event.task)?;
     values.push(value)?;
     Ok(())
-}
-
-// Returns whether an event is the start of a task that has not ended.
-fn is_running(event: &Event, tasks: &Tasks<'_, '_>) -> bool
-    ensures { result ≡ (is_start (what_of event.now.what) && not (has_ended event.now.task (walked_in tasks.now))) }
-{
-    starts(&event.what) && !tasks.has_ended(&event.task)
-}
-
-// Returns whether an event is the start of a task.
-fn starts(what: &What) -> bool
-    ensures { result ≡ is_start (what_of what.now) }
-{
-    match what {
-        What::Starts { .. } => true,
-        What::Happens(_) => false,
-        What::Ends { .. } => false,
-    }
 }
 
 // Returns a task that has not ended as a JSON object.

@@ -10,7 +10,6 @@ ghost use Rattle.json_story.specs.Stories.{running_json, kept_json, story_json};
 
 use crate::event::event_values;
 use crate::known::Known;
-use crate::lasts::Tasks;
 use crate::optional::tick_value;
 use crate::running::running_values;
 use exc_groups::Label;
@@ -19,7 +18,7 @@ use job_tree::Name;
 use json_report::{document, text_value};
 use serde_json::{Value, json};
 use std::alloc::{AllocError, Global};
-use story_causes::Causes;
+use story_causes::{Causes, Tasks};
 use story_focus::{concerned_tasks, of_tasks};
 use story_text::in_order;
 

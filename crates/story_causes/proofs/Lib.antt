@@ -4,3 +4,4 @@ pub mod LabelLemmas
 pub mod Dues
 pub mod Firsts
 pub mod Puts
+pub mod Noted

@@ -1,3 +1,2 @@
 pub mod Caught
 pub mod Joined
-pub mod Noted

@@ -13,7 +13,6 @@ mod limit;
 mod lines;
 mod order;
 mod sentences;
-mod tasks;
 mod ticks;
 
 pub use known::Known;

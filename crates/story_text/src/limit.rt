@@ -2,22 +2,23 @@ ghost use Rattle.std.specs.Prelude.{◌≡◌, ◌++◌, ◌&&◌, not, [], ◌�
 ghost use Rattle.exc_groups.specs.Exceptions as tree;
 ghost use Rattle.job_story.specs.Held.{happening_of, what_of};
 ghost use Rattle.job_story.specs.Events as told;
-ghost use Rattle.job_story.specs.Limit.{has_ended, start_if, is_start, running_in, doing_text, last_of, running_text, kept_text_to};
+ghost use Rattle.job_story.specs.Limit.{has_ended, start_if, is_start, running_in, doing_text, last_event, last_text, running_text, kept_text_to};
 ghost use Rattle.job_story.specs.Sentences.{label_width};
 ghost use Rattle.story_text.specs.Told.{events_in, froms_in};
-ghost use Rattle.story_text.specs.Tasks.{sorted_in, walked_in};
+ghost use Rattle.story_causes.specs.Tasks.{sorted_in, walked_in};
+ghost use Rattle.story_causes.specs.Lasts.{seen_last};
 ghost use Rattle.story_causes.specs.Seen.{event_in};
 
 use crate::known::Known;
 use crate::label::push_padded;
 use crate::lines::{label_width, push_lines};
 use crate::sentences::push_until;
-use crate::tasks::Tasks;
 use digits::push_number;
 use exc_groups::Label;
 use exc_text::push_label;
 use job_story::{Event, Happening, What};
 use std::alloc::{AllocError, Global};
+use story_causes::Tasks;
 
 /// Returns the text of selected events of a story up to a limit. The events are given in order (`sorted`) and in the order of the
 /// walk (`walked`), and `known` has all events up to the limit. After the story come a line for the limit, and a line for each
@@ -94,29 +95,11 @@ fn push_if_running(
         ≡ out.old.items ++ running_text width (sorted_in tasks.now)
         (start_if (is_start (what_of event.now.what) && not (has_ended event.now.task (walked_in tasks.now))) event.now.task others)) }
 {
-    if !is_running(event, tasks) {
+    if !tasks.is_running(event) {
         return Ok(());
     }
     push_task(out, width, tasks, &event.task)?;
     Ok(())
-}
-
-// Returns whether an event is the start of a task that has not ended.
-fn is_running(event: &Event, tasks: &Tasks<'_, '_>) -> bool
-    ensures { result ≡ (is_start (what_of event.now.what) && not (has_ended event.now.task (walked_in tasks.now))) }
-{
-    starts(&event.what) && !tasks.has_ended(&event.task)
-}
-
-// Returns whether an event is the start of a task.
-fn starts(what: &What) -> bool
-    ensures { result ≡ is_start (what_of what.now) }
-{
-    match what {
-        What::Starts { .. } => true,
-        What::Happens(_) => false,
-        What::Ends { .. } => false,
-    }
 }
 
 // Appends the line for a task that has not ended.
@@ -131,18 +114,18 @@ fn push_task(
     out.extend_from_slice(b"  ")?;
     push_padded(out, width, label)?;
     out.extend_from_slice(b"  ")?;
-    push_last(out, label, tasks)?;
+    push_last(out, tasks.last(label))?;
     out.extend_from_slice(b"\n")
 }
 
 // Appends what a task is doing, by the last of its events.
-fn push_last(out: &mut Vec<u8>, label: &Label, tasks: &Tasks<'_, '_>) -> Result<(), AllocError>
-    ensures { OnOk result (out.new.items ≡ out.old.items ++ last_of label.now (sorted_in tasks.now) []) }
+fn push_last(out: &mut Vec<u8>, last: Option<&Event>) -> Result<(), AllocError>
+    ensures { OnOk result (out.new.items ≡ out.old.items ++ last_text (seen_last last.entry)) }
 {
-    let Some(event) = tasks.last(label) else {
-        return Ok(());
-    };
-    push_doing(out, event.tick, &event.what)
+    match last {
+        Some(event) => push_doing(out, event.tick, &event.what),
+        None => Ok(()),
+    }
 }
 
 // Appends what a task is doing after an event: it sleeps, or it waits for a nursery.

@@ -1,5 +1,5 @@
 use Rattle.std.proofs.Common.{◌≡◌, ◌++◌, drop}
-use Rattle.fault_notes.specs.Lasts.{labels_in}
+use Rattle.fault_notes.specs.Labels.{labels_in}
 use Rattle.fault_app.proofs.job_outcome.copies.Given as goal
 
 abbrev pub invariant-labels : goal.invariant-labels

@@ -2,7 +2,7 @@ use Rattle.std.proofs.Common.{◌≡◌, drop}
 use Rattle.std.specs.Prelude.{map}
 use Rattle.story_causes.specs.Seen.{event_in}
 use Rattle.fault_notes.specs.Notes.{cut_after, cut_in}
-use Rattle.fault_notes.specs.Lasts.{labels_in}
+use Rattle.fault_notes.specs.Labels.{labels_in}
 use Rattle.fault_notes.proofs.cut.cut_tasks.Given as goal
 
 abbrev pub invariant-events : goal.invariant-events

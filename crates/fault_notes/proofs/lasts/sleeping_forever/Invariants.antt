@@ -2,7 +2,7 @@ use Rattle.std.proofs.Common.{◌≡◌, ◌++◌, drop}
 use Rattle.std.specs.Prelude.{map}
 use Rattle.story_causes.specs.Seen.{event_in}
 use Rattle.fault_notes.specs.Notes.{sleeping_among, sleeping_in}
-use Rattle.fault_notes.specs.Lasts.{labels_in}
+use Rattle.fault_notes.specs.Labels.{labels_in}
 use Rattle.fault_notes.proofs.lasts.sleeping_forever.Given as goal
 
 abbrev pub invariant-walked : goal.invariant-walked

@@ -4,7 +4,7 @@ use Rattle.serde_json.specs.View.{view}
 use Rattle.story_causes.specs.Seen.{event_in}
 use Rattle.job_story.specs.Limit.{running_in}
 use Rattle.json_story.specs.Running.{task_json}
-use Rattle.json_story.specs.Tasks.{sorted_in, walked_in}
+use Rattle.story_causes.specs.Tasks.{sorted_in, walked_in}
 use Rattle.json_story.proofs.running.running_values.Given as goal
 
 abbrev pub invariant-walked : goal.invariant-walked

@@ -3,8 +3,8 @@ use Rattle.std.specs.Prelude.{◌||◌, map}
 use Rattle.exc_groups.specs.Exceptions as tree
 use Rattle.story_causes.specs.Seen.{event_in}
 use Rattle.job_story.specs.Limit.{has_ended}
-use Rattle.story_text.specs.Lasts.{is_among}
-use Rattle.json_story.proofs.lasts.ended_tasks.Given as goal
+use Rattle.story_causes.specs.Lasts.{is_among}
+use Rattle.story_causes.proofs.tasks.ended_tasks.Given as goal
 
 abbrev pub invariant-events : goal.invariant-events
 invariant-events l =

@@ -2,11 +2,11 @@
 use Rattle.std.specs.Prelude.{List, map}
 use Rattle.job_story.specs.Events as told
 use Rattle.story_causes.specs.Seen.{event_in}
-use Rattle.story_text.specs.declared.tasks.Tasks.{Tasks}
+use Rattle.story_causes.specs.declared.tasks.Tasks.{Tasks}
 
 -- in order
 abbrev pub sorted_in : Tasks → List told.Event
-sorted_in tasks = map event_in tasks.sorted.now
+sorted_in tasks = map event_in tasks.lasts.events.now
 
 -- in the order of the walk
 abbrev pub walked_in : Tasks → List told.Event

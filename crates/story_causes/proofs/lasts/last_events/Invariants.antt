@@ -2,9 +2,10 @@ use Rattle.std.proofs.Common.{◌≡◌, drop}
 use Rattle.std.specs.Prelude.{None, map}
 use Rattle.exc_groups.specs.Exceptions as tree
 use Rattle.story_causes.specs.Seen.{event_in}
-use Rattle.story_text.specs.Lasts.{event_at}
-use Rattle.json_story.specs.Lasts.{last_event, seen_last}
-use Rattle.json_story.proofs.lasts.last_events.Given as goal
+use Rattle.story_causes.specs.Lasts.{event_at}
+use Rattle.job_story.specs.Limit.{last_event}
+use Rattle.story_causes.specs.Lasts.{seen_last}
+use Rattle.story_causes.proofs.lasts.last_events.Given as goal
 
 abbrev pub invariant-events : goal.invariant-events
 invariant-events l =

@@ -1,13 +1,14 @@
--- What the code stores of the tasks: which have ended, and what each did last.
-use Rattle.std.specs.Prelude.{ℕ, Bool, Option, Some, None, List, []}
+-- What the code keeps of the tasks of a story: those that have ended, and the last event of each.
+use Rattle.std.specs.Prelude.{Bool, Option, List, map}
+use Rattle.std.specs.Option.{option_map}
 use Rattle.std.specs.Borrow.{Bor}
 use Rattle.indexmap.specs.IndexMap.{IndexMap, get_by}
 use Rattle.indexmap.specs.IndexSet.{IndexSet, contains_by}
 use Rattle.exc_groups.specs.Exceptions.{Label}
 use Rattle.job_meaning.specs.Log.{same_label}
-use Rattle.job_story.specs.Held.{what_of}
-use Rattle.job_story.specs.Limit.{doing_text}
+use Rattle.job_story.specs.Events as told
 use Rattle.job_story.specs.declared.event.Event.{Event}
+use Rattle.story_causes.specs.Seen.{event_in}
 
 -- whether a set of tasks contains this one
 abbrev pub is_among : {S : Type 0} → IndexSet (Bor Label) S → Label → Bool
@@ -17,7 +18,6 @@ is_among tasks l = contains_by (λ k. same_label l k.now) tasks
 abbrev pub event_at : {S : Type 0} → IndexMap (Bor Label) (Bor Event) S → Label → Option (Bor Event)
 event_at events l = get_by (λ k. same_label l k.now) events
 
--- what a task does, by the last of its events
-abbrev pub last_text : Option (Bor Event) → List ℕ
-last_text None = []
-last_text (Some event) = doing_text event.now.tick (what_of event.now.what)
+-- a borrowed event, as the definitions see it, if there is one
+abbrev pub seen_last : Option (Bor Event) → Option told.Event
+seen_last event = option_map event_in event

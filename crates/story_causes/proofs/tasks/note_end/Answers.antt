@@ -1,8 +1,8 @@
 use Rattle.std.proofs.Common.{◌≡◌, true}
 use Rattle.job_story.specs.Held.{what_of}
 use Rattle.job_story.specs.Limit.{is_end}
-use Rattle.story_text.proofs.Noted.{among_more}
-use Rattle.story_text.proofs.tasks.note_end.Goals as goal
+use Rattle.story_causes.proofs.Noted.{among_more}
+use Rattle.story_causes.proofs.tasks.note_end.Goals as goal
 
 pub returns : goal.returns
 returns c = λ l.
