@@ -5,6 +5,7 @@ use Rattle.job_edits.specs.declared.fault.Fault.TheVariants.{Fails, FailsLate, H
 use Rattle.job_edits.specs.declared.fault.Variant.{Variant}
 use Rattle.job_edits.specs.Waiting.{wait_text}
 use Rattle.fault_text.specs.declared.columns.Widths.{Widths}
+use Rattle.fault_text.specs.declared.counts.Counts.{Counts}
 use Rattle.fault_text.specs.declared.deny.Deny.{Deny}
 use Rattle.fault_text.specs.JobOutcomes.{JobOutcome, job_outcome_text, is_stuck, has_cut, has_lost, is_refused}
 
@@ -86,18 +87,26 @@ refused_text (suc n) = codes ", " ++ decimal (suc n) ++ codes " refused"
 abbrev pub is_unreached : Line → Bool
 is_unreached l = not l.reached && not (is_refused l.job_outcome)
 
-abbrev pub counts_text : List Line → List ℕ
-counts_text ls =
-    faults_text (length ls) ++ decimal (count (λ l. is_stuck l.job_outcome) ls) ++ codes " stuck, "
-    ++ decimal (count (λ l. has_cut l.job_outcome) ls) ++ codes " cut a cleanup, "
-    ++ decimal (count (λ l. has_lost l.job_outcome) ls) ++ codes " lost, "
-    ++ decimal (count is_unreached ls) ++ codes " not reached"
-    ++ refused_text (count (λ l. is_refused l.job_outcome) ls) ++ codes "\n"
+-- how many lines there are of each kind
+abbrev pub counts_of : List Line → Counts
+counts_of ls = record {
+  faults = length ls;
+  stuck = count (λ l. is_stuck l.job_outcome) ls;
+  cut = count (λ l. has_cut l.job_outcome) ls;
+  lost = count (λ l. has_lost l.job_outcome) ls;
+  unreached = count is_unreached ls;
+  refused = count (λ l. is_refused l.job_outcome) ls;
+}
+
+abbrev pub counts_text : Counts → List ℕ
+counts_text c =
+    faults_text c.faults ++ decimal c.stuck ++ codes " stuck, " ++ decimal c.cut ++ codes " cut a cleanup, "
+    ++ decimal c.lost ++ codes " lost, " ++ decimal c.unreached ++ codes " not reached" ++ refused_text c.refused ++ codes "\n"
 
 -- the text of all lines
 abbrev pub table_text : ℕ → JobOutcome → List Line → List ℕ
 table_text limit first ls =
-    let w = widths_of ls in first_text limit w first ++ lines_text limit w ls ++ counts_text ls
+    let w = widths_of ls in first_text limit w first ++ lines_text limit w ls ++ counts_text (counts_of ls)
 
 -- ---- what is denied
 

@@ -1,22 +1,55 @@
 ghost use Rattle.std.specs.Prelude.{◌≡◌, ◌++◌, OnOk, decimal, map};
 ghost use Rattle.fault_text.specs.JobOutcomes.{is_stuck, has_cut, has_lost, is_refused};
-ghost use Rattle.fault_text.specs.Table.{count, is_unreached, faults_text, refused_text, counts_text};
+ghost use Rattle.fault_text.specs.Table.{count, is_unreached, counts_of, faults_text, refused_text, counts_text};
 ghost use Rattle.fault_text.specs.Views.{line_held};
 
 use crate::line::Line;
 use digits::push_number;
 use std::alloc::AllocError;
 
+/// How many faults there are in all, and of each kind.
+#[derive(Clone, Copy, Debug, PartialEq, Eq)]
+pub struct Counts {
+    /// All faults.
+    pub faults: usize,
+    /// Those with which the job does not end by the limit.
+    pub stuck: usize,
+    /// Those with which a cleanup is cut.
+    pub cut: usize,
+    /// Those whose exception is lost.
+    pub lost: usize,
+    /// Those that are not reached.
+    pub unreached: usize,
+    /// Those whose text is refused.
+    pub refused: usize,
+}
+
+impl Counts {
+    /// Returns how many of these lines are of each kind.
+    pub fn of(lines: &[Line]) -> Counts
+        ensures { result ≡ counts_of (map line_held lines.now) }
+    {
+        Counts {
+            faults: lines.len(),
+            stuck: stuck_in(lines),
+            cut: cut_in(lines),
+            lost: lost_in(lines),
+            unreached: unreached_in(lines),
+            refused: refused_in(lines),
+        }
+    }
+}
+
 // Appends how many lines there are of each kind.
-pub(crate) fn push_counts(out: &mut Vec<u8>, lines: &[Line]) -> Result<(), AllocError>
-    ensures { OnOk result (out.new.items ≡ out.old.items ++ counts_text (map line_held lines.now)) }
+pub(crate) fn push_counts(out: &mut Vec<u8>, counts: Counts) -> Result<(), AllocError>
+    ensures { OnOk result (out.new.items ≡ out.old.items ++ counts_text counts) }
 {
-    push_faults(out, lines.len())?;
-    push_count(out, stuck_in(lines), b" stuck, ")?;
-    push_count(out, cut_in(lines), b" cut a cleanup, ")?;
-    push_count(out, lost_in(lines), b" lost, ")?;
-    push_count(out, unreached_in(lines), b" not reached")?;
-    push_refused(out, refused_in(lines))?;
+    push_faults(out, counts.faults)?;
+    push_count(out, counts.stuck, b" stuck, ")?;
+    push_count(out, counts.cut, b" cut a cleanup, ")?;
+    push_count(out, counts.lost, b" lost, ")?;
+    push_count(out, counts.unreached, b" not reached")?;
+    push_refused(out, counts.refused)?;
     out.extend_from_slice(b"\n")
 }
 

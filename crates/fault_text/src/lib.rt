@@ -14,7 +14,7 @@ mod lines;
 mod notes;
 mod pieces;
 
-pub use counts::{push_count, push_refused};
+pub use counts::{Counts, push_count, push_refused};
 pub use deny::Deny;
 pub use job_outcome::JobOutcome;
 pub use line::Line;

@@ -3,7 +3,7 @@ ghost use Rattle.fault_text.specs.Table.{first_text, line_text, lines_text, tabl
 ghost use Rattle.fault_text.specs.Views.{job_outcome_held, line_held};
 
 use crate::columns::{Widths, fault_name, place_of, step_of, widths_of};
-use crate::counts::push_counts;
+use crate::counts::{Counts, push_counts};
 use crate::deny::Deny;
 use crate::job_outcome::JobOutcome;
 use crate::line::Line;
@@ -25,7 +25,7 @@ pub fn table(
     let mut out = Vec::new(alloc);
     push_first(&mut out, limit, widths, first)?;
     push_lines(alloc, &mut out, limit, widths, lines)?;
-    push_counts(&mut out, lines)?;
+    push_counts(&mut out, Counts::of(lines))?;
     Ok(out)
 }
 

@@ -1,13 +1,12 @@
 ghost use Rattle.std.specs.Prelude.{◌≡◌, ◌++◌, [], ◌∷◌, IfOk, length, map, take, codes};
 ghost use Rattle.serde_json.specs.View.{view};
-ghost use Rattle.fault_text.specs.JobOutcomes.{is_stuck, has_cut, has_lost, is_refused};
-ghost use Rattle.fault_text.specs.Table.{count, fault_text, is_unreached, step_text};
+ghost use Rattle.fault_text.specs.Table.{counts_of, fault_text, step_text};
 ghost use Rattle.fault_text.specs.Views.{job_outcome_held, line_held};
 ghost use Rattle.json_report.specs.Values.{document, text_json};
 ghost use Rattle.json_tables.specs.Faults.{fault_line_json, fault_counts_json, faults_json};
 
 use crate::results::{first_value, result_value};
-use fault_text::{JobOutcome, Line};
+use fault_text::{Counts, JobOutcome, Line};
 use job_edits::{Fault, push_wait};
 use json_report::{document, text_value};
 use serde_json::{Value, json};
@@ -39,7 +38,7 @@ fn faults_value(
     ensures { IfOk result (λ value. view value ≡ faults_json limit (job_outcome_held first.now) (map line_held lines.now)) }
 {
     let as_it_is = first_value(alloc, limit, first)?;
-    let counts = counts_value(alloc, lines)?;
+    let counts = counts_value(alloc, Counts::of(lines))?;
     let values = line_values(alloc, limit, lines)?;
     json!(in alloc; {"as_it_is": as_it_is, "counts": counts, "lines": values})
 }
@@ -95,69 +94,15 @@ fn fault_word(fault: Fault) -> &'static str
 }
 
 // Returns how many faults are of each kind.
-fn counts_value(alloc: Global, lines: &[Line]) -> Result<Value, AllocError>
-    ensures { IfOk result (λ value. view value ≡ fault_counts_json (map line_held lines.now)) }
+fn counts_value(alloc: Global, counts: Counts) -> Result<Value, AllocError>
+    ensures { IfOk result (λ value. view value ≡ fault_counts_json counts) }
 {
     json!(in alloc; {
-        "faults": count_of(lines),
-        "stuck": stuck_in(lines),
-        "cut": cut_in(lines),
-        "lost": lost_in(lines),
-        "not_reached": unreached_in(lines),
-        "refused": refused_in(lines)
+        "faults": counts.faults,
+        "stuck": counts.stuck,
+        "cut": counts.cut,
+        "lost": counts.lost,
+        "not_reached": counts.unreached,
+        "refused": counts.refused
     })
-}
-
-// Returns how many faults there are.
-fn count_of(lines: &[Line]) -> usize
-    ensures { result ≡ length (map line_held lines.now) }
-{
-    lines.len()
-}
-
-// Returns with how many faults the job does not end by the limit.
-fn stuck_in(lines: &[Line]) -> usize
-    ensures { result ≡ count (λ l. is_stuck l.job_outcome) (map line_held lines.now) }
-{
-    lines
-        .iter()
-        .filter(|line| line.job_outcome.is_stuck())
-        .count()
-}
-
-// Returns with how many faults the job cuts a cleanup.
-fn cut_in(lines: &[Line]) -> usize
-    ensures { result ≡ count (λ l. has_cut l.job_outcome) (map line_held lines.now) }
-{
-    lines
-        .iter()
-        .filter(|line| line.job_outcome.has_cut())
-        .count()
-}
-
-// Returns with how many faults the exception of the fault is lost.
-fn lost_in(lines: &[Line]) -> usize
-    ensures { result ≡ count (λ l. has_lost l.job_outcome) (map line_held lines.now) }
-{
-    lines
-        .iter()
-        .filter(|line| line.job_outcome.has_lost())
-        .count()
-}
-
-// Returns how many faults are not reached.
-fn unreached_in(lines: &[Line]) -> usize
-    ensures { result ≡ count is_unreached (map line_held lines.now) }
-{
-    lines.iter().filter(|line| line.is_unreached()).count()
-}
-
-// Returns with how many faults the text is refused.
-fn refused_in(lines: &[Line]) -> usize
-    ensures { result ≡ count (λ l. is_refused l.job_outcome) (map line_held lines.now) }
-{
-    lines
-        .iter()
-        .filter(|line| line.job_outcome.is_refused())
-        .count()
 }
