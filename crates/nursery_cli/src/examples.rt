@@ -18,7 +18,7 @@ Example: `first.job` shows each line of its input that holds \"er\".
     task main 0 0 done
       line 0+5 error
 
-Exit status: 0 the job ended well, or another command told of a job; 1 it ended with an exception, or a
+Exit status: 0 the job ended well, or another command did its work; 1 it ended with an exception, or a
 line is denied; 2 the job or the command line was refused; 3 it ends later than the limit; 4 a file
 could not be read or written, or the input is too long; 5 no memory.";
 
@@ -61,7 +61,7 @@ pub(crate) const EXPLAIN_EXAMPLE: &str = "Example: who cancelled `slow`, and whe
 
 pub(crate) const CHART_EXAMPLE: &str =
     "A task is drawn as `|---|`, a scope or nursery as `(===)`; `x` is where a task is cancelled, or from where a
-scope or nursery is, and `!` where an exception is raised. Where the ticks do not all fit, those at which
+scope or nursery is, and `!` where an exception is raised. If the ticks do not all fit, those at which
 the fewest things happen are left out.
 
 Example: one of two calls fails.
@@ -81,7 +81,7 @@ Example: one of two calls fails.
     user             |--! raised Refused(user@3)
     mail             |----x cancelled
 
-Exit status: as that of `run`; 3 where the job ends later than the limit, and is drawn up to it.";
+Exit status: that of `run`; 3 if the job ends later than the limit, and is drawn up to it.";
 
 pub(crate) const FAULTS_EXAMPLE: &str =
     "A fault is a change of one waiting step: an exception is raised in its place (`fails`) or after it
@@ -110,7 +110,7 @@ Example: what if one of two calls fails or hangs?
     5:40  sleep 3  cancelled   1 done; cancelled: user, mail
     8 faults: 1 stuck, 0 cut a cleanup, 0 lost, 0 not reached
 
-Exit status: 0, or 1 where a line is denied; the others are those of `run`.";
+Exit status: 0, or 1 if a line is denied; the others are those of `run`.";
 
 pub(crate) const RACES_EXAMPLE: &str =
     "A hair is a tenth of a tick. Each `sleep`, `after` and `at` takes a hair less (`earlier`) and a hair more
@@ -133,11 +133,11 @@ Example: two tasks act in the same tick, and one of them cancels the other.
     5:15  sleep 5  later    both: other lines or scopes; b: done -> cancelled
     6 hairs: 3 races
 
-Exit status: 0, or 1 where races are denied and there is one; the others are those of `run`.";
+Exit status: 0, or 1 if races are denied and there is one; the others are those of `run`.";
 
 pub(crate) const SWEEP_EXAMPLE: &str =
     "Neighbouring values share a line if the outcome of the job is the same, apart from ticks. A value that the
-job text cannot have is told as `refused`.
+job text cannot have is shown as `refused`.
 
 Example: how long a deadline do these two calls need?
 
@@ -163,8 +163,8 @@ The same by the place of the number, which begins in column 21 of line 3:
 Exit status: 0; the others are those of `run`.";
 
 pub(crate) const FMT_EXAMPLE: &str =
-    "A block that is empty or holds one step without a block stands in one line, where it ends at column 80
-or before. The formatted text spells the same job; formatting it again changes nothing.
+    "A block that is empty or holds one step without a block is written on one line, if that ends at column
+80 or before. The formatted text spells the same job, and formatting it again changes nothing.
 
 Example:
 
@@ -187,13 +187,13 @@ Example:
     job hedge { nursery both { start fast { sleep 2; ca
                ^
 
-Exit status: 0; 1 where `--check` finds a difference; 2 where the job is refused, or its formatted text is
-longer than a job text may be; 4 where a file could not be read or written; 5 no memory.";
+Exit status: 0; 1 if `--check` finds a difference; 2 if the job is refused, or its formatted text is
+longer than a job text may be; 4 if a file could not be read or written; 5 no memory.";
 
 pub(crate) const LINT_EXAMPLE: &str =
-    "A warning is no refusal: the job runs. What is looked for: a step after a `forever` or a `raise`; in a `finally`
-a wait with no shield around it, or a `raise`; a shield without a deadline around a wait; a scope that
-nothing cancels; a handler of what nothing raises.
+    "A job with warnings runs as it is. There are warnings about a step after a `forever` or a `raise`; in a
+`finally`, a wait with no shield around it, or a `raise`; a shield without a deadline around a wait; a
+scope that nothing cancels; and a handler of an exception that nothing raises.
 
 Example:
 
@@ -207,7 +207,7 @@ Example:
       try { sleep 5; } except Timeout { find \"late\"; }
                        ^
 
-Exit status: 0; 1 where there is a warning; the others are those of `check`.";
+Exit status: 0; 1 if there is a warning; the others are those of `check`.";
 
 pub(crate) const TEST_EXAMPLE: &str =
     "A feed is a job text, a line `%input` and the input, in a file NAME.feed. NAME.report, NAME.story,
@@ -227,7 +227,7 @@ Example:
     close.expect: passed
     2 passed, 0 failed
 
-Exit status: 0; 1 where something differs or is not as expected; 4 where a file could not be read or written,
+Exit status: 0; 1 if something differs or is not as expected; 4 if a file could not be read or written,
 or there is nothing to compare with.";
 
 pub(crate) const TRIO_EXAMPLE: &str =

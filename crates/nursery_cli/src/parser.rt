@@ -97,7 +97,7 @@ fn chart_parser<'a>(alloc: Global) -> Result<Command<'a>, AllocError> {
         .long("width")
         .value_name("N")
         .help(
-            "How wide the chart is at most, 20 to 1000 columns: what COLUMNS says, or else 80, and 400 for an SVG document",
+            "The maximum width of the chart, 20 to 1000 columns; without it the value of COLUMNS or else 80, and 400 for an SVG document",
         )
         .value_parser(value_parser!(usize).range(LEAST_WIDTH as i64..=MAX_WIDTH as i64));
     let svg = Arg::new(alloc, "svg")
@@ -126,7 +126,7 @@ fn faults_parser<'a>(alloc: Global) -> Result<Command<'a>, AllocError> {
         .long("deny")
         .value_name("KINDS")
         .help(
-            "`stuck`, `cut` and `lost`, with commas between them: where a line is of such a kind the status is 1, and standard error has these lines again",
+            "`stuck`, `cut` and `lost`, with commas between them: if a line is of one of these kinds, the status is 1, and standard error repeats the line",
         );
     Command::new(alloc, "faults")
         .about(
@@ -146,7 +146,7 @@ fn faults_parser<'a>(alloc: Global) -> Result<Command<'a>, AllocError> {
 fn races_parser<'a>(alloc: Global) -> Result<Command<'a>, AllocError> {
     let deny = Arg::new(alloc, "deny")
         .long("deny")
-        .help("Where there is a race the status is 1, and standard error has the lines again")
+        .help("If there is a race, the status is 1, and standard error repeats the lines")
         .action(ArgAction::SetTrue);
     Command::new(alloc, "races")
         .about(
@@ -177,9 +177,7 @@ fn sweep_parser<'a>(alloc: Global) -> Result<Command<'a>, AllocError> {
     let values = Arg::new(alloc, "values")
         .long("values")
         .value_name("A..B[:STEP]")
-        .help(
-            "The values: A, then each STEP above the one before it, up to B; at most 100000 of them",
-        )
+        .help("The values: A, A + STEP and so on, up to B; at most 100000 of them")
         .required(true);
     Command::new(alloc, "sweep")
         .about("Shows the outcome of a job for each value of one of its numbers")
@@ -199,15 +197,15 @@ fn sweep_parser<'a>(alloc: Global) -> Result<Command<'a>, AllocError> {
 fn fmt_parser<'a>(alloc: Global) -> Result<Command<'a>, AllocError> {
     let write = Arg::new(alloc, "write")
         .long("write")
-        .help("Writes the formatted text to the job file, or leaves the file as it is")
+        .help("Replaces the job file by its formatted text, or leaves it unchanged if that fails")
         .action(ArgAction::SetTrue);
     let check = Arg::new(alloc, "check")
         .long("check")
-        .help("Writes nothing; the status is 1 where the job file differs from its formatted text")
+        .help("Writes nothing; the status is 1 if the job file differs from its formatted text")
         .action(ArgAction::SetTrue);
     let mode = ArgGroup::new(alloc, "mode").arg("write")?.arg("check")?;
     Command::new(alloc, "fmt")
-        .about("Formats a job: two spaces for each level, and one step in a line")
+        .about("Formats a job: two spaces for each level, and one step on each line")
         .after_help(FMT_EXAMPLE)
         .arg(job_argument(alloc))?
         .arg(write)?
@@ -228,15 +226,15 @@ fn lint_parser<'a>(alloc: Global) -> Result<Command<'a>, AllocError> {
 fn test_parser<'a>(alloc: Global) -> Result<Command<'a>, AllocError> {
     let paths = Arg::new(alloc, "paths")
         .value_name("PATH")
-        .help("A feed, or a folder whose feeds are tested, those of its folders too")
+        .help("A feed, or a folder: all feeds in it and in its subfolders are tested")
         .num_args(1..)
         .required(true);
     let accept = Arg::new(alloc, "accept")
         .long("accept")
-        .help("Keeps the new outputs in the place of those that differ")
+        .help("Keeps the new outputs in place of those that differ")
         .action(ArgAction::SetTrue);
     Command::new(alloc, "test")
-        .about("Runs feeds and compares what comes of them with what is kept beside them")
+        .about("Runs feeds and compares their outputs with those that are kept beside them")
         .after_help(TEST_EXAMPLE)
         .arg(paths)?
         .arg(accept)?
@@ -278,7 +276,7 @@ fn completions_parser<'a>(alloc: Global) -> Result<Command<'a>, AllocError> {
         .value_parser(["bash", "zsh", "fish"].as_slice())
         .required(true);
     Command::new(alloc, "completions")
-        .about("Writes the script that completes the words of nursery in a shell")
+        .about("Writes a script that completes the words of nursery in a shell")
         .after_help(COMPLETIONS_EXAMPLE)
         .arg(shell)
 }
@@ -310,7 +308,7 @@ fn workers_option<'a>(alloc: Global) -> Arg<'a> {
     Arg::new(alloc, "workers")
         .long("workers")
         .value_name("N")
-        .help("The number of workers, 1 to 64; the report is the same for all")
+        .help("The number of workers, 1 to 64; the output is the same for all")
         .value_parser(value_parser!(usize).range(1..=MAX_WORKERS as i64))
         .default_value("1")
 }
@@ -320,7 +318,7 @@ fn order_option<'a>(alloc: Global) -> Arg<'a> {
     Arg::new(alloc, "order")
         .long("order")
         .value_name("ORDER")
-        .help("The order in which ready tasks have their turns; the report is the same for all")
+        .help("The order in which ready tasks have their turns; the output is the same for all")
         .value_parser(["forward", "reverse", "turn"].as_slice())
         .default_value("forward")
 }
@@ -338,7 +336,7 @@ fn limit_option<'a>(alloc: Global) -> Arg<'a> {
     Arg::new(alloc, "limit")
         .long("limit")
         .value_name("T")
-        .help("The last tick of the run, at most 4294967295; a job that ends later is not reported")
+        .help("The last tick at which the job may end, at most 4294967295")
         .value_parser(value_parser!(u64).range(0..=MAX_LIMIT as i64))
         .default_value(SHOWN_LIMIT)
 }
