@@ -3,11 +3,11 @@
 // The first lines, after the name of the job.
 pub(crate) const HEADER: &[u8] =
     b" as a program on plain Trio. A tick is a second of Trio's test clock, under which nothing waits.
-# Where `nursery races` finds no race in the job, what this tells should be what `nursery run` reports.
+# If `nursery races` finds no race in the job, this program should print the outcomes that `nursery run` reports.
 #
 #     pip install trio                  0.23 or newer: with 0.22 the end of a nursery may raise a Cancelled of its own
-#     python3 FILE [INPUT]              runs it on the lines of INPUT, and tells how each task ended
-#     python3 FILE [INPUT] --seeds N    runs it under N seeds of Trio's scheduler, and tells how many outcomes there were
+#     python3 FILE [INPUT]              runs it on the lines of INPUT, and prints how each task ended
+#     python3 FILE [INPUT] --seeds N    runs it under N seeds of Trio's scheduler, and counts the outcomes
 
 ";
 
@@ -136,7 +136,7 @@ current_note = contextvars.ContextVar(\"current_note\")
 
 
 def reported(task):
-    \"\"\"Notes each run of a task with the task that starts it.\"\"\"
+    \"\"\"Records each run of a task with the task that starts it.\"\"\"
 
     @functools.wraps(task)
     def noted(*arguments):
@@ -148,7 +148,7 @@ def reported(task):
 
 
 async def run_noted(note, task, arguments):
-    \"\"\"Runs a task, and notes how it ended.\"\"\"
+    \"\"\"Runs a task, and records how it ended.\"\"\"
     current_note.set(note)
     try:
         await task(*arguments)
@@ -160,7 +160,7 @@ async def run_noted(note, task, arguments):
 
 
 def exception_text(error):
-    \"\"\"An exception by its name, and a group by its parts, whose order is the scheduler's: so they are sorted.\"\"\"
+    \"\"\"An exception by its name, and a group by its parts, whose order is the scheduler's, so they are sorted.\"\"\"
     if isinstance(error, trio.Cancelled):
         return \"Cancelled\"
     if isinstance(error, trio.TooSlowError):
@@ -186,14 +186,14 @@ def rows_of(note, indices=()):
         yield from rows_of(child, [*indices, *index])
 
 
-async def run_watched(root, part, told):
+async def run_watched(root, part, results):
     \"\"\"Runs the root task and prints how each task ended, or which tasks are unfinished at the limit.\"\"\"
     note = Note(\"\")
     current_note.set(note)
 
     async def watch():
         await trio.sleep(LIMIT)
-        told.put([*rows_of(note.started[0]), f\"limit {LIMIT}\"])
+        results.put([*rows_of(note.started[0]), f\"limit {LIMIT}\"])
         watcher.cancel_scope.cancel()
 
     async with trio.open_nursery() as watcher:
@@ -201,9 +201,9 @@ async def run_watched(root, part, told):
         try:
             await reported(root)(part)
         except BaseException:
-            pass  # which is noted
+            pass  # it is recorded
         watcher.cancel_scope.cancel()
-    told.put(list(rows_of(note.started[0])))
+    results.put(list(rows_of(note.started[0])))
 
 
 def run_once(root, part, seed=None):
@@ -211,19 +211,19 @@ def run_once(root, part, seed=None):
     if seed is not None:
         trio._core._run._ALLOW_DETERMINISTIC_SCHEDULING = True
         trio._core._run._r.seed(seed)
-    told = queue.SimpleQueue()
+    results = queue.SimpleQueue()
 
     def run():
         clock = trio.testing.MockClock(autojump_threshold=0)
         try:
-            trio.run(run_watched, root, part, told, clock=clock, strict_exception_groups=True)
+            trio.run(run_watched, root, part, results, clock=clock, strict_exception_groups=True)
         finally:
-            told.put([])
+            results.put([])
 
-    # Nothing can end a task that is stuck behind a shield: so each run has a thread of its own, which may be left behind.
+    # Nothing can end a task that waits forever inside a shield, so each run has a thread of its own, which may be left running.
     thread = threading.Thread(target=run, daemon=True)
     thread.start()
-    rows = told.get()
+    rows = results.get()
     thread.join(0.1)
     return \"\\n\".join(rows)
 
