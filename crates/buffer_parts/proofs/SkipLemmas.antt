@@ -123,7 +123,7 @@ goes_to_line s t u place line below skips gives =
     record {
       passed = skips.passed ∙ ap (λ ls. lines_of b (range (range_left s).from from) ++ ls) gives.first
           ∙ ap (λ n. lines_of b (range (range_left s).from n) ++ (l ∷ lines_left u)) (sym at);
-      behind = let behind = skips.behind in omega arith;
+      later = let later = skips.later in omega arith;
       starts = omega arith;
       holds = ⊎_elim (λ (at_end : l.at + l.len ≡ (range_left s).to). omega arith)
           (λ (here : get_or b (l.at + l.len) 0 ≡ 10).

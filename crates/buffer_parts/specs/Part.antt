@@ -59,7 +59,7 @@ pub record GivesLonger (before : Lines) (len : ℕ) (given : Option Line) (after
 pub record SkipsTo (before : Lines) (place : ℕ) (after : Lines) : Type 0 where
   pub passed : lines_left before ≡ lines_of (source_of before) (record { from = (range_left before).from; to = (range_left after).from })
       ++ lines_left after
-  pub behind : (range_left before).from ≤ (range_left after).from
+  pub later : (range_left before).from ≤ (range_left after).from
   pub starts : (range_left after).from ≤ (range_left before).from + place
   pub one_line : (p : ℕ) → (range_left after).from ≤ p → p < (range_left before).from + place → slice_index (source_of before) p ≢ 10
   pub same_source : source_of after ≡ source_of before
@@ -70,7 +70,7 @@ pub record SkipsTo (before : Lines) (place : ℕ) (after : Lines) : Type 0 where
 pub record GoesToLine (before : Lines) (place : ℕ) (line : Line) (after : Lines) : Type 0 where
   pub passed : lines_left before ≡ lines_of (source_of before) (record { from = (range_left before).from; to = (span_of line).at })
       ++ span_of line ∷ lines_left after
-  pub behind : (range_left before).from ≤ (span_of line).at
+  pub later : (range_left before).from ≤ (span_of line).at
   pub starts : (span_of line).at ≤ (range_left before).from + place
   pub holds : (range_left before).from + place ≤ (span_of line).at + (span_of line).len
   pub within : (span_of line).at + (span_of line).len ≤ (range_left before).to

@@ -5,7 +5,7 @@ use Rattle.std.specs.List.{All}
 use Rattle.std.proofs.lemmas.List.Elements.{All-head, All-tail}
 use Rattle.cancel_scopes.specs.Sight.{Level}
 use Rattle.cancel_scopes.specs.Tree.{Stack, Tree, stack_of, IsInnermost, OthersKeep}
-use Rattle.cancel_scopes.specs.Kept.{Outline, Slots, Find, level_of, onto, full, round, upward, stack_at, scope_in, find_in, outline_of, tree_of, IsUnder, IsTree, children_at, Family}
+use Rattle.cancel_scopes.specs.Kept.{Outline, Slots, Find, level_of, onto, full, around, upward, stack_at, scope_in, find_in, outline_of, tree_of, IsUnder, IsTree, children_at, Family}
 use Rattle.cancel_scopes.proofs.StackLemmas.{stack_of-tree_of, stack_at-kept, stack_seen, upward-under, found_at}
 use Rattle.cancel_scopes.proofs.WorkLemmas.{under_at}
 use Rattle.cancel_scopes.specs.declared.store.Scope.{Scope}
@@ -54,7 +54,7 @@ stack_at-closes old new id s h key differs = ap (option_map (full new key)) (h.o
     by_kept (Some before) is =
         let lacks = h.innermost key (full old key before) differs (stack_at-kept old key before is) in
         ap (λ (outer : Stack). Some (level_of key before ∷ outer)) (upward-closes old new id s h before.depth before.parent
-        (rest_lacks id (level_of key before) (round old before) lacks))
+        (rest_lacks id (level_of key before) (around old before) lacks))
 
 -- parents and depths of the others stay
 pub IsTree-closes : {old new : Find} {id : ℕ} {s : Outline} → Closes old new id s → IsTree old → IsTree new
@@ -65,14 +65,14 @@ IsTree-closes {old} {new} {id} {s} h tree = record { placed = λ key other kept.
     by_parent depth (Some parent) under lacks =
         let e : upward old depth (Some parent) ≡ full old parent under.0 = rw (under.2, under.1) refl in
         let outer = subst (Lacks id) e lacks in
-        (under.0, h.others parent (first_lacks id (level_of parent under.0) (round old under.0) outer) ∙ under.1, under.2)
+        (under.0, h.others parent (first_lacks id (level_of parent under.0) (around old under.0) outer) ∙ under.1, under.2)
 
     placed_again : (key : ℕ) (other : Outline) → new key ≡ Some other → IsUnder new other.depth other.parent
     placed_again key other kept =
         let differs : key ≢ id = λ same. (let e = h.free in let f = ap new same in cc) in
         let was : old key ≡ Some other = sym (h.others key differs) ∙ kept in
         let lacks = h.innermost key (full old key other) differs (stack_at-kept old key other was) in
-        by_parent other.depth other.parent (tree.placed key other was) (rest_lacks id (level_of key other) (round old other) lacks)
+        by_parent other.depth other.parent (tree.placed key other was) (rest_lacks id (level_of key other) (around old other) lacks)
 
 -- the same of the stored scopes, after other marks are written
 pub innermost_kept : (tree : Tree) (slots unmarked : Slots) (key id : ℕ) → tree_of slots ≡ tree → key ≡ id →
@@ -104,10 +104,10 @@ no_child find key tree innermost k s kept up =
     let e : Some above ≡ Some s = sym under.1 ∙ ap find (sym same) ∙ kept in
     let d : above.depth ≡ s.depth = ap depth_of e in
     absurd (omega (arith, d, under.2)) in
-    let outer : Lacks key (round find s) =
-    rest_lacks key (level_of k s) (round find s) (innermost k (full find k s) differs (stack_at-kept find k s kept)) in
-    let is : round find s ≡ full find key above = ap (upward find s.depth) up ∙ upward-under find s.depth key above under under.1 in
-    first_lacks key (level_of key above) (round find above) (subst (Lacks key) is outer) refl
+    let outer : Lacks key (around find s) =
+    rest_lacks key (level_of k s) (around find s) (innermost k (full find k s) differs (stack_at-kept find k s kept)) in
+    let is : around find s ≡ full find key above = ap (upward find s.depth) up ∙ upward-under find s.depth key above under under.1 in
+    first_lacks key (level_of key above) (around find above) (subst (Lacks key) is outer) refl
   where
     depth_of : Option Outline → ℕ
     depth_of None = 0

@@ -4,7 +4,7 @@ use Rattle.std.specs.Prelude.{nat_lt, if◌then◌else◌}
 use Rattle.std.proofs.lemmas.Bool.{cases_eq}
 use Rattle.std.proofs.lemmas.Bool.Decides.{nat_tests}
 use Rattle.cancel_scopes.specs.Sight.{Tick, earlier, before, sight}
-use Rattle.cancel_scopes.specs.Kept.{Outline, Slots, IsTree, IsUnder, outline_of, scope_in, find_in, full, round, upward, stack_at, own_sight, sight_of, seen_at, HasSights}
+use Rattle.cancel_scopes.specs.Kept.{Outline, Slots, IsTree, IsUnder, outline_of, scope_in, find_in, full, around, upward, stack_at, own_sight, sight_of, seen_at, HasSights}
 use Rattle.cancel_scopes.specs.Lowering.{sight_by, outer_sight, IsRight, AllRight, IsNear, AllNear}
 use Rattle.cancel_scopes.proofs.StackLemmas.{scope_at, found_at, stack_at-kept, upward-under}
 use Rattle.cancel_scopes.proofs.SlotLemmas.{written, unwritten}
@@ -41,7 +41,7 @@ sights_of slots tree all key = by_kept (scope_in slots key) refl
         let found : find_in slots key ≡ Some (outline_of s) = found_at slots key s is in
         let at : stack_at (find_in slots) key ≡ Some (full (find_in slots) key (outline_of s)) =
         stack_at-kept (find_in slots) key (outline_of s) found in
-        let up : sight (round (find_in slots) (outline_of s)) ≡ outer_sight slots s.parent =
+        let up : sight (around (find_in slots) (outline_of s)) ≡ outer_sight slots s.parent =
         upward-sight slots tree all s.depth s.parent (tree.placed key (outline_of s) found) in
         ap own_sight is ∙ all.right key s is ∙ sym (ap (sight_by s.shield s.from) up) ∙ sym (ap sight_of at)
 

@@ -35,12 +35,12 @@ upward find (suc n) None = []
 upward find (suc n) (Some key) = onto key (find key) (λ s. upward find n s.parent)
 
 -- the scopes that enclose a scope
-abbrev pub round : Find → Outline → Stack
-round find s = upward find s.depth s.parent
+abbrev pub around : Find → Outline → Stack
+around find s = upward find s.depth s.parent
 
 -- the stack of a scope
 abbrev pub full : Find → ℕ → Outline → Stack
-full find key s = level_of key s ∷ round find s
+full find key s = level_of key s ∷ around find s
 
 abbrev pub stack_at : Find → ℕ → Option Stack
 stack_at find key = option_map (full find key) (find key)

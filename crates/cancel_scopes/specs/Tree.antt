@@ -77,9 +77,9 @@ own_label [] = None
 own_label (l ∷ outer) = Some l.label
 
 -- the levels that enclose the innermost one
-abbrev pub behind_own : Stack → Stack
-behind_own [] = []
-behind_own (l ∷ outer) = outer
+abbrev pub outer_levels : Stack → Stack
+outer_levels [] = []
+outer_levels (l ∷ outer) = outer
 
 -- this scope encloses no other open scope
 abbrev pub IsInnermost : Tree → ℕ → Type 0
@@ -93,11 +93,11 @@ IsOwn tree = (key : ℕ) → ForSome (stack_of tree key) (λ stack. own_label st
 -- each scope in a stack is open itself, and its stack is the rest of that stack, from the scope on
 abbrev pub IsChain : Tree → Type 0
 IsChain tree =
-    (key : ℕ) (stack : Stack) → stack_of tree key ≡ Some stack → (before : Stack) (l : Level ℕ) (behind : Stack) →
-    stack ≡ before ++ l ∷ behind → stack_of tree l.label ≡ Some (l ∷ behind)
+    (key : ℕ) (stack : Stack) → stack_of tree key ≡ Some stack → (before : Stack) (l : Level ℕ) (after : Stack) →
+    stack ≡ before ++ l ∷ after → stack_of tree l.label ≡ Some (l ∷ after)
 
 -- no scope occurs twice in a stack
 abbrev pub IsApart : Tree → Type 0
 IsApart tree =
-    (key : ℕ) (stack : Stack) → stack_of tree key ≡ Some stack → (before : Stack) (l : Level ℕ) (behind : Stack) →
-    stack ≡ before ++ l ∷ behind → All (λ m. m.label ≢ l.label) behind
+    (key : ℕ) (stack : Stack) → stack_of tree key ≡ Some stack → (before : Stack) (l : Level ℕ) (after : Stack) →
+    stack ≡ before ++ l ∷ after → All (λ m. m.label ≢ l.label) after

@@ -1,7 +1,7 @@
 ghost use Rattle.std.specs.Prelude.{◌≡◌, ◌≢◌, ℕ, ◌+◌, ◌<◌, ◌^◌, ◌∷◌, ◌||◌, [], length, true, false, Some, None, is_some, IsSome, IfOk, OnErr, MatchOption};
 ghost use Rattle.std.specs.Option.{ForSome, option_map};
 ghost use Rattle.cancel_scopes.specs.Sight.{before, sight, seen as is_seen};
-ghost use Rattle.cancel_scopes.specs.Tree.{stack_of, is_changed, IsOpen, outer_of, SameStacks, OthersKeep, SameMarks, OtherMarksKeep, TakesChanged, after_cancel, catches, own_from, behind_own, IsInnermost, IsOwn, IsChain, IsApart};
+ghost use Rattle.cancel_scopes.specs.Tree.{stack_of, is_changed, IsOpen, outer_of, SameStacks, OthersKeep, SameMarks, OtherMarksKeep, TakesChanged, after_cancel, catches, own_from, outer_levels, IsInnermost, IsOwn, IsChain, IsApart};
 ghost use Rattle.cancel_scopes.specs.Kept.{IsTree, IsUnder, HasSights, find_in, scope_in, children_at, upward};
 ghost use Rattle.slab.specs.Slab.{ContainsKey};
 
@@ -95,7 +95,7 @@ impl ScopeTree {
     pub fn parent(&self, id: ScopeId) -> Option<ScopeId>
         requires { IsOpen self.now id }
         ensures parent_open { ForSome result (IsOpen self.now) }
-        ensures round { ForSome (stack_of self.now id) (λ stack. outer_of self.now result ≡ behind_own stack) }
+        ensures around { ForSome (stack_of self.now id) (λ stack. outer_of self.now result ≡ outer_levels stack) }
     {
         self.store.scopes[id.key].parent
     }

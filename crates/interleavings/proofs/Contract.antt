@@ -54,18 +54,18 @@ numbers_of n (starts i l t ∷ es) (b ∷ bs) h = (h.1, numbers_of (suc n) es bs
 abbrev pub OldOrNew : List Label → List Event → Label → Type 0
 OldOrNew ls es l = Known l ls ⊎ ((d : Tick) × EntersWith l d es)
 
-behind_entered : (l m : Label) (u : ℕ) (c : Tick) (ls : List Label) (es : List Event) →
+after_entered : (l m : Label) (u : ℕ) (c : Tick) (ls : List Label) (es : List Event) →
     OldOrNew (m ∷ ls) es l → OldOrNew ls (enters m u c ∷ es) l
-behind_entered l m u c ls es (inl (inl e)) = inr (c, inl (e, refl))
-behind_entered l m u c ls es (inl (inr i)) = inl i
-behind_entered l m u c ls es (inr p) = inr (p.0, inr p.1)
+after_entered l m u c ls es (inl (inl e)) = inr (c, inl (e, refl))
+after_entered l m u c ls es (inl (inr i)) = inl i
+after_entered l m u c ls es (inr p) = inr (p.0, inr p.1)
 
 -- so is each that is known after events
 pub known_of : (ls : List Label) (es : List Event) (l : Label) → Known l (known_after ls es) → OldOrNew ls es l
 known_of ls [] l h = inl h
 known_of ls (noted t e ∷ es) l h = known_of ls es l h
 known_of ls (signs m t ∷ es) l h = known_of ls es l h
-known_of ls (enters m t d ∷ es) l h = behind_entered l m t d ls es (known_of (m ∷ ls) es l h)
+known_of ls (enters m t d ∷ es) l h = after_entered l m t d ls es (known_of (m ∷ ls) es l h)
 known_of ls (starts i m t ∷ es) l h = known_of ls es l h
 
 -- what is true for each known label is true for each enclosing scope or nursery with a known label

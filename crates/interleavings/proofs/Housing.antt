@@ -96,13 +96,13 @@ at_place P l [] e k = absurd k
 at_place P l (p ∷ ps) e (inl g) = subst P (sym g) e.0
 at_place P l (p ∷ ps) e (inr k) = at_place P l ps e.1 k
 
-all_behind : (ps : List Place) (ls ms : List Label) → ((l : Label) → Known l ls → Known l ms) → AllKnown ps ls → AllKnown ps ms
-all_behind [] ls ms f a = tt
-all_behind (p ∷ ps) ls ms f a = (f p.label a.0, all_behind ps ls ms f a.1)
+all_after : (ps : List Place) (ls ms : List Label) → ((l : Label) → Known l ls → Known l ms) → AllKnown ps ls → AllKnown ps ms
+all_after [] ls ms f a = tt
+all_after (p ∷ ps) ls ms f a = (f p.label a.0, all_after ps ls ms f a.1)
 
 all_themselves : (ps : List Place) → AllKnown ps (labels_of ps)
 all_themselves [] = tt
-all_themselves (p ∷ ps) = (inl refl, all_behind ps (labels_of ps) (p.label ∷ labels_of ps) (λ l k. inr k) (all_themselves ps))
+all_themselves (p ∷ ps) = (inl refl, all_after ps (labels_of ps) (p.label ∷ labels_of ps) (λ l k. inr k) (all_themselves ps))
 
 enters_before : (l : Label) (es more : List Event) → EntersIn l es → EntersIn l (es ++ more)
 enters_before l [] more h = absurd h
@@ -112,12 +112,12 @@ enters_before l (enters m t d ∷ es) more (inl e) = inl e
 enters_before l (enters m t d ∷ es) more (inr h) = inr (enters_before l es more h)
 enters_before l (starts i m t ∷ es) more h = enters_before l es more h
 
-enters_behind : (l : Label) (es more : List Event) → EntersIn l more → EntersIn l (es ++ more)
-enters_behind l [] more h = h
-enters_behind l (noted t e ∷ es) more h = enters_behind l es more h
-enters_behind l (signs m t ∷ es) more h = enters_behind l es more h
-enters_behind l (enters m t d ∷ es) more h = inr (enters_behind l es more h)
-enters_behind l (starts i m t ∷ es) more h = enters_behind l es more h
+enters_after : (l : Label) (es more : List Event) → EntersIn l more → EntersIn l (es ++ more)
+enters_after l [] more h = h
+enters_after l (noted t e ∷ es) more h = enters_after l es more h
+enters_after l (signs m t ∷ es) more h = enters_after l es more h
+enters_after l (enters m t d ∷ es) more h = inr (enters_after l es more h)
+enters_after l (starts i m t ∷ es) more h = enters_after l es more h
 
 -- ---- a turn
 
@@ -204,7 +204,7 @@ module _ (k f : Table) (t m : ℕ) (q : Started) (ys : List Started) (wake : Wak
               ⊎ Known l (labels_of (home_of q'))
           by_time (inl k) = of_old l (at_place (λ n. EntersIn n q.made ⊎ Known n (labels_of (home_of q))) l q.places (all q (inl refl)).own
               k)
-          by_time (inr k) = inl (enters_behind l q.made o.made (enters_too l k.0 o.made k.1))
+          by_time (inr k) = inl (enters_after l q.made o.made (enters_too l k.0 o.made k.1))
 
       at_home : ((q.serial ≡ 0) × (home_of q ≡ [])) ⊎ Home (q ∷ ys) q.serial (home_of q) → ((q.serial ≡ 0) × (home_of q' ≡ []))
           ⊎ Home after_turn q.serial (home_of q')

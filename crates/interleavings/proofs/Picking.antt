@@ -5,7 +5,7 @@ use Rattle.job_meaning.specs.Log.{Result, Table}
 use Rattle.job_meaning.specs.Before.{upto}
 use Rattle.turn_semantics.specs.Midway.{Place}
 use Rattle.interleavings.specs.Interleaving.{Started, made_least, all_least, made_times, all_times, In, Kid, HasFrom, Parent, Entered, EachPlace, RunInvariant, AllFrom}
-use Rattle.interleavings.specs.Runs.{Front, is_front, behind_one}
+use Rattle.interleavings.specs.Runs.{Front, is_front, after_one}
 
 -- the same tasks in another order
 pub record SameTasks (qs rs : List Started) : Type 0 where
@@ -29,7 +29,7 @@ front_same q _ _ (is_front q' qs') =
           λ l. refl;
       same_all_times = λ l. refl;
     }
-front_same q _ _ (behind_one q' x qs' others' at) = go (front_same q' qs' others' at)
+front_same q _ _ (after_one q' x qs' others' at) = go (front_same q' qs' others' at)
   where
     go : SameTasks qs' (q' ∷ others') → SameTasks (x ∷ qs') (q' ∷ x ∷ others')
     go p = record {
@@ -43,11 +43,11 @@ front_same q _ _ (behind_one q' x qs' others' at) = go (front_same q' qs' others
       where
         there : (z : Started) → In z (x ∷ qs') → In z (q' ∷ x ∷ others')
         there z (inl e) = inr (inl e)
-        there z (inr j) = behind (p.forth z j)
+        there z (inr j) = after (p.forth z j)
           where
-            behind : In z (q' ∷ others') → In z (q' ∷ x ∷ others')
-            behind (inl e) = inl e
-            behind (inr n) = inr (inr n)
+            after : In z (q' ∷ others') → In z (q' ∷ x ∷ others')
+            after (inl e) = inl e
+            after (inr n) = inr (inr n)
 
         here : (z : Started) → In z (q' ∷ x ∷ others') → In z (x ∷ qs')
         here z (inl e) = inr (p.back z (inl e))

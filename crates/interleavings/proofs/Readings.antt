@@ -39,11 +39,11 @@ in_second x (y ∷ xs) ys i = inr (in_second x xs ys i)
 pub in_either : {A : Type 0} (x : A) (xs ys : List A) → In x (xs ++ ys) → In x xs ⊎ In x ys
 in_either x [] ys i = inr i
 in_either x (y ∷ xs) ys (inl e) = inl (inl e)
-in_either x (y ∷ xs) ys (inr i) = behind (in_either x xs ys i)
+in_either x (y ∷ xs) ys (inr i) = after (in_either x xs ys i)
   where
-    behind : In x xs ⊎ In x ys → In x (y ∷ xs) ⊎ In x ys
-    behind (inl j) = inl (inr j)
-    behind (inr j) = inr j
+    after : In x xs ⊎ In x ys → In x (y ∷ xs) ⊎ In x ys
+    after (inl j) = inl (inr j)
+    after (inr j) = inr j
 
 -- ---- events
 
@@ -94,11 +94,11 @@ enters_either l d [] ys h = inr h
 enters_either l d (noted t e ∷ xs) ys h = enters_either l d xs ys h
 enters_either l d (signs m t ∷ xs) ys h = enters_either l d xs ys h
 enters_either l d (enters m t x ∷ xs) ys (inl e) = inl (inl e)
-enters_either l d (enters m t x ∷ xs) ys (inr h) = behind (enters_either l d xs ys h)
+enters_either l d (enters m t x ∷ xs) ys (inr h) = after (enters_either l d xs ys h)
   where
-    behind : EntersWith l d xs ⊎ EntersWith l d ys → (((l ≡ m) × (d ≡ x)) ⊎ EntersWith l d xs) ⊎ EntersWith l d ys
-    behind (inl j) = inl (inr j)
-    behind (inr j) = inr j
+    after : EntersWith l d xs ⊎ EntersWith l d ys → (((l ≡ m) × (d ≡ x)) ⊎ EntersWith l d xs) ⊎ EntersWith l d ys
+    after (inl j) = inl (inr j)
+    after (inr j) = inr j
 enters_either l d (starts i m t ∷ xs) ys h = enters_either l d xs ys h
 
 -- a child that both start, one of them does
@@ -108,11 +108,11 @@ starts_either i (noted t e ∷ xs) ys h = starts_either i xs ys h
 starts_either i (signs m t ∷ xs) ys h = starts_either i xs ys h
 starts_either i (enters m t d ∷ xs) ys h = starts_either i xs ys h
 starts_either i (starts j m t ∷ xs) ys (inl e) = inl (inl e)
-starts_either i (starts j m t ∷ xs) ys (inr h) = behind (starts_either i xs ys h)
+starts_either i (starts j m t ∷ xs) ys (inr h) = after (starts_either i xs ys h)
   where
-    behind : StartsChild i xs ⊎ StartsChild i ys → ((i ≡ j) ⊎ StartsChild i xs) ⊎ StartsChild i ys
-    behind (inl k) = inl (inr k)
-    behind (inr k) = inr k
+    after : StartsChild i xs ⊎ StartsChild i ys → ((i ≡ j) ⊎ StartsChild i xs) ⊎ StartsChild i ys
+    after (inl k) = inl (inr k)
+    after (inr k) = inr k
 
 one_more : (b : Bool) (n : ℕ) → b ≡ true → 1 ≤ (if b then 1 else 0) + n
 one_more true n e = omega arith

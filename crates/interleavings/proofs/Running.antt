@@ -16,7 +16,7 @@ use Rattle.turn_semantics.specs.Turned.{weight_of_begun, TurnsOver}
 use Rattle.interleavings.specs.Interleaving.{Started, Tells, In, RunInvariant, AllFrom}
 use Rattle.interleavings.specs.Going.{root_task, children_from, task_after_turn}
 use Rattle.interleavings.specs.Woken.{MayWake}
-use Rattle.interleavings.specs.Runs.{Front, is_front, behind_one, Reached, begun, turn, jump, turns_taken, all_weights}
+use Rattle.interleavings.specs.Runs.{Front, is_front, after_one, Reached, begun, turn, jump, turns_taken, all_weights}
 use Rattle.interleavings.specs.Laws.{RunsKeepInvariant, RunsAreTheMeaning, BlockedRunsSleep, LimitsAreExact, RunsEnd}
 use Rattle.interleavings.proofs.Readings.{in_either}
 use Rattle.interleavings.proofs.Contract.{lighter}
@@ -145,7 +145,7 @@ weights_begun k t m (b ∷ bs) = ap (λ (n : ℕ). rest_weight (rest_at_start b.
 
 weights_front : {q : Started} {qs others : List Started} → Front q qs others → all_weights qs ≡ rest_weight q.rest + all_weights others
 weights_front (is_front q qs) = refl
-weights_front (behind_one q x qs others at) = omega (arith, weights_front at)
+weights_front (after_one q x qs others at) = omega (arith, weights_front at)
 
 ends_run : (k : Table) {job : Tree} {input : List ℕ} {f : Table} {t m : ℕ} {qs : List Started} → (r : Reached k job input f t m qs) →
     turns_taken r + all_weights qs ≤ 2 * size_of job.steps + 1

@@ -14,7 +14,7 @@ use Rattle.interleavings.specs.Woken.{MayWake}
 -- the same tasks, with one of them moved to the front
 pub data Front : Started → List Started → List Started → Type 0 where
   is_front : (q : Started) (qs : List Started) → Front q (q ∷ qs) qs
-  behind_one : (q x : Started) (qs others : List Started) → Front q qs others → Front q (x ∷ qs) (x ∷ others)
+  after_one : (q x : Started) (qs others : List Started) → Front q qs others → Front q (x ∷ qs) (x ∷ others)
 
 -- A run of a job: the froms that it keeps, the tick, the number of tasks started, and these tasks. It begins with the
 -- root. One task that may be woken has its turn, which is any turn that keeps the promise and comes to a stop. Or the

@@ -81,7 +81,7 @@ stray_among [] xs ys e found = refl
 stray_among (c ∷ cs) [] [] e found = refl
 stray_among (c ∷ cs) [] (y ∷ ys) e found = absurd (omega (arith, e))
 stray_among (c ∷ cs) (x ∷ xs) [] e found = absurd (omega (arith, e))
-stray_among (c ∷ cs) (x ∷ xs) (y ∷ ys) e found = by_among (is_among c.round c.name) found (stray_among cs xs ys (omega (arith, e)))
+stray_among (c ∷ cs) (x ∷ xs) (y ∷ ys) e found = by_among (is_among c.around c.name) found (stray_among cs xs ys (omega (arith, e)))
   where
     by_among : (b : Bool) → cond b (stray_in cs xs) (Some x) ≡ None → (stray_in cs xs ≡ None → stray_in cs ys ≡ None) →
         cond b (stray_in cs ys) (Some y) ≡ None

@@ -82,9 +82,9 @@ none_twice known (t ∷ ts) (p ∷ ps) e none =
     Quiet : Option (List ℕ) → Type 0
     Quiet given = twice_at given t.at known (λ names. twice_in names ts (roles_in ps)) ≡ None
 
-    by_among : (b : Bool) (behind : Option ℕ) → cond b (Some t.at) behind ≡ None → (b ≡ false) × (behind ≡ None)
-    by_among false behind found = (refl, found)
-    by_among true behind found = absurd cc
+    by_among : (b : Bool) (after : Option ℕ) → cond b (Some t.at) after ≡ None → (b ≡ false) × (after ≡ None)
+    by_among false after found = (refl, found)
+    by_among true after found = absurd cc
 
     by_given : (g : Option (List ℕ)) → Quiet g → ((names : Names) → twice_in names ts (roles_in ps) ≡ None → NoneTwice names (given_in ps))
         → NoneTwice known (with_name g (given_in ps))
@@ -109,11 +109,11 @@ past_over None rest = refl
 past_over (Some n) rest = refl
 
 -- a name before those of a block
-behind_name : {names more : Names} (name : List ℕ) → names ≡ more → name ∷ names ≡ name ∷ more
-behind_name name e = ap (λ (ns : Names). name ∷ ns) e
+after_name : {names more : Names} (name : List ℕ) → names ≡ more → name ∷ names ≡ name ∷ more
+after_name name e = ap (λ (ns : Names). name ∷ ns) e
 
 -- the names of two parts, one after the other
-in_turn : {all behind : Names} (first second rest : Names) → all ≡ first ++ behind → behind ≡ second ++ rest
+in_turn : {all after : Names} (first second rest : Names) → all ≡ first ++ after → after ≡ second ++ rest
     → all ≡ (first ++ second) ++ rest
 in_turn first second rest e f = e ∙ ap (λ (ns : Names). first ++ ns) f ∙ sym (append_assoc first second rest)
 
@@ -139,12 +139,12 @@ mutual
       let flagged = flag_pieces word.Fail f block in
       let shielded = flag_pieces word.Shield s flagged in
       let passed = past_deadline d shielded ∙ past_flag word.Shield s flagged ∙ past_flag word.Fail f block in
-      behind_name n (passed ∙ steps_give body rest)
+      after_name n (passed ∙ steps_give body rest)
   step_gives (nursery n d s body) rest =
       let block = opens ∷ steps_pieces body rest in
       let passed = past_deadline d (flag_pieces word.Shield s block) ∙ past_flag word.Shield s block in
-      behind_name n (passed ∙ steps_give body rest)
-  step_gives (start n o body) rest = behind_name n (past_over o (opens ∷ steps_pieces body rest) ∙ steps_give body rest)
+      after_name n (passed ∙ steps_give body rest)
+  step_gives (start n o body) rest = after_name n (past_over o (opens ∷ steps_pieces body rest) ∙ steps_give body rest)
   step_gives (repeat n body) rest = steps_give body rest
   step_gives (attempt body h c) rest =
       let cleaned = cleanup_pieces c rest in
@@ -162,7 +162,7 @@ mutual
 
 -- the names that the tokens of a job give are its own and those of its steps
 job_gives : (job : Tree) → given_in (job_pieces job) ≡ job.name ∷ names_of job.steps
-job_gives job = behind_name job.name (steps_give job.steps [] ∙ append-nil (names_of job.steps))
+job_gives job = after_name job.name (steps_give job.steps [] ∙ append-nil (names_of job.steps))
 
 -- a job whose tokens give no name twice gives each name once
 pub names_once : (job : Tree) (tokens : List Token) → shapes_of tokens ≡ shapes_in (job_pieces job)

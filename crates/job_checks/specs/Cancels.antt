@@ -9,39 +9,39 @@ use Rattle.job_checks.specs.Given.{is_among}
 -- a `cancel`: the name in it, and the names of the scopes and nurseries that enclose it, the innermost first
 pub record Cancel : Type 0 where
   pub name : List ℕ
-  pub round : List (List ℕ)
+  pub around : List (List ℕ)
 
 -- the cancels of a block that these scopes and nurseries enclose, in the order of the text
 abbrev mutual
   pub cancels_of : List (List ℕ) → Steps → List Cancel
-  cancels_of round stop = []
-  cancels_of round (step s ss) = cancels_in round s ++ cancels_of round ss
+  cancels_of around stop = []
+  cancels_of around (step s ss) = cancels_in around s ++ cancels_of around ss
 
   pub cancels_in : List (List ℕ) → Step → List Cancel
-  cancels_in round (sleep n) = []
-  cancels_in round checkpoint = []
-  cancels_in round forever = []
-  cancels_in round (pace k) = []
-  cancels_in round (find text) = []
-  cancels_in round (head n) = []
-  cancels_in round longest = []
-  cancels_in round (need text name) = []
-  cancels_in round (raise name) = []
-  cancels_in round (cancel name) = record { name = name; round = round } ∷ []
-  cancels_in round (scope name deadline shield fail body) = cancels_of (name ∷ round) body
-  cancels_in round (nursery name deadline shield body) = cancels_of (name ∷ round) body
-  cancels_in round (start name over body) = cancels_of round body
-  cancels_in round (repeat count body) = cancels_of round body
-  cancels_in round (attempt body handler cleanup) =
-      cancels_of round body ++ (handled_cancels round handler ++ cleaned_cancels round cleanup)
+  cancels_in around (sleep n) = []
+  cancels_in around checkpoint = []
+  cancels_in around forever = []
+  cancels_in around (pace k) = []
+  cancels_in around (find text) = []
+  cancels_in around (head n) = []
+  cancels_in around longest = []
+  cancels_in around (need text name) = []
+  cancels_in around (raise name) = []
+  cancels_in around (cancel name) = record { name = name; around = around } ∷ []
+  cancels_in around (scope name deadline shield fail body) = cancels_of (name ∷ around) body
+  cancels_in around (nursery name deadline shield body) = cancels_of (name ∷ around) body
+  cancels_in around (start name over body) = cancels_of around body
+  cancels_in around (repeat count body) = cancels_of around body
+  cancels_in around (attempt body handler cleanup) =
+      cancels_of around body ++ (handled_cancels around handler ++ cleaned_cancels around cleanup)
 
   pub handled_cancels : List (List ℕ) → Handled → List Cancel
-  handled_cancels round unhandled = []
-  handled_cancels round (except name body) = cancels_of round body
+  handled_cancels around unhandled = []
+  handled_cancels around (except name body) = cancels_of around body
 
   pub cleaned_cancels : List (List ℕ) → Cleaned → List Cancel
-  cleaned_cancels round uncleaned = []
-  cleaned_cancels round (finally body) = cancels_of round body
+  cleaned_cancels around uncleaned = []
+  cleaned_cancels around (finally body) = cancels_of around body
 
 -- the place of a name in a `cancel`, followed by others
 abbrev pub place_of_target : Role → ℕ → List ℕ → List ℕ
@@ -61,4 +61,4 @@ targets_in (t ∷ ts) (r ∷ rs) = place_of_target r t.at (targets_in ts rs)
 abbrev pub stray_in : List Cancel → List ℕ → Option ℕ
 stray_in [] places = None
 stray_in (c ∷ cs) [] = None
-stray_in (c ∷ cs) (at ∷ places) = if is_among c.round c.name then stray_in cs places else Some at
+stray_in (c ∷ cs) (at ∷ places) = if is_among c.around c.name then stray_in cs places else Some at

@@ -22,8 +22,8 @@ is_among names name = list_any (bytes_eq name) names
 -- the place of a token that gives one of these names; otherwise what is found after it, with its name added to
 -- these
 abbrev pub twice_at : Option (List ℕ) → ℕ → List (List ℕ) → (List (List ℕ) → Option ℕ) → Option ℕ
-twice_at None at names behind = behind names
-twice_at (Some name) at names behind = if is_among names name then Some at else behind (names ++ name ∷ [])
+twice_at None at names after = after names
+twice_at (Some name) at names after = if is_among names name then Some at else after (names ++ name ∷ [])
 
 -- the place of the first token that gives one of these names, or a name that an earlier token gives
 abbrev pub twice_in : List (List ℕ) → List Token → List Role → Option ℕ

@@ -2,7 +2,7 @@ ghost use Rattle.std.specs.Prelude.{◌≡◌, ◌++◌, ◌∷◌, [], MatchOpt
 ghost use Rattle.job_tree.specs.Blocks.{step_of, steps_of, handled_of, cleaned_of};
 ghost use Rattle.job_checks.specs.Given.{is_among};
 ghost use Rattle.job_checks.specs.Cancels.{Cancel, cancels_of, cancels_in, handled_cancels, cleaned_cancels, targets_in, stray_in};
-ghost use Rattle.job_checks.specs.Searches.{names_round, found_in};
+ghost use Rattle.job_checks.specs.Searches.{names_around, found_in};
 
 use job_syntax::Role;
 use job_tokens::Token;
@@ -16,7 +16,7 @@ pub fn stray_cancel(steps: &[Step], tokens: &[Token], roles: &[Role]) -> Option<
     ensures { result ≡ stray_in (cancels_of [] (steps_of steps.now)) (targets_in tokens.now roles.now) }
 {
     let search = Search::Passed(Left { tokens, roles });
-    match search_steps(steps, &Round::Nothing, search) {
+    match search_steps(steps, &Around::Nothing, search) {
         Search::Passed(_) => None,
         Search::Stopped(at) => at,
     }
@@ -24,9 +24,9 @@ pub fn stray_cancel(steps: &[Step], tokens: &[Token], roles: &[Role]) -> Option<
 
 // The scopes and nurseries that enclose a block, the innermost first.
 #[derive(Clone, Copy)]
-enum Round<'a> {
+enum Around<'a> {
     Nothing,
-    Inside(&'a Name, &'a Round<'a>),
+    Inside(&'a Name, &'a Around<'a>),
 }
 
 // The tokens that are left, with their roles.
@@ -45,74 +45,74 @@ enum Search<'a> {
 
 // Continues the search through the steps of a block.
 #[cycle(search)]
-fn search_steps<'a>(steps: &[Step], round: &Round, search: Search<'a>) -> Search<'a>
+fn search_steps<'a>(steps: &[Step], around: &Around, search: Search<'a>) -> Search<'a>
     ensures { (more : List Cancel) → found_in result more
-        ≡ found_in search.entry (cancels_of (names_round round.now) (steps_of steps.now) ++ more) }
+        ≡ found_in search.entry (cancels_of (names_around around.now) (steps_of steps.now) ++ more) }
 {
     let mut found = search;
     'steps: for step in steps {
         if let Search::Stopped(_) = found {
             return found;
         }
-        found = search_step(step, round, found);
+        found = search_step(step, around, found);
     }
     found
 }
 
 #[cycle(search)]
-fn search_step<'a>(step: &Step, round: &Round, search: Search<'a>) -> Search<'a>
+fn search_step<'a>(step: &Step, around: &Around, search: Search<'a>) -> Search<'a>
     ensures { (more : List Cancel) → found_in result more
-        ≡ found_in search.entry (cancels_in (names_round round.now) (step_of step.now) ++ more) }
+        ≡ found_in search.entry (cancels_in (names_around around.now) (step_of step.now) ++ more) }
 {
     match step {
-        Step::Cancel(name) => search_cancel(name, round, search),
+        Step::Cancel(name) => search_cancel(name, around, search),
         Step::Scope { name, body, .. } => {
-            search_steps(body.as_slice(), &Round::Inside(&*name, &*round), search)
+            search_steps(body.as_slice(), &Around::Inside(&*name, &*around), search)
         }
         Step::Nursery { name, body, .. } => {
-            search_steps(body.as_slice(), &Round::Inside(&*name, &*round), search)
+            search_steps(body.as_slice(), &Around::Inside(&*name, &*around), search)
         }
-        Step::Start { body, .. } => search_steps(body.as_slice(), round, search),
-        Step::Repeat { body, .. } => search_steps(body.as_slice(), round, search),
+        Step::Start { body, .. } => search_steps(body.as_slice(), around, search),
+        Step::Repeat { body, .. } => search_steps(body.as_slice(), around, search),
         Step::Try {
             body,
             handler,
             cleanup,
         } => {
-            let tried = search_steps(body.as_slice(), round, search);
-            let handled = search_handler(handler, round, tried);
-            search_cleanup(cleanup, round, handled)
+            let tried = search_steps(body.as_slice(), around, search);
+            let handled = search_handler(handler, around, tried);
+            search_cleanup(cleanup, around, handled)
         }
         _ => search,
     }
 }
 
 #[cycle(search)]
-fn search_handler<'a>(handler: &Option<Handler>, round: &Round, search: Search<'a>) -> Search<'a>
+fn search_handler<'a>(handler: &Option<Handler>, around: &Around, search: Search<'a>) -> Search<'a>
     ensures { (more : List Cancel) → found_in result more
-        ≡ found_in search.entry (handled_cancels (names_round round.now) (handled_of handler.now) ++ more) }
+        ≡ found_in search.entry (handled_cancels (names_around around.now) (handled_of handler.now) ++ more) }
 {
     match handler {
-        Some(handler) => search_steps(handler.body.as_slice(), round, search),
+        Some(handler) => search_steps(handler.body.as_slice(), around, search),
         None => search,
     }
 }
 
 #[cycle(search)]
-fn search_cleanup<'a>(cleanup: &Option<Body>, round: &Round, search: Search<'a>) -> Search<'a>
+fn search_cleanup<'a>(cleanup: &Option<Body>, around: &Around, search: Search<'a>) -> Search<'a>
     ensures { (more : List Cancel) → found_in result more
-        ≡ found_in search.entry (cleaned_cancels (names_round round.now) (cleaned_of cleanup.now) ++ more) }
+        ≡ found_in search.entry (cleaned_cancels (names_around around.now) (cleaned_of cleanup.now) ++ more) }
 {
     match cleanup {
-        Some(body) => search_steps(body.as_slice(), round, search),
+        Some(body) => search_steps(body.as_slice(), around, search),
         None => search,
     }
 }
 
 // Continues the search past one `cancel`, whose name is the next one after that keyword.
-fn search_cancel<'a>(name: &Name, round: &Round, search: Search<'a>) -> Search<'a>
+fn search_cancel<'a>(name: &Name, around: &Around, search: Search<'a>) -> Search<'a>
     ensures { (more : List Cancel) → found_in result more
-        ≡ found_in search.entry (record { name = name.now; round = names_round round.now } ∷ more) }
+        ≡ found_in search.entry (record { name = name.now; around = names_around around.now } ∷ more) }
 {
     let Search::Passed(left) = search else {
         return search;
@@ -120,7 +120,7 @@ fn search_cancel<'a>(name: &Name, round: &Round, search: Search<'a>) -> Search<'
     let Some((at, left)) = next_target(left) else {
         return Search::Stopped(None);
     };
-    if is_round(name, round) {
+    if is_around(name, around) {
         Search::Passed(left)
     } else {
         Search::Stopped(Some(at))
@@ -148,11 +148,11 @@ fn next_target(left: Left<'_>) -> Option<(usize, Left<'_>)>
 }
 
 // Returns whether an enclosing scope or nursery has this name.
-fn is_round(name: &Name, round: &Round) -> bool
-    ensures { result ≡ is_among (names_round round.now) name.now }
+fn is_around(name: &Name, around: &Around) -> bool
+    ensures { result ≡ is_among (names_around around.now) name.now }
 {
-    match round {
-        Round::Nothing => false,
-        Round::Inside(inner, outer) => name == *inner || is_round(name, outer),
+    match around {
+        Around::Nothing => false,
+        Around::Inside(inner, outer) => name == *inner || is_around(name, outer),
     }
 }

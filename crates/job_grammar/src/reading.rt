@@ -79,7 +79,7 @@ fn check_bytes(text: &[u8]) -> Result<(Format, &[u8]), JobFault>
             kind: JobKind::NotAscii,
         });
     }
-    let Some(found) = behind_first_line(text) else {
+    let Some(found) = after_first_line(text) else {
         return Err(JobFault {
             at: 0,
             kind: JobKind::Version,
@@ -92,14 +92,14 @@ fn check_bytes(text: &[u8]) -> Result<(Format, &[u8]), JobFault>
 pub fn format_of(text: &[u8]) -> Format
     ensures { result ≡ format_of text.now }
 {
-    match behind_first_line(text) {
+    match after_first_line(text) {
         Some((format, _)) => format,
         None => Format::One,
     }
 }
 
 // Returns the format of the first line, and the bytes after it, if the text begins with a first line.
-fn behind_first_line(text: &[u8]) -> Option<(Format, &[u8])>
+fn after_first_line(text: &[u8]) -> Option<(Format, &[u8])>
     ensures { MatchOption result (IsHeadless text.now)
         (λ found. (take 11 text.now ≡ first_line found.0) × (found.1.now ≡ drop 11 text.now)) }
 {
@@ -126,7 +126,7 @@ fn count_ascii(text: &[u8]) -> usize
 
 // Returns the tokens of the text. `body` is the text without its first line.
 fn tokens_of(alloc: Global, text: &[u8], body: &[u8]) -> Result<Vec<Token>, JobFault>
-    requires behind { body.now ≡ drop 11 text.now }
+    requires after { body.now ≡ drop 11 text.now }
     requires earlier { Passes text.now 3 }
     ensures ok { IfOk result (λ tokens. IsReadTo 4 text.now tokens.items) }
     ensures err { IfErr result (IsFair text.now) }

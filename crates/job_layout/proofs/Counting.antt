@@ -4,7 +4,7 @@ use Rattle.job_tokens.specs.Canon.{token}
 use Rattle.job_layout.specs.declared.spaced.Gap.{Gap}
 use Rattle.job_layout.specs.declared.spaced.Gap.TheVariants as gaps
 use Rattle.job_layout.specs.declared.spaced.SpacedToken.{SpacedToken}
-use Rattle.job_layout.specs.Spaced.{indent, column_behind, column_after}
+use Rattle.job_layout.specs.Spaced.{indent, start_column, column_after}
 use Rattle.job_layout.specs.Layout.{fits}
 use Rattle.std.specs.Io.Iter.{u64_saturate}
 
@@ -14,10 +14,10 @@ indent_more (suc n) some = let k : suc n - 1 ≡ n = omega arith in rw k refl
 
 pub column_append : (c : ℕ) (xs ys : List SpacedToken) → column_after c (xs ++ ys) ≡ column_after (column_after c xs) ys
 column_append c [] ys = refl
-column_append c (x ∷ xs) ys = column_append (column_behind c x.gap + length (token x.shape)) xs ys
+column_append c (x ∷ xs) ys = column_append (start_column c x.gap + length (token x.shape)) xs ys
 
 -- the column after the first of some tokens
-capped_first : (c d w : ℕ) (gap : Gap) → u64_saturate c ≡ u64_saturate d → u64_saturate (column_behind c gap + w) ≡ u64_saturate (column_behind d gap + w)
+capped_first : (c d w : ℕ) (gap : Gap) → u64_saturate c ≡ u64_saturate d → u64_saturate (start_column c gap + w) ≡ u64_saturate (start_column d gap + w)
 capped_first c d w gaps.Joined e = omega (arith, e)
 capped_first c d w gaps.Space e = omega (arith, e)
 capped_first c d w (gaps.Line level) e = refl
@@ -25,14 +25,14 @@ capped_first c d w (gaps.Line level) e = refl
 pub capped_after : (c d : ℕ) (ts : List SpacedToken) → u64_saturate c ≡ u64_saturate d → u64_saturate (column_after c ts) ≡ u64_saturate (column_after d ts)
 capped_after c d [] e = e
 capped_after c d (t ∷ ts) e =
-    capped_after (column_behind c t.gap + length (token t.shape)) (column_behind d t.gap + length (token t.shape)) ts
+    capped_after (start_column c t.gap + length (token t.shape)) (start_column d t.gap + length (token t.shape)) ts
     (capped_first c d (length (token t.shape)) t.gap e)
 
 -- one more token
 pub capped_next : (c end w : ℕ) (t : SpacedToken) (ts : List SpacedToken) → w ≡ length (token t.shape) →
-    end ≡ u64_saturate (u64_saturate (column_behind c t.gap) + w) → u64_saturate (column_after end ts) ≡ u64_saturate (column_after c (t ∷ ts))
+    end ≡ u64_saturate (u64_saturate (start_column c t.gap) + w) → u64_saturate (column_after end ts) ≡ u64_saturate (column_after c (t ∷ ts))
 capped_next c end w t ts is e =
-    capped_after end (column_behind c t.gap + length (token t.shape)) ts (omega (arith, is, e))
+    capped_after end (start_column c t.gap + length (token t.shape)) ts (omega (arith, is, e))
 
 pub capped_fits : (n : ℕ) → leb (u64_saturate n) 80 ≡ leb n 80
 capped_fits n = grind arith
@@ -46,7 +46,7 @@ fits_by before ts column end is at =
 
 -- the column that is kept, after one more token
 pub next_by : (before : List SpacedToken) (t : SpacedToken) (column end : ℕ) → column ≡ u64_saturate (column_after 0 before) →
-    end ≡ u64_saturate (u64_saturate (column_behind column t.gap) + length (token t.shape)) → end ≡ u64_saturate (column_after 0 (before ++ t ∷ []))
+    end ≡ u64_saturate (u64_saturate (start_column column t.gap) + length (token t.shape)) → end ≡ u64_saturate (column_after 0 (before ++ t ∷ []))
 next_by before t column end is at =
     let next : u64_saturate end ≡ u64_saturate (column_after column (t ∷ [])) = capped_next column end (length (token t.shape)) t [] refl at in
     let same : u64_saturate (column_after column (t ∷ [])) ≡ u64_saturate (column_after (column_after 0 before) (t ∷ [])) =

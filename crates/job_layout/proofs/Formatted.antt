@@ -19,7 +19,7 @@ use Rattle.job_syntax.specs.Depth.{AreWithin}
 use Rattle.job_layout.specs.declared.spaced.SpacedToken.{SpacedToken}
 use Rattle.job_layout.specs.Spaced.{spaced_text}
 use Rattle.job_layout.specs.Layout.{job_tokens, formatted_text}
-use Rattle.job_layout.proofs.Lexes.{shapes_in, AreApartBehind, spaced_lexes, all_append, spaced_small}
+use Rattle.job_layout.proofs.Lexes.{shapes_in, AreApartAfter, spaced_lexes, all_append, spaced_small}
 use Rattle.job_layout.proofs.Laying.{job_lays}
 
 line_length : (format : Format) → length (first_line format) ≡ 11
@@ -28,7 +28,7 @@ line_length Two = refl
 
 -- the tokens of a job, laid out so that they are apart, are read back
 laid_spells : (text : List ℕ) (job : Tree) (old : List Token) (ts : List SpacedToken) → IsOf text old job → PassesTokens old job →
-    shapes_in ts ≡ pieces_shapes (job_pieces job) → AreApartBehind ts → 11 + length (spaced_text ts ++ 10 ∷ []) ≤ most_bytes →
+    shapes_in ts ≡ pieces_shapes (job_pieces job) → AreApartAfter ts → 11 + length (spaced_text ts ++ 10 ∷ []) ≤ most_bytes →
     Spells (first_line job.format ++ (spaced_text ts ++ 10 ∷ [])) job
 laid_spells text job old ts is_of found same apart le =
     let body = spaced_text ts ++ 10 ∷ [] in

@@ -15,7 +15,7 @@ use Rattle.job_layout.specs.declared.spaced.Gap.TheVariants as gaps
 use Rattle.job_layout.specs.declared.spaced.SpacedToken.{SpacedToken}
 use Rattle.job_layout.specs.Spaced.{spaced_tokens, after_gap, mark_after}
 use Rattle.job_layout.specs.Layout.{open_mark, semicolon_mark, plain_block, one_line, fits, fitting_line, line_or, with_block, step_line, with_steps, with_rest, with_handler, with_cleanup, job_tokens}
-use Rattle.job_layout.proofs.Lexes.{shapes_in, AreApart, AreApartBehind}
+use Rattle.job_layout.proofs.Lexes.{shapes_in, AreApart, AreApartAfter}
 
 abbrev Print : Type 0
 Print = List Piece → List Piece
@@ -23,7 +23,7 @@ Print = List Piece → List Piece
 -- More tokens are laid out, so that less is left to print; and all tokens after the first stay apart.
 record Lays (old : List SpacedToken) (all : Print) (new : List SpacedToken) (left : Print) : Type 0 where
   pub same : (rest : List Piece) → shapes_in old ++ pieces_shapes (all rest) ≡ shapes_in new ++ pieces_shapes (left rest)
-  pub apart : AreApartBehind old → AreApartBehind new
+  pub apart : AreApartAfter old → AreApartAfter new
 
 lays_none : (old : List SpacedToken) (print : Print) → Lays old print old print
 lays_none old print = record { same = λ rest. refl; apart = λ apart. apart }
@@ -41,10 +41,10 @@ apart_append : (xs ys : List SpacedToken) → AreApart xs → AreApart ys → Ar
 apart_append [] ys p q = q
 apart_append (x ∷ xs) ys p q = (p.0, apart_append xs ys p.1 q)
 
-behind_append : (xs ys : List SpacedToken) → AreApartBehind xs → AreApart ys → AreApartBehind (xs ++ ys)
-behind_append [] [] p q = tt
-behind_append [] (y ∷ ys) p q = q.1
-behind_append (x ∷ xs) ys p q = apart_append xs ys p q
+after_append : (xs ys : List SpacedToken) → AreApartAfter xs → AreApart ys → AreApartAfter (xs ++ ys)
+after_append [] [] p q = tt
+after_append [] (y ∷ ys) p q = q.1
+after_append (x ∷ xs) ys p q = apart_append xs ys p q
 
 -- tokens that print the first part of what is left
 lays_more : (old more : List SpacedToken) (all left : Print) →
@@ -54,7 +54,7 @@ lays_more old more all left prints apart = record {
   same = λ rest. ap (λ (ss : List Shape). shapes_in old ++ ss) (prints rest)
       ∙ sym (append_assoc (shapes_in old) (shapes_in more) (pieces_shapes (left rest)))
       ∙ ap (λ (ss : List Shape). ss ++ pieces_shapes (left rest)) (sym (shapes_append old more));
-  apart = λ are. behind_append old more are apart;
+  apart = λ are. after_append old more are apart;
 }
 
 -- ---- heads
@@ -178,13 +178,13 @@ mutual
   steps_lay level (step s ss) before =
       let line = step_line level s in
       let all = steps_pieces (step s ss) in
-      let behind : Print = λ rest. tail_onto s (steps_pieces ss rest) in
-      lays_both before (before ++ line) (with_steps level (step s ss) before) all behind (steps_pieces stop)
-      (lays_more before line all behind (λ rest. ap pieces_shapes (head_and_tail s (steps_pieces ss rest))
+      let after : Print = λ rest. tail_onto s (steps_pieces ss rest) in
+      lays_both before (before ++ line) (with_steps level (step s ss) before) all after (steps_pieces stop)
+      (lays_more before line all after (λ rest. ap pieces_shapes (head_and_tail s (steps_pieces ss rest))
       ∙ head_front s (tail_onto s (steps_pieces ss rest))
       ∙ ap (λ (xs : List Shape). xs ++ pieces_shapes (tail_onto s (steps_pieces ss rest))) (sym (line_shapes level (head_of s))))
       (line_apart level (head_of s)))
-      (lays_both (before ++ line) (with_rest level s (before ++ line)) (with_steps level (step s ss) before) behind (steps_pieces ss) (steps_pieces stop)
+      (lays_both (before ++ line) (with_rest level s (before ++ line)) (with_steps level (step s ss) before) after (steps_pieces ss) (steps_pieces stop)
       (rest_lays level s (steps_pieces ss) (before ++ line)) (steps_lay level ss (with_rest level s (before ++ line))))
 
   rest_lays : (level : ℕ) (s : Step) (left : Print) (before : List SpacedToken) →
@@ -232,7 +232,7 @@ mutual
 -- ---- a job
 
 -- the tokens of a job are those that it prints, and each but the first is apart
-pub job_lays : (job : Tree) → (shapes_in (job_tokens job) ≡ pieces_shapes (job_pieces job)) × AreApartBehind (job_tokens job)
+pub job_lays : (job : Tree) → (shapes_in (job_tokens job) ≡ pieces_shapes (job_pieces job)) × AreApartAfter (job_tokens job)
 job_lays job =
     let words = after_gap gaps.Joined (pieces_shapes (keyword word.Job ∷ name_piece role.Given job.name ∷ [])) in
     let laid = block_lays 0 job.steps (with_steps 1 job.steps) (λ rest. rest) (steps_lay 1 job.steps) words in

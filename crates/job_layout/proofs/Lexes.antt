@@ -5,7 +5,7 @@ use Rattle.std.proofs.lemmas.List.{length-append}
 use Rattle.job_tree.specs.Words.{is_word_byte}
 use Rattle.job_tokens.specs.declared.token.Shape.{Shape}
 use Rattle.job_tokens.specs.declared.token.Shape.TheVariants as shape
-use Rattle.job_tokens.specs.Lexing.{is_blank, behind_blanks, token_at}
+use Rattle.job_tokens.specs.Lexing.{is_blank, after_blanks, token_at}
 use Rattle.job_tokens.specs.Canon.{token, is_wordlike}
 use Rattle.job_tokens.proofs.Round_tokens.{IsWritable, AreWritable}
 use Rattle.job_layout.proofs.Rereading.{BeginsAToken, no_blanks, token_begins, StopsWord, token_again, mark_stops, LexesAs}
@@ -32,23 +32,23 @@ AreApart [] = Unit {0}
 AreApart (t ∷ ts) = IsApart t.gap t.shape × AreApart ts
 
 -- each token but the first
-abbrev pub AreApartBehind : List SpacedToken → Type 0
-AreApartBehind [] = Unit {0}
-AreApartBehind (t ∷ ts) = AreApart ts
+abbrev pub AreApartAfter : List SpacedToken → Type 0
+AreApartAfter [] = Unit {0}
+AreApartAfter (t ∷ ts) = AreApart ts
 
 -- ---- gaps
 
-blank_first : (b : ℕ) (bytes : List ℕ) → is_blank b ≡ true → behind_blanks (b ∷ bytes) ≡ behind_blanks bytes
+blank_first : (b : ℕ) (bytes : List ℕ) → is_blank b ≡ true → after_blanks (b ∷ bytes) ≡ after_blanks bytes
 blank_first b bytes is =
     let k : 1 + prefix_len is_blank bytes ≡ suc (prefix_len is_blank bytes) = omega arith in
     ap (λ (x : Bool). drop (cond x (1 + prefix_len is_blank bytes) 0) (b ∷ bytes)) is ∙ ap (λ (n : ℕ). drop n (b ∷ bytes)) k
 
-indent_is_blank : (level : ℕ) (bytes : List ℕ) → behind_blanks (indent level ++ bytes) ≡ behind_blanks bytes
+indent_is_blank : (level : ℕ) (bytes : List ℕ) → after_blanks (indent level ++ bytes) ≡ after_blanks bytes
 indent_is_blank zero bytes = refl
 indent_is_blank (suc level) bytes =
     blank_first 32 (32 ∷ (indent level ++ bytes)) refl ∙ blank_first 32 (indent level ++ bytes) refl ∙ indent_is_blank level bytes
 
-gap_is_blank : (gap : Gap) (bytes : List ℕ) → BeginsAToken bytes → behind_blanks (gap_text gap ++ bytes) ≡ bytes
+gap_is_blank : (gap : Gap) (bytes : List ℕ) → BeginsAToken bytes → after_blanks (gap_text gap ++ bytes) ≡ bytes
 gap_is_blank gaps.Joined bytes begins = no_blanks bytes begins
 gap_is_blank gaps.Space bytes begins = blank_first 32 bytes refl ∙ no_blanks bytes begins
 gap_is_blank (gaps.Line level) bytes begins =
@@ -73,9 +73,9 @@ text_stops true (t ∷ ts) apart =
 
 -- ---- all tokens
 
-behind_first : (ts : List SpacedToken) → AreApart ts → AreApartBehind ts
-behind_first [] apart = tt
-behind_first (t ∷ ts) apart = apart.1
+after_first : (ts : List SpacedToken) → AreApart ts → AreApartAfter ts
+after_first [] apart = tt
+after_first (t ∷ ts) apart = apart.1
 
 -- a token that can be written, followed by others that are read back
 one_more : (end : ℕ) (t : SpacedToken) (rest : List ℕ) (ss : List Shape) → IsWritable t.shape → StopsWord (is_wordlike t.shape) rest →
@@ -87,16 +87,16 @@ one_more end t rest ss is stops le others =
     let all : (gap_text t.gap ++ token s) ++ rest ≡ gap_text t.gap ++ bytes = append_assoc (gap_text t.gap) (token s) rest in
     let len : length (gap_text t.gap) + length bytes ≤ end =
     omega (arith, le, ap (length {A = ℕ}) all, length-append (gap_text t.gap) bytes) in
-    let behind : behind_blanks ((gap_text t.gap ++ token s) ++ rest) ≡ bytes =
-    ap behind_blanks all ∙ gap_is_blank t.gap bytes (token_begins s rest is) in
-    let found : token_at (behind_blanks ((gap_text t.gap ++ token s) ++ rest)) ≡ Some (s, rest) =
-    ap token_at behind ∙ token_again s rest is stops in
-    let place : end - length bytes + length (behind_blanks ((gap_text t.gap ++ token s) ++ rest)) ≡ end =
-    omega (arith, ap (length {A = ℕ}) behind, len) in
+    let after : after_blanks ((gap_text t.gap ++ token s) ++ rest) ≡ bytes =
+    ap after_blanks all ∙ gap_is_blank t.gap bytes (token_begins s rest is) in
+    let found : token_at (after_blanks ((gap_text t.gap ++ token s) ++ rest)) ≡ Some (s, rest) =
+    ap token_at after ∙ token_again s rest is stops in
+    let place : end - length bytes + length (after_blanks ((gap_text t.gap ++ token s) ++ rest)) ≡ end =
+    omega (arith, ap (length {A = ℕ}) after, len) in
     (record { at = end - length bytes; shape = s } ∷ others.0, (rest, found, place, others.1), ap (λ (x : List Shape). s ∷ x) others.2)
 
 -- Tokens are read back from their text, followed by a newline, if all of them after the first are apart.
-pub spaced_lexes : (end : ℕ) (ts : List SpacedToken) → AreWritable (shapes_in ts) → AreApartBehind ts →
+pub spaced_lexes : (end : ℕ) (ts : List SpacedToken) → AreWritable (shapes_in ts) → AreApartAfter ts →
     length (spaced_text ts ++ 10 ∷ []) ≤ end → LexesAs end (spaced_text ts ++ 10 ∷ []) (shapes_in ts)
 spaced_lexes end [] are apart le = ([], refl, refl)
 spaced_lexes end (t ∷ ts) are apart le =
@@ -107,7 +107,7 @@ spaced_lexes end (t ∷ ts) are apart le =
     let short : length rest ≤ end = omega (arith, bound, length-append first rest) in
     subst (λ (bytes : List ℕ). LexesAs end bytes (shapes_in (t ∷ ts))) (sym all)
     (one_more end t rest (shapes_in ts) are.0 (text_stops (is_wordlike t.shape) ts apart) bound
-    (spaced_lexes end ts are.1 (behind_first ts apart) short))
+    (spaced_lexes end ts are.1 (after_first ts apart) short))
 
 -- ---- ASCII
 

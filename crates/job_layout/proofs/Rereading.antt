@@ -18,7 +18,7 @@ use Rattle.job_tokens.proofs.Round_words.{word_again, token_unless_word, token_u
 use Rattle.job_tokens.proofs.Round_numbers.{number_at-again, digits_of_number, digit_in_word}
 use Rattle.job_tokens.proofs.Round_strings.{string_again}
 use Rattle.job_tokens.proofs.Round_tokens.{IsWritable, letter_in_word}
-use Rattle.job_tokens.specs.Lexing.{is_blank, behind_blanks, token_at, word_at, number_at, Lexes}
+use Rattle.job_tokens.specs.Lexing.{is_blank, after_blanks, token_at, word_at, number_at, Lexes}
 
 -- a blank is one of four bytes
 blank_cases : (P : ℕ → Type 0) (b : ℕ) → P 32 → P 9 → P 10 → P 13 → is_blank b ≡ true → P b
@@ -54,7 +54,7 @@ abbrev pub BeginsAToken : List ℕ → Type 0
 BeginsAToken [] = ⊥
 BeginsAToken (b ∷ bytes) = is_blank b ≡ false
 
-pub no_blanks : (bytes : List ℕ) → BeginsAToken bytes → behind_blanks bytes ≡ bytes
+pub no_blanks : (bytes : List ℕ) → BeginsAToken bytes → after_blanks bytes ≡ bytes
 no_blanks [] begins = absurd begins
 no_blanks (b ∷ bytes) begins = rw begins refl
 

@@ -24,15 +24,15 @@ spaced_text [] = []
 spaced_text (t ∷ ts) = (gap_text t.gap ++ token t.shape) ++ spaced_text ts
 
 -- the column at which a token begins, if the token before it ends at this column
-abbrev pub column_behind : ℕ → Gap → ℕ
-column_behind column gaps.Joined = column
-column_behind column gaps.Space = column + 1
-column_behind column (gaps.Line level) = 2 * level
+abbrev pub start_column : ℕ → Gap → ℕ
+start_column column gaps.Joined = column
+start_column column gaps.Space = column + 1
+start_column column (gaps.Line level) = 2 * level
 
 -- the column at which tokens end, if the token before them ends at this column
 abbrev pub column_after : ℕ → List SpacedToken → ℕ
 column_after column [] = column
-column_after column (t ∷ ts) = column_after (column_behind column t.gap + length (token t.shape)) ts
+column_after column (t ∷ ts) = column_after (start_column column t.gap + length (token t.shape)) ts
 
 -- ---- tokens with the same gap
 

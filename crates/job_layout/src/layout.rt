@@ -1,6 +1,6 @@
 ghost use Rattle.std.specs.Prelude.{◌≡◌, ◌++◌, ◌∷◌, [], ◌+◌, length, OnOk, IfOk};
 ghost use Rattle.job_tokens.specs.Canon.{token};
-ghost use Rattle.job_layout.specs.Spaced.{column_after, column_behind, with_gap};
+ghost use Rattle.job_layout.specs.Spaced.{column_after, start_column, with_gap};
 ghost use Rattle.job_layout.specs.Layout.{fits};
 ghost use Rattle.std.specs.Io.Iter.{u64_saturate};
 
@@ -96,15 +96,15 @@ fn column_after(alloc: Global, column: u64, tokens: &[SpacedToken]) -> Result<u6
 
 // Returns the column at which a token ends, if the token before it ends at `column`.
 fn end_of(alloc: Global, column: u64, next: &SpacedToken) -> Result<u64, AllocError>
-    ensures { IfOk result (λ end. end ≡ u64_saturate (u64_saturate (column_behind column next.now.gap) + length (token next.now.shape))) }
+    ensures { IfOk result (λ end. end ≡ u64_saturate (u64_saturate (start_column column next.now.gap) + length (token next.now.shape))) }
 {
     let width = width(alloc, next.shape)? as u64;
-    Ok(column_behind(column, next.gap).saturating_add(width))
+    Ok(start_column(column, next.gap).saturating_add(width))
 }
 
 // Returns the column at which a token begins, if the token before it ends at `column`.
-fn column_behind(column: u64, gap: Gap) -> u64
-    ensures { result ≡ u64_saturate (column_behind column gap) }
+fn start_column(column: u64, gap: Gap) -> u64
+    ensures { result ≡ u64_saturate (start_column column gap) }
 {
     match gap {
         Gap::Joined => column,

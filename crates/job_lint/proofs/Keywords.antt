@@ -126,8 +126,8 @@ past_over None rest all = (refl, all)
 past_over (Some n) rest all = (opening word.Over (along rest), all.1.1)
 
 -- a keyword before what is found
-behind : {found others : List Keyword} (k : Keyword) → found ≡ others → k ∷ found ≡ k ∷ others
-behind k e = ap (λ (ks : List Keyword). k ∷ ks) e
+following : {found others : List Keyword} (k : Keyword) → found ≡ others → k ∷ found ≡ k ∷ others
+following k e = ap (λ (ks : List Keyword). k ∷ ks) e
 
 mutual
   steps_along : (ss : Steps) (rest : List Piece) → AllAllowed (steps_pieces ss rest) →
@@ -148,11 +148,11 @@ mutual
   step_along (head n) rest all = (opening word.Head (along rest), all.1.1.1)
   step_along longest rest all = (opening word.Longest (along rest), all.1.1)
   step_along (need t n) rest all =
-      (opening word.Need (kept_as (keyword_of n) (along rest)) ∙ behind word.Need (raised n (along rest) all.1.1.0), all.1.1.1.1)
+      (opening word.Need (kept_as (keyword_of n) (along rest)) ∙ following word.Need (raised n (along rest) all.1.1.0), all.1.1.1.1)
   step_along (raise n) rest all =
-      (opening word.Raise (kept_as (keyword_of n) (along rest)) ∙ behind word.Raise (raised n (along rest) all.1.0), all.1.1.1)
+      (opening word.Raise (kept_as (keyword_of n) (along rest)) ∙ following word.Raise (raised n (along rest) all.1.0), all.1.1.1)
   step_along (cancel n) rest all =
-      (opening word.Cancel (kept_as (keyword_of n) (along rest)) ∙ behind word.Cancel (target n (along rest) all.1.0), all.1.1.1)
+      (opening word.Cancel (kept_as (keyword_of n) (along rest)) ∙ following word.Cancel (target n (along rest) all.1.0), all.1.1.1)
   step_along (scope n d s f body) rest all =
       let block = opens ∷ steps_pieces body rest in
       let flagged = flag_pieces word.Fail f block in
@@ -163,7 +163,7 @@ mutual
       let three = past_flag word.Fail f block refl two.1 in
       let inner = steps_along body rest three.1.1 in (
         opening word.Scope (kept_as (keyword_of n) (along dated))
-            ∙ behind word.Scope (given n (along dated) all.1.0 ∙ one.0 ∙ two.0 ∙ three.0 ∙ inner.0),
+            ∙ following word.Scope (given n (along dated) all.1.0 ∙ one.0 ∙ two.0 ∙ three.0 ∙ inner.0),
         inner.1,
       )
   step_along (nursery n d s body) rest all =
@@ -174,7 +174,7 @@ mutual
       let two = past_flag word.Shield s block refl one.1 in
       let inner = steps_along body rest two.1.1 in (
         opening word.Nursery (kept_as (keyword_of n) (along dated))
-            ∙ behind word.Nursery (given n (along dated) all.1.0 ∙ one.0 ∙ two.0 ∙ inner.0),
+            ∙ following word.Nursery (given n (along dated) all.1.0 ∙ one.0 ∙ two.0 ∙ inner.0),
         inner.1,
       )
   step_along (start n o body) rest all =
@@ -182,12 +182,12 @@ mutual
       let one = past_over o block all.1.1 in
       let inner = steps_along body rest one.1.1 in (
         opening word.Start (kept_as (keyword_of n) (along (over_pieces o block)))
-            ∙ behind word.Start (given n (along (over_pieces o block)) all.1.0 ∙ one.0 ∙ inner.0),
+            ∙ following word.Start (given n (along (over_pieces o block)) all.1.0 ∙ one.0 ∙ inner.0),
         inner.1,
       )
   step_along (repeat n body) rest all =
       let inner = steps_along body rest all.1.1.1 in
-      (opening word.Repeat (along (steps_pieces body rest)) ∙ behind word.Repeat inner.0, inner.1)
+      (opening word.Repeat (along (steps_pieces body rest)) ∙ following word.Repeat inner.0, inner.1)
   step_along (attempt body h c) rest all =
       let cleaned = cleanup_pieces c rest in
       let one = steps_along body (handler_pieces h cleaned) all.1.1 in
@@ -195,7 +195,7 @@ mutual
       let three = cleanup_along c rest two.1 in
       let after = two.0 ∙ ap (λ (ks : List Keyword). handled_keywords h ks) three.0 in (
         opening word.Try (along (steps_pieces body (handler_pieces h cleaned)))
-            ∙ behind word.Try (one.0 ∙ ap (λ (ks : List Keyword). keywords_of body ks) after),
+            ∙ following word.Try (one.0 ∙ ap (λ (ks : List Keyword). keywords_of body ks) after),
         three.1,
       )
 
@@ -205,14 +205,14 @@ mutual
   handler_along (except n body) rest all =
       let block = steps_pieces body rest in
       let inner = steps_along body rest all.1.1.1 in
-      (opening word.Except (kept_as (keyword_of n) (along block)) ∙ behind word.Except (handled n (along block) all.1.0 ∙ inner.0), inner.1)
+      (opening word.Except (kept_as (keyword_of n) (along block)) ∙ following word.Except (handled n (along block) all.1.0 ∙ inner.0), inner.1)
 
   cleanup_along : (c : Cleaned) (rest : List Piece) → AllAllowed (cleanup_pieces c rest) →
       (along (cleanup_pieces c rest) ≡ cleaned_keywords c (along rest)) × AllAllowed rest
   cleanup_along uncleaned rest all = (refl, all)
   cleanup_along (finally body) rest all =
       let inner = steps_along body rest all.1.1 in
-      (opening word.Finally (along (steps_pieces body rest)) ∙ behind word.Finally inner.0, inner.1)
+      (opening word.Finally (along (steps_pieces body rest)) ∙ following word.Finally inner.0, inner.1)
 
 -- the tokens of a job in which no name is reserved have the opening keywords of the tree, in the same order
 pub same_keywords : (job : Tree) (tokens : List Token) → shapes_of tokens ≡ shapes_in (job_pieces job) →

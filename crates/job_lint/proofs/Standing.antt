@@ -40,10 +40,10 @@ mutual
   split_of : (ss : Steps) (others : Keywords) → Splits (keywords_of ss others) others (openings_of ss)
   split_of stop others = ([], refl, refl)
   split_of (step s ss) others =
-      let behind = joined _ (keywords_of ss others) others (openings_in s) (openings_of ss) (split_in s (keywords_of ss others))
+      let following = joined _ (keywords_of ss others) others (openings_in s) (openings_of ss) (split_in s (keywords_of ss others))
       (split_of ss others) in
       counted _ others (1 + (openings_in s + openings_of ss)) (1 + openings_in s + openings_of ss) (omega arith)
-      (headed (own_keyword s) _ others (openings_in s + openings_of ss) behind)
+      (headed (own_keyword s) _ others (openings_in s + openings_of ss) following)
 
   split_in : (s : Step) (others : Keywords) → Splits (keywords_in s others) others (openings_in s)
   split_in (sleep n) others = ([], refl, refl)

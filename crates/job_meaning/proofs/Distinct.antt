@@ -87,19 +87,19 @@ pub belongs_in : (a b : List (List ℕ)) (path : List ℕ) → ((n : List ℕ) �
 belongs_in a b path f l h = record { named = f l.name h.named; beyond = h.beyond; extends = h.extends }
 
 -- a longer path
-pub belongs_behind : (a : List (List ℕ)) (path : List ℕ) (i : ℕ) (l : Label) → Belongs a (path ++ i ∷ []) l → Belongs a path l
-belongs_behind a path i l h = record { named = h.named; beyond = i ∷ h.beyond; extends = h.extends ∙ append_assoc path (i ∷ []) h.beyond }
+pub belongs_after : (a : List (List ℕ)) (path : List ℕ) (i : ℕ) (l : Label) → Belongs a (path ++ i ∷ []) l → Belongs a path l
+belongs_after a path i l h = record { named = h.named; beyond = i ∷ h.beyond; extends = h.extends ∙ append_assoc path (i ∷ []) h.beyond }
 
 -- no path continues two different indices of one path
-pub behind_one : (path : List ℕ) (i j : ℕ) (x y : List ℕ) → (path ++ i ∷ []) ++ x ≡ (path ++ j ∷ []) ++ y → i ≡ j
-behind_one [] i j x y e = cc
-behind_one (p ∷ path) i j x y e = behind_one path i j x y (cc)
+pub after_one : (path : List ℕ) (i j : ℕ) (x y : List ℕ) → (path ++ i ∷ []) ++ x ≡ (path ++ j ∷ []) ++ y → i ≡ j
+after_one [] i j x y e = cc
+after_one (p ∷ path) i j x y e = after_one path i j x y (cc)
 
 -- no label belongs to a path with an index and also to the same path with a later index
-pub behind_other : (a b : List (List ℕ)) (path : List ℕ) (i j : ℕ) (l : Label) → i < j → Belongs a (path ++ i ∷ []) l →
+pub after_other : (a b : List (List ℕ)) (path : List ℕ) (i j : ℕ) (l : Label) → i < j → Belongs a (path ++ i ∷ []) l →
     Belongs b (path ++ j ∷ []) l → ⊥
-behind_other a b path i j l lt h k =
-    let e = behind_one path i j h.beyond k.beyond (sym h.extends ∙ k.extends) in
+after_other a b path i j l lt h k =
+    let e = after_one path i j h.beyond k.beyond (sym h.extends ∙ k.extends) in
     absurd (omega arith)
 
 -- a label is on a stack

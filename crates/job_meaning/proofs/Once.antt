@@ -11,7 +11,7 @@ use Rattle.cancel_scopes.specs.Sight.{Tick, sight}
 use Rattle.job_meaning.specs.Log.{Log, nil, entry, sign, entered, task, followed_by, Result, same_label, times_entered, times_given}
 use Rattle.job_meaning.specs.Walk.{Stack, Mode, Here, walk, walk_step, walk_handler, walk_cleanup, done_at, raised_at, in_sequence, and_then, then_if, sleep_by_sight, sleep_result, log_of_lines, lines_result, need_result, sign_of, cancel_result, Kind, from_of, block, exit_with_from, stack_inside, with_sign, sign_if, home_of, nursery_result, child, each, passes, handler_result, handler_for, handler_if_any, cleanup_result, label_here, label_over, here_in, in_pass}
 use Rattle.job_meaning.specs.Meaning.{root_walk, root_here, root_label, root_log}
-use Rattle.job_meaning.proofs.Distinct.{Distinct, distinct_left, distinct_right, distinct_apart, distinct_by_bytes, same_label_equal, Belongs, behind_other}
+use Rattle.job_meaning.proofs.Distinct.{Distinct, distinct_left, distinct_right, distinct_apart, distinct_by_bytes, same_label_equal, Belongs, after_other}
 use Rattle.job_meaning.proofs.Touched.{Gives, gives_followed}
 use Rattle.job_meaning.proofs.Tidy.{Tidy, tidy, tidy_step, tidy_handler, tidy_in, tidy_each, tidy_passes, tidy_signed, tidy_gathered, tidy_over, gives_home}
 
@@ -42,13 +42,13 @@ once_followed (task m s u e own rest) b h k differ =
     neither l i (inl j) = h.3 l i j
     neither l i (inr j) = differ l (inr (inl i)) j
 
-    behind : Gives m rest ⊎ Gives m b → ⊥
-    behind (inl j) = h.0 (inr j)
-    behind (inr j) = differ m (inl refl) j
+    after : Gives m rest ⊎ Gives m b → ⊥
+    after (inl j) = h.0 (inr j)
+    after (inr j) = differ m (inl refl) j
 
     none : Gives m own ⊎ Gives m (followed_by rest b) → ⊥
     none (inl i) = h.0 (inl i)
-    none (inr j) = behind (gives_followed m rest b j)
+    none (inr j) = after (gives_followed m rest b j)
 
 -- the log of a walk gives no label twice
 pub record Unique (r : Result) : Type 0 where
@@ -163,7 +163,7 @@ unique_each st names path (suc n) go t h k = unique_joined (each n go t) (go n) 
     differ l i j = apart (earlier_ones.gives l i) ((h n).gives l j)
       where
         apart : Before l → Belongs names (path ++ n ∷ []) l → ⊥
-        apart b c = behind_other names names path b.0 n l b.1 b.2 c
+        apart b c = after_other names names path b.0 n l b.1 b.2 c
 
 -- labels given in a pass, and in the later ones
 unique_passes : (st : Stack) (names : List (List ℕ)) (path : List ℕ) (k first : ℕ) (go : ℕ → ℕ → Result) (t : ℕ) →
@@ -172,19 +172,19 @@ unique_passes st names path zero first go t h k = unique_done t
 unique_passes st names path (suc n) first go t h k =
     unique_and_then (go first t) _ (k first t) (λ u. unique_passes st names path n (suc first) go u h k) differ
   where
-    Behind : Label → Type 0
-    Behind l = (i : ℕ) × (first < i) × Belongs names (path ++ i ∷ []) l
+    Later : Label → Type 0
+    Later l = (i : ℕ) × (first < i) × Belongs names (path ++ i ∷ []) l
 
-    behind : (i : ℕ) → suc first ≤ i → (l : Label) → Belongs names (path ++ i ∷ []) l → Behind l
-    behind i le l b = (i, omega arith, b)
+    after : (i : ℕ) → suc first ≤ i → (l : Label) → Belongs names (path ++ i ∷ []) l → Later l
+    after i le l b = (i, omega arith, b)
 
-    later_ones : (u : ℕ) → Tidy st Behind (passes (suc first) n go u)
+    later_ones : (u : ℕ) → Tidy st Later (passes (suc first) n go u)
     later_ones u =
-        tidy_passes st Behind n (suc first) go u (λ i v le. tidy_in st (Belongs names (path ++ i ∷ [])) Behind (go i v) (behind i le)
+        tidy_passes st Later n (suc first) go u (λ i v le. tidy_in st (Belongs names (path ++ i ∷ [])) Later (go i v) (after i le)
         (h i v))
 
-    apart : (l : Label) → Belongs names (path ++ first ∷ []) l → Behind l → ⊥
-    apart l b c = behind_other names names path first c.0 l c.1 b c.2
+    apart : (l : Label) → Belongs names (path ++ first ∷ []) l → Later l → ⊥
+    apart l b c = after_other names names path first c.0 l c.1 b c.2
 
     differ : (u : ℕ) (l : Label) → Gives l (go first t).log → Gives l (passes (suc first) n go u).log → ⊥
     differ u l i j = apart l ((h first t).gives l i) ((later_ones u).gives l j)

@@ -15,7 +15,7 @@ use Rattle.job_meaning.specs.Laws.{FollowingIsMeaning, TableIsSettled, Following
 use Rattle.job_meaning.proofs.Late.{Late, late, late_signed, late_gathered}
 use Rattle.job_meaning.proofs.Clips.{least_near}
 use Rattle.job_meaning.proofs.Causality.{agree, agree_logs, agree_signed, agree_gathered, near_within}
-use Rattle.job_meaning.proofs.Distinct.{Among, among_left, among_right, Distinct, distinct_left, distinct_right, distinct_apart, distinct_by_bytes, same_label_itself, same_label_equal, Belongs, behind_other, OnStack, Fresh, fresh_in}
+use Rattle.job_meaning.proofs.Distinct.{Among, among_left, among_right, Distinct, distinct_left, distinct_right, distinct_apart, distinct_by_bytes, same_label_itself, same_label_equal, Belongs, after_other, OnStack, Fresh, fresh_in}
 use Rattle.job_meaning.proofs.Touched.{Gives, least_followed, deadline_followed, deadline_entered, either_nothing, earlier_never}
 use Rattle.job_meaning.proofs.Tidy.{Tidy, tidy, tidy_step, tidy_handler, tidy_in, tidy_each, tidy_passes, tidy_signed, tidy_gathered, tidy_over, signs_home, gives_home}
 use Rattle.job_meaning.proofs.Fits.{Fits, fits_own, fits_first, fits_second, Apart, apart_tidy, same_first_sign}
@@ -178,7 +178,7 @@ settled_each table st names path (suc k) go go' t fresh h same f =
         apart_tidy st Before (Belongs names (path ++ k ∷ [])) (each k go t) (go k)
         (tidy_each st Before k go t (λ i lt. tidy_in st (Belongs names (path ++ i ∷ [])) Before (go i) (before i lt) (h i)))
         (h k)
-        (λ l b c. behind_other names names path b.0 k l b.1 b.2 c)
+        (λ l b c. after_other names names path b.0 k l b.1 b.2 c)
         (λ l o b. fresh.none l o b.2.named)
         (λ l o b. fresh.none l o b.named)
 
@@ -195,18 +195,18 @@ settled_passes table st names path (suc k) first go go' t fresh h same f =
     settled_and_then table (go first t) (go' first t) (λ u. passes (suc first) k go u) (λ u. passes (suc first) k go' u) (same first t)
     (λ u g. settled_passes table st names path k (suc first) go go' u fresh h same g) apart f
   where
-    Behind : Label → Type 0
-    Behind l = (i : ℕ) × (first < i) × Belongs names (path ++ i ∷ []) l
+    Later : Label → Type 0
+    Later l = (i : ℕ) × (first < i) × Belongs names (path ++ i ∷ []) l
 
-    behind : (i : ℕ) → suc first ≤ i → (l : Label) → Belongs names (path ++ i ∷ []) l → Behind l
-    behind i le l b = (i, omega arith, b)
+    after : (i : ℕ) → suc first ≤ i → (l : Label) → Belongs names (path ++ i ∷ []) l → Later l
+    after i le l b = (i, omega arith, b)
 
     apart : (u : ℕ) → Apart (go first t).log (passes (suc first) k go u).log
     apart u =
-        apart_tidy st (Belongs names (path ++ first ∷ [])) Behind (go first t) (passes (suc first) k go u) (h first t)
-        (tidy_passes st Behind k (suc first) go u
-        (λ i v le. tidy_in st (Belongs names (path ++ i ∷ [])) Behind (go i v) (behind i le) (h i v)))
-        (λ l b c. behind_other names names path first c.0 l c.1 b c.2)
+        apart_tidy st (Belongs names (path ++ first ∷ [])) Later (go first t) (passes (suc first) k go u) (h first t)
+        (tidy_passes st Later k (suc first) go u
+        (λ i v le. tidy_in st (Belongs names (path ++ i ∷ [])) Later (go i v) (after i le) (h i v)))
+        (λ l b c. after_other names names path first c.0 l c.1 b c.2)
         (λ l o b. fresh.none l o b.named)
         (λ l o b. fresh.none l o b.2.named)
 

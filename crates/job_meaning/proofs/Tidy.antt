@@ -11,7 +11,7 @@ use Rattle.exc_groups.specs.Split.{Wanted, keep, drop}
 use Rattle.cancel_scopes.specs.Sight.{Tick, sight, catches}
 use Rattle.job_meaning.specs.Log.{Log, nil, entry, followed_by, Result}
 use Rattle.job_meaning.specs.Walk.{Stack, Mode, Here, walk, walk_step, walk_handler, walk_cleanup, done_at, raised_at, in_sequence, and_then, then_if, sleep_by_sight, sleep_result, log_of_lines, lines_result, need_result, label_on, label_if, sign_of, cancel_result, Kind, from_of, block, exit_with_from, left_as, left_with, stack_inside, with_sign, sign_if, home_of, nursery_result, child, each, passes, handler_result, handler_for, handler_if_any, cleanup_result, label_here, label_over, here_in, in_pass}
-use Rattle.job_meaning.proofs.Distinct.{among_left, among_right, Belongs, belongs_in, belongs_behind, OnStack}
+use Rattle.job_meaning.proofs.Distinct.{among_left, among_right, Belongs, belongs_in, belongs_after, OnStack}
 use Rattle.job_meaning.proofs.Touched.{Gives, Signs, gives_followed, gives_first, gives_second, signs_followed}
 
 -- a walk on a stack gives only labels that belong to it, and signs only those and labels of the stack
@@ -163,13 +163,13 @@ tidy_block m kind label t d shield st P inside p h = at_from (from_of m label d 
         end_log : Log
         end_log = entry (inside f).end (left_as kind label (left_with (catches f shield st (inside f).end) (inside f).exc).caught) nil
 
-        behind : (l : Label) → Gives l (inside f).log ⊎ ⊥ → P l
-        behind l (inl e) = (h f).gives l e
-        behind l (inr e) = absurd e
+        after : (l : Label) → Gives l (inside f).log ⊎ ⊥ → P l
+        after l (inl e) = (h f).gives l e
+        after l (inr e) = absurd e
 
         own : (l : Label) → (l ≡ label) ⊎ Gives l (followed_by (inside f).log end_log) → P l
         own l (inl e) = subst P (sym e) p
-        own l (inr e) = behind l (gives_followed l (inside f).log end_log e)
+        own l (inr e) = after l (gives_followed l (inside f).log end_log e)
 
         by_place : (l : Label) → ((l ≡ label) ⊎ OnStack l st) ⊎ Gives l (inside f).log → OnStack l st
             ⊎ ((l ≡ label) ⊎ Gives l (followed_by (inside f).log end_log))
@@ -336,11 +336,11 @@ mutual
       tidy_child st _ _ t _ (belongs_here name (names_of body) here)
       (tidy_in st _ _ _ (in_body name (names_of body) here.path) (tidy_signed st _ _ (tidy m body _ st t)))
   tidy_step m (start name (Some k) body) here st t =
-      tidy_each st _ k _ t (λ i lt. tidy_in st _ _ _ (belongs_behind (name ∷ names_of body) here.path i)
+      tidy_each st _ k _ t (λ i lt. tidy_in st _ _ _ (belongs_after (name ∷ names_of body) here.path i)
       (tidy_child st _ _ t _ (belongs_over name (names_of body) here i)
       (tidy_in st _ _ _ (in_body name (names_of body) (here.path ++ i ∷ [])) (tidy_signed st _ _ (tidy m body _ st t)))))
   tidy_step m (repeat count body) here st t =
-      tidy_passes st _ count 0 _ t (λ i u le. tidy_in st _ _ _ (belongs_behind (names_of body) here.path i)
+      tidy_passes st _ count 0 _ t (λ i u le. tidy_in st _ _ _ (belongs_after (names_of body) here.path i)
       (tidy m body (in_pass i here) st u))
   tidy_step m (attempt body handler cleanup) here st t =
       tidy_cleanup m cleanup here st _ (names_of body ++ handled_names handler)

@@ -28,18 +28,18 @@ gives_followed l nil b h = inr h
 gives_followed l (entry t e rest) b h = gives_followed l rest b h
 gives_followed l (sign m t rest) b h = gives_followed l rest b h
 gives_followed l (entered m t d rest) b (inl e) = inl (inl e)
-gives_followed l (entered m t d rest) b (inr h) = behind (gives_followed l rest b h)
+gives_followed l (entered m t d rest) b (inr h) = after (gives_followed l rest b h)
   where
-    behind : Gives l rest ⊎ Gives l b → ((l ≡ m) ⊎ Gives l rest) ⊎ Gives l b
-    behind (inl k) = inl (inr k)
-    behind (inr k) = inr k
+    after : Gives l rest ⊎ Gives l b → ((l ≡ m) ⊎ Gives l rest) ⊎ Gives l b
+    after (inl k) = inl (inr k)
+    after (inr k) = inr k
 gives_followed l (task m s u e own rest) b (inl e') = inl (inl e')
 gives_followed l (task m s u e own rest) b (inr (inl h)) = inl (inr (inl h))
-gives_followed l (task m s u e own rest) b (inr (inr h)) = behind (gives_followed l rest b h)
+gives_followed l (task m s u e own rest) b (inr (inr h)) = after (gives_followed l rest b h)
   where
-    behind : Gives l rest ⊎ Gives l b → ((l ≡ m) ⊎ (Gives l own ⊎ Gives l rest)) ⊎ Gives l b
-    behind (inl k) = inl (inr (inr k))
-    behind (inr k) = inr k
+    after : Gives l rest ⊎ Gives l b → ((l ≡ m) ⊎ (Gives l own ⊎ Gives l rest)) ⊎ Gives l b
+    after (inl k) = inl (inr (inr k))
+    after (inr k) = inr k
 
 -- a label given in the first is given in both, one after another
 pub gives_first : (l : Label) (a b : Log) → Gives l a → Gives l (followed_by a b)
@@ -66,17 +66,17 @@ signs_followed l nil b h = inr h
 signs_followed l (entry t e rest) b h = signs_followed l rest b h
 signs_followed l (entered m t d rest) b h = signs_followed l rest b h
 signs_followed l (sign m t rest) b (inl e) = inl (inl e)
-signs_followed l (sign m t rest) b (inr h) = behind (signs_followed l rest b h)
+signs_followed l (sign m t rest) b (inr h) = after (signs_followed l rest b h)
   where
-    behind : Signs l rest ⊎ Signs l b → ((l ≡ m) ⊎ Signs l rest) ⊎ Signs l b
-    behind (inl k) = inl (inr k)
-    behind (inr k) = inr k
+    after : Signs l rest ⊎ Signs l b → ((l ≡ m) ⊎ Signs l rest) ⊎ Signs l b
+    after (inl k) = inl (inr k)
+    after (inr k) = inr k
 signs_followed l (task m s u e own rest) b (inl h) = inl (inl h)
-signs_followed l (task m s u e own rest) b (inr h) = behind (signs_followed l rest b h)
+signs_followed l (task m s u e own rest) b (inr h) = after (signs_followed l rest b h)
   where
-    behind : Signs l rest ⊎ Signs l b → (Signs l own ⊎ Signs l rest) ⊎ Signs l b
-    behind (inl k) = inl (inr k)
-    behind (inr k) = inr k
+    after : Signs l rest ⊎ Signs l b → (Signs l own ⊎ Signs l rest) ⊎ Signs l b
+    after (inl k) = inl (inr k)
+    after (inr k) = inr k
 
 -- a deadline or none, followed by none, is unchanged
 pub either_nothing : (o : Option Tick) → either o None ≡ o

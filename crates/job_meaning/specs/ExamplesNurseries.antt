@@ -111,7 +111,7 @@ unfolding run_of
 other_names_are_not_handled = refl
 
 -- scope o { nursery n { start a { sleep 2; cancel o; sleep 5; } start b { sleep 3; } } }
-pub child_cancels_a_scope_round_its_nursery :
+pub child_cancels_a_scope_around_its_nursery :
     run_of
     (scope_of (codes "o")
     (nursery_of (codes "n")
@@ -122,7 +122,7 @@ pub child_cancels_a_scope_round_its_nursery :
     ∷ record_of (label_named (codes "b")) 0 3 (Some cancelled) []
     ∷ []
 unfolding run_of
-child_cancels_a_scope_round_its_nursery = refl
+child_cancels_a_scope_around_its_nursery = refl
 
 -- scope s after 2 fail { nursery n { start a { forever; } start b { try { forever; } finally { raise Bad; } } } }
 pub fail_scope_with_a_rest_is_not_too_slow :

@@ -11,7 +11,7 @@ use Rattle.job_syntax.specs.declared.keyword.Keyword.TheVariants as word
 use Rattle.job_syntax.specs.Keywords.{keyword_of}
 use Rattle.job_syntax.specs.Pieces.{Piece, shapes_in, opens, deadline_pieces, flag_pieces, over_pieces, steps_pieces, step_pieces, handler_pieces, cleanup_pieces, job_pieces, AreSteps, IsStep}
 use Rattle.job_syntax.specs.Depth.{AreWithin, IsWithin}
-use Rattle.job_syntax.specs.Reading.{Read, Blocks, mark_at, behind_word, step_at, steps_with, blocks_at, job_at}
+use Rattle.job_syntax.specs.Reading.{Read, Blocks, mark_at, after_word, step_at, steps_with, blocks_at, job_at}
 
 length_shapes : (ps : List Piece) → length (shapes_in ps) ≡ length ps
 length_shapes [] = refl
@@ -129,7 +129,7 @@ try_both blocks body n handler clean rest b h c =
     rw (b (handler_pieces (except n handler) (cleanup_pieces (finally clean) rest)), h (cleanup_pieces (finally clean) rest), c rest) refl
 
 try_handler : (blocks : Blocks) (body : Steps) (n : List ℕ) (handler : Steps) (rest : List Piece) → ReadsAgain blocks body →
-    ReadsAgain blocks handler → behind_word word.Finally (shapes_in rest) ≡ None →
+    ReadsAgain blocks handler → after_word word.Finally (shapes_in rest) ≡ None →
     step_at blocks (shapes_in (step_pieces (attempt body (except n handler) uncleaned) rest))
     ≡ step_read (attempt body (except n handler) uncleaned) rest
 unfolding keyword_of
@@ -142,7 +142,7 @@ unfolding keyword_of
 try_cleanup blocks body clean rest b c = rw (b (cleanup_pieces (finally clean) rest), c rest) refl
 
 -- a block does not begin with `finally`
-no_finally : (steps : Steps) (rest : List Piece) → behind_word word.Finally (shapes_in (steps_pieces steps rest)) ≡ None
+no_finally : (steps : Steps) (rest : List Piece) → after_word word.Finally (shapes_in (steps_pieces steps rest)) ≡ None
 no_finally stop rest = refl
 no_finally (step (sleep n) ss) rest = refl
 no_finally (step checkpoint ss) rest = refl
@@ -222,7 +222,7 @@ mutual
       (steps_again format ss inside depth n rest are.1 within.1 (omega (arith, le, long_step s (steps_pieces ss rest))))
 
   step_again : (format : Format) (s : Step) (inside : Bool) (depth : ℕ) (rest : List Piece) → IsStep format inside s → IsWithin depth s →
-      behind_word word.Finally (shapes_in rest) ≡ None
+      after_word word.Finally (shapes_in rest) ≡ None
       → step_at (blocks_at depth) (shapes_in (step_pieces s rest)) ≡ Some (s, shapes_in rest)
   step_again format (sleep n) inside depth rest is within none = refl
   step_again format checkpoint inside depth rest is within none = refl

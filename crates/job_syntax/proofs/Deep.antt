@@ -10,33 +10,33 @@ use Rattle.job_tokens.specs.Shapes.{shapes_of, mark_in}
 use Rattle.job_syntax.specs.declared.keyword.Keyword.{Keyword}
 use Rattle.job_syntax.specs.declared.keyword.Keyword.TheVariants as word
 use Rattle.job_syntax.specs.Pieces.{Piece, shapes_in, opens, deadline_pieces, flag_pieces, over_pieces, steps_pieces, step_pieces, handler_pieces, cleanup_pieces, job_pieces}
-use Rattle.job_syntax.specs.Depth.{AreWithin, IsWithin, IsHandlerWithin, IsCleanupWithin, depth_behind, depth_fault}
+use Rattle.job_syntax.specs.Depth.{AreWithin, IsWithin, IsHandlerWithin, IsCleanupWithin, depth_after, depth_fault}
 
 -- ---- along the shapes
 
 -- after none of the tokens are more blocks open than the maximum, if `depth` are open before them
 abbrev pub NoneTooDeep : ℕ → List Shape → Type 0
 NoneTooDeep depth [] = Unit {0}
-NoneTooDeep depth (s ∷ rest) = (depth_behind depth (mark_in s) ≤ 32) × NoneTooDeep (depth_behind depth (mark_in s)) rest
+NoneTooDeep depth (s ∷ rest) = (depth_after depth (mark_in s) ≤ 32) × NoneTooDeep (depth_after depth (mark_in s)) rest
 
 -- where no block too deep is found, no token opens one
 pub none_too_deep : (depth : ℕ) (tokens : List Token) → depth_fault depth tokens ≡ None → NoneTooDeep depth (shapes_of tokens)
 none_too_deep depth [] none = tt
-none_too_deep depth (t ∷ ts) none = by_test (none_too_deep behind ts) (nat_le behind 32) refl none
+none_too_deep depth (t ∷ ts) none = by_test (none_too_deep following ts) (nat_le following 32) refl none
   where
-    behind : ℕ
-    behind = depth_behind depth (mark_in t.shape)
+    following : ℕ
+    following = depth_after depth (mark_in t.shape)
 
-    by_test : (depth_fault behind ts ≡ None → NoneTooDeep behind (shapes_of ts)) → (b : Bool) → nat_le behind 32 ≡ b →
-        cond b (depth_fault behind ts) (Some t.at) ≡ None → (behind ≤ 32) × NoneTooDeep behind (shapes_of ts)
-    by_test others true is none' = (leb-true behind 32 is, others none')
+    by_test : (depth_fault following ts ≡ None → NoneTooDeep following (shapes_of ts)) → (b : Bool) → nat_le following 32 ≡ b →
+        cond b (depth_fault following ts) (Some t.at) ≡ None → (following ≤ 32) × NoneTooDeep following (shapes_of ts)
+    by_test others true is none' = (leb-true following 32 is, others none')
     by_test others false is none' = absurd cc
 
 no_fault : (depth : ℕ) (tokens : List Token) → NoneTooDeep depth (shapes_of tokens) → depth_fault depth tokens ≡ None
 no_fault depth [] none = refl
 no_fault depth (t ∷ ts) none =
-    let behind : ℕ = depth_behind depth (mark_in t.shape) in
-    rw (le-leb behind 32 none.0) (no_fault behind ts none.1)
+    let following : ℕ = depth_after depth (mark_in t.shape) in
+    rw (le-leb following 32 none.0) (no_fault following ts none.1)
 
 -- whether blocks are too deep depends only on the shapes
 pub depth_by_shapes : (d : ℕ) (xs ys : List Token) → shapes_of xs ≡ shapes_of ys → depth_fault d xs ≡ None → depth_fault d ys ≡ None

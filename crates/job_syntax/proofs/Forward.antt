@@ -143,8 +143,8 @@ repeat_step format inside ss ps two (r, (n, e), (r', e', (r'', (body, are, e''),
 
 start_step : (format : Format) (ss : List Nonterminal) (ps : List Piece) → Fits format (nonterminal.Given ∷ nonterminal.Over ∷ nonterminal.Items ∷ ss) ps →
     BlockFits format true ss (keyword word.Start ∷ ps)
-start_step format ss ps (r, (n, e), (r', (o, body, are, e'), (q, (steps, behind, e''), fits))) =
-    step_on format true (start n o body) ss (keyword word.Start ∷ ps) q steps (refl, are) behind
+start_step format ss ps (r, (n, e), (r', (o, body, are, e'), (q, (steps, following, e''), fits))) =
+    step_on format true (start n o body) ss (keyword word.Start ∷ ps) q steps (refl, are) following
     (ap (on (keyword word.Start)) (e ∙ ap (on (name_piece role.Given n))
     (e' ∙ ap (λ (x : List Piece). over_pieces o (opens ∷ steps_pieces body x)) e''))) fits
 

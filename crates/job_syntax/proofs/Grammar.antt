@@ -114,89 +114,89 @@ start_left : (format : Format) (inside : Bool) (n : List ℕ) (o : Option ℕ) (
     AreSteps format false body → AreSteps format inside others → Fits format ss rest
     → Left format (step_rest format inside word.Start) ss (name_piece role.Given n ∷ over_pieces o
     (opens ∷ steps_pieces body (steps_pieces others rest)))
-start_left format true n o body others ss rest e are behind fits = (
+start_left format true n o body others ss rest e are following fits = (
   over_pieces o (opens ∷ steps_pieces body (steps_pieces others rest)),
   (n, refl),
-  (steps_pieces others rest, (o, body, are, refl), (rest, block_stands format true others rest behind, fits)),
+  (steps_pieces others rest, (o, body, are, refl), (rest, block_stands format true others rest following, fits)),
 )
-start_left format false n o body others ss rest e are behind fits = absurd cc
+start_left format false n o body others ss rest e are following fits = absurd cc
 
 repeat_left : (format : Format) (inside : Bool) (n : ℕ) (body others : Steps) (ss : List Nonterminal) (rest : List Piece) → format ≡ Two →
     AreSteps format false body → AreSteps format inside others → Fits format ss rest
     → Left format (step_rest format inside word.Repeat) ss (number n ∷ opens ∷ steps_pieces body (steps_pieces others rest))
-repeat_left Two inside n body others ss rest e are behind fits = (
+repeat_left Two inside n body others ss rest e are following fits = (
   opens ∷ steps_pieces body (steps_pieces others rest),
   (n, refl),
   (
     steps_pieces body (steps_pieces others rest),
     refl,
-    (steps_pieces others rest, (body, are, refl), (rest, block_stands Two inside others rest behind, fits)),
+    (steps_pieces others rest, (body, are, refl), (rest, block_stands Two inside others rest following, fits)),
   ),
 )
-repeat_left One inside n body others ss rest e are behind fits = absurd cc
+repeat_left One inside n body others ss rest e are following fits = absurd cc
 
 first_of_block : (format : Format) (inside : Bool) (steps : Steps) (ss : List Nonterminal) (rest : List Piece) → AreSteps format inside steps →
     Fits format ss rest →
     First format inside ss (steps_pieces steps rest)
 first_of_block format inside stop ss rest are fits = inl (refl, fits)
 first_of_block format inside (step (sleep n) others) ss rest are fits =
-    let behind = steps_pieces others rest in
-    inr (word.Sleep, refl, (ends ∷ behind, (n, refl), (behind, refl, (rest, block_stands format inside others rest are.1, fits))))
+    let following = steps_pieces others rest in
+    inr (word.Sleep, refl, (ends ∷ following, (n, refl), (following, refl, (rest, block_stands format inside others rest are.1, fits))))
 first_of_block format inside (step checkpoint others) ss rest are fits =
-    let behind = steps_pieces others rest in
-    inr (word.Checkpoint, refl, (behind, refl, (rest, block_stands format inside others rest are.1, fits)))
+    let following = steps_pieces others rest in
+    inr (word.Checkpoint, refl, (following, refl, (rest, block_stands format inside others rest are.1, fits)))
 first_of_block format inside (step forever others) ss rest are fits =
-    let behind = steps_pieces others rest in
-    inr (word.Forever, refl, (behind, refl, (rest, block_stands format inside others rest are.1, fits)))
+    let following = steps_pieces others rest in
+    inr (word.Forever, refl, (following, refl, (rest, block_stands format inside others rest are.1, fits)))
 first_of_block format inside (step (pace n) others) ss rest are fits =
-    let behind = steps_pieces others rest in
-    inr (word.Pace, refl, (ends ∷ behind, (n, refl), (behind, refl, (rest, block_stands format inside others rest are.1, fits))))
+    let following = steps_pieces others rest in
+    inr (word.Pace, refl, (ends ∷ following, (n, refl), (following, refl, (rest, block_stands format inside others rest are.1, fits))))
 first_of_block format inside (step (find t) others) ss rest are fits =
-    let behind = steps_pieces others rest in
-    inr (word.Find, refl, (ends ∷ behind, (t, refl), (behind, refl, (rest, block_stands format inside others rest are.1, fits))))
+    let following = steps_pieces others rest in
+    inr (word.Find, refl, (ends ∷ following, (t, refl), (following, refl, (rest, block_stands format inside others rest are.1, fits))))
 first_of_block format inside (step (head n) others) ss rest are fits =
-    let behind = steps_pieces others rest in
-    inr (word.Head, refl, (ends ∷ behind, (n, refl), (behind, refl, (rest, block_stands format inside others rest are.1, fits))))
+    let following = steps_pieces others rest in
+    inr (word.Head, refl, (ends ∷ following, (n, refl), (following, refl, (rest, block_stands format inside others rest are.1, fits))))
 first_of_block format inside (step longest others) ss rest are fits =
-    let behind = steps_pieces others rest in
-    inr (word.Longest, refl, (behind, refl, (rest, block_stands format inside others rest are.1, fits)))
+    let following = steps_pieces others rest in
+    inr (word.Longest, refl, (following, refl, (rest, block_stands format inside others rest are.1, fits)))
 first_of_block format inside (step (need t n) others) ss rest are fits =
-    let behind = steps_pieces others rest in
+    let following = steps_pieces others rest in
     inr (
       word.Need,
       refl,
       (
-        name_piece role.Raised n ∷ ends ∷ behind,
+        name_piece role.Raised n ∷ ends ∷ following,
         (t, refl),
-        (ends ∷ behind, (n, refl), (behind, refl, (rest, block_stands format inside others rest are.1, fits))),
+        (ends ∷ following, (n, refl), (following, refl, (rest, block_stands format inside others rest are.1, fits))),
       ),
     )
 first_of_block format inside (step (raise n) others) ss rest are fits =
-    let behind = steps_pieces others rest in
-    inr (word.Raise, refl, (ends ∷ behind, (n, refl), (behind, refl, (rest, block_stands format inside others rest are.1, fits))))
+    let following = steps_pieces others rest in
+    inr (word.Raise, refl, (ends ∷ following, (n, refl), (following, refl, (rest, block_stands format inside others rest are.1, fits))))
 first_of_block format inside (step (cancel n) others) ss rest are fits =
-    let behind = steps_pieces others rest in
-    inr (word.Cancel, refl, (ends ∷ behind, (n, refl), (behind, refl, (rest, block_stands format inside others rest are.1, fits))))
+    let following = steps_pieces others rest in
+    inr (word.Cancel, refl, (ends ∷ following, (n, refl), (following, refl, (rest, block_stands format inside others rest are.1, fits))))
 first_of_block format inside (step (scope n d s f body) others) ss rest are fits =
-    let behind = steps_pieces others rest in
+    let following = steps_pieces others rest in
     inr (
       word.Scope,
       refl,
       (
-        deadline_pieces d (flag_pieces word.Shield s (flag_pieces word.Fail f (opens ∷ steps_pieces body behind))),
+        deadline_pieces d (flag_pieces word.Shield s (flag_pieces word.Fail f (opens ∷ steps_pieces body following))),
         (n, refl),
-        (behind, (d, s, f, body, are.0, refl), (rest, block_stands format inside others rest are.1, fits)),
+        (following, (d, s, f, body, are.0, refl), (rest, block_stands format inside others rest are.1, fits)),
       ),
     )
 first_of_block format inside (step (nursery n d s body) others) ss rest are fits =
-    let behind = steps_pieces others rest in
+    let following = steps_pieces others rest in
     inr (
       word.Nursery,
       refl,
       (
-        deadline_pieces d (flag_pieces word.Shield s (opens ∷ steps_pieces body behind)),
+        deadline_pieces d (flag_pieces word.Shield s (opens ∷ steps_pieces body following)),
         (n, refl),
-        (behind, (d, s, body, are.0.0, are.0.1, refl), (rest, block_stands format inside others rest are.1, fits)),
+        (following, (d, s, body, are.0.0, are.0.1, refl), (rest, block_stands format inside others rest are.1, fits)),
       ),
     )
 first_of_block format inside (step (start n o body) others) ss rest are fits =
@@ -204,15 +204,15 @@ first_of_block format inside (step (start n o body) others) ss rest are fits =
 first_of_block format inside (step (repeat n body) others) ss rest are fits =
     inr (word.Repeat, refl, repeat_left format inside n body others ss rest are.0.0 are.0.1 are.1 fits)
 first_of_block format inside (step (attempt body h c) others) ss rest are fits =
-    let behind = handler_pieces h (cleanup_pieces c (steps_pieces others rest)) in
+    let following = handler_pieces h (cleanup_pieces c (steps_pieces others rest)) in
     inr (
       word.Try,
       refl,
       (
-        steps_pieces body behind,
+        steps_pieces body following,
         refl,
         (
-          behind,
+          following,
           (body, are.0.1, refl),
           (rest, tail_stands format inside h c others rest are.0.0 are.0.2 are.0.3 are.1, fits),
         ),
@@ -264,13 +264,13 @@ block_fits : (format : Format) (inside : Bool) (body others : Steps) (ss : List 
     AreSteps format inside others →
     Fits format ss rest
     → Fits format (nonterminal.Open ∷ nonterminal.Steps ∷ outer_block inside ∷ ss) (opens ∷ steps_pieces body (steps_pieces others rest))
-block_fits format inside body others ss rest are behind fits = (
+block_fits format inside body others ss rest are following fits = (
   steps_pieces body (steps_pieces others rest),
   refl,
   (
     steps_pieces others rest,
     (body, are, refl),
-    (rest, block_stands format inside others rest behind, fits),
+    (rest, block_stands format inside others rest following, fits),
   ),
 )
 
@@ -288,14 +288,14 @@ handler_fits : (format : Format) (inside : Bool) (n : List ℕ) (body : Steps) (
     AreSteps format false body → IsCleanup format c → AreSteps format inside others → Fits format ss rest
     → Fits format (nonterminal.Handled ∷ nonterminal.Open ∷ nonterminal.Steps ∷ cleanup inside ∷ ss)
     (name_piece role.Handled n ∷ opens ∷ steps_pieces body (cleanup_pieces c (steps_pieces others rest)))
-handler_fits format inside n body c others ss rest are clean behind fits =
+handler_fits format inside n body c others ss rest are clean following fits =
     let after = cleanup_pieces c (steps_pieces others rest) in (
       opens ∷ steps_pieces body after,
       (n, refl),
       (
         steps_pieces body after,
         refl,
-        (after, (body, are, refl), (rest, cleanup_stands format inside c others rest clean behind, fits)),
+        (after, (body, are, refl), (rest, cleanup_stands format inside c others rest clean following, fits)),
       ),
     )
 
@@ -339,11 +339,11 @@ on_scope : (format : Format) (d : Deadline) (s f : Bool) (body : Steps) (ss : Li
     Goes format nonterminal.Scope ss (deadline_pieces d (flag_pieces word.Shield s (flag_pieces word.Fail f (opens ∷ steps_pieces body rest))))
 unfolding keyword_of
 on_scope format (After n) s f body ss rest are fits =
-    let behind = flag_pieces word.Shield s (flag_pieces word.Fail f (opens ∷ steps_pieces body rest)) in
-    ((behind, (n, refl), (rest, (s, f, body, are, refl), fits)), refl)
+    let following = flag_pieces word.Shield s (flag_pieces word.Fail f (opens ∷ steps_pieces body rest)) in
+    ((following, (n, refl), (rest, (s, f, body, are, refl), fits)), refl)
 on_scope format (At n) s f body ss rest are fits =
-    let behind = flag_pieces word.Shield s (flag_pieces word.Fail f (opens ∷ steps_pieces body rest)) in
-    ((behind, (n, refl), (rest, (s, f, body, are, refl), fits)), refl)
+    let following = flag_pieces word.Shield s (flag_pieces word.Fail f (opens ∷ steps_pieces body rest)) in
+    ((following, (n, refl), (rest, (s, f, body, are, refl), fits)), refl)
 on_scope format Never true f body ss rest are fits = ((rest, (f, body, are, refl), fits), refl)
 on_scope format Never false true body ss rest are fits = (body_fits format body ss rest are fits, refl)
 on_scope format Never false false body ss rest are fits = ((rest, (body, are, refl), fits), refl)

@@ -96,29 +96,29 @@ repeat_fit One n two e = absurd cc
 -- ---- construct by construct
 
 -- the numbers of tokens are in their ranges, whatever comes before them
-abbrev InRangeBehind : (format : Format) → List Piece → Type 0
-InRangeBehind format rest = (before : Option Keyword) × AllInRange format before (shapes_in rest)
+abbrev InRangeAfter : (format : Format) → List Piece → Type 0
+InRangeAfter format rest = (before : Option Keyword) × AllInRange format before (shapes_in rest)
 
-past_flag : (format : Format) (k : Keyword) (b : Bool) (rest : List Piece) → InRangeBehind format (flag_pieces k b rest) →
-    InRangeBehind format rest
+past_flag : (format : Format) (k : Keyword) (b : Bool) (rest : List Piece) → InRangeAfter format (flag_pieces k b rest) →
+    InRangeAfter format rest
 past_flag format k false rest all = all
 past_flag format k true rest all = (keyword_in (keyword k).shape, all.1.1)
 
-deadline_in_range : (format : Format) (d : Deadline) (rest : List Piece) → InRangeBehind format (deadline_pieces d rest) →
-    IsInRangeDeadline d × InRangeBehind format rest
+deadline_in_range : (format : Format) (d : Deadline) (rest : List Piece) → InRangeAfter format (deadline_pieces d rest) →
+    IsInRangeDeadline d × InRangeAfter format rest
 deadline_in_range format Never rest all = (tt, all)
 deadline_in_range format (After n) rest all = (after_fit format n all.1.1.0, (None, all.1.1.1))
 deadline_in_range format (At n) rest all = (at_fit format n all.1.1.0, (None, all.1.1.1))
 
-over_in_range : (format : Format) (o : Option ℕ) (rest : List Piece) → InRangeBehind format (over_pieces o rest) →
-    IsInRangeOver o × InRangeBehind format rest
+over_in_range : (format : Format) (o : Option ℕ) (rest : List Piece) → InRangeAfter format (over_pieces o rest) →
+    IsInRangeOver o × InRangeAfter format rest
 over_in_range format None rest all = (tt, all)
 over_in_range format (Some n) rest all = (over_fit format n all.1.1.0, (None, all.1.1.1))
 
 mutual
   steps_in_range : (format : Format) (steps : Steps) (inside : Bool) (rest : List Piece) → AreSteps format inside steps →
-      InRangeBehind format (steps_pieces steps rest) →
-      AreInRange steps × InRangeBehind format rest
+      InRangeAfter format (steps_pieces steps rest) →
+      AreInRange steps × InRangeAfter format rest
   steps_in_range format stop inside rest are all = (tt, (None, all.1.1))
   steps_in_range format (step s ss) inside rest are all =
       let one = step_in_range format s inside (steps_pieces ss rest) are.0 all in
@@ -126,8 +126,8 @@ mutual
       ((one.0, others.0), others.1)
 
   step_in_range : (format : Format) (s : Step) (inside : Bool) (rest : List Piece) → IsStep format inside s →
-      InRangeBehind format (step_pieces s rest) → IsInRangeStep s
-      × InRangeBehind format rest
+      InRangeAfter format (step_pieces s rest) → IsInRangeStep s
+      × InRangeAfter format rest
   step_in_range format (sleep n) inside rest is all = (sleep_fit format n all.1.1.0, (None, all.1.1.1.1))
   step_in_range format checkpoint inside rest is all = (tt, (None, all.1.1.1))
   step_in_range format forever inside rest is all = (tt, (None, all.1.1.1))
@@ -167,14 +167,14 @@ mutual
       ((inner.0, handled.0, cleaned.0), cleaned.1)
 
   handler_in_range : (format : Format) (h : Handled) (rest : List Piece) → IsHandler format h →
-      InRangeBehind format (handler_pieces h rest) → IsInRangeHandler h
-      × InRangeBehind format rest
+      InRangeAfter format (handler_pieces h rest) → IsInRangeHandler h
+      × InRangeAfter format rest
   handler_in_range format unhandled rest is all = (tt, all)
   handler_in_range format (except n body) rest is all = steps_in_range format body false rest is (None, all.1.1.1.1)
 
   cleanup_in_range : (format : Format) (c : Cleaned) (rest : List Piece) → IsCleanup format c →
-      InRangeBehind format (cleanup_pieces c rest) → IsInRangeCleanup c
-      × InRangeBehind format rest
+      InRangeAfter format (cleanup_pieces c rest) → IsInRangeCleanup c
+      × InRangeAfter format rest
   cleanup_in_range format uncleaned rest is all = (tt, all)
   cleanup_in_range format (finally body) rest is all = steps_in_range format body false rest is (None, all.1.1.1)
 

@@ -56,8 +56,8 @@ no_text : (format : Format) (s : Nonterminal) (ss : List Nonterminal) → IsText
 no_text format s ss ([], fits, e) = goes format s ss [] fits
 no_text format s ss (p ∷ ps, fits, e) = absurd cc
 
-nothing_behind : (format : Format) (shape : Shape) (shapes : List Shape) → IsText format [] (shape ∷ shapes) → ⊥
-nothing_behind format shape shapes (ps, fits, e) =
+nothing_after : (format : Format) (shape : Shape) (shapes : List Shape) → IsText format [] (shape ∷ shapes) → ⊥
+nothing_after format shape shapes (ps, fits, e) =
     let h : shapes_in [] ≡ shape ∷ shapes = ap shapes_in (sym fits) ∙ e in
     absurd cc
 
@@ -107,7 +107,7 @@ fault_at-means format end [] (t ∷ ts) = inl (record {
   rest = ts;
   whole = refl;
   begins = begins_nothing format [];
-  no_further = λ b. nothing_behind format t.shape b.0 b.1;
+  no_further = λ b. nothing_after format t.shape b.0 b.1;
   place = refl;
 })
 fault_at-means format end (s ∷ ss) [] = inr (record { begins = begins_nothing format (s ∷ ss); not_whole = no_text format s ss }, refl)
@@ -133,7 +133,7 @@ fault_at-means format end (s ∷ ss) (t ∷ ts) = by_rest (λ more. fault_at-mea
 pub fault_at-text : (format : Format) (end : ℕ) (ss : List Nonterminal) (tokens : List Token) → IsText format ss (shapes_of tokens) →
     fault_at format end ss tokens ≡ None
 fault_at-text format end [] [] text = refl
-fault_at-text format end [] (t ∷ ts) text = absurd (nothing_behind format t.shape (shapes_of ts) text)
+fault_at-text format end [] (t ∷ ts) text = absurd (nothing_after format t.shape (shapes_of ts) text)
 fault_at-text format end (s ∷ ss) [] text = absurd (no_text format s ss text)
 fault_at-text format end (s ∷ ss) (t ∷ ts) text = by_rest (λ more. fault_at-text format end (more ++ ss) ts) (next format s t.shape) refl
   where
@@ -153,7 +153,7 @@ found_stop format end (s ∷ ss) [] stop rest begins no_further = by_rest (next 
     by_rest (Some more) is = let b = begins_nothing format (more ++ ss) in
         absurd (no_further (b.0, text_forward format s ss more stop.shape b.0 is b.1))
 found_stop format end [] (t ∷ front) stop rest begins no_further = absurd
-    (nothing_behind format t.shape (shapes_of front ++ begins.0) begins.1)
+    (nothing_after format t.shape (shapes_of front ++ begins.0) begins.1)
 found_stop format end (s ∷ ss) (t ∷ front) stop rest begins no_further =
     by_rest (λ more. found_stop format end (more ++ ss) front stop rest) (next format s t.shape) refl
   where
@@ -170,7 +170,7 @@ found_end : (format : Format) (end : ℕ) (ss : List Nonterminal) (tokens : List
     fault_at format end ss tokens ≡ Some end
 found_end format end [] [] begins not_whole = absurd (not_whole ([], refl, refl))
 found_end format end (s ∷ ss) [] begins not_whole = refl
-found_end format end [] (t ∷ ts) begins not_whole = absurd (nothing_behind format t.shape (shapes_of ts ++ begins.0) begins.1)
+found_end format end [] (t ∷ ts) begins not_whole = absurd (nothing_after format t.shape (shapes_of ts ++ begins.0) begins.1)
 found_end format end (s ∷ ss) (t ∷ ts) begins not_whole = by_rest (λ more. found_end format end (more ++ ss) ts)
     (next format s t.shape) refl
   where

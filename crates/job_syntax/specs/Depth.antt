@@ -43,14 +43,14 @@ abbrev pub max_depth : ℕ
 max_depth = 32
 
 -- how many blocks are open after a token, if `depth` are open before it
-abbrev pub depth_behind : ℕ → Option Mark → ℕ
-depth_behind depth None = depth
-depth_behind depth (Some mark.Open) = suc depth
-depth_behind depth (Some mark.Close) = depth - 1
-depth_behind depth (Some mark.Semicolon) = depth
+abbrev pub depth_after : ℕ → Option Mark → ℕ
+depth_after depth None = depth
+depth_after depth (Some mark.Open) = suc depth
+depth_after depth (Some mark.Close) = depth - 1
+depth_after depth (Some mark.Semicolon) = depth
 
 -- the first `{` after which more blocks are open than the maximum, if `depth` are already open
 abbrev pub depth_fault : ℕ → List Token → Option ℕ
 depth_fault depth [] = None
-depth_fault depth (t ∷ ts) = if nat_le (depth_behind depth (mark_in t.shape)) max_depth then depth_fault
-    (depth_behind depth (mark_in t.shape)) ts else Some t.at
+depth_fault depth (t ∷ ts) = if nat_le (depth_after depth (mark_in t.shape)) max_depth then depth_fault
+    (depth_after depth (mark_in t.shape)) ts else Some t.at

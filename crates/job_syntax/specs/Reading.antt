@@ -50,8 +50,8 @@ abbrev pub unless_other : Keyword → Read (List ℕ) → Option (List Shape)
 unless_other k None = None
 unless_other k (Some w) = if bytes_eq w.0 (spelling_of k) then Some w.1 else None
 
-abbrev pub behind_word : Keyword → List Shape → Option (List Shape)
-behind_word k shapes = unless_other k (word_at shapes)
+abbrev pub after_word : Keyword → List Shape → Option (List Shape)
+after_word k shapes = unless_other k (word_at shapes)
 
 -- an optional keyword
 abbrev pub flag_read : Option (List Shape) → List Shape → Bool × List Shape
@@ -59,20 +59,20 @@ flag_read (Some rest) shapes = (true, rest)
 flag_read None shapes = (false, shapes)
 
 abbrev pub flag_at : Keyword → List Shape → Bool × List Shape
-flag_at k shapes = flag_read (behind_word k shapes) shapes
+flag_at k shapes = flag_read (after_word k shapes) shapes
 
 -- what follows an optional keyword, or something else
 abbrev pub or_else : {A : Type 0} → Option (List Shape) → (List Shape → Read A) → Read A → Read A
-or_else (Some rest) behind other = behind rest
-or_else None behind other = other
+or_else (Some rest) following other = following rest
+or_else None following other = other
 
 abbrev pub deadline_at : List Shape → Read Deadline
 deadline_at shapes =
-    or_else (behind_word word.After shapes) (λ rest. number_at rest >>= λ n. Some (After n.0, n.1))
-    (or_else (behind_word word.At shapes) (λ rest. number_at rest >>= λ n. Some (At n.0, n.1)) (Some (Never, shapes)))
+    or_else (after_word word.After shapes) (λ rest. number_at rest >>= λ n. Some (After n.0, n.1))
+    (or_else (after_word word.At shapes) (λ rest. number_at rest >>= λ n. Some (At n.0, n.1)) (Some (Never, shapes)))
 
 abbrev pub over_at : List Shape → Read (Option ℕ)
-over_at shapes = or_else (behind_word word.Over shapes) (λ rest. number_at rest >>= λ n. Some (Some n.0, n.1)) (Some (None, shapes))
+over_at shapes = or_else (after_word word.Over shapes) (λ rest. number_at rest >>= λ n. Some (Some n.0, n.1)) (Some (None, shapes))
 
 -- how a nested block is read
 abbrev pub Blocks : Type 0
@@ -83,11 +83,11 @@ body_at blocks shapes = mark_at mark.Open shapes >>= blocks
 
 abbrev pub handler_at : Blocks → List Shape → Read Handled
 handler_at blocks shapes =
-    or_else (behind_word word.Except shapes) (λ rest. word_at rest >>= λ n. body_at blocks n.1 >>= λ b. Some (except n.0 b.0, b.1))
+    or_else (after_word word.Except shapes) (λ rest. word_at rest >>= λ n. body_at blocks n.1 >>= λ b. Some (except n.0 b.0, b.1))
     (Some (unhandled, shapes))
 
 abbrev pub cleanup_at : Blocks → List Shape → Read Cleaned
-cleanup_at blocks shapes = or_else (behind_word word.Finally shapes) (λ rest. body_at blocks rest >>= λ b. Some (finally b.0, b.1))
+cleanup_at blocks shapes = or_else (after_word word.Finally shapes) (λ rest. body_at blocks rest >>= λ b. Some (finally b.0, b.1))
     (Some (uncleaned, shapes))
 
 -- a scope, read after its keyword
@@ -130,16 +130,16 @@ plain_step word.Cancel shapes = word_at shapes >>= λ n. step_to_semicolon (canc
 plain_step _ shapes = None
 
 -- a step, read after its keyword
-abbrev pub step_behind : Blocks → Keyword → List Shape → Read Step
-step_behind blocks word.Scope shapes = scope_at blocks shapes
-step_behind blocks word.Nursery shapes = nursery_at blocks shapes
-step_behind blocks word.Start shapes = start_at blocks shapes
-step_behind blocks word.Repeat shapes = repeat_at blocks shapes
-step_behind blocks word.Try shapes = try_at blocks shapes
-step_behind blocks k shapes = plain_step k shapes
+abbrev pub step_after : Blocks → Keyword → List Shape → Read Step
+step_after blocks word.Scope shapes = scope_at blocks shapes
+step_after blocks word.Nursery shapes = nursery_at blocks shapes
+step_after blocks word.Start shapes = start_at blocks shapes
+step_after blocks word.Repeat shapes = repeat_at blocks shapes
+step_after blocks word.Try shapes = try_at blocks shapes
+step_after blocks k shapes = plain_step k shapes
 
 abbrev pub step_at : Blocks → List Shape → Read Step
-step_at blocks shapes = keyword_at shapes >>= λ k. step_behind blocks k.0 k.1
+step_at blocks shapes = keyword_at shapes >>= λ k. step_after blocks k.0 k.1
 
 abbrev pub ended_or : Option (List Shape) → Read Steps → Read Steps
 ended_or (Some rest) others = Some (stop, rest)

@@ -1,6 +1,6 @@
 ghost use Rattle.std.specs.Prelude.{◌≡◌, ◌≤◌};
 ghost use Rattle.job_tokens.specs.Shapes.{mark_in};
-ghost use Rattle.job_syntax.specs.Depth.{depth_fault, depth_behind};
+ghost use Rattle.job_syntax.specs.Depth.{depth_fault, depth_after};
 
 use job_tokens::{Mark, Shape, Token};
 
@@ -14,7 +14,7 @@ pub fn depth_fault(tokens: &[Token]) -> Option<usize>
 {
     let mut depth = 0;
     for token in tokens {
-        depth = depth_behind(depth, token.shape);
+        depth = depth_after(depth, token.shape);
         if depth > MAX_DEPTH {
             return Some(token.at);
         }
@@ -23,9 +23,9 @@ pub fn depth_fault(tokens: &[Token]) -> Option<usize>
 }
 
 // Returns how many blocks are open after a token, if `depth` blocks are open before it.
-fn depth_behind(depth: usize, shape: Shape) -> usize
+fn depth_after(depth: usize, shape: Shape) -> usize
     requires { depth ≤ 32 }
-    ensures { result ≡ depth_behind depth (mark_in shape) }
+    ensures { result ≡ depth_after depth (mark_in shape) }
 {
     match shape.mark() {
         Some(Mark::Open) => depth + 1,

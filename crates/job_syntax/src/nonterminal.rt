@@ -89,7 +89,7 @@ impl Nonterminal {
         ensures { Gives (λ x. reverse x.now) result (next format self shape) }
     {
         match shape {
-            Shape::Word(word) => self.behind_word(format, word),
+            Shape::Word(word) => self.after_word(format, word),
             Shape::Number(number) => if self == Nonterminal::Number && number.is_some() {
                 rest!()
             } else {
@@ -100,11 +100,11 @@ impl Nonterminal {
             } else {
                 None
             },
-            Shape::Mark(mark) => self.behind_mark(mark),
+            Shape::Mark(mark) => self.after_mark(mark),
         }
     }
 
-    fn behind_word(self, format: Format, word: Name) -> Option<&'static [Nonterminal]>
+    fn after_word(self, format: Format, word: Name) -> Option<&'static [Nonterminal]>
         ensures { Gives (λ x. reverse x.now) result (next format self (shape.Word word)) }
     {
         // Any word is accepted as a name here. Keywords are refused by a later check.
@@ -131,7 +131,7 @@ impl Nonterminal {
         }
     }
 
-    fn behind_mark(self, mark: Mark) -> Option<&'static [Nonterminal]>
+    fn after_mark(self, mark: Mark) -> Option<&'static [Nonterminal]>
         ensures { (format : Format) → Gives (λ x. reverse x.now) result (next format self (shape.Mark mark)) }
     {
         match (self, mark) {

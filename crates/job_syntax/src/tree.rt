@@ -4,7 +4,7 @@ ghost use Rattle.job_tokens.specs.Shapes.{shapes_of};
 ghost use Rattle.job_tokens.specs.Lexing.{Gives};
 ghost use Rattle.job_syntax.specs.declared.keyword.Keyword.TheVariants as word;
 ghost use Rattle.job_tree.specs.declared.format.Format.{Format};
-ghost use Rattle.job_syntax.specs.Reading.{word_at, keyword_at, number_at, text_at, mark_at, behind_word, flag_at, deadline_at, over_at, body_at, handler_at, cleanup_at, scope_at, nursery_at, start_at, repeat_at, try_at, step_to_semicolon, plain_step, step_at, steps_with, blocks_at, head_at, job_at};
+ghost use Rattle.job_syntax.specs.Reading.{word_at, keyword_at, number_at, text_at, mark_at, after_word, flag_at, deadline_at, over_at, body_at, handler_at, cleanup_at, scope_at, nursery_at, start_at, repeat_at, try_at, step_to_semicolon, plain_step, step_at, steps_with, blocks_at, head_at, job_at};
 
 use crate::depth::MAX_DEPTH;
 use crate::keyword::Keyword;
@@ -95,8 +95,8 @@ fn mark_at(tokens: &[Token], mark: Mark) -> Option<&[Token]>
 }
 
 // Returns the tokens after this keyword, if it is the first token.
-fn behind_word(tokens: &[Token], keyword: Keyword) -> Option<&[Token]>
-    ensures { Gives (λ x. shapes_of x.now) result (behind_word keyword (shapes_of tokens.now)) }
+fn after_word(tokens: &[Token], keyword: Keyword) -> Option<&[Token]>
+    ensures { Gives (λ x. shapes_of x.now) result (after_word keyword (shapes_of tokens.now)) }
 {
     let Some((word, rest)) = word_at(tokens) else {
         return None;
@@ -111,7 +111,7 @@ fn behind_word(tokens: &[Token], keyword: Keyword) -> Option<&[Token]>
 fn flag_at(tokens: &[Token], keyword: Keyword) -> (bool, &[Token])
     ensures { (result.0, shapes_of result.1.now) ≡ flag_at keyword (shapes_of tokens.now) }
 {
-    match behind_word(tokens, keyword) {
+    match after_word(tokens, keyword) {
         Some(rest) => (true, rest),
         None => (false, tokens),
     }
@@ -120,11 +120,11 @@ fn flag_at(tokens: &[Token], keyword: Keyword) -> (bool, &[Token])
 fn deadline_at(tokens: &[Token]) -> Option<(Deadline, &[Token])>
     ensures { Gives (λ x. (x.0, shapes_of x.1.now)) result (deadline_at (shapes_of tokens.now)) }
 {
-    if let Some(rest) = behind_word(tokens, Keyword::After) {
+    if let Some(rest) = after_word(tokens, Keyword::After) {
         let (ticks, rest) = number_at(rest)?;
         return Some((Deadline::After(ticks), rest));
     }
-    if let Some(rest) = behind_word(tokens, Keyword::At) {
+    if let Some(rest) = after_word(tokens, Keyword::At) {
         let (tick, rest) = number_at(rest)?;
         return Some((Deadline::At(tick), rest));
     }
@@ -135,7 +135,7 @@ fn deadline_at(tokens: &[Token]) -> Option<(Deadline, &[Token])>
 fn over_at(tokens: &[Token]) -> Option<(Option<u64>, &[Token])>
     ensures { Gives (λ x. (x.0, shapes_of x.1.now)) result (over_at (shapes_of tokens.now)) }
 {
-    if let Some(rest) = behind_word(tokens, Keyword::Over) {
+    if let Some(rest) = after_word(tokens, Keyword::Over) {
         let (copies, rest) = number_at(rest)?;
         return Some((Some(copies), rest));
     }
@@ -347,7 +347,7 @@ fn handler_at(
 ) -> Result<Option<(Option<Handler>, &[Token])>, AllocError>
     ensures { IfOk result (λ x. Gives (λ h. (handled_of h.0, shapes_of h.1.now)) x (handler_at (blocks_at depth) (shapes_of tokens.now))) }
 {
-    let Some(rest) = behind_word(tokens, Keyword::Except) else {
+    let Some(rest) = after_word(tokens, Keyword::Except) else {
         return Ok(Some((None, tokens)));
     };
     let Some((name, rest)) = word_at(rest) else {
@@ -367,7 +367,7 @@ fn cleanup_at(
 ) -> Result<Option<(Option<Body>, &[Token])>, AllocError>
     ensures { IfOk result (λ x. Gives (λ c. (cleaned_of c.0, shapes_of c.1.now)) x (cleanup_at (blocks_at depth) (shapes_of tokens.now))) }
 {
-    let Some(rest) = behind_word(tokens, Keyword::Finally) else {
+    let Some(rest) = after_word(tokens, Keyword::Finally) else {
         return Ok(Some((None, tokens)));
     };
     let Some((body, rest)) = body_at(alloc, depth, rest)? else {

@@ -10,7 +10,7 @@ use Rattle.job_tokens.specs.declared.token.Mark.TheVariants as mark
 use Rattle.job_tokens.specs.declared.token.Shape.{Shape}
 use Rattle.job_tokens.specs.declared.token.Shape.TheVariants as shape
 use Rattle.job_tokens.specs.Lexing.{is_plain}
-use Rattle.job_tokens.specs.Canon.{hex_digit, unit, mark_byte, token, is_wordlike, gap, canon_behind}
+use Rattle.job_tokens.specs.Canon.{hex_digit, unit, mark_byte, token, is_wordlike, gap, canon_after}
 use Rattle.job_tokens.proofs.Round_bytes.{and_parts, and_whole, either_way}
 use Rattle.job_tokens.proofs.Round_numbers.{digits_of_number}
 use Rattle.job_tokens.proofs.Round_strings.{AreBytes}
@@ -113,9 +113,9 @@ gap_small false true = refl
 gap_small false false = refl
 
 -- the canonical text of tokens that can be written is all ASCII
-pub canon_small : (before : Bool) (ss : List Shape) → AreWritable ss → list_all is_small (canon_behind before ss) ≡ true
+pub canon_small : (before : Bool) (ss : List Shape) → AreWritable ss → list_all is_small (canon_after before ss) ≡ true
 canon_small before [] are = refl
 canon_small before (s ∷ ss) are =
-    all_append (gap before (is_wordlike s) ++ token s) (canon_behind (is_wordlike s) ss)
+    all_append (gap before (is_wordlike s) ++ token s) (canon_after (is_wordlike s) ss)
     (all_append (gap before (is_wordlike s)) (token s) (gap_small before (is_wordlike s)) (token_small s are.0))
     (canon_small (is_wordlike s) ss are.1)

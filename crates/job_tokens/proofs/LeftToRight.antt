@@ -3,7 +3,7 @@ use Rattle.std.proofs.Common.{◌≡◌, ℕ, ◌+◌, ◌-◌, ◌<◌, ◌≤�
 use Rattle.std.proofs.lemmas.List.{append-nil, nil_from_length}
 use Rattle.job_tokens.specs.declared.token.Shape.{Shape}
 use Rattle.job_tokens.specs.declared.token.Token.{Token}
-use Rattle.job_tokens.specs.Lexing.{behind_blanks, token_at, Lexes}
+use Rattle.job_tokens.specs.Lexing.{after_blanks, token_at, Lexes}
 
 -- the tokens of bytes whose first byte is not a blank
 abbrev pub LexesFrom : ℕ → List ℕ → List Token → Option ℕ → Type 0
@@ -13,7 +13,7 @@ LexesFrom end bytes (t ∷ ts) fault = (rest : List ℕ) × (token_at bytes ≡ 
     × Lexes end rest ts fault
 
 -- the tokens read from the first byte that is not a blank are those of all the bytes
-pub from_blanks : (end : ℕ) (bytes rest : List ℕ) (ts : List Token) (fault : Option ℕ) → rest ≡ behind_blanks bytes →
+pub from_blanks : (end : ℕ) (bytes rest : List ℕ) (ts : List Token) (fault : Option ℕ) → rest ≡ after_blanks bytes →
     LexesFrom end rest ts fault → Lexes end bytes ts fault
 from_blanks end bytes rest [] None e h = sym e ∙ h
 from_blanks end bytes rest [] (Some at) e h = subst (λ (r : List ℕ). (token_at r ≡ None) × (0 < length r) × (at + length r ≡ end)) e h
@@ -60,12 +60,12 @@ Lexes-unique end bytes [] [] None None p q = (refl, refl)
 Lexes-unique end bytes [] [] None (Some b) p q = absurd (omega (arith, ap (length {A = ℕ}) p, q.1))
 Lexes-unique end bytes [] [] (Some a) None p q = absurd (omega (arith, ap (length {A = ℕ}) q, p.1))
 Lexes-unique end bytes [] [] (Some a) (Some b) p q = (refl, ap Some (omega (arith, p.2, q.2)))
-Lexes-unique end bytes [] (u ∷ us) None g p q = absurd (nothing_there (behind_blanks bytes) (u.shape, q.0) p q.1)
-Lexes-unique end bytes [] (u ∷ us) (Some a) g p q = absurd (not_both (token_at (behind_blanks bytes)) (u.shape, q.0) q.1 p.0)
-Lexes-unique end bytes (t ∷ ts) [] f None p q = absurd (nothing_there (behind_blanks bytes) (t.shape, p.0) q p.1)
-Lexes-unique end bytes (t ∷ ts) [] f (Some b) p q = absurd (not_both (token_at (behind_blanks bytes)) (t.shape, p.0) p.1 q.0)
+Lexes-unique end bytes [] (u ∷ us) None g p q = absurd (nothing_there (after_blanks bytes) (u.shape, q.0) p q.1)
+Lexes-unique end bytes [] (u ∷ us) (Some a) g p q = absurd (not_both (token_at (after_blanks bytes)) (u.shape, q.0) q.1 p.0)
+Lexes-unique end bytes (t ∷ ts) [] f None p q = absurd (nothing_there (after_blanks bytes) (t.shape, p.0) q p.1)
+Lexes-unique end bytes (t ∷ ts) [] f (Some b) p q = absurd (not_both (token_at (after_blanks bytes)) (t.shape, p.0) p.1 q.0)
 Lexes-unique end bytes (t ∷ ts) (u ∷ us) f g p q =
-    let one = some_is (token_at (behind_blanks bytes)) (t.shape, p.0) (u.shape, q.0) p.1 q.1 in
+    let one = some_is (token_at (after_blanks bytes)) (t.shape, p.0) (u.shape, q.0) p.1 q.1 in
     let shape : t.shape ≡ u.shape = ap (λ (x : Shape × List ℕ). x.0) one in
     let rest : p.0 ≡ q.0 = ap (λ (x : Shape × List ℕ). x.1) one in
     let place : t.at ≡ u.at = omega (arith, p.2, q.2) in

@@ -4,7 +4,7 @@ use Rattle.std.specs.List.{flat_map, AllByRecursion}
 use Rattle.std.proofs.lemmas.Bool.{le-leb, le-ltb, cases_lt}
 use Rattle.job_tree.specs.Words.{is_digit, is_text}
 use Rattle.job_tokens.specs.declared.token.Shape.TheVariants as shape
-use Rattle.job_tokens.specs.Lexing.{hex_value, unit_at, is_plain, behind_quote, units, string_of, string_at, token_at}
+use Rattle.job_tokens.specs.Lexing.{hex_value, unit_at, is_plain, after_quote, units, string_of, string_at, token_at}
 use Rattle.job_tokens.specs.Canon.{hex_digit, unit}
 use Rattle.job_tokens.proofs.Round_bytes.{and_whole, or_none, either_way}
 
@@ -38,7 +38,7 @@ hex_value-digit d small = elim (cases_lt d 10) [ inl lt ↦ low lt | inr ge ↦ 
 
 -- one unit and the bytes after it
 record ReadsAgain (b : ℕ) (rest : List ℕ) : Type 0 where
-  unquoted : behind_quote (unit b ++ rest) ≡ None
+  unquoted : after_quote (unit b ++ rest) ≡ None
   again : unit_at (unit b ++ rest) ≡ Some (b, rest)
 
 unit_again : (b : ℕ) (rest : List ℕ) → b < 256 → ReadsAgain b rest
@@ -49,7 +49,7 @@ unit_again b rest small = by_escape (either_way (eqb b 34 || eqb b 92))
         let spelled : unit b ≡ 92 ∷ 120 ∷ hex_digit (b / 16) ∷ hex_digit (b % 16) ∷ [] = rw (escaped, plain) refl in
         let value : 16 * (b / 16) + b % 16 ≡ b = omega arith in
         record {
-          unquoted = ap (λ (x : List ℕ). behind_quote (x ++ rest)) spelled;
+          unquoted = ap (λ (x : List ℕ). after_quote (x ++ rest)) spelled;
           again = ap (λ (x : List ℕ). unit_at (x ++ rest)) spelled ∙ rw (
             hex_value-digit (b / 16) (omega arith),
             hex_value-digit (b % 16) (omega arith),
@@ -62,7 +62,7 @@ unit_again b rest small = by_escape (either_way (eqb b 34 || eqb b 92))
         let spelled : unit b ≡ b ∷ [] = rw (escaped, plain) refl in
         let parts = or_none (eqb b 34) (eqb b 92) escaped in
         record {
-          unquoted = ap (λ (x : List ℕ). behind_quote (x ++ rest)) spelled ∙ rw parts.0 refl;
+          unquoted = ap (λ (x : List ℕ). after_quote (x ++ rest)) spelled ∙ rw parts.0 refl;
           again = ap (λ (x : List ℕ). unit_at (x ++ rest)) spelled ∙ rw (parts.1, plain) refl;
         }
 
@@ -74,7 +74,7 @@ unit_again b rest small = by_escape (either_way (eqb b 34 || eqb b 92))
     by_escape (inl escaped) =
         let spelled : unit b ≡ 92 ∷ b ∷ [] = rw escaped refl in
         record {
-          unquoted = ap (λ (x : List ℕ). behind_quote (x ++ rest)) spelled;
+          unquoted = ap (λ (x : List ℕ). after_quote (x ++ rest)) spelled;
           again = ap (λ (x : List ℕ). unit_at (x ++ rest)) spelled ∙ rw escaped refl;
         }
     by_escape (inr escaped) = by_plain escaped (either_way (is_plain b))

@@ -13,8 +13,8 @@ use Rattle.job_tokens.specs.declared.token.Shape.TheVariants as shape
 use Rattle.job_tokens.specs.declared.token.Token.{Token}
 use Rattle.job_tokens.specs.Shapes.{shapes_of}
 use Rattle.job_tree.specs.declared.limits.TheConstants.{MAX_NUMBER}
-use Rattle.job_tokens.specs.Lexing.{is_blank, behind_blanks, token_at, word_at, number_at, Lexes}
-use Rattle.job_tokens.specs.Canon.{mark_byte, token, is_wordlike, gap, canon_behind}
+use Rattle.job_tokens.specs.Lexing.{is_blank, after_blanks, token_at, word_at, number_at, Lexes}
+use Rattle.job_tokens.specs.Canon.{mark_byte, token, is_wordlike, gap, canon_after}
 use Rattle.job_tokens.proofs.Round_bytes.{and_parts, either_way}
 use Rattle.job_tokens.proofs.Round_words.{word_again, token_unless_word, token_unless_number}
 use Rattle.job_tokens.proofs.Round_numbers.{number_at-again, digits_of_number, digit_in_word}
@@ -76,20 +76,20 @@ abbrev BeginsAToken : List ℕ → Type 0
 BeginsAToken [] = ⊥
 BeginsAToken (b ∷ bytes) = is_blank b ≡ false
 
-no_blanks : (bytes : List ℕ) → BeginsAToken bytes → behind_blanks bytes ≡ bytes
+no_blanks : (bytes : List ℕ) → BeginsAToken bytes → after_blanks bytes ≡ bytes
 no_blanks [] begins = absurd begins
 no_blanks (b ∷ bytes) begins = rw begins refl
 
-one_blank : (bytes : List ℕ) → BeginsAToken bytes → behind_blanks (32 ∷ bytes) ≡ bytes
+one_blank : (bytes : List ℕ) → BeginsAToken bytes → after_blanks (32 ∷ bytes) ≡ bytes
 one_blank [] begins = absurd begins
 one_blank (b ∷ bytes) begins = let k : 1 + prefix_len is_blank (b ∷ bytes) ≡ 1 =
     ap (λ (x : Bool). 1 + cond x (1 + prefix_len is_blank bytes) 0) begins in ap (λ (n : ℕ). drop n (32 ∷ b ∷ bytes)) k
 
-behind_gap : (x y : Bool) (bytes : List ℕ) → BeginsAToken bytes → behind_blanks (gap x y ++ bytes) ≡ bytes
-behind_gap true true bytes begins = one_blank bytes begins
-behind_gap true false bytes begins = no_blanks bytes begins
-behind_gap false true bytes begins = no_blanks bytes begins
-behind_gap false false bytes begins = no_blanks bytes begins
+after_gap : (x y : Bool) (bytes : List ℕ) → BeginsAToken bytes → after_blanks (gap x y ++ bytes) ≡ bytes
+after_gap true true bytes begins = one_blank bytes begins
+after_gap true false bytes begins = no_blanks bytes begins
+after_gap false true bytes begins = no_blanks bytes begins
+after_gap false false bytes begins = no_blanks bytes begins
 
 mark_begins : (m : Mark) → is_blank (mark_byte m) ≡ false
 mark_begins mark.Open = refl
@@ -164,23 +164,23 @@ mark_stops mark.Open rest = refl
 mark_stops mark.Close rest = refl
 mark_stops mark.Semicolon rest = refl
 
-canon_stops : (before : Bool) (ss : List Shape) → StopsWord before (canon_behind before ss)
+canon_stops : (before : Bool) (ss : List Shape) → StopsWord before (canon_after before ss)
 canon_stops false ss = tt
 canon_stops true [] = refl
 canon_stops true (shape.Word word ∷ ss) = refl
 canon_stops true (shape.Number n ∷ ss) = refl
 canon_stops true (shape.Text text ∷ ss) = refl
-canon_stops true (shape.Mark m ∷ ss) = mark_stops m (canon_behind false ss)
+canon_stops true (shape.Mark m ∷ ss) = mark_stops m (canon_after false ss)
 
 abbrev LexesAs : ℕ → List ℕ → List Shape → Type 0
 LexesAs end bytes ss = (ts : List Token) × Lexes end bytes ts None × (shapes_of ts ≡ ss)
 
 -- the canonical text of tokens that can be written is read as these tokens, to its end
-pub canon_lexes : (end : ℕ) (before : Bool) (ss : List Shape) → AreWritable ss → length (canon_behind before ss) ≤ end →
-    LexesAs end (canon_behind before ss) ss
+pub canon_lexes : (end : ℕ) (before : Bool) (ss : List Shape) → AreWritable ss → length (canon_after before ss) ≤ end →
+    LexesAs end (canon_after before ss) ss
 canon_lexes end before [] are le = ([], refl, refl)
 canon_lexes end before (s ∷ ss) are le =
-    let rest = canon_behind (is_wordlike s) ss in
+    let rest = canon_after (is_wordlike s) ss in
     let bytes = token s ++ rest in
     let all : (gap before (is_wordlike s) ++ token s) ++ rest ≡ gap before (is_wordlike s) ++ bytes =
     append_assoc (gap before (is_wordlike s)) (token s) rest in
@@ -188,10 +188,10 @@ canon_lexes end before (s ∷ ss) are le =
     omega (arith, le, ap (length {A = ℕ}) all, length-append (gap before (is_wordlike s)) bytes) in
     let bound : length rest ≤ end = omega (arith, len, length-append (token s) rest) in
     let others = canon_lexes end (is_wordlike s) ss are.1 bound in
-    let behind : behind_blanks ((gap before (is_wordlike s) ++ token s) ++ rest) ≡ bytes =
-    ap behind_blanks all ∙ behind_gap before (is_wordlike s) bytes (token_begins s rest are.0) in
-    let found : token_at (behind_blanks ((gap before (is_wordlike s) ++ token s) ++ rest)) ≡ Some (s, rest) =
-    ap token_at behind ∙ token_again s rest are.0 (canon_stops (is_wordlike s) ss) in
-    let place : end - length bytes + length (behind_blanks ((gap before (is_wordlike s) ++ token s) ++ rest)) ≡ end =
-    omega (arith, ap (length {A = ℕ}) behind, len) in
+    let following : after_blanks ((gap before (is_wordlike s) ++ token s) ++ rest) ≡ bytes =
+    ap after_blanks all ∙ after_gap before (is_wordlike s) bytes (token_begins s rest are.0) in
+    let found : token_at (after_blanks ((gap before (is_wordlike s) ++ token s) ++ rest)) ≡ Some (s, rest) =
+    ap token_at following ∙ token_again s rest are.0 (canon_stops (is_wordlike s) ss) in
+    let place : end - length bytes + length (after_blanks ((gap before (is_wordlike s) ++ token s) ++ rest)) ≡ end =
+    omega (arith, ap (length {A = ℕ}) following, len) in
     (record { at = end - length bytes; shape = s } ∷ others.0, (rest, found, place, others.1), ap (λ (x : List Shape). s ∷ x) others.2)

@@ -2,7 +2,7 @@
 use Rattle.std.proofs.Common.{◌≡◌, ℕ, ◌+◌, ◌-◌, ◌*◌, ◌<◌, ◌≤◌, Bool, true, false, cond, eqb, ◌&&◌, ◌||◌, leb, List, [], ◌∷◌, length, Option, Some, None, ◌⊎◌, inl, inr, refl, sym, ap, subst, ◌∙◌, arith}
 use Rattle.std.proofs.lemmas.Bool.{leb-true, eqb-true}
 use Rattle.job_tree.specs.Words.{is_digit}
-use Rattle.job_tokens.specs.Lexing.{Unit_read, hex_value, byte_of, hex_at, escape_at, unit_at, is_plain, behind_quote}
+use Rattle.job_tokens.specs.Lexing.{Unit_read, hex_value, byte_of, hex_at, escape_at, unit_at, is_plain, after_quote}
 use Rattle.job_tokens.specs.Canon.{unit}
 use Rattle.job_tokens.proofs.Round_bytes.{and_parts, either_way, chosen}
 
@@ -99,7 +99,7 @@ no_quote true rest e = absurd (no_some rest (sym e))
 no_quote false rest e = refl
 
 -- a unit that is read, where no quote comes first, is a byte whose canonical form is no longer than its spelling
-pub read_unit : (bytes : List ℕ) (b : ℕ) (after : List ℕ) → behind_quote bytes ≡ None → unit_at bytes ≡ Some (b, after) →
+pub read_unit : (bytes : List ℕ) (b : ℕ) (after : List ℕ) → after_quote bytes ≡ None → unit_at bytes ≡ Some (b, after) →
     IsUnit bytes b after
 read_unit [] b after q e = absurd (no_some (b, after) e)
 read_unit (c ∷ rest) b after q e =

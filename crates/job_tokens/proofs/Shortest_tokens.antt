@@ -14,8 +14,8 @@ use Rattle.job_tokens.specs.declared.token.Shape.TheVariants as shape
 use Rattle.job_tokens.specs.declared.token.Token.{Token}
 use Rattle.job_tokens.specs.Shapes.{shapes_of}
 use Rattle.job_tree.specs.declared.limits.TheConstants.{MAX_NUMBER}
-use Rattle.job_tokens.specs.Lexing.{Read, Unit_read, Units_read, is_blank, behind_blanks, word_at, number_at, number_of, value_after, value_within, has_leading_zero, goes_on, unit_at, behind_quote, unless_ended, unit_then, with_unit, units, string_of, string_at, token_at, Lexes}
-use Rattle.job_tokens.specs.Canon.{unit, token, is_wordlike, gap, canon_behind}
+use Rattle.job_tokens.specs.Lexing.{Read, Unit_read, Units_read, is_blank, after_blanks, word_at, number_at, number_of, value_after, value_within, has_leading_zero, goes_on, unit_at, after_quote, unless_ended, unit_then, with_unit, units, string_of, string_at, token_at, Lexes}
+use Rattle.job_tokens.specs.Canon.{unit, token, is_wordlike, gap, canon_after}
 use Rattle.job_tokens.proofs.Round_bytes.{and_parts, chosen, taken_passes, left_stops}
 use Rattle.job_tokens.proofs.Round_words.{token_unless_word, token_unless_number}
 use Rattle.job_tokens.proofs.Round_numbers.{digit_in_word}
@@ -42,7 +42,7 @@ same_units p q e = cc
 string_is : (bytes : List ℕ) (p q : List ℕ × List ℕ) → found_units p ≡ found_units q → IsString bytes p.0 p.1 → IsString bytes q.0 q.1
 string_is bytes p q e is = subst (λ (x : List ℕ × List ℕ). IsString bytes x.0 x.1) (same_units p q e) is
 
-quote_shorter : (bytes rest : List ℕ) → behind_quote bytes ≡ Some rest → length rest + 1 ≤ length bytes
+quote_shorter : (bytes rest : List ℕ) → after_quote bytes ≡ Some rest → length rest + 1 ≤ length bytes
 quote_shorter [] rest e = absurd cc
 quote_shorter (b ∷ bytes) rest e = by_test (chosen (eqb b 34) (Some bytes) None (Some rest) e)
   where
@@ -50,19 +50,19 @@ quote_shorter (b ∷ bytes) rest e = by_test (chosen (eqb b 34) (Some bytes) Non
     by_test (inl (t, e)) = let s : bytes ≡ rest = cc in omega (arith, ap (length {A = ℕ}) s)
     by_test (inr (f, e)) = absurd cc
 
-empty_string : (bytes after : List ℕ) (p : List ℕ × List ℕ) → behind_quote bytes ≡ Some after → found_units ([], after) ≡ found_units p →
+empty_string : (bytes after : List ℕ) (p : List ℕ × List ℕ) → after_quote bytes ≡ Some after → found_units ([], after) ≡ found_units p →
     IsString bytes p.0 p.1
 empty_string bytes after p q e =
     string_is bytes ([], after) p e (record { small = tt; shorter = omega (arith, quote_shorter bytes after q) })
 
 read_string : (n : ℕ) (bytes : List ℕ) (p : List ℕ × List ℕ) → units n bytes ≡ found_units p → IsString bytes p.0 p.1
 unfolding units
-read_string zero bytes p e = by_quote (behind_quote bytes) refl e
+read_string zero bytes p e = by_quote (after_quote bytes) refl e
   where
-    by_quote : (q : Option (List ℕ)) → behind_quote bytes ≡ q → unless_ended q None ≡ found_units p → IsString bytes p.0 p.1
+    by_quote : (q : Option (List ℕ)) → after_quote bytes ≡ q → unless_ended q None ≡ found_units p → IsString bytes p.0 p.1
     by_quote None q e = absurd (no_units p e)
     by_quote (Some after) q e = empty_string bytes after p q e
-read_string (suc n) bytes p e = by_quote (λ rest x. read_string n rest x) (behind_quote bytes) refl e
+read_string (suc n) bytes p e = by_quote (λ rest x. read_string n rest x) (after_quote bytes) refl e
   where
     by_rest : ((rest : List ℕ) (x : List ℕ × List ℕ) → units n rest ≡ found_units x → IsString rest x.0 x.1) → (b : ℕ) (after : List ℕ) →
         IsUnit bytes b after → (u : Units_read) → units n after ≡ u → with_unit b u ≡ found_units p → IsString bytes p.0 p.1
@@ -75,13 +75,13 @@ read_string (suc n) bytes p e = by_quote (λ rest x. read_string n rest x) (behi
               omega (arith, is.shorter, rest.shorter, length-append (unit b) (flat_map unit x.0));
         })
 
-    by_unit : ((rest : List ℕ) (x : List ℕ × List ℕ) → units n rest ≡ found_units x → IsString rest x.0 x.1) → behind_quote bytes ≡ None →
+    by_unit : ((rest : List ℕ) (x : List ℕ × List ℕ) → units n rest ≡ found_units x → IsString rest x.0 x.1) → after_quote bytes ≡ None →
         (u : Unit_read) → unit_at bytes ≡ u → unit_then u (units n) ≡ found_units p → IsString bytes p.0 p.1
     by_unit others q None u e = absurd (no_units p e)
     by_unit others q (Some x) u e = by_rest others x.0 x.1 (read_unit bytes x.0 x.1 q u) (units n x.1) refl e
 
     by_quote : ((rest : List ℕ) (x : List ℕ × List ℕ) → units n rest ≡ found_units x → IsString rest x.0 x.1) → (q : Option (List ℕ)) →
-        behind_quote bytes ≡ q → unless_ended q (unit_then (unit_at bytes) (units n)) ≡ found_units p → IsString bytes p.0 p.1
+        after_quote bytes ≡ q → unless_ended q (unit_then (unit_at bytes) (units n)) ≡ found_units p → IsString bytes p.0 p.1
     by_quote others None q e = by_unit others q (unit_at bytes) refl e
     by_quote others (Some after) q e = empty_string bytes after p q e
 
@@ -313,44 +313,44 @@ IsFree false bytes = Unit {0}
 
 -- there is a blank between two words or numbers
 blank_between : (before : Bool) (s : Shape) (bytes rest : List ℕ) → IsFree before bytes →
-    IsApart (is_wordlike s) (behind_blanks bytes) rest → length (gap before (is_wordlike s)) + length (behind_blanks bytes) ≤ length bytes
+    IsApart (is_wordlike s) (after_blanks bytes) rest → length (gap before (is_wordlike s)) + length (after_blanks bytes) ≤ length bytes
 blank_between before s bytes rest free apart = by_gap before (is_wordlike s) free apart
   where
-    len : length (behind_blanks bytes) ≡ length bytes - prefix_len is_blank bytes
+    len : length (after_blanks bytes) ≡ length bytes - prefix_len is_blank bytes
     len = length-drop (prefix_len is_blank bytes) bytes
 
-    no_blank : prefix_len is_blank bytes ≡ 0 → behind_blanks bytes ≡ bytes
+    no_blank : prefix_len is_blank bytes ≡ 0 → after_blanks bytes ≡ bytes
     no_blank e = ap (λ (n : ℕ). drop n bytes) e
 
-    some : prefix_len is_word_byte bytes ≡ 0 → 0 < prefix_len is_word_byte (behind_blanks bytes) → (n : ℕ) → prefix_len is_blank bytes ≡ n →
-        1 + length (behind_blanks bytes) ≤ length bytes
+    some : prefix_len is_word_byte bytes ≡ 0 → 0 < prefix_len is_word_byte (after_blanks bytes) → (n : ℕ) → prefix_len is_blank bytes ≡ n →
+        1 + length (after_blanks bytes) ≤ length bytes
     some free begins zero e = absurd (omega (arith, free, begins, ap (prefix_len is_word_byte) (no_blank e)))
     some free begins (suc n) e = omega (arith, len, e, prefix_len-le-length is_blank bytes)
 
-    by_gap : (x y : Bool) → IsFree x bytes → IsApart y (behind_blanks bytes) rest →
-        length (gap x y) + length (behind_blanks bytes) ≤ length bytes
+    by_gap : (x y : Bool) → IsFree x bytes → IsApart y (after_blanks bytes) rest →
+        length (gap x y) + length (after_blanks bytes) ≤ length bytes
     by_gap true true free apart = some free apart.1 (prefix_len is_blank bytes) refl
     by_gap true false free apart = omega (arith, len)
     by_gap false true free apart = omega (arith, len)
     by_gap false false free apart = omega (arith, len)
 
-free_behind : (y : Bool) (bytes rest : List ℕ) → IsApart y bytes rest → IsFree y rest
-free_behind true bytes rest apart = apart.0
-free_behind false bytes rest apart = tt
+free_after : (y : Bool) (bytes rest : List ℕ) → IsApart y bytes rest → IsFree y rest
+free_after true bytes rest apart = apart.0
+free_after false bytes rest apart = tt
 
 -- no text of the same tokens is shorter than the canonical one
 pub canon_shortest : (end : ℕ) (before : Bool) (bytes : List ℕ) (ts : List Token) → IsFree before bytes → Lexes end bytes ts None →
-    length (canon_behind before (shapes_of ts)) ≤ length bytes
+    length (canon_after before (shapes_of ts)) ≤ length bytes
 canon_shortest end before bytes [] free lexed = omega arith
 canon_shortest end before bytes (t ∷ ts) free (rest, found, place, others) =
-    let is = read_token (behind_blanks bytes) (t.shape, rest) found in
-    let behind = canon_behind (is_wordlike t.shape) (shapes_of ts) in
+    let is = read_token (after_blanks bytes) (t.shape, rest) found in
+    let following = canon_after (is_wordlike t.shape) (shapes_of ts) in
     omega (
       arith,
       blank_between before t.shape bytes rest free is.apart,
       is.shorter,
-      canon_shortest end (is_wordlike t.shape) rest ts (free_behind (is_wordlike t.shape) (behind_blanks bytes) rest is.apart) others,
-      length-append (gap before (is_wordlike t.shape) ++ token t.shape) behind,
+      canon_shortest end (is_wordlike t.shape) rest ts (free_after (is_wordlike t.shape) (after_blanks bytes) rest is.apart) others,
+      length-append (gap before (is_wordlike t.shape) ++ token t.shape) following,
       length-append (gap before (is_wordlike t.shape)) (token t.shape),
     )
 
@@ -363,4 +363,4 @@ AreSpelled (t ∷ ts) = IsSpelled t.shape × AreSpelled ts
 pub tokens_spelled : (end : ℕ) (bytes : List ℕ) (ts : List Token) (fault : Option ℕ) → Lexes end bytes ts fault → AreSpelled ts
 tokens_spelled end bytes [] fault lexed = tt
 tokens_spelled end bytes (t ∷ ts) fault (rest, found, place, others) =
-    ((read_token (behind_blanks bytes) (t.shape, rest) found).spelled, tokens_spelled end rest ts fault others)
+    ((read_token (after_blanks bytes) (t.shape, rest) found).spelled, tokens_spelled end rest ts fault others)

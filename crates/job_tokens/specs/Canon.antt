@@ -44,12 +44,12 @@ is_wordlike (shape.Mark mark) = false
 
 -- the space between two words or numbers
 abbrev pub gap : Bool → Bool → List ℕ
-gap before behind = if before && behind then 32 ∷ [] else []
+gap before following = if before && following then 32 ∷ [] else []
 
 -- the canonical text of tokens; `before` says whether they come directly after a word or a number
-abbrev pub canon_behind : Bool → List Shape → List ℕ
-canon_behind before [] = []
-canon_behind before (s ∷ ss) = (gap before (is_wordlike s) ++ token s) ++ canon_behind (is_wordlike s) ss
+abbrev pub canon_after : Bool → List Shape → List ℕ
+canon_after before [] = []
+canon_after before (s ∷ ss) = (gap before (is_wordlike s) ++ token s) ++ canon_after (is_wordlike s) ss
 
 abbrev pub canon_of : List Shape → List ℕ
-canon_of shapes = canon_behind false shapes
+canon_of shapes = canon_after false shapes

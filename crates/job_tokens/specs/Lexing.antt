@@ -15,8 +15,8 @@ abbrev pub is_blank : ℕ → Bool
 is_blank b = ((b == 32) || (b == 9)) || ((b == 10) || (b == 13))
 
 -- the bytes from the first that is not a blank
-abbrev pub behind_blanks : List ℕ → List ℕ
-behind_blanks bytes = drop (prefix_len is_blank bytes) bytes
+abbrev pub after_blanks : List ℕ → List ℕ
+after_blanks bytes = drop (prefix_len is_blank bytes) bytes
 
 -- ---- words
 
@@ -106,9 +106,9 @@ unit_at (b ∷ rest) =
     if b == 92 then escape_at rest else (if is_plain b then Some (b, rest) else None)
 
 -- the bytes after a quote, if the first byte is a quote
-abbrev pub behind_quote : List ℕ → Option (List ℕ)
-behind_quote [] = None
-behind_quote (b ∷ rest) = if b == 34 then Some rest else None
+abbrev pub after_quote : List ℕ → Option (List ℕ)
+after_quote [] = None
+after_quote (b ∷ rest) = if b == 34 then Some rest else None
 
 -- the bytes of a string, and the bytes after its closing quote
 abbrev pub Units_read : Type 0
@@ -128,8 +128,8 @@ unless_ended None read = read
 
 -- at most the given number of units, up to a quote, and the bytes after that quote
 unfoldable pub units : ℕ → List ℕ → Units_read
-units zero bytes = unless_ended (behind_quote bytes) None
-units (suc n) bytes = unless_ended (behind_quote bytes) (unit_then (unit_at bytes) (units n))
+units zero bytes = unless_ended (after_quote bytes) None
+units (suc n) bytes = unless_ended (after_quote bytes) (unit_then (unit_at bytes) (units n))
 
 -- a string of 1 to 64 units, read after its opening quote
 abbrev pub string_of : Units_read → Read
@@ -156,9 +156,9 @@ token_at (b ∷ rest) =
 -- The bytes, the last of a text of `end` bytes, are these tokens with blanks before, between and after them; or they
 -- are these tokens up to a place from which no token can be read.
 abbrev pub Lexes : ℕ → List ℕ → List Token → Option ℕ → Type 0
-Lexes end bytes [] None = behind_blanks bytes ≡ []
+Lexes end bytes [] None = after_blanks bytes ≡ []
 Lexes end bytes [] (Some at) =
-    (token_at (behind_blanks bytes) ≡ None) × (0 < length (behind_blanks bytes)) × (at + length (behind_blanks bytes) ≡ end)
+    (token_at (after_blanks bytes) ≡ None) × (0 < length (after_blanks bytes)) × (at + length (after_blanks bytes) ≡ end)
 Lexes end bytes (t ∷ ts) fault =
-    (rest : List ℕ) × (token_at (behind_blanks bytes) ≡ Some (t.shape, rest))
-    × (t.at + length (behind_blanks bytes) ≡ end) × Lexes end rest ts fault
+    (rest : List ℕ) × (token_at (after_blanks bytes) ≡ Some (t.shape, rest))
+    × (t.at + length (after_blanks bytes) ≡ end) × Lexes end rest ts fault

@@ -14,12 +14,12 @@ pub fn push_canon(alloc: Global, out: &mut Vec<u8>, shapes: &[Shape]) -> Result<
 {
     let mut before = false;
     for shape in shapes {
-        let behind = is_wordlike(*shape);
-        if before && behind {
+        let following = is_wordlike(*shape);
+        if before && following {
             out.push(b' ')?;
         }
         push_token(alloc, out, *shape)?;
-        before = behind;
+        before = following;
     }
     Ok(())
 }

@@ -1,5 +1,5 @@
 ghost use Rattle.std.specs.Prelude.{◌≡◌, ◌<◌, ◌≤◌, length, IfOk, IfSome};
-ghost use Rattle.job_tokens.specs.Lexing.{behind_blanks, token_at, Gives, Lexes};
+ghost use Rattle.job_tokens.specs.Lexing.{after_blanks, token_at, Gives, Lexes};
 
 use crate::token::{Mark, Shape, Token};
 use crate::{number, run, string, word};
@@ -43,7 +43,7 @@ pub fn lex(alloc: Global, bytes: &[u8], end: usize) -> Result<Lexed, AllocError>
 
 // Returns the bytes from the first that is not a blank.
 fn skip_blanks(bytes: &[u8]) -> &[u8]
-    ensures value { result.now ≡ behind_blanks bytes.now }
+    ensures value { result.now ≡ after_blanks bytes.now }
     ensures shorter { length result.now ≤ length bytes.now }
 {
     bytes.split_at(run::count_blanks(bytes)).1

@@ -1,5 +1,5 @@
 ghost use Rattle.std.specs.Prelude.{◌≡◌, ◌<◌, ◌≤◌, IfSome, length, take};
-ghost use Rattle.job_tokens.specs.Lexing.{Gives, hex_value, hex_at, escape_at, unit_at, behind_quote, units, string_at, is_plain};
+ghost use Rattle.job_tokens.specs.Lexing.{Gives, hex_value, hex_at, escape_at, unit_at, after_quote, units, string_at, is_plain};
 
 use crate::token::Shape;
 use job_tree::{Text, is_digit};
@@ -24,20 +24,20 @@ fn read_units<'a>(bytes: &'a [u8], room: &mut [u8; 64]) -> Option<(usize, &'a [u
 {
     let mut rest = bytes;
     for len in 0..64 {
-        if let Some(after) = behind_quote(rest) {
+        if let Some(after) = after_quote(rest) {
             return Some((len, after));
         }
         let (unit, after) = unit_at(rest)?;
         room[len] = unit;
         rest = after;
     }
-    let after = behind_quote(rest)?;
+    let after = after_quote(rest)?;
     Some((64, after))
 }
 
 // Returns the bytes after a quote, if the first byte is a quote.
-fn behind_quote(bytes: &[u8]) -> Option<&[u8]>
-    ensures value { Gives (λ x. x.now) result (behind_quote bytes.now) }
+fn after_quote(bytes: &[u8]) -> Option<&[u8]>
+    ensures value { Gives (λ x. x.now) result (after_quote bytes.now) }
     ensures shorter { IfSome result (λ x. length x.now ≤ length bytes.now) }
 {
     let (first, rest) = bytes.split_first()?;

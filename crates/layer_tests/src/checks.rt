@@ -108,7 +108,7 @@ fn across_a_start(alloc: Global) -> Result<Body, Fail> {
 }
 
 // A `cancel` of a scope after the scope.
-fn behind_a_scope(alloc: Global) -> Result<Body, Fail> {
+fn after_a_scope(alloc: Global) -> Result<Body, Fail> {
     let beside = scope(alloc, b"s", Step::Checkpoint)?;
     block_of_two(alloc, beside, Step::Cancel(word(b"s")?))
 }
@@ -128,7 +128,7 @@ fn a_scope_is_cancelled_across_a_start(rt: HostRuntime) -> Result<(), Fail> {
 
 #[test]
 fn a_scope_beside_a_cancel_does_not_enclose_it(rt: HostRuntime) -> Result<(), Fail> {
-    let steps = behind_a_scope(rt.alloc())?;
+    let steps = after_a_scope(rt.alloc())?;
     assert!(rt; place_of_stray(&steps, b"s")? == Some(9));
     Ok(())
 }

@@ -155,12 +155,12 @@ fn nested_blocks(
     alloc: Global,
     depth: usize,
     front: &[u8],
-    behind: &[u8],
+    after: &[u8],
 ) -> Result<Vec<u8>, AllocError> {
     let mut text = Vec::new(alloc);
     push_bytes(&mut text, b"trio-job 1\njob main {")?;
     push_times(&mut text, depth, front)?;
-    push_times(&mut text, depth, behind)?;
+    push_times(&mut text, depth, after)?;
     push_bytes(&mut text, b" }")?;
     Ok(text)
 }

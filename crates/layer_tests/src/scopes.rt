@@ -70,7 +70,7 @@ fn parent(tree: &ScopeTree, id: ScopeId) -> Option<Option<ScopeId>> {
 
 // What is seen in a scope with a deadline and in a shielded one inside it, as first the inner and then the outer one is
 // cancelled.
-fn seen_round_a_shield(alloc: Global) -> Result<[Option<Option<u64>>; 3], Fail> {
+fn seen_around_a_shield(alloc: Global) -> Result<[Option<Option<u64>>; 3], Fail> {
     let mut tree = ScopeTree::new(alloc);
     let outer = open(&mut tree, None, false, Some(3))?;
     let inner = open(&mut tree, Some(outer), true, None)?;
@@ -95,7 +95,7 @@ fn sees_and_catches(alloc: Global) -> Result<[Option<bool>; 3], Fail> {
 
 #[test]
 fn a_shield_hides_what_is_outside(rt: HostRuntime) -> Result<(), Fail> {
-    let seen = seen_round_a_shield(rt.alloc())?;
+    let seen = seen_around_a_shield(rt.alloc())?;
     assert!(rt; seen == [Some(None), Some(Some(5)), Some(Some(2))]);
     let found = sees_and_catches(rt.alloc())?;
     assert!(rt; found == [Some(false), Some(true), Some(true)]);
@@ -183,10 +183,10 @@ fn open_by_turns(alloc: Global) -> Result<([bool; 3], [Option<u64>; 2]), Fail> {
     let first = tree.open(None, false, Some(7))?;
     let before = tree.is_open(first);
     let from = tree.close(first);
-    let behind = tree.is_open(first);
+    let after = tree.is_open(first);
     let second = tree.open(None, false, None)?;
     let again = second == first && tree.is_open(first);
-    Ok(([before, behind, again], [from, tree.close(second)]))
+    Ok(([before, after, again], [from, tree.close(second)]))
 }
 
 #[test]

@@ -314,7 +314,7 @@ fn is_child(task: &Task<'_>, name: &[u8], place: usize, scope: ScopeId) -> bool 
 // whether the children are taken in the order of their starts.
 fn starts_two(alloc: Global, job: &Job) -> Result<(bool, bool), Fail> {
     let mut turned = first_turn(alloc, job, 0)?;
-    let Some(outer) = scope_round(&turned) else {
+    let Some(outer) = scope_around(&turned) else {
         return Ok((false, false));
     };
     let first = takes_child(&mut turned.world, b"first", 0, outer);
@@ -324,7 +324,7 @@ fn starts_two(alloc: Global, job: &Job) -> Result<(bool, bool), Fail> {
 }
 
 // The scope that encloses the innermost one of a task.
-fn scope_round(turned: &Turned<'_>) -> Option<ScopeId> {
+fn scope_around(turned: &Turned<'_>) -> Option<ScopeId> {
     let own = turned.task.scope()?;
     let scopes = turned.world.scopes();
     if !scopes.is_open(own) {

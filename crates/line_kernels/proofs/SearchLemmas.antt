@@ -120,7 +120,7 @@ found-next before after needle place line some no_newline found goes =
     let to = (range_left before).to in
     let l = span_of line in
     let long = length-slice_range b from to before.within in
-    let behind = goes.behind in
+    let later = goes.later in
     let starts = goes.starts in
     let holds = goes.holds in
     let within = goes.within in
@@ -128,7 +128,7 @@ found-next before after needle place line some no_newline found goes =
     let here = occurs-stands b needle from to place before.within some found.1 in
     let fits = here.0 in
     let earlier : filter (stands_in b needle) (lines_of b (range from l.at)) ≡ [] =
-    none_stand b needle from l.at behind (omega arith) some
+    none_stand b needle from l.at later (omega arith) some
     (λ p low high stands. found.0.before (p - from) (omega arith) (omega arith)
     (stands-occurs b needle from to p before.within low (omega arith) stands)) in
     let reaches : from + place + length needle ≤ l.at + l.len =

@@ -10,7 +10,7 @@ pub fn split_feed(feed: &[u8]) -> (&[u8], &[u8])
     'bytes: for (i, b) in feed.iter().enumerate() {
         let (job, rest) = feed.split_at(i);
         if starts && has_mark(rest) {
-            return (job, behind_mark(rest));
+            return (job, after_mark(rest));
         }
         starts = *b == b'\n';
     }
@@ -37,7 +37,7 @@ fn is_line_end(bytes: &[u8]) -> bool
 }
 
 // Returns the bytes after the mark and its newline.
-fn behind_mark(bytes: &[u8]) -> &[u8]
+fn after_mark(bytes: &[u8]) -> &[u8]
     ensures { result.now ≡ drop 7 bytes.now }
 {
     if bytes.len() < 7 {

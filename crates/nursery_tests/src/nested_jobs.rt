@@ -10,26 +10,26 @@ fn push_numbered(
     out: &mut Vec<u8>,
     front: &[u8],
     number: u8,
-    behind: &[u8],
+    after: &[u8],
 ) -> Result<(), AllocError> {
     out.extend_from_slice(front)?;
     out.push(b'0'.wrapping_add(number / 10))?;
     out.push(b'0'.wrapping_add(number % 10))?;
-    out.extend_from_slice(behind)
+    out.extend_from_slice(after)
 }
 
 // Appends the numbers from 01 to 31, each between two texts.
-pub(crate) fn push_up(out: &mut Vec<u8>, front: &[u8], behind: &[u8]) -> Result<(), AllocError> {
+pub(crate) fn push_up(out: &mut Vec<u8>, front: &[u8], after: &[u8]) -> Result<(), AllocError> {
     for i in 0..DEEPEST {
-        push_numbered(out, front, i.wrapping_add(1), behind)?;
+        push_numbered(out, front, i.wrapping_add(1), after)?;
     }
     Ok(())
 }
 
 // Appends the numbers from 31 down to 01, each between two texts.
-pub(crate) fn push_down(out: &mut Vec<u8>, front: &[u8], behind: &[u8]) -> Result<(), AllocError> {
+pub(crate) fn push_down(out: &mut Vec<u8>, front: &[u8], after: &[u8]) -> Result<(), AllocError> {
     for i in 0..DEEPEST {
-        push_numbered(out, front, DEEPEST.wrapping_sub(i), behind)?;
+        push_numbered(out, front, DEEPEST.wrapping_sub(i), after)?;
     }
     Ok(())
 }

@@ -141,9 +141,9 @@ const FEEDS: &[(&str, &[u8], &[u8])] = &[
 #[test]
 fn a_feed_is_cut_at_its_mark(rt: HostRuntime) {
     for &(feed, job, input) in FEEDS {
-        let (front, behind) = split_feed(feed.as_bytes());
+        let (front, after) = split_feed(feed.as_bytes());
         assert_eq!(rt; front, job, "{feed}");
-        assert_eq!(rt; behind, input, "{feed}");
+        assert_eq!(rt; after, input, "{feed}");
     }
 }
 

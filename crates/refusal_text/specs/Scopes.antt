@@ -16,7 +16,7 @@ use Rattle.refusal_text.specs.declared.scopes.Around.{Around, Nothing, Inside'}
 -- the names that enclose the first `cancel` whose name is not among them, the innermost first
 abbrev pub around_stray : List Cancel → Option (List (List ℕ))
 around_stray [] = None
-around_stray (c ∷ cs) = if is_among c.round c.name then around_stray cs else Some c.round
+around_stray (c ∷ cs) = if is_among c.around c.name then around_stray cs else Some c.around
 
 -- the same in a job, where there is one
 abbrev pub cancellable_names : Option Tree → Option (List (List ℕ))

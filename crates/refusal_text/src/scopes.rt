@@ -144,7 +144,7 @@ fn search_cancel(
     name: &Name,
     around: &Around,
 ) -> Result<Option<Vec<Name>>, AllocError>
-    ensures { IfOk result (λ found. (more : List Cancel) → around_stray (record { name = name.now; round = names_around around.now } ∷ more)
+    ensures { IfOk result (λ found. (more : List Cancel) → around_stray (record { name = name.now; around = names_around around.now } ∷ more)
         ≡ or_names (names_held found) (around_stray more)) }
 {
     if is_around(name, around) {

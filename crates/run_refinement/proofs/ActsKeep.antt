@@ -21,7 +21,7 @@ use Rattle.task_machine.proofs.Stacked.{one_of}
 -- each stack begins with the scope whose stack it is, and each scope in a stack is open
 pub record Sound (s : Scoping) : Type 0 where
   pub own : IsOwn s.tree
-  pub round : (key : ℕ) (st : Stack) → stack_of s.tree key ≡ Some st → (k : ℕ) → IsKey k st → IsOpen s.tree k
+  pub around : (key : ℕ) (st : Stack) → stack_of s.tree key ≡ Some st → (k : ℕ) → IsKey k st → IsOpen s.tree k
 
 -- different scopes have different labels
 pub record Apart (s : Scoping) : Type 0 where
@@ -122,17 +122,17 @@ before_sign {t} {label} {s} {m} g key st e = mapped (after_cancel g.key t) (stac
 
 -- stacks stay sound where a scope is cancelled
 pub sound_signs : {t : ℕ} {label : Label} {s m : Scoping} → Signs t label s m → Sound s → Sound m
-sound_signs {t} {label} {s} {m} g h = record { own = own; round = round }
+sound_signs {t} {label} {s} {m} g h = record { own = own; around = around }
   where
     own : IsOwn m.tree
     own key st e =
         let b = before_sign g key st e in
         sym (ap own_label b.2) ∙ (own_label_stays g.key t b.0 ∙ h.own key b.0 b.1)
 
-    round : (key : ℕ) (st : Stack) → stack_of m.tree key ≡ Some st → (k : ℕ) → IsKey k st → IsOpen m.tree k
-    round key st e k i =
+    around : (key : ℕ) (st : Stack) → stack_of m.tree key ≡ Some st → (k : ℕ) → IsKey k st → IsOpen m.tree k
+    around key st e k i =
         let b = before_sign g key st e in
-        let before : IsOpen s.tree k = h.round key b.0 b.1 k (is_key_before k g.key t b.0 (subst (IsKey k) (sym b.2) i)) in
+        let before : IsOpen s.tree k = h.around key b.0 b.1 k (is_key_before k g.key t b.0 (subst (IsKey k) (sym b.2) i)) in
         subst IsSome (sym (g.cancels.stacks k)) (mapped_is (after_cancel g.key t) (stack_of s.tree k) before)
 
 -- a scope that was open is another than one that was not
@@ -143,18 +143,18 @@ open_differs tree key other fresh i e = not_closed (stack_of tree key) fresh (su
 pub open_else : (old new : Tree) (key other : ℕ) → OthersKeep old new key → other ≢ key → IsOpen old other → IsOpen new other
 open_else old new key other keep differs i = subst IsSome (sym (keep other differs)) i
 
-round_parent : {s : Scoping} → Sound s → (parent : Option ℕ) (k : ℕ) → IsKey k (outer_of s.tree parent) → IsOpen s.tree k
-round_parent {s} h None k i = absurd i
-round_parent {s} h (Some p) k i = by_stack (stack_of s.tree p) refl i
+around_parent : {s : Scoping} → Sound s → (parent : Option ℕ) (k : ℕ) → IsKey k (outer_of s.tree parent) → IsOpen s.tree k
+around_parent {s} h None k i = absurd i
+around_parent {s} h (Some p) k i = by_stack (stack_of s.tree p) refl i
   where
     by_stack : (o : Option Stack) → stack_of s.tree p ≡ o → IsKey k (unwrap_or o []) → IsOpen s.tree k
     by_stack None e j = absurd j
-    by_stack (Some st) e j = h.round p st e k j
+    by_stack (Some st) e j = h.around p st e k j
 
 -- stacks stay sound where a scope is entered
 pub sound_enters : {parent : Option ℕ} {label : Label} {d : Tick} {s m : Scoping} → Enters parent label d s m → Sound s → Sound m
 sound_enters {parent} {label} {d} {s} {m} g h =
-    record { own = λ key st e. own key st e (same_or key g.scope.id); round = λ key st e k i. round key st e k i (same_or key g.scope.id) }
+    record { own = λ key st e. own key st e (same_or key g.scope.id); around = λ key st e k i. around key st e k i (same_or key g.scope.id) }
   where
     stack_is : (key : ℕ) (st : Stack) → stack_of m.tree key ≡ Some st → key ≡ g.scope.id → g.level ∷ outer_of s.tree parent ≡ st
     stack_is key st e f = one_of _ _ (sym g.stack ∙ (sym (ap (stack_of m.tree) f) ∙ e))
@@ -168,16 +168,16 @@ sound_enters {parent} {label} {d} {s} {m} g h =
 
     inside : (k : ℕ) → IsKey k (g.level ∷ outer_of s.tree parent) → IsOpen m.tree k
     inside k (inl e) = is_open m.tree k (g.level ∷ outer_of s.tree parent) (ap (stack_of m.tree) (e ∙ g.named) ∙ g.stack)
-    inside k (inr i) = still k (round_parent h parent k i)
+    inside k (inr i) = still k (around_parent h parent k i)
 
-    round : (key : ℕ) (st : Stack) → stack_of m.tree key ≡ Some st → (k : ℕ) → IsKey k st → (key ≡ g.scope.id) ⊎ (key ≢ g.scope.id) →
+    around : (key : ℕ) (st : Stack) → stack_of m.tree key ≡ Some st → (k : ℕ) → IsKey k st → (key ≡ g.scope.id) ⊎ (key ≢ g.scope.id) →
         IsOpen m.tree k
-    round key st e k i (inl f) = inside k (subst (IsKey k) (sym (stack_is key st e f)) i)
-    round key st e k i (inr f) = still k (h.round key st (sym (g.others key f) ∙ e) k i)
+    around key st e k i (inl f) = inside k (subst (IsKey k) (sym (stack_is key st e f)) i)
+    around key st e k i (inr f) = still k (h.around key st (sym (g.others key f) ∙ e) k i)
 
 -- stacks stay sound where a scope is left
 pub sound_leaves : {s m : Scoping} → Leaves s m → Sound s → Sound m
-sound_leaves {s} {m} g h = record { own = λ key st e. h.own key st (before key st e); round = round }
+sound_leaves {s} {m} g h = record { own = λ key st e. h.own key st (before key st e); around = around }
   where
     differs : (key : ℕ) (st : Stack) → stack_of m.tree key ≡ Some st → key ≢ g.scope.id
     differs key st e f = not_both g.closed (sym (ap (stack_of m.tree) f) ∙ e)
@@ -185,11 +185,11 @@ sound_leaves {s} {m} g h = record { own = λ key st e. h.own key st (before key 
     before : (key : ℕ) (st : Stack) → stack_of m.tree key ≡ Some st → stack_of s.tree key ≡ Some st
     before key st e = sym (g.others key (differs key st e)) ∙ e
 
-    round : (key : ℕ) (st : Stack) → stack_of m.tree key ≡ Some st → (k : ℕ) → IsKey k st → IsOpen m.tree k
-    round key st e k i =
+    around : (key : ℕ) (st : Stack) → stack_of m.tree key ≡ Some st → (k : ℕ) → IsKey k st → IsOpen m.tree k
+    around key st e k i =
         let b = before key st e in
         open_else s.tree m.tree g.scope.id k g.others (among_all g.scope.id k st (g.innermost key st (differs key st e) b) i)
-        (h.round key st b k i)
+        (h.around key st b k i)
 
 -- stacks stay sound, whatever a task does to scopes
 pub sound_acts : {t : ℕ} {s u : Scoping} {es : List Event} → Acts t s es u → Sound s → Sound u

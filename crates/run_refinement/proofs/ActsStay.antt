@@ -94,7 +94,7 @@ pub keeps_enters : {parent : Option ℕ} {label : Label} {d : Tick} {s m : Scopi
 keeps_enters {label} {d} {s} {m} {key} {st} g h e others =
     record {
       at = g.others key differs ∙ e;
-      labels = same_but g.labelled st (λ k i. open_differs s.tree g.scope.id k g.fresh (h.round key st e k i));
+      labels = same_but g.labelled st (λ k i. open_differs s.tree g.scope.id k g.fresh (h.around key st e k i));
       others = subst (AreOthers key) (sym g.opened) (others_but key s.own g.scope others (λ f. differs (sym f)));
     }
   where

@@ -77,7 +77,7 @@ root_follows k job input state root in_range starting names r =
       stands =
           record {
             places =
-                subst (λ (st : Stack). AreAt (label_at state.world) no_froms st []) (sym none_round) tt;
+                subst (λ (st : Stack). AreAt (label_at state.world) no_froms st []) (sym none_around) tt;
             numbered = λ id i. absurd (let h : ⊥ = subst (λ (bs : List Block). HasBlock id bs) blocks i in h);
             placed = subst (λ (fs : List rest.Frame). Placed fs []) (sym (r.frames (no_numbers 0))) (starting, tt);
             new = subst (λ (fs : List rest.Frame). NewIn fs []) (sym (r.frames (no_numbers 0))) (new_job job names);
@@ -139,8 +139,8 @@ root_follows k job input state root in_range starting names r =
     no_scope : scope_of root ≡ None
     no_scope = ap (λ (os : List Own). last_or (home_scope root) (map (λ (o : Own). o.id) os)) r.own ∙ no_home
 
-    none_round : outer_of state.world.scopes (scope_of root) ≡ []
-    none_round = ap (outer_of state.world.scopes) no_scope
+    none_around : outer_of state.world.scopes (scope_of root) ≡ []
+    none_around = ap (outer_of state.world.scopes) no_scope
 
     none_own : (o : Own) (i : ℕ) → slice_get root.own.items i ≡ Some o → ⊥
     none_own o i e = absurd (let f : None ≡ Some o = sym (ap (λ (os : List Own). slice_get os i) r.own) ∙ e in cc)

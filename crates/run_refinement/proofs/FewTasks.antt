@@ -8,7 +8,7 @@ use Rattle.job_meaning.specs.Asking.{shows, needs, paces}
 use Rattle.job_meaning.specs.Rest.{Stopped, to_begin, asking, asleep, awaiting, at_end, stop_weight, rest_weight}
 use Rattle.task_machine.specs.declared.task.Task.{Task}
 use Rattle.interleavings.specs.Interleaving.{Started, In, live}
-use Rattle.interleavings.specs.Runs.{Front, is_front, behind_one, all_weights}
+use Rattle.interleavings.specs.Runs.{Front, is_front, after_one, all_weights}
 use Rattle.interleavings.proofs.Running.{runs_end}
 use Rattle.run_refinement.specs.RunState.{RunState, Refines}
 use Rattle.run_refinement.specs.Laws.{AreDistinct}
@@ -39,20 +39,20 @@ apart q (x ∷ qs) (inl e) = record { others = qs; front = subst (λ (y : Starte
     rest z (inr h) = inr h
 apart q (x ∷ qs) (inr i) = further (apart q qs i)
   where
-    behind : (others : List Started) (z : Started) → (z ≡ q) ⊎ In z others → (z ≡ q) ⊎ In z (x ∷ others)
-    behind others z (inl h) = inl h
-    behind others z (inr h) = inr (inr h)
+    following : (others : List Started) (z : Started) → (z ≡ q) ⊎ In z others → (z ≡ q) ⊎ In z (x ∷ others)
+    following others z (inl h) = inl h
+    following others z (inr h) = inr (inr h)
 
     rest : (a : Apart q qs) (z : Started) → In z (x ∷ qs) → (z ≡ q) ⊎ In z (x ∷ a.others)
     rest a z (inl h) = inr (inl h)
-    rest a z (inr h) = behind a.others z (a.rest z h)
+    rest a z (inr h) = following a.others z (a.rest z h)
 
     further : Apart q qs → Apart q (x ∷ qs)
-    further a = record { others = x ∷ a.others; front = behind_one q x qs a.others a.front; rest = rest a }
+    further a = record { others = x ∷ a.others; front = after_one q x qs a.others a.front; rest = rest a }
 
 front_weighs : {q : Started} {qs others : List Started} → Front q qs others → all_weights qs ≡ rest_weight q.rest + all_weights others
 front_weighs (is_front q qs) = refl
-front_weighs (behind_one q x qs others at) = omega (arith, front_weighs at)
+front_weighs (after_one q x qs others at) = omega (arith, front_weighs at)
 
 -- a task of this serial number is among these, and has not ended
 record LivesAt (at : ℕ → Started) (qs : List Started) (s : ℕ) : Type 0 where
@@ -67,7 +67,7 @@ few_live at [] qs distinct lives = omega arith
 few_live at (s ∷ ss) qs distinct lives =
     let weight = front_weighs a.front in
     let one : 1 ≤ stop_weight (at s).rest.stopped = live_weighs (at s).rest.stopped here.lives in
-    let fewer : length ss ≤ all_weights a.others = few_live at ss a.others distinct.1 behind in
+    let fewer : length ss ≤ all_weights a.others = few_live at ss a.others distinct.1 following in
     omega (arith, weight, one, fewer)
   where
     here : LivesAt at qs s
@@ -80,8 +80,8 @@ few_live at (s ∷ ss) qs distinct lives =
     other u i e (inl h) = absurd (distinct.0 (subst (λ (n : ℕ). In n ss) (sym e ∙ ap (λ (q : Started). q.serial) h ∙ here.serial) i))
     other u i e (inr h) = h
 
-    behind : (u : ℕ) → In u ss → LivesAt at a.others u
-    behind u i = let l = lives u (inr i) in record {
+    following : (u : ℕ) → In u ss → LivesAt at a.others u
+    following u i = let l = lives u (inr i) in record {
       among = other u i l.serial (a.rest (at u) l.among);
       serial = l.serial;
       lives =

@@ -44,25 +44,25 @@ got_first (y ∷ xs) ys (suc i) x e = got_first xs ys i x e
 -- what is at an index, with what is before and after it
 pub record SplitAt {A : Type 0} (xs : List A) (x : A) (n : ℕ) : Type 0 where
   pub before : List A
-  pub behind : List A
-  pub is : xs ≡ before ++ x ∷ behind
+  pub following : List A
+  pub is : xs ≡ before ++ x ∷ following
   pub long : length before ≡ n
 
 -- a list is what is before an index, what is there, and what is after it
 pub split_at : {A : Type 0} (xs : List A) (x : A) (n : ℕ) → slice_get xs n ≡ Some x → SplitAt xs x n
 split_at [] x n e = absurd (let f : None ≡ Some x = e in cc)
 split_at (y ∷ xs) x zero e =
-    let f : Some y ≡ Some x = e in let g : y ≡ x = cc in record { before = []; behind = xs; is = ap (λ z. z ∷ xs) g; long = refl }
+    let f : Some y ≡ Some x = e in let g : y ≡ x = cc in record { before = []; following = xs; is = ap (λ z. z ∷ xs) g; long = refl }
 split_at (y ∷ xs) x (suc n) e =
-    let s = split_at xs x n e in record { before = y ∷ s.before; behind = s.behind; is = ap (λ zs. y ∷ zs) s.is; long = ap suc s.long }
+    let s = split_at xs x n e in record { before = y ∷ s.before; following = s.following; is = ap (λ zs. y ∷ zs) s.is; long = ap suc s.long }
 
 -- what is at a later index is after it
-pub later_behind : {A : Type 0} (before behind : List A) (x y : A) (i : ℕ) → length before < i →
-    slice_get (before ++ x ∷ behind) i ≡ Some y → (j : ℕ) × (slice_get behind j ≡ Some y)
-later_behind [] behind x y zero lt e = absurd (omega (arith, lt))
-later_behind [] behind x y (suc i) lt e = (i, e)
-later_behind (z ∷ before) behind x y zero lt e = absurd (omega (arith, lt))
-later_behind (z ∷ before) behind x y (suc i) lt e = later_behind before behind x y i (omega (arith, lt)) e
+pub later_after : {A : Type 0} (before following : List A) (x y : A) (i : ℕ) → length before < i →
+    slice_get (before ++ x ∷ following) i ≡ Some y → (j : ℕ) × (slice_get following j ≡ Some y)
+later_after [] following x y zero lt e = absurd (omega (arith, lt))
+later_after [] following x y (suc i) lt e = (i, e)
+later_after (z ∷ before) following x y zero lt e = absurd (omega (arith, lt))
+later_after (z ∷ before) following x y (suc i) lt e = later_after before following x y i (omega (arith, lt)) e
 
 -- ---- at a key of a book
 
@@ -89,11 +89,11 @@ puts book id n P e h = subst (λ (o : Option Nursery). IsSomeAnd o P) (sym e) h
 pub record KeysAt (st : Stack) (ks : List ℕ) (k : ℕ) (ms : List ℕ) : Type 0 where
   pub before : Stack
   pub level : Level ℕ
-  pub behind : Stack
-  pub is : st ≡ before ++ level ∷ behind
+  pub following : Stack
+  pub is : st ≡ before ++ level ∷ following
   pub named : level.label ≡ k
   pub inner : keys_of before ≡ ks
-  pub outer : keys_of behind ≡ ms
+  pub outer : keys_of following ≡ ms
 
 -- a stack whose keys come in parts comes in these parts
 pub keys_at : (st : Stack) (ks : List ℕ) (k : ℕ) (ms : List ℕ) → keys_of st ≡ ks ++ k ∷ ms → KeysAt st ks k ms
@@ -104,7 +104,7 @@ keys_at (l ∷ ls) [] k ms e =
     record {
       before = [];
       level = l;
-      behind = ls;
+      following = ls;
       is = refl;
       named = (let g : l.label ≡ k = cc in g);
       inner = refl;
@@ -118,7 +118,7 @@ keys_at (l ∷ ls) (x ∷ ks) k ms e =
     record {
       before = l ∷ r.before;
       level = r.level;
-      behind = r.behind;
+      following = r.following;
       is = ap (λ (s : Stack). l ∷ s) r.is;
       named = r.named;
       inner = ap (λ (y : ℕ). y ∷ keys_of r.before) first ∙ ap (λ (ys : List ℕ). x ∷ ys) r.inner;

@@ -16,7 +16,7 @@ use Rattle.turn_semantics.specs.Wakes.{Wake, begins, sees, is_due, has_answer, s
 use Rattle.interleavings.specs.Interleaving.{Started, In}
 use Rattle.interleavings.specs.Going.{task_after_turn, children_from}
 use Rattle.interleavings.specs.Woken.{MayWake, WaitIsOver}
-use Rattle.interleavings.specs.Runs.{turn, Front, is_front, behind_one, turns_taken}
+use Rattle.interleavings.specs.Runs.{turn, Front, is_front, after_one, turns_taken}
 use Rattle.interleavings.proofs.Picking.{SameTasks, front_same}
 use Rattle.interleavings.proofs.Readings.{in_first, in_second, in_either}
 use Rattle.run_refinement.specs.RunState.{Interleaving, AreApart}
@@ -34,11 +34,11 @@ pub front_of : (q : Started) (qs : List Started) → In q qs → Others q qs
 front_of q [] i = absurd i
 front_of q (x ∷ qs) (inl e) = subst (λ (y : Started). Others q (y ∷ qs)) e (record { others = qs; front = is_front q qs })
 front_of q (x ∷ qs) (inr i) =
-    let o = front_of q qs i in record { others = x ∷ o.others; front = behind_one q x qs o.others o.front }
+    let o = front_of q qs i in record { others = x ∷ o.others; front = after_one q x qs o.others o.front }
 
 apart_front : (q : Started) (qs others : List Started) → Front q qs others → AreApart qs → AreApart (q ∷ others)
 apart_front q _ _ (is_front q' qs') a = a
-apart_front q _ _ (behind_one q' x qs' others' at) a =
+apart_front q _ _ (after_one q' x qs' others' at) a =
     let inner = apart_front q' qs' others' at a.1 in
     let same = front_same q' qs' others' at in
     (by_either inner.0 (same.back q' (inl refl)), (λ y i e. a.0 y (same.back y (inr i)) e, inner.1))

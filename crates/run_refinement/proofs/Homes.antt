@@ -22,9 +22,9 @@ pub record HomeIn (P : ℕ → ℕ → Type 0) (now : Numbers) (labels : Labels)
   pub among : IsAmong number (now id)
   pub is : P id level.label
   pub before : Stack
-  pub behind : Stack
-  pub split : st ≡ before ++ level ∷ behind
-  pub places : AreAt labels froms (level ∷ behind) home
+  pub following : Stack
+  pub split : st ≡ before ++ level ∷ following
+  pub places : AreAt labels froms (level ∷ following) home
 
 home_further : {P : ℕ → ℕ → Type 0} {now : Numbers} {labels : Labels} {froms : Table} {number : ℕ} {home : List Place} {st : Stack} →
     (l : Level ℕ) →
@@ -36,7 +36,7 @@ home_further l h =
       among = h.among;
       is = h.is;
       before = l ∷ h.before;
-      behind = h.behind;
+      following = h.following;
       split = ap (λ (ls : Stack). l ∷ ls) h.split;
       places = h.places;
     }
@@ -52,7 +52,7 @@ home_first {labels = labels} {froms = froms} id l st p ps among is a e =
       among = among;
       is = is;
       before = [];
-      behind = st;
+      following = st;
       split = refl;
       places =
           subst (AreAt labels froms (l ∷ st)) (sym e) a;
@@ -126,17 +126,17 @@ home_there P now labels froms number home None fs st ps (at_end u e) w k a (inr 
 
 -- ---- the stack of a scope that encloses another
 
-nil_not : (before : Stack) (l : Level ℕ) (behind : Stack) → [] ≡ before ++ l ∷ behind → ⊥
-nil_not [] l behind e = let f : [] ≡ l ∷ behind = e in cc
-nil_not (x ∷ before) l behind e = let f : [] ≡ x ∷ (before ++ l ∷ behind) = e in cc
+nil_not : (before : Stack) (l : Level ℕ) (following : Stack) → [] ≡ before ++ l ∷ following → ⊥
+nil_not [] l following e = let f : [] ≡ l ∷ following = e in cc
+nil_not (x ∷ before) l following e = let f : [] ≡ x ∷ (before ++ l ∷ following) = e in cc
 
 -- of the scopes that enclose a task, the rest from one scope on is that scope's stack
-pub chain_round : (tree : Tree) → IsChain tree → (scope : Option ℕ) (before : Stack) (l : Level ℕ) (behind : Stack) →
-    outer_of tree scope ≡ before ++ l ∷ behind →
-    stack_of tree l.label ≡ Some (l ∷ behind)
-chain_round tree chain None before l behind e = absurd (nil_not before l behind e)
-chain_round tree chain (Some p) before l behind e = by_stack (stack_of tree p) refl e
+pub chain_around : (tree : Tree) → IsChain tree → (scope : Option ℕ) (before : Stack) (l : Level ℕ) (following : Stack) →
+    outer_of tree scope ≡ before ++ l ∷ following →
+    stack_of tree l.label ≡ Some (l ∷ following)
+chain_around tree chain None before l following e = absurd (nil_not before l following e)
+chain_around tree chain (Some p) before l following e = by_stack (stack_of tree p) refl e
   where
-    by_stack : (o : Option Stack) → stack_of tree p ≡ o → unwrap_or o [] ≡ before ++ l ∷ behind → stack_of tree l.label ≡ Some (l ∷ behind)
-    by_stack None f g = absurd (nil_not before l behind g)
-    by_stack (Some st) f g = chain p st f before l behind g
+    by_stack : (o : Option Stack) → stack_of tree p ≡ o → unwrap_or o [] ≡ before ++ l ∷ following → stack_of tree l.label ≡ Some (l ∷ following)
+    by_stack None f g = absurd (nil_not before l following g)
+    by_stack (Some st) f g = chain p st f before l following g

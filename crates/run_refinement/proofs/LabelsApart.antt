@@ -29,7 +29,7 @@ use Rattle.run_refinement.specs.Turn.{IsSound, IsEntered}
 use Rattle.run_refinement.proofs.ActsKeep.{Sound, not_both, same_or}
 use Rattle.interleavings.proofs.Readings.{enters_counted, made_counted, made_few}
 use Rattle.interleavings.proofs.Running.{runs_keep_invariant}
-use Rattle.task_machine.proofs.Cancels.{open_round}
+use Rattle.task_machine.proofs.Cancels.{open_around}
 use Rattle.task_machine.proofs.Others.{among_left, among_right}
 use Rattle.task_machine.proofs.Stacked.{one_of, alone_at}
 
@@ -114,9 +114,9 @@ is_key key (l ∷ ls) (inl e) = inl e
 is_key key (l ∷ ls) (inr i) = inr (is_key key ls i)
 
 -- a scope that a task opened is one of its stack
-pub own_round : (st : Stack) (own : List Own) (keys : List ℕ) (o : Own) (i : ℕ) → keys_of st ≡ keys_in own ++ keys →
+pub own_around : (st : Stack) (own : List Own) (keys : List ℕ) (o : Own) (i : ℕ) → keys_of st ≡ keys_in own ++ keys →
     slice_get own i ≡ Some o → IsKey o.id st
-own_round st own keys o i e got = is_key o.id st (subst (IsAmong o.id) (sym e) (among_left o.id (keys_in own) keys (key_got own o i got)))
+own_around st own keys o i e got = is_key o.id st (subst (IsAmong o.id) (sym e) (among_left o.id (keys_in own) keys (key_got own o i got)))
 
 alone_is : (labels : Labels) (key k : ℕ) (label : Label) (st : Stack) → Alone labels key label st → IsKey k st → labels k ≡ Some label →
     k ≡ key
@@ -169,18 +169,18 @@ labels_apart {k} {job} {input} {t} {m} {leaving} {state} c settled names nurseri
     follows = c.follows x.0 task x.1.lives
 
     within : (o : Own) (i : ℕ) → slice_get task.own.items i ≡ Some o → IsKey o.id (outer_of state.world.scopes (scope_of task))
-    within o i got = own_round (outer_of state.world.scopes (scope_of task)) task.own.items _ o i follows.goes.first got
+    within o i got = own_around (outer_of state.world.scopes (scope_of task)) task.own.items _ o i follows.goes.first got
 
     same_task : OpenedBy state b x.0 → a ≡ b
     same_task z =
         let tasks : z.task ≡ task = one_of z.task task (sym z.lives ∙ x.1.lives) in
-        let round : IsKey b (outer_of state.world.scopes (scope_of task)) =
+        let around : IsKey b (outer_of state.world.scopes (scope_of task)) =
         subst (λ (i : ℕ). IsKey i (outer_of state.world.scopes (scope_of task))) z.is
         (within z.scope z.place (sym (ap (λ (v : Task). slice_get v.own.items z.place) tasks) ∙ z.own)) in
         let inside : IsKey a (outer_of state.world.scopes (scope_of task)) =
         subst (λ (i : ℕ). IsKey i (outer_of state.world.scopes (scope_of task))) x.1.is (within x.1.scope x.1.place x.1.own) in
         let alone =
-        alone_at (label_at state.world) c.interleaving.froms (outer_of state.world.scopes (scope_of task)) (c.interleaving.at x.0).places b l f round
+        alone_at (label_at state.world) c.interleaving.froms (outer_of state.world.scopes (scope_of task)) (c.interleaving.at x.0).places b l f around
         follows.stands.own follows.stands.places in
         alone_is (label_at state.world) b a l (outer_of state.world.scopes (scope_of task)) alone inside e
 
@@ -192,7 +192,7 @@ labels_known c key l e = let x = c.owned key (c.labelled key l e) in (x.0, opene
 
 -- what a law of stacks says is what acts ask
 pub sound_of : (s : Scoping) → IsSound s.tree → Sound s
-sound_of s h = record { own = h.own; round = λ key st e k i. open_round s.tree h.chain (Some key) k (by_stack key st k e i) }
+sound_of s h = record { own = h.own; around = λ key st e k i. open_around s.tree h.chain (Some key) k (by_stack key st k e i) }
   where
     by_stack : (key : ℕ) (st : Stack) (k : ℕ) → stack_of s.tree key ≡ Some st → IsKey k st → IsKey k (outer_of s.tree (Some key))
     by_stack key st k e i = subst (λ (o : Option Stack). IsKey k (unwrap_or o [])) (sym e) i

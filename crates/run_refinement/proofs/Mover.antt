@@ -19,7 +19,7 @@ use Rattle.job_meaning.specs.Rest.{Stopped, to_begin, asking, asleep, awaiting, 
 use Rattle.task_machine.specs.States.{state_of}
 use Rattle.task_machine.specs.Noted.{entry_of, IsSlice, shown_made, AreNoted}
 use Rattle.turn_semantics.specs.Names.{NewIn}
-use Rattle.turn_semantics.specs.Placed.{PlacedAfter, places_behind}
+use Rattle.turn_semantics.specs.Placed.{PlacedAfter, outer_places}
 use Rattle.turn_semantics.specs.Turned.{Known}
 use Rattle.task_machine.specs.declared.stop.Stop.{Stop}
 use Rattle.task_machine.specs.declared.task.Home.{Home}
@@ -43,7 +43,7 @@ use Rattle.run_refinement.proofs.Parts.{numbers_mover, numbers_other, own_or, en
 use Rattle.run_refinement.proofs.RunStates.{Stood, follows_by, owner}
 use Rattle.run_refinement.proofs.Members.{moved_to, members_after}
 use Rattle.task_machine.proofs.Apart.{has_scope}
-use Rattle.task_machine.proofs.Cancels.{open_round}
+use Rattle.task_machine.proofs.Cancels.{open_around}
 use Rattle.task_machine.proofs.StateLemmas.{told_end}
 use Rattle.task_machine.proofs.Taking.{shown_append}
 use Rattle.run_refinement.proofs.Found.{finds, puts}
@@ -106,8 +106,8 @@ module _ (k : Table) (job : Job) (input : List ℕ) (t m s : ℕ) (old new : Run
             subst (λ (gs : List rest.Frame). PlacedAfter (Some T.stopped) gs T.move.places) (sym T.took.frames_after)
             (subst (λ (o : Option Stopped). PlacedAfter o T.move.frames T.move.places) T.stops T.promise.placed);
         new =
-            subst (λ (gs : List rest.Frame). NewIn gs (places_behind (Some T.stopped) T.move.places)) (sym T.took.frames_after)
-            (subst (λ (o : Option Stopped). NewIn T.move.frames (places_behind o T.move.places)) T.stops T.names.frames);
+            subst (λ (gs : List rest.Frame). NewIn gs (outer_places (Some T.stopped) T.move.places)) (sym T.took.frames_after)
+            (subst (λ (o : Option Stopped). NewIn T.move.frames (outer_places o T.move.places)) T.stops T.names.frames);
         own = T.names.own;
       }
 
@@ -185,11 +185,11 @@ module _ (k : Table) (job : Job) (input : List ℕ) (t m s : ℕ) (old new : Run
   -- ---- its froms
 
   sound : Sound (scoping_of before old.world)
-  sound = record { own = T.code.sound.own; round = round }
+  sound = record { own = T.code.sound.own; around = around }
     where
-      round : (key : ℕ) (st : Stack) → stack_of old.world.scopes key ≡ Some st → (at : ℕ) → IsKey at st → IsOpen old.world.scopes at
-      round key st e at i =
-          open_round old.world.scopes T.code.sound.chain (Some key) at (subst (IsKey at) (ap (λ (o : Option Stack). unwrap_or o []) (sym e)) i)
+      around : (key : ℕ) (st : Stack) → stack_of old.world.scopes key ≡ Some st → (at : ℕ) → IsKey at st → IsOpen old.world.scopes at
+      around key st e at i =
+          open_around old.world.scopes T.code.sound.chain (Some key) at (subst (IsKey at) (ap (λ (o : Option Stack). unwrap_or o []) (sym e)) i)
 
   module _ (quiet : (p : ℕ) → m ≤ p → entered_made (c.interleaving.at p).made ≡ [])
       (labels_apart : (a b : ℕ) (l : Label) → label_at old.world a ≡ Some l → label_at old.world b ≡ Some l → a ≡ b)

@@ -42,7 +42,7 @@ use Rattle.run_refinement.specs.RunState.{RunState, Differ, Tracks, CanGoOn, Liv
 use Rattle.run_refinement.specs.Turn.{IsEntered, child_at, numbers_then}
 use Rattle.run_refinement.specs.Turning.{Turning}
 use Rattle.run_refinement.proofs.ActsKeep.{not_both}
-use Rattle.run_refinement.proofs.Homes.{HomeIn, home_there, chain_round}
+use Rattle.run_refinement.proofs.Homes.{HomeIn, home_there, chain_around}
 use Rattle.run_refinement.proofs.Parts.{numbers_mover, numbers_child, among_got, begun_at, begins_there, numbered_on, starts_at, new_at, housed_at}
 use Rattle.run_refinement.proofs.RunStates.{Stood, follows_by}
 use Rattle.task_machine.proofs.Advances.{blocks_onto, own_keys, blocks_by}
@@ -151,10 +151,10 @@ module _ (k : Table) (job : Job) (input : List ℕ) (t m s : ℕ) (old new : Run
         let o = finds new.world.book found.id _ found.is.1 in
         sym n.2.0 ∙ (ap (λ (z : Nursery). z.scope) (one_of n.0 o.0 (sym n.1 ∙ (ap (nursery_at new.world.book) same_nursery ∙ o.1))) ∙ o.2)
 
-    home_stack : stack_of new.world.scopes h.home.scope ≡ Some (found.level ∷ found.behind)
+    home_stack : stack_of new.world.scopes h.home.scope ≡ Some (found.level ∷ found.following)
     home_stack =
         ap (stack_of new.world.scopes) same_scope
-        ∙ chain_round new.world.scopes T.code.sound_after.chain (scope_of after) found.before found.level found.behind found.split
+        ∙ chain_around new.world.scopes T.code.sound_after.chain (scope_of after) found.before found.level found.following found.split
 
     home_open : IsOpen new.world.scopes h.home.scope
     home_open = subst IsSome (sym home_stack) refl
@@ -165,8 +165,8 @@ module _ (k : Table) (job : Job) (input : List ℕ) (t m s : ℕ) (old new : Run
     scope_is : scope_of task ≡ Some h.home.scope
     scope_is = ap (λ (os : List Own). last_or (home_scope task) (map (λ (o : Own). o.id) os)) h.own ∙ home_is
 
-    round_is : outer_of new.world.scopes (scope_of task) ≡ found.level ∷ found.behind
-    round_is = ap (outer_of new.world.scopes) scope_is ∙ ap (λ (o : Option Stack). unwrap_or o []) home_stack
+    around_is : outer_of new.world.scopes (scope_of task) ≡ found.level ∷ found.following
+    around_is = ap (outer_of new.world.scopes) scope_is ∙ ap (λ (o : Option Stack). unwrap_or o []) home_stack
 
     no_blocks : blocks_of task.frames.items ≡ []
     no_blocks = sym (blocks_by task.frames.items) ∙ ap (λ (gs : List rest.Frame). blocks_onto gs []) (h.frames own_keys)
@@ -185,7 +185,7 @@ module _ (k : Table) (job : Job) (input : List ℕ) (t m s : ℕ) (old new : Run
         let new_names : names.AreNew (names_at b.places) b.body × OwnNames (names_at b.places) =
         new_at T.move.begun T.names.begun i b begun in
         record {
-          places = subst (λ (st : Stack). AreAt (label_at new.world) T.is.froms st b.places) (sym round_is) found.places;
+          places = subst (λ (st : Stack). AreAt (label_at new.world) T.is.froms st b.places) (sym around_is) found.places;
           numbered = λ id has. absurd (subst (HasBlock id) no_blocks has);
           placed = subst (λ (gs : List rest.Frame). PlacedAfter (Some to_begin) gs b.places) (sym frames_are) (body_starts, tt);
           new = subst (λ (gs : List rest.Frame). NewIn gs b.places) (sym frames_are) (new_names.0, tt);

@@ -10,7 +10,7 @@ use Rattle.nursery_book.specs.declared.book.NurseryBook.{NurseryBook}
 use Rattle.job_meaning.specs.Log.{Table}
 use Rattle.job_meaning.specs.Rest as rest
 use Rattle.turn_semantics.specs.Midway.{Place}
-use Rattle.turn_semantics.specs.Placed.{places_behind, IsAmong, HasChild, WaitsFor, HasChildAfter}
+use Rattle.turn_semantics.specs.Placed.{outer_places, IsAmong, HasChild, WaitsFor, HasChildAfter}
 use Rattle.task_machine.specs.declared.frame.Frame.{Frame}
 use Rattle.task_machine.specs.declared.frame.Frame.TheVariants.{Steps, Scope, Nursery, Repeat, Try, Handler, Cleanup}
 use Rattle.task_machine.specs.declared.stop.TaskState.{TaskState}
@@ -30,22 +30,22 @@ use Rattle.task_machine.specs.Stops.{Numbers, IsTaskState}
 pub record StandsIn (labels : Labels) (f : Table) (key : ℕ) (st : Stack) (ps : List Place) : Type 0 where
   pub before : Stack
   pub level : Level ℕ
-  pub behind : Stack
-  pub is : st ≡ before ++ level ∷ behind
+  pub following : Stack
+  pub is : st ≡ before ++ level ∷ following
   pub named : level.label ≡ key
-  pub at : AreAt labels f (level ∷ behind) ps
+  pub at : AreAt labels f (level ∷ following) ps
 
 -- a stack that begins with the scope with a key, and its places
 pub record First (labels : Labels) (f : Table) (key : ℕ) (keys : List ℕ) (st : Stack) (ps : List Place) : Type 0 where
   pub level : Level ℕ
-  pub behind : Stack
+  pub following : Stack
   pub place : Place
   pub places : List Place
-  pub is : st ≡ level ∷ behind
+  pub is : st ≡ level ∷ following
   pub are : ps ≡ place ∷ places
   pub named : level.label ≡ key
-  pub others : keys_of behind ≡ keys
-  pub at : AreAt labels f (level ∷ behind) (place ∷ places)
+  pub others : keys_of following ≡ keys
+  pub at : AreAt labels f (level ∷ following) (place ∷ places)
 
 first_key : (a b : ℕ) (xs ys : List ℕ) → a ∷ xs ≡ b ∷ ys → a ≡ b
 first_key a b xs ys e = cc
@@ -60,7 +60,7 @@ first_at labels f key keys (l ∷ ls) [] a e = absurd a
 first_at labels f key keys (l ∷ ls) (p ∷ ps) a e =
     record {
       level = l;
-      behind = ls;
+      following = ls;
       place = p;
       places = ps;
       is = refl;
@@ -96,26 +96,26 @@ pub stack_here : (labels : Labels) (f : Table) (tree : Tree) (scope : Option ℕ
     (st : Stack) × (stack_of tree key ≡ Some st) × AreAt labels f st ps
 stack_here labels f tree None key ps chain h = absurd (none h.before h.is)
   where
-    none : (before : Stack) → [] ≡ before ++ h.level ∷ h.behind → ⊥
+    none : (before : Stack) → [] ≡ before ++ h.level ∷ h.following → ⊥
     none [] e = cc
     none (l ∷ before) e = cc
 stack_here labels f tree (Some scope) key ps chain h = by_stack (stack_of tree scope) refl h.is
   where
-    none : (before : Stack) → [] ≡ before ++ h.level ∷ h.behind → ⊥
+    none : (before : Stack) → [] ≡ before ++ h.level ∷ h.following → ⊥
     none [] e = cc
     none (l ∷ before) e = cc
 
-    by_stack : (o : Option Stack) → stack_of tree scope ≡ o → unwrap_or o [] ≡ h.before ++ h.level ∷ h.behind → (st : Stack)
+    by_stack : (o : Option Stack) → stack_of tree scope ≡ o → unwrap_or o [] ≡ h.before ++ h.level ∷ h.following → (st : Stack)
         × (stack_of tree key ≡ Some st) × AreAt labels f st ps
     by_stack None e is = absurd (none h.before is)
     by_stack (Some st) e is =
-        (h.level ∷ h.behind, ap (stack_of tree) (sym h.named) ∙ chain scope st e h.before h.level h.behind is, h.at)
+        (h.level ∷ h.following, ap (stack_of tree) (sym h.named) ∙ chain scope st e h.before h.level h.following is, h.at)
 
 -- ---- what a task waits for
 
 -- a stop is that of a task which waits for this nursery, or for none
 abbrev pub IsStop : Numbers → Option ℕ → rest.Stopped → Type 0
-IsStop numbers None stopped = ((ps : List Place) → places_behind (Some stopped) ps ≡ ps)
+IsStop numbers None stopped = ((ps : List Place) → outer_places (Some stopped) ps ≡ ps)
     × ((i : ℕ) (home ps : List Place) → WaitsFor i home (Some stopped) ps → ⊥)
 IsStop numbers (Some id) stopped = (children : List ℕ) × (u : ℕ) × (e : Option Exc) × (stopped ≡ rest.awaiting children u e)
     × (numbers id ≡ children)
@@ -167,7 +167,7 @@ pub record Outer
     pub is : st ≡ before ++ stack
     pub at : AreAt labels f stack places
     pub others : keys_of stack ≡ keys
-    pub inside : (i : ℕ) (home : List Place) → HasChild i home outer places → HasChild i home fs (places_behind (Some stopped) ps)
+    pub inside : (i : ℕ) (home : List Place) → HasChild i home outer places → HasChild i home fs (outer_places (Some stopped) ps)
     pub outside :
         (i : ℕ) (home : List Place) → HasChildAfter i home (Some stopped) fs ps →
         Found labels book f numbers bs waits st i home ⊎ HasChild i home outer places
@@ -200,8 +200,8 @@ outer_plain {labels} {book} {f} {numbers} {bs} {waits} {stopped} {keys} {outer} 
     by_case i home (inr c) = inr (back i home r.places c)
 
 -- the first level of a rest, with those before it
-longer : (st before stack behind : Stack) (l : Level ℕ) → st ≡ before ++ stack → stack ≡ l ∷ behind → st ≡ before ++ l ∷ behind
-longer st before stack behind l e g = e ∙ ap (λ (z : Stack). before ++ z) g
+longer : (st before stack following : Stack) (l : Level ℕ) → st ≡ before ++ stack → stack ≡ l ∷ following → st ≡ before ++ l ∷ following
+longer st before stack following l e g = e ∙ ap (λ (z : Stack). before ++ z) g
 
 stands_first : {labels : Labels} {f : Table} {key : ℕ} {keys : List ℕ} (st before stack : Stack) {ps : List Place} → st ≡ before ++ stack →
     (first : First labels f key keys stack ps) →
@@ -210,8 +210,8 @@ stands_first st before stack e first =
     record {
       before = before;
       level = first.level;
-      behind = first.behind;
-      is = longer st before stack first.behind first.level e first.is;
+      following = first.following;
+      is = longer st before stack first.following first.level e first.is;
       named = first.named;
       at = first.at;
     }
@@ -228,9 +228,9 @@ outer_block : {labels : Labels} {book : NurseryBook} {f : Table} {numbers : Numb
 outer_block {labels} {book} {f} {numbers} {bs} {cs} {waits} {stopped} {keys} {outer} {more} {fs} {st} {ps} o to blocks back r =
     record {
       before = r.before ++ first.level ∷ [];
-      stack = first.behind;
+      stack = first.following;
       places = first.places;
-      is = longer st r.before r.stack first.behind first.level r.is first.is ∙ sym (append_assoc r.before (first.level ∷ []) first.behind);
+      is = longer st r.before r.stack first.following first.level r.is first.is ∙ sym (append_assoc r.before (first.level ∷ []) first.following);
       at = first.at.3;
       others = first.others;
       inside = λ i home c. r.inside i home (subst (HasChild i home more) (sym first.are) (to i home first.place first.places c));
@@ -276,21 +276,21 @@ carry labels book f numbers [] (o ∷ own) None stopped keys outer st ps opened 
 carry labels book f numbers [] (o ∷ own) (Some id) stopped keys outer st ps opened stop at e =
     record {
       before = first.level ∷ [];
-      stack = first.behind;
+      stack = first.following;
       places = first.places;
       is = first.is;
       at = first.at.3;
       others = first.others;
-      inside = λ i home c. subst (HasChild i home outer) (sym behind) c;
+      inside = λ i home c. subst (HasChild i home outer) (sym following) c;
       outside = λ i home c. by_case i home c;
     }
   where
     first : First labels f o.id keys st ps
     first = first_at labels f o.id keys st ps at (e ∙ ap (λ (xs : List Own). (keys_in xs ++ o.id ∷ []) ++ keys) opened.0)
 
-    behind : places_behind (Some stopped) ps ≡ first.places
-    behind = ap (λ (s : rest.Stopped). places_behind (Some s) ps) stop.3
-        ∙ ap (places_behind (Some (rest.awaiting stop.0 stop.1 stop.2))) first.are
+    following : outer_places (Some stopped) ps ≡ first.places
+    following = ap (λ (s : rest.Stopped). outer_places (Some s) ps) stop.3
+        ∙ ap (outer_places (Some (rest.awaiting stop.0 stop.1 stop.2))) first.are
 
     waited : (i : ℕ) (home : List Place) → WaitsFor i home (Some stopped) ps →
         WaitsFor i home (Some (rest.awaiting stop.0 stop.1 stop.2)) (first.place ∷ first.places)
@@ -311,13 +311,13 @@ carry labels book f numbers [] (o ∷ own) (Some id) stopped keys outer st ps op
               record {
                 before = [];
                 level = first.level;
-                behind = first.behind;
+                following = first.following;
                 is = first.is;
                 named = first.named;
-                at = subst (AreAt labels f (first.level ∷ first.behind)) (sym a.1) first.at;
+                at = subst (AreAt labels f (first.level ∷ first.following)) (sym a.1) first.at;
               };
         })
-    by_case i home (inr c) = inr (subst (HasChild i home outer) behind c)
+    by_case i home (inr c) = inr (subst (HasChild i home outer) following c)
 carry labels book f numbers (Steps steps ∷ fs) own waits stopped keys outer st ps opened stop at e =
     outer_plain (λ i home qs c. c) (λ i home qs c. c) (carry labels book f numbers fs own waits stopped keys
     (frame_of numbers (Steps steps) ∷ outer) st ps opened stop at e)
@@ -392,7 +392,7 @@ pub housed_onto : (labels : Labels) (book : NurseryBook) (f : Table) (numbers : 
     (st : Stack) (ps : List Place) → Opened labels book (blocks_of fs) own waits → IsStop numbers waits stopped → AreAt labels f st ps →
     keys_of st ≡ keys_in own ++ keys →
     (id i : ℕ) → HasBlock id (blocks_of fs) → IsAmong i (numbers id) →
-    Housed labels book f id i (frames_onto numbers fs outer) st (places_behind (Some stopped) ps)
+    Housed labels book f id i (frames_onto numbers fs outer) st (outer_places (Some stopped) ps)
 housed_onto labels book f numbers [] own waits stopped keys outer st ps opened stop at e id i has among = absurd has
 housed_onto labels book f numbers (Steps steps ∷ fs) own waits stopped keys outer st ps opened stop at e id i has among =
     housed_onto labels book f numbers fs own waits stopped keys (frame_of numbers (Steps steps) ∷ outer) st ps opened stop at e id i has

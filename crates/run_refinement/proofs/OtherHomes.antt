@@ -22,11 +22,11 @@ use Rattle.run_refinement.specs.Turn.{numbers_then}
 use Rattle.run_refinement.specs.Turning.{Turning}
 use Rattle.run_refinement.proofs.ActsKeep.{not_both, same_or}
 use Rattle.run_refinement.proofs.StateTurn.{ActsOf, else_own, own_open, nursery_same}
-use Rattle.run_refinement.proofs.LabelsApart.{own_round}
+use Rattle.run_refinement.proofs.LabelsApart.{own_around}
 use Rattle.run_refinement.proofs.OtherScopes.{key_stays_open}
 use Rattle.run_refinement.proofs.OtherNurseries.{HasScope, scope_of_nursery, same_nursery}
 use Rattle.interleavings.proofs.Turning.{old_child}
-use Rattle.task_machine.proofs.Cancels.{open_round}
+use Rattle.task_machine.proofs.Cancels.{open_around}
 use Rattle.task_machine.proofs.Stacked.{one_of}
 use Rattle.run_refinement.proofs.Found.{got_first, finds}
 use Rattle.run_refinement.proofs.Parts.{numbers_mover, numbers_other}
@@ -212,8 +212,8 @@ mover_open {new = new} {after = after} c T u home h e =
     (mover_owned c T u home h e).1 in
     let same : x.scope.id ≡ home.scope = sym x.same ∙ (ap (λ (y : Members). y.scope) (one_of x.nursery n.0 (sym x.at ∙ n.1)) ∙ n.2.0) in
     subst (IsOpen new.world.scopes) same
-    (open_round new.world.scopes T.code.sound_after.chain (scope_of after) x.scope.id
-    (own_round (outer_of new.world.scopes (scope_of after)) after.own.items _ x.scope x.place T.code.fits_after.runs.first x.got))
+    (open_around new.world.scopes T.code.sound_after.chain (scope_of after) x.scope.id
+    (own_around (outer_of new.world.scopes (scope_of after)) after.own.items _ x.scope x.place T.code.fits_after.runs.first x.got))
 
 -- so the scope of each home stays open
 pub home_open : {k : Table} {job : Job} {input : List ℕ} {t m s : ℕ} {old new : RunState} {before after : Task} {stop : Stop} →

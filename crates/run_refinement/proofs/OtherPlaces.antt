@@ -11,7 +11,7 @@ use Rattle.job_tree.specs.Tree.{Tree as Job}
 use Rattle.job_meaning.specs.Log.{Table}
 use Rattle.job_meaning.specs.Rest as rest
 use Rattle.turn_semantics.specs.Midway.{Place, Begun}
-use Rattle.turn_semantics.specs.Placed.{places_behind, IsAmong, HasChild, HasChildAfter}
+use Rattle.turn_semantics.specs.Placed.{outer_places, IsAmong, HasChild, HasChildAfter}
 use Rattle.turn_semantics.specs.Steps.{froms_after}
 use Rattle.turn_semantics.specs.Turned.{Starts}
 use Rattle.task_machine.specs.declared.stop.Stop.{Stop}
@@ -136,7 +136,7 @@ mover_places {k} {job} {input} {t} {m} {s} {old} {new} {before} {after} {stop} c
         (subst (λ (p : ℕ). slice_get (c.numbers p home.nursery) home.place ≡ Some h.number) e h.stands)
 
     housed : Housed (label_at old.world) old.world.book f home.nursery h.number (frames_of (c.numbers s) before.frames.items)
-        (outer_of old.world.scopes (scope_of before)) (places_behind (Some q.rest.stopped) q.places)
+        (outer_of old.world.scopes (scope_of before)) (outer_places (Some q.rest.stopped) q.places)
     housed =
         housed_onto (label_at old.world) old.world.book f (c.numbers s) before.frames.items before.own.items (waits_of before.task_state)
         q.rest.stopped _ []
@@ -160,11 +160,11 @@ mover_places {k} {job} {input} {t} {m} {s} {old} {new} {before} {after} {stop} c
         (subst (λ (x : Stack). AreAt (label_at old.world) f x ps) (outer_is old.world.scopes home.scope was.0
         (ap (stack_of old.world.scopes) (sym first) ∙ was.1)) at)
 
-    child : HasChild h.number ps q.rest.frames (places_behind (Some q.rest.stopped) q.places)
+    child : HasChild h.number ps q.rest.frames (outer_places (Some q.rest.stopped) q.places)
     child =
-        subst (λ (fs : List rest.Frame). HasChild h.number ps fs (places_behind (Some q.rest.stopped) q.places)) follows.frames
+        subst (λ (fs : List rest.Frame). HasChild h.number ps fs (outer_places (Some q.rest.stopped) q.places)) follows.frames
         (subst (λ (x : List Place). HasChild h.number x (frames_of (c.numbers s) before.frames.items)
-        (places_behind (Some q.rest.stopped) q.places)) same housed.child)
+        (outer_places (Some q.rest.stopped) q.places)) same housed.child)
 
     stays : HasChildAfter h.number ps (Some T.stopped) (frames_of T.took.numbers_after after.frames.items) T.move.places
     stays =

@@ -175,8 +175,8 @@ home_keys : (old new : Tree) (home : Option ℕ) (key : ℕ) (keys : List ℕ) �
     keys_of (outer_of new (Some key)) ≡ keys ++ keys_of (outer_of old home) → keys_of (outer_of old home) ≡ keys_of (outer_of new home)
 home_keys old new None key keys own chain was now e = refl
 home_keys old new (Some home) key keys own chain was now e =
-    first.is ∙ sym (ap keys_of (outer_is new home (c.level ∷ c.behind) here)
-    ∙ (ap (λ (k : ℕ). k ∷ keys_of c.behind) c.named ∙ ap (λ (ks : List ℕ). home ∷ ks) c.outer))
+    first.is ∙ sym (ap keys_of (outer_is new home (c.level ∷ c.following) here)
+    ∙ (ap (λ (k : ℕ). k ∷ keys_of c.following) c.named ∙ ap (λ (ks : List ℕ). home ∷ ks) c.outer))
   where
     first : Own_first old home
     first = own_first old home own (was home refl)
@@ -187,8 +187,8 @@ home_keys old new (Some home) key keys own chain was now e =
     c : KeysAt st.0 keys home first.more
     c = keys_at st.0 keys home first.more (sym (ap keys_of (outer_is new key st.0 st.1)) ∙ (e ∙ ap (λ (ks : List ℕ). keys ++ ks) first.is))
 
-    here : stack_of new home ≡ Some (c.level ∷ c.behind)
-    here = ap (stack_of new) (sym c.named) ∙ chain key st.0 st.1 c.before c.level c.behind c.is
+    here : stack_of new home ≡ Some (c.level ∷ c.following)
+    here = ap (stack_of new) (sym c.named) ∙ chain key st.0 st.1 c.before c.level c.following c.is
 
 -- the scopes that another task opened still enclose it, as far as its home
 pub first_stays : {known : Label → Type 0} {t : ℕ} {s u : Scoping} {es : List Event} → Acted known t s u es →

@@ -31,17 +31,17 @@ use Rattle.task_machine.specs.Tasks.{home_scope}
 use Rattle.task_machine.specs.Worlds.{label_at}
 use Rattle.task_machine.proofs.Stacked.{one_of}
 use Rattle.task_machine.proofs.OwnLemmas.{ids}
-use Rattle.task_machine.proofs.Others.{LevelAt, level_at, all_behind, among_left, among_right}
+use Rattle.task_machine.proofs.Others.{LevelAt, level_at, all_after, among_left, among_right}
 use Rattle.run_refinement.specs.RunState.{RunState, LivesIn, HasHome, OpenedBy, Refines}
 use Rattle.run_refinement.specs.Turn.{IsSound}
-use Rattle.run_refinement.proofs.Found.{got_first, SplitAt, split_at, later_behind, finds, gives, puts, KeysAt, keys_at}
+use Rattle.run_refinement.proofs.Found.{got_first, SplitAt, split_at, later_after, finds, gives, puts, KeysAt, keys_at}
 
 -- ---- keys
 
-keys_split : (before behind : List Own) (o : Own) → keys_in (before ++ o ∷ behind) ≡ keys_in behind ++ o.id ∷ keys_in before
-keys_split [] behind o = refl
-keys_split (x ∷ before) behind o =
-    ap (λ (ks : List ℕ). ks ++ x.id ∷ []) (keys_split before behind o) ∙ append_assoc (keys_in behind) (o.id ∷ keys_in before) (x.id ∷ [])
+keys_split : (before following : List Own) (o : Own) → keys_in (before ++ o ∷ following) ≡ keys_in following ++ o.id ∷ keys_in before
+keys_split [] following o = refl
+keys_split (x ∷ before) following o =
+    ap (λ (ks : List ℕ). ks ++ x.id ∷ []) (keys_split before following o) ∙ append_assoc (keys_in following) (o.id ∷ keys_in before) (x.id ∷ [])
 
 among_own : (own : List Own) (i : ℕ) (o : Own) → slice_get own i ≡ Some o → IsAmong o.id (keys_in own)
 among_own [] i o e = absurd (let f : None ≡ Some o = e in cc)
@@ -88,16 +88,16 @@ key_among key (l ∷ ls) (inr i) = inr (key_among key ls i)
 pub record OwnStack (tree : Tree) (home : Option ℕ) (own : List Own) (o : Own) (n : ℕ) : Type 0 where
   pub split : SplitAt own o n
   pub level : Level ℕ
-  pub behind : Stack
-  pub at : stack_of tree o.id ≡ Some (level ∷ behind)
+  pub following : Stack
+  pub at : stack_of tree o.id ≡ Some (level ∷ following)
   pub named : level.label ≡ o.id
-  pub keys : keys_of behind ≡ keys_in split.before ++ keys_of (outer_of tree home)
-  pub inner : (i : ℕ) (x : Own) → n < i → slice_get own i ≡ Some x → IsAmong x.id (keys_of (level ∷ behind)) → ⊥
+  pub keys : keys_of following ≡ keys_in split.before ++ keys_of (outer_of tree home)
+  pub inner : (i : ℕ) (x : Own) → n < i → slice_get own i ≡ Some x → IsAmong x.id (keys_of (level ∷ following)) → ⊥
 
-last_some : (home : Option ℕ) (before behind : List Own) (o : Own) → (k : ℕ) × (last_or home (ids (before ++ o ∷ behind)) ≡ Some k)
+last_some : (home : Option ℕ) (before following : List Own) (o : Own) → (k : ℕ) × (last_or home (ids (before ++ o ∷ following)) ≡ Some k)
 last_some home [] [] o = (o.id, refl)
-last_some home [] (x ∷ behind) o = last_some (Some o.id) [] behind x
-last_some home (y ∷ before) behind o = last_some (Some y.id) before behind o
+last_some home [] (x ∷ following) o = last_some (Some o.id) [] following x
+last_some home (y ∷ before) following o = last_some (Some y.id) before following o
 
 stack_is : (tree : Tree) (key : ℕ) → IsOpen tree key → stack_of tree key ≡ Some (outer_of tree (Some key))
 stack_is tree key h = by_stack (stack_of tree key) refl h
@@ -114,8 +114,8 @@ own_stack tree chain apart home own first opened n o e =
     record {
       split = split;
       level = at.level;
-      behind = at.behind;
-      at = ap (stack_of tree) (sym at.named) ∙ chain last.0 whole is_whole at.before at.level at.behind at.is;
+      following = at.following;
+      at = ap (stack_of tree) (sym at.named) ∙ chain last.0 whole is_whole at.before at.level at.following at.is;
       named = at.named;
       keys = at.outer;
       inner = inner;
@@ -125,7 +125,7 @@ own_stack tree chain apart home own first opened n o e =
     split = split_at own o n e
 
     last : (k : ℕ) × (last_or home (ids own) ≡ Some k)
-    last = subst (λ (os : List Own). (k : ℕ) × (last_or home (ids os) ≡ Some k)) (sym split.is) (last_some home split.before split.behind o)
+    last = subst (λ (os : List Own). (k : ℕ) × (last_or home (ids os) ≡ Some k)) (sym split.is) (last_some home split.before split.following o)
 
     whole : Stack
     whole = outer_of tree (Some last.0)
@@ -133,34 +133,34 @@ own_stack tree chain apart home own first opened n o e =
     is_whole : stack_of tree last.0 ≡ Some whole
     is_whole = stack_is tree last.0 (opened last.0 last.1)
 
-    keys : keys_of whole ≡ keys_in split.behind ++ o.id ∷ (keys_in split.before ++ keys_of (outer_of tree home))
+    keys : keys_of whole ≡ keys_in split.following ++ o.id ∷ (keys_in split.before ++ keys_of (outer_of tree home))
     keys =
         ap (λ (x : Option ℕ). keys_of (outer_of tree x)) (sym last.1) ∙ first
         ∙ ap (λ (os : List Own). keys_in os ++ keys_of (outer_of tree home)) split.is
-        ∙ ap (λ (ks : List ℕ). ks ++ keys_of (outer_of tree home)) (keys_split split.before split.behind o)
-        ∙ append_assoc (keys_in split.behind) (o.id ∷ keys_in split.before) (keys_of (outer_of tree home))
+        ∙ ap (λ (ks : List ℕ). ks ++ keys_of (outer_of tree home)) (keys_split split.before split.following o)
+        ∙ append_assoc (keys_in split.following) (o.id ∷ keys_in split.before) (keys_of (outer_of tree home))
 
-    at : KeysAt whole (keys_in split.behind) o.id (keys_in split.before ++ keys_of (outer_of tree home))
-    at = keys_at whole (keys_in split.behind) o.id (keys_in split.before ++ keys_of (outer_of tree home)) keys
+    at : KeysAt whole (keys_in split.following) o.id (keys_in split.before ++ keys_of (outer_of tree home))
+    at = keys_at whole (keys_in split.following) o.id (keys_in split.before ++ keys_of (outer_of tree home)) keys
 
-    inner : (i : ℕ) (x : Own) → n < i → slice_get own i ≡ Some x → IsAmong x.id (keys_of (at.level ∷ at.behind)) → ⊥
-    inner i x lt f within = all_not x.id (at.level ∷ at.behind) (all_behind (λ (l : Level ℕ). l.label ≢ x.id) up.behind
-        (at.level ∷ at.behind) others) within
+    inner : (i : ℕ) (x : Own) → n < i → slice_get own i ≡ Some x → IsAmong x.id (keys_of (at.level ∷ at.following)) → ⊥
+    inner i x lt f within = all_not x.id (at.level ∷ at.following) (all_after (λ (l : Level ℕ). l.label ≢ x.id) up.following
+        (at.level ∷ at.following) others) within
       where
-        later : (j : ℕ) × (slice_get split.behind j ≡ Some x)
+        later : (j : ℕ) × (slice_get split.following j ≡ Some x)
         later =
-            later_behind split.before split.behind o x i (let g = split.long in omega (arith, g, lt))
+            later_after split.before split.following o x i (let g = split.long in omega (arith, g, lt))
             (subst (λ (os : List Own). slice_get os i ≡ Some x) split.is f)
 
         up : LevelAt x.id at.before
-        up = level_at x.id at.before (subst (λ (ks : List ℕ). IsAmong x.id ks) (sym at.inner) (among_own split.behind later.0 x later.1))
+        up = level_at x.id at.before (subst (λ (ks : List ℕ). IsAmong x.id ks) (sym at.inner) (among_own split.following later.0 x later.1))
 
-        others : All (λ (l : Level ℕ). l.label ≢ x.id) (up.behind ++ at.level ∷ at.behind)
+        others : All (λ (l : Level ℕ). l.label ≢ x.id) (up.following ++ at.level ∷ at.following)
         others =
-            subst (λ (k : ℕ). All (λ (l : Level ℕ). l.label ≢ k) (up.behind ++ at.level ∷ at.behind)) up.named
-            (apart last.0 whole is_whole up.before up.level (up.behind ++ at.level ∷ at.behind)
-            (at.is ∙ ap (λ (st : Stack). st ++ at.level ∷ at.behind) up.is
-            ∙ append_assoc up.before (up.level ∷ up.behind) (at.level ∷ at.behind)))
+            subst (λ (k : ℕ). All (λ (l : Level ℕ). l.label ≢ k) (up.following ++ at.level ∷ at.following)) up.named
+            (apart last.0 whole is_whole up.before up.level (up.following ++ at.level ∷ at.following)
+            (at.is ∙ ap (λ (st : Stack). st ++ at.level ∷ at.following) up.is
+            ∙ append_assoc up.before (up.level ∷ up.following) (at.level ∷ at.following)))
 
         all_not : (key : ℕ) (st : Stack) → All (λ (l : Level ℕ). l.label ≢ key) st → IsAmong key (keys_of st) → ⊥
         all_not key [] a i = i
@@ -253,7 +253,7 @@ module _ (k : Table) (job : Job) (input : List ℕ) (t m : ℕ) (leaving : Optio
 
   -- a key in the stack of a task's scope that is none of the task's encloses its home
   beyond : (s : ℕ) (task : Task) (e : state.task s ≡ Some task) (n : ℕ) (o : Own) (at : slice_get task.own.items n ≡ Some o) (key : ℕ) →
-      (let w = stack_by s task e n o at in IsAmong key (keys_of (w.level ∷ w.behind))) → (OpenedBy state key s → ⊥) →
+      (let w = stack_by s task e n o at in IsAmong key (keys_of (w.level ∷ w.following))) → (OpenedBy state key s → ⊥) →
       IsAmong key (keys_of (outer_of state.world.scopes (home_scope task)))
   beyond s task e n o at key i never = by_first i
     where
@@ -265,14 +265,14 @@ module _ (k : Table) (job : Job) (input : List ℕ) (t m : ℕ) (leaving : Optio
           let f = own_among w.split.before key j in
           never (subst (λ (x : ℕ). OpenedBy state x s) f.is (opened_by s task e f.place f.scope
           (subst (λ (os : List Own). slice_get os f.place ≡ Some f.scope) (sym w.split.is)
-          (got_first w.split.before (o ∷ w.split.behind) f.place f.scope f.at))))
+          (got_first w.split.before (o ∷ w.split.following) f.place f.scope f.at))))
 
       by_part : IsAmong key (keys_in w.split.before) ⊎ IsAmong key (keys_of (outer_of state.world.scopes (home_scope task))) →
           IsAmong key (keys_of (outer_of state.world.scopes (home_scope task)))
       by_part (inl j) = absurd (mine j)
       by_part (inr j) = j
 
-      by_first : IsAmong key (keys_of (w.level ∷ w.behind)) → IsAmong key (keys_of (outer_of state.world.scopes (home_scope task)))
+      by_first : IsAmong key (keys_of (w.level ∷ w.following)) → IsAmong key (keys_of (outer_of state.world.scopes (home_scope task)))
       by_first (inl f) = absurd (never (subst (λ (x : ℕ). OpenedBy state x s) (sym w.named ∙ sym f) (opened_by s task e n o at)))
       by_first (inr j) =
           by_part (among_either key (keys_in w.split.before) (keys_of (outer_of state.world.scopes (home_scope task)))
@@ -286,7 +286,7 @@ module _ (k : Table) (job : Job) (input : List ℕ) (t m : ℕ) (leaving : Optio
     -- the task is the parent: the child runs in the scope, or in one inside it
     in_mine : (parent : ℕ) (starter : Task) (there : state.task parent ≡ Some starter) → parent ≡ s →
         (n : ℕ) (scope : Own) (e : slice_get starter.own.items n ≡ Some scope) →
-        (let w = stack_by parent starter there n scope e in IsAmong o.id (keys_of (w.level ∷ w.behind))) →
+        (let w = stack_by parent starter there n scope e in IsAmong o.id (keys_of (w.level ∷ w.following))) →
         ((j : ℕ) → j ≤ n → RunsIn state.world.book (blocks_of starter.frames.items) j (waits_of starter.task_state)) →
         RunsIn state.world.book (blocks_of mine.frames.items) i (waits_of mine.task_state)
     in_mine parent starter there is n scope e among runs = by_order (nat_lt n i) refl
@@ -303,12 +303,12 @@ module _ (k : Table) (job : Job) (input : List ℕ) (t m : ℕ) (leaving : Optio
         by_order false f = subst (λ (x : Task). RunsIn state.world.book (blocks_of x.frames.items) i (waits_of x.task_state)) same
             (runs i (grind (arith, nat_tests)))
 
-    runs_round : (n u : ℕ) (task : Task) → u < n → u ≢ s → state.task u ≡ Some task →
+    runs_around : (n u : ℕ) (task : Task) → u < n → u ≢ s → state.task u ≡ Some task →
         IsAmong o.id (keys_of (outer_of state.world.scopes (home_scope task))) →
         RunsIn state.world.book (blocks_of mine.frames.items) i (waits_of mine.task_state)
-    runs_round zero u task lt differs e among = absurd (omega (arith, lt))
-    runs_round (suc n) u task lt differs e among =
-        by_home task.home refl (λ p starter less other there further. runs_round n p starter less other there further)
+    runs_around zero u task lt differs e among = absurd (omega (arith, lt))
+    runs_around (suc n) u task lt differs e among =
+        by_home task.home refl (λ p starter less other there further. runs_around n p starter less other there further)
       where
         by_home : (h : Option Home) → task.home ≡ h →
             ((p : ℕ) (starter : Task) → p < n → p ≢ s → state.task p ≡ Some starter →
@@ -337,14 +337,14 @@ module _ (k : Table) (job : Job) (input : List ℕ) (t m : ℕ) (leaving : Optio
             w : OwnStack state.world.scopes (home_scope l.starter) l.starter.own.items own.scope own.place
             w = stack_by l.parent l.starter l.lives own.place own.scope own.at
 
-            round : outer_of state.world.scopes (home_scope task) ≡ w.level ∷ w.behind
-            round =
+            around : outer_of state.world.scopes (home_scope task) ≡ w.level ∷ w.following
+            around =
                 ap (λ (h : Option Home). outer_of state.world.scopes (option_map (λ (x : Home). x.scope) h)) f
                 ∙ ap (λ (key : ℕ). unwrap_or (stack_of state.world.scopes key) []) (sym nursery.2.0 ∙ own.is)
                 ∙ ap (λ (st : Option Stack). unwrap_or st []) w.at
 
-            there : IsAmong o.id (keys_of (w.level ∷ w.behind))
-            there = subst (λ (st : Stack). IsAmong o.id (keys_of st)) round among
+            there : IsAmong o.id (keys_of (w.level ∷ w.following))
+            there = subst (λ (st : Stack). IsAmong o.id (keys_of st)) around among
 
             by_parent : (b : Bool) → (l.parent == s) ≡ b → RunsIn state.world.book (blocks_of mine.frames.items) i (waits_of mine.task_state)
             by_parent true g =
@@ -359,7 +359,7 @@ module _ (k : Table) (job : Job) (input : List ℕ) (t m : ℕ) (leaving : Optio
   others_run : (s : ℕ) (mine : Task) → state.task s ≡ Some mine →
       OthersRun state.world.scopes state.world.book (blocks_of mine.frames.items) mine.own.items (waits_of mine.task_state)
   others_run s mine lives key st e others i o at within =
-      runs_round s mine lives i o at (suc by.0) by.0 by.1.task (omega arith) differs by.1.lives
+      runs_around s mine lives i o at (suc by.0) by.0 by.1.task (omega arith) differs by.1.lives
       (beyond by.0 by.1.task by.1.lives by.1.place by.1.scope by.1.own o.id among (of_another s mine lives i o at by.0 differs))
     where
       by : (u : ℕ) × OpenedBy state key u
@@ -384,9 +384,9 @@ module _ (k : Table) (job : Job) (input : List ℕ) (t m : ℕ) (leaving : Optio
       w : OwnStack state.world.scopes (home_scope by.1.task) by.1.task.own.items by.1.scope by.1.place
       w = stack_by by.0 by.1.task by.1.lives by.1.place by.1.scope by.1.own
 
-      among : IsAmong o.id (keys_of (w.level ∷ w.behind))
+      among : IsAmong o.id (keys_of (w.level ∷ w.following))
       among =
-          subst (λ (x : Stack). IsAmong o.id (keys_of x)) (one_of st (w.level ∷ w.behind)
+          subst (λ (x : Stack). IsAmong o.id (keys_of x)) (one_of st (w.level ∷ w.following)
           (sym e ∙ ap (stack_of state.world.scopes) (sym by.1.is) ∙ w.at)) (key_among o.id st within)
 
   -- each task has all that a turn asks of it

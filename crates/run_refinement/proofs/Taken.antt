@@ -12,7 +12,7 @@ use Rattle.nursery_book.specs.declared.book.NurseryBook.{NurseryBook}
 use Rattle.turn_semantics.specs.Midway.{Place, Begun, Move}
 use Rattle.turn_semantics.specs.Wakes as wakes
 use Rattle.turn_semantics.specs.Wakes.{turn_from, CanWake}
-use Rattle.turn_semantics.specs.Placed.{PlacedStop, places_behind}
+use Rattle.turn_semantics.specs.Placed.{PlacedStop, outer_places}
 use Rattle.turn_semantics.specs.Names.{NewIn}
 use Rattle.turn_semantics.specs.Turned.{TurnsOver}
 use Rattle.turn_semantics.proofs.Waking.{turned_from}
@@ -87,7 +87,7 @@ turning k job input t m s old new before after wake stop settled names starting 
       took = took;
       promise = promise;
       names = turn_stays_new turn.steps t q.here c.interleaving.froms w q.rest q.places q.count can
-          (subst (λ (gs : List rest.Frame). NewIn gs (places_behind (Some q.rest.stopped) q.places)) f.frames f.stands.new) f.stands.own;
+          (subst (λ (gs : List rest.Frame). NewIn gs (outer_places (Some q.rest.stopped) q.places)) f.frames f.stands.new) f.stands.own;
       fresh = fresh_after k job input t m s c.interleaving o at_stop.0 settled names starting less went;
       inputs = on_at q.here.input o.begun (turn_on_input turn.steps c.interleaving.froms t q.here w q.rest.stopped q.rest.frames q.places
           q.count);

@@ -22,7 +22,7 @@ computed-one_more requests row k request slot inside within is below this i q s 
     ⊎_elim
     (λ (before : i < k). subst (IsComputed (slice_index_or requests i q)) (sym (get_or-set_other row k i slot s (omega arith)))
     (below i q s before))
-    (λ (behind : k ≤ i).
+    (λ (after : k ≤ i).
     let same : i ≡ k = omega arith in
     let asked : request ≡ slice_index_or requests i q = is ∙ get_or_default requests k request q inside
     ∙ ap (λ j. slice_index_or requests j q) (sym same) in

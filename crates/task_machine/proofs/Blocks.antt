@@ -160,12 +160,12 @@ runs_in_waits book (a_scope ∷ bs) id (suc i) r = runs_in_waits book bs id i r
 runs_in_waits book (a_nursery x ∷ bs) id (suc i) r = runs_in_waits book bs id i r
 
 -- after the last block nothing runs except in the nursery that is waited for
-pub runs_behind : (book : NurseryBook) (bs : List Block) (i : ℕ) (waits : Option ℕ) → length bs ≤ i → RunsIn book bs i waits →
+pub runs_after : (book : NurseryBook) (bs : List Block) (i : ℕ) (waits : Option ℕ) → length bs ≤ i → RunsIn book bs i waits →
     HasRunning book waits
-runs_behind book [] i waits long r = r
-runs_behind book (b ∷ bs) zero waits long r = absurd (omega (arith, long))
-runs_behind book (a_scope ∷ bs) (suc i) waits long r = runs_behind book bs i waits (omega (arith, long)) r
-runs_behind book (a_nursery id ∷ bs) (suc i) waits long r = runs_behind book bs i waits (omega (arith, long)) r
+runs_after book [] i waits long r = r
+runs_after book (b ∷ bs) zero waits long r = absurd (omega (arith, long))
+runs_after book (a_scope ∷ bs) (suc i) waits long r = runs_after book bs i waits (omega (arith, long)) r
+runs_after book (a_nursery id ∷ bs) (suc i) waits long r = runs_after book bs i waits (omega (arith, long)) r
 
 -- children that ran run on
 pub runs_in_later : (old new : NurseryBook) (bs : List Block) (i : ℕ) (waits : Option ℕ) →

@@ -11,7 +11,7 @@ use Rattle.turn_semantics.specs.Placed.{in_body}
 use Rattle.task_machine.specs.declared.frame.Frame.{Frame}
 use Rattle.task_machine.specs.declared.frame.Frame.TheVariants.{Steps, Scope, Nursery, Repeat, Try, Handler, Cleanup}
 use Rattle.task_machine.specs.declared.task.Own.{Own}
-use Rattle.task_machine.specs.Fitting.{Block, a_nursery, blocks_of, frames_behind, InBody, IsMine, Opened}
+use Rattle.task_machine.specs.Fitting.{Block, a_nursery, blocks_of, outer_frames, InBody, IsMine, Opened}
 use Rattle.task_machine.specs.Frames.{frame_of, frames_of}
 use Rattle.task_machine.specs.Labels.{Labels}
 use Rattle.task_machine.proofs.Blocks.{blocks_append}
@@ -20,22 +20,22 @@ use Rattle.task_machine.proofs.FrameLemmas.{frames_push}
 -- the two innermost frames
 record Last2 (fs : List Frame) : Type 0 where
   outer : List Frame
-  round : Frame
+  around : Frame
   top : Frame
-  is : fs ≡ outer ++ round ∷ top ∷ []
+  is : fs ≡ outer ++ around ∷ top ∷ []
 
 last2 : (f g : Frame) (fs : List Frame) → Last2 (f ∷ g ∷ fs)
-last2 f g [] = record { outer = []; round = f; top = g; is = refl }
+last2 f g [] = record { outer = []; around = f; top = g; is = refl }
 last2 f g (h ∷ fs) =
     let l = last2 g h fs in
-    record { outer = f ∷ l.outer; round = l.round; top = l.top; is = ap (λ (xs : List Frame). f ∷ xs) l.is }
+    record { outer = f ∷ l.outer; around = l.around; top = l.top; is = ap (λ (xs : List Frame). f ∷ xs) l.is }
 
-frames_last2 : (fs : List Frame) (l : Last2 fs) → frames_of (λ id. []) fs ≡ frame_of (λ id. []) l.top ∷ frame_of (λ id. []) l.round
+frames_last2 : (fs : List Frame) (l : Last2 fs) → frames_of (λ id. []) fs ≡ frame_of (λ id. []) l.top ∷ frame_of (λ id. []) l.around
     ∷ frames_of (λ id. []) l.outer
 frames_last2 fs l =
-    ap (frames_of (λ id. [])) (l.is ∙ sym (append_assoc l.outer (l.round ∷ []) (l.top ∷ [])))
-    ∙ frames_push (λ id. []) (l.outer ++ l.round ∷ []) l.top ∙ ap (λ (xs : List rest.Frame). frame_of (λ id. []) l.top ∷ xs)
-    (frames_push (λ id. []) l.outer l.round)
+    ap (frames_of (λ id. [])) (l.is ∙ sym (append_assoc l.outer (l.around ∷ []) (l.top ∷ [])))
+    ∙ frames_push (λ id. []) (l.outer ++ l.around ∷ []) l.top ∙ ap (λ (xs : List rest.Frame). frame_of (λ id. []) l.top ∷ xs)
+    (frames_push (λ id. []) l.outer l.around)
 
 -- a frame that is a nursery's
 pub record IsBody (fs : List Frame) : Type 0 where
@@ -43,22 +43,22 @@ pub record IsBody (fs : List Frame) : Type 0 where
   pub at : InBody fs id
 
 -- if the frame that encloses the innermost one is a nursery's, the task is in the body of that
-pub is_body : (fs : List Frame) → IsTrue (in_body (frames_behind (frames_of (λ id. []) fs))) → IsBody fs
+pub is_body : (fs : List Frame) → IsTrue (in_body (outer_frames (frames_of (λ id. []) fs))) → IsBody fs
 is_body [] b = absurd (let e : false ≡ true = b in cc)
 is_body (f ∷ []) b = absurd (let e : false ≡ true = b in cc)
 is_body (f ∷ g ∷ fs) b =
     let l = last2 f g fs in
-    by_round l.round l.is (subst (λ (xs : List rest.Frame). IsTrue (in_body (frames_behind xs))) (frames_last2 (f ∷ g ∷ fs) l) b)
+    by_around l.around l.is (subst (λ (xs : List rest.Frame). IsTrue (in_body (outer_frames xs))) (frames_last2 (f ∷ g ∷ fs) l) b)
   where
-    by_round : (h : Frame) → f ∷ g ∷ fs ≡ (last2 f g fs).outer ++ h ∷ (last2 f g fs).top ∷ [] →
+    by_around : (h : Frame) → f ∷ g ∷ fs ≡ (last2 f g fs).outer ++ h ∷ (last2 f g fs).top ∷ [] →
         IsTrue (in_body (frame_of (λ id. []) h ∷ frames_of (λ id. []) (last2 f g fs).outer)) → IsBody (f ∷ g ∷ fs)
-    by_round (Steps steps) e b = absurd (let e : false ≡ true = b in cc)
-    by_round (Scope fail) e b = absurd (let e : false ≡ true = b in cc)
-    by_round (Nursery id) e b = record { id = id; at = record { outer = (last2 f g fs).outer; top = (last2 f g fs).top; is = e } }
-    by_round (Repeat pass left body) e b = absurd (let e : false ≡ true = b in cc)
-    by_round (Try handler cleanup) e b = absurd (let e : false ≡ true = b in cc)
-    by_round (Handler others cleanup) e b = absurd (let e : false ≡ true = b in cc)
-    by_round (Cleanup outcome) e b = absurd (let e : false ≡ true = b in cc)
+    by_around (Steps steps) e b = absurd (let e : false ≡ true = b in cc)
+    by_around (Scope fail) e b = absurd (let e : false ≡ true = b in cc)
+    by_around (Nursery id) e b = record { id = id; at = record { outer = (last2 f g fs).outer; top = (last2 f g fs).top; is = e } }
+    by_around (Repeat pass left body) e b = absurd (let e : false ≡ true = b in cc)
+    by_around (Try handler cleanup) e b = absurd (let e : false ≡ true = b in cc)
+    by_around (Handler others cleanup) e b = absurd (let e : false ≡ true = b in cc)
+    by_around (Cleanup outcome) e b = absurd (let e : false ≡ true = b in cc)
 
 -- in the body of a nursery a task has two frames at least
 pub body_long : (fs : List Frame) (id : ℕ) → InBody fs id → 2 ≤ length fs

@@ -18,33 +18,33 @@ some_is o st e = subst IsSome (sym e) refl
 
 -- a scope of a stack is open
 open_in : (tree : Tree) (key : ℕ) (before st : Stack) →
-    ((front : Stack) (l : Level ℕ) (behind : Stack) → before ++ st ≡ front ++ l ∷ behind → stack_of tree l.label ≡ Some (l ∷ behind)) →
+    ((front : Stack) (l : Level ℕ) (following : Stack) → before ++ st ≡ front ++ l ∷ following → stack_of tree l.label ≡ Some (l ∷ following)) →
     IsKey key st → IsOpen tree key
 open_in tree key before [] chain i = absurd i
 open_in tree key before (l ∷ ls) chain (inl e) = subst (IsOpen tree) (sym e) (some_is _ _ (chain before l ls refl))
 open_in tree key before (l ∷ ls) chain (inr i) =
-    open_in tree key (before ++ l ∷ []) ls (λ front m behind e. chain front m behind (sym (append_assoc before (l ∷ []) ls) ∙ e)) i
+    open_in tree key (before ++ l ∷ []) ls (λ front m following e. chain front m following (sym (append_assoc before (l ∷ []) ls) ∙ e)) i
 
 -- each scope of a stack is open
-pub open_round : (tree : Tree) → IsChain tree → (scope : Option ℕ) (key : ℕ) → IsKey key (outer_of tree scope) → IsOpen tree key
-open_round tree chain None key i = absurd i
-open_round tree chain (Some p) key i = by_stack (stack_of tree p) refl i
+pub open_around : (tree : Tree) → IsChain tree → (scope : Option ℕ) (key : ℕ) → IsKey key (outer_of tree scope) → IsOpen tree key
+open_around tree chain None key i = absurd i
+open_around tree chain (Some p) key i = by_stack (stack_of tree p) refl i
   where
     by_stack : (o : Option Stack) → stack_of tree p ≡ o → IsKey key (unwrap_or o []) → IsOpen tree key
     by_stack None e i = absurd i
-    by_stack (Some st) e i = open_in tree key [] st (λ front l behind f. chain p st e front l behind f) i
+    by_stack (Some st) e i = open_in tree key [] st (λ front l following f. chain p st e front l following f) i
 
 -- a scope that is found in a stack by its name is open
 pub found_open : (labels : Labels) (tree : Tree) (name : List ℕ) (scope : Option ℕ) (key : ℕ) → IsChain tree →
     scope_named labels name (outer_of tree scope) ≡ Some key → IsOpen tree key
-found_open labels tree name scope key chain e = open_round tree chain scope key (named_is_in labels name (outer_of tree scope) key e)
+found_open labels tree name scope key chain e = open_around tree chain scope key (named_is_in labels name (outer_of tree scope) key e)
 
 -- the stacks after a cancellation
-pub round_after : (old new : Tree) (key t : ℕ) (scope : Option ℕ) →
+pub around_after : (old new : Tree) (key t : ℕ) (scope : Option ℕ) →
     ((at : ℕ) → stack_of new at ≡ option_map (after_cancel key t) (stack_of old at)) →
     outer_of new scope ≡ after_cancel key t (outer_of old scope)
-round_after old new key t None h = refl
-round_after old new key t (Some p) h = ap (λ (o : Option Stack). unwrap_or o []) (h p) ∙ by_stack (stack_of old p)
+around_after old new key t None h = refl
+around_after old new key t (Some p) h = ap (λ (o : Option Stack). unwrap_or o []) (h p) ∙ by_stack (stack_of old p)
   where
     by_stack : (o : Option Stack) → unwrap_or (option_map (after_cancel key t) o) [] ≡ after_cancel key t (unwrap_or o [])
     by_stack None = refl
@@ -66,7 +66,7 @@ cancels_at labels more old new scope name key t same after found froms ps own a 
     own a in
     subst (λ (ls : Labels). AreAt ls (froms_after froms (signs_to (label_among name ps) t)) (outer_of new scope) ps) (sym same)
     (subst (λ (st : Stack). AreAt labels (froms_after froms (signs_to (label_among name ps) t)) st ps)
-    (sym (round_after old new key t scope after))
+    (sym (around_after old new key t scope after))
     (subst (λ (o : Option Label). AreAt labels (froms_after froms (signs_to o t)) (after_cancel key t (outer_of old scope)) ps) (sym at.1.1)
     signed))
 

@@ -19,7 +19,7 @@ use Rattle.turn_semantics.specs.Steps.{signs_home, froms_after}
 use Rattle.task_machine.specs.Acts.{key_failed}
 use Rattle.task_machine.specs.Labels.{Labels}
 use Rattle.task_machine.specs.Stacked.{AreAt}
-use Rattle.task_machine.proofs.Cancels.{round_after}
+use Rattle.task_machine.proofs.Cancels.{around_after}
 use Rattle.task_machine.proofs.Stacked.{one_of, signed_alike}
 
 -- the exception that propagates after a block, by what was read of its place
@@ -88,7 +88,7 @@ pub fails_at : (labels more : Labels) (old new : Tree) (scope : Option ℕ) (key
     AreAt labels froms (outer_of old scope) ps → AreAt more (froms_after froms (signs_home (Some e) ps t)) (outer_of new scope) ps
 fails_at labels more old new scope key t e same own within is_open after froms ps names a =
     subst (λ (ls : Labels). AreAt ls (froms_after froms (signs_home (Some e) ps t)) (outer_of new scope) ps) (sym same)
-    (subst (λ (st : Stack). AreAt labels (froms_after froms (signs_home (Some e) ps t)) st ps) (sym (round_after old new key t scope after))
+    (subst (λ (st : Stack). AreAt labels (froms_after froms (signs_home (Some e) ps t)) st ps) (sym (around_after old new key t scope after))
     (signed_first labels froms (outer_of old scope) ps key t e (top_at old scope key own within is_open) names a))
 
 -- if a test says that the task or body failed, it signs for the innermost scope: the from of the innermost

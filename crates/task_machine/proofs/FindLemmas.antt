@@ -2,7 +2,7 @@
 use Rattle.std.proofs.Common.{◌≡◌, ℕ, ◌<◌, true, false, List, [], ◌∷◌, length, Option, Some, None, is_some, refl, sym, ap, ◌∙◌, arith}
 use Rattle.std.specs.Option.{ForSome}
 use Rattle.cancel_scopes.specs.Sight.{Level}
-use Rattle.cancel_scopes.specs.Tree.{Stack, Tree, stack_of, outer_of, behind_own, IsOpen, IsOwn}
+use Rattle.cancel_scopes.specs.Tree.{Stack, Tree, stack_of, outer_of, outer_levels, IsOpen, IsOwn}
 use Rattle.task_machine.specs.Labels.{Labels, is_named, scope_named}
 
 -- an open scope's stack begins with it
@@ -31,18 +31,18 @@ found_here labels name tree id own whole named =
 
 -- it has not, and the search continues at its parent
 pub found_outwards : (labels : Labels) (name : List ℕ) (tree : Tree) (id : ℕ) (parent : Option ℕ) → IsOwn tree → IsOpen tree id →
-    is_named name (labels id) ≡ false → ForSome (stack_of tree id) (λ stack. outer_of tree parent ≡ behind_own stack) →
+    is_named name (labels id) ≡ false → ForSome (stack_of tree id) (λ stack. outer_of tree parent ≡ outer_levels stack) →
     scope_named labels name (outer_of tree (Some id)) ≡ scope_named labels name (outer_of tree parent)
-found_outwards labels name tree id parent own whole named round =
+found_outwards labels name tree id parent own whole named around =
     let b = begins tree id own whole in
-    let e : outer_of tree parent ≡ b.outer = round (b.first ∷ b.outer) b.stack in
+    let e : outer_of tree parent ≡ b.outer = around (b.first ∷ b.outer) b.stack in
     rw (e, b.stack, b.own, named) refl
 
 -- which has a shorter stack
 pub shorter : (tree : Tree) (id : ℕ) (parent : Option ℕ) → IsOwn tree → IsOpen tree id →
-    ForSome (stack_of tree id) (λ stack. outer_of tree parent ≡ behind_own stack) →
+    ForSome (stack_of tree id) (λ stack. outer_of tree parent ≡ outer_levels stack) →
     length (outer_of tree parent) < length (outer_of tree (Some id))
-shorter tree id parent own whole round =
+shorter tree id parent own whole around =
     let b = begins tree id own whole in
-    let e : outer_of tree parent ≡ b.outer = round (b.first ∷ b.outer) b.stack in
+    let e : outer_of tree parent ≡ b.outer = around (b.first ∷ b.outer) b.stack in
     rw (e, b.stack) (omega arith)

@@ -16,9 +16,9 @@ use Rattle.task_machine.specs.Fitting.{Block, a_scope, blocks_of, AreInRangeFram
 use Rattle.task_machine.specs.Frames.{frames_of}
 use Rattle.task_machine.specs.Labels.{Labels}
 use Rattle.task_machine.specs.Left.{keys_of}
-use Rattle.task_machine.proofs.Blocks.{blocks_append, Innermost, opened_out, opened_some, opened_length, runs_in_outer, runs_behind}
+use Rattle.task_machine.proofs.Blocks.{blocks_append, Innermost, opened_out, opened_some, opened_length, runs_in_outer, runs_after}
 use Rattle.task_machine.proofs.Leaves.{head_of, first_is_last, Top, top_of}
-use Rattle.task_machine.proofs.Others.{level_at, all_behind, innermost_of}
+use Rattle.task_machine.proofs.Others.{level_at, all_after, innermost_of}
 use Rattle.task_machine.proofs.OwnLemmas.{ids, last_pushed}
 use Rattle.task_machine.proofs.Stacked.{one_of}
 
@@ -78,7 +78,7 @@ ready_scope fs fail part home own n tree labels book chain owns apart h =
           (top_of tree chain owns home own l.before l.last l.is (h.runs.scope l.last.id scope_is) h.runs.first scope_is)
           (subst (λ (os : List Own). OthersRun tree book (blocks_of fs ++ a_scope ∷ []) os None) l.is
           (subst (λ (bs : List Block). OthersRun tree book bs own None) blocks h.others))
-          (λ r. runs_behind book (blocks_of fs) (length l.before) None
+          (λ r. runs_after book (blocks_of fs) (length l.before) None
           (let e = opened_length labels book (blocks_of fs) l.before inner.outer in omega (arith, e))
           (runs_in_outer book (blocks_of fs) (length l.before) r)));
       labelled = λ id e. subst (λ (k : ℕ). IsSome (labels k)) (one_of l.last.id id (sym scope_is ∙ e)) inner.block;
@@ -124,21 +124,21 @@ head_among [] k e = absurd (let f : None ≡ Some k = e in cc)
 head_among (x ∷ ks) k e = inl (sym (one_of x k e))
 
 -- what encloses the scope that was left stays open
-pub round_open : (old new : Tree) → IsChain old → IsOwn old → IsApart old → (home : Option ℕ) (os : List Own) (o : Own) →
+pub around_open : (old new : Tree) → IsChain old → IsOwn old → IsApart old → (home : Option ℕ) (os : List Own) (o : Own) →
     ForSome home (IsOpen old) → Top old home os o →
     OthersKeep old new o.id → ForSome (last_or home (ids os)) (IsOpen new)
-round_open old new chain owns apart home os o opened top keep id e =
-    let named : top.level.label ≡ o.id = one_of _ _ (owns o.id (top.level ∷ top.behind) top.at) in
-    let first : head_of (keys_of top.behind) ≡ Some id =
+around_open old new chain owns apart home os o opened top keep id e =
+    let named : top.level.label ≡ o.id = one_of _ _ (owns o.id (top.level ∷ top.following) top.at) in
+    let first : head_of (keys_of top.following) ≡ Some id =
     ap head_of top.keys ∙ first_is_last os (keys_of (outer_of old home))
     ∙ ap (λ (h : Option ℕ). last_or h (ids os)) (first_key old home owns opened) ∙ e in
-    let at = level_at id top.behind (head_among (keys_of top.behind) id first) in
-    let round : stack_of old at.level.label ≡ Some (at.level ∷ at.behind) =
-    chain o.id (top.level ∷ top.behind) top.at (top.level ∷ at.before) at.level at.behind (ap (λ (s : Stack). top.level ∷ s) at.is) in
+    let at = level_at id top.following (head_among (keys_of top.following) id first) in
+    let around : stack_of old at.level.label ≡ Some (at.level ∷ at.following) =
+    chain o.id (top.level ∷ top.following) top.at (top.level ∷ at.before) at.level at.following (ap (λ (s : Stack). top.level ∷ s) at.is) in
     let differs : at.level.label ≢ o.id =
-    All-head (λ (m : Level ℕ). m.label ≢ o.id) at.level at.behind
-    (all_behind (λ (m : Level ℕ). m.label ≢ o.id) at.before (at.level ∷ at.behind)
+    All-head (λ (m : Level ℕ). m.label ≢ o.id) at.level at.following
+    (all_after (λ (m : Level ℕ). m.label ≢ o.id) at.before (at.level ∷ at.following)
     (subst (λ (s : Stack). All (λ (m : Level ℕ). m.label ≢ o.id) s) at.is
-    (subst (λ (k : ℕ). All (λ (m : Level ℕ). m.label ≢ k) top.behind) named
-    (apart o.id (top.level ∷ top.behind) top.at [] top.level top.behind refl)))) in
-    subst (IsOpen new) at.named (subst IsSome (sym (keep at.level.label differs ∙ round)) refl)
+    (subst (λ (k : ℕ). All (λ (m : Level ℕ). m.label ≢ k) top.following) named
+    (apart o.id (top.level ∷ top.following) top.at [] top.level top.following refl)))) in
+    subst (IsOpen new) at.named (subst IsSome (sym (keep at.level.label differs ∙ around)) refl)

@@ -35,20 +35,20 @@ blocks_pushed fs gs f e = ap blocks_of e ∙ by_frames fs
     by_frame (Handler others cleanup) = refl
     by_frame (Cleanup outcome) = refl
 
-    block_behind : (b : Block) (h : Frame) (bs : List Block) → b ∷ block_in h bs ≡ block_in h (b ∷ bs)
-    block_behind b (Steps steps) bs = refl
-    block_behind b (Scope fail) bs = refl
-    block_behind b (Nursery id) bs = refl
-    block_behind b (Repeat pass left body) bs = refl
-    block_behind b (Try handler cleanup) bs = refl
-    block_behind b (Handler others cleanup) bs = refl
-    block_behind b (Cleanup outcome) bs = refl
+    block_after : (b : Block) (h : Frame) (bs : List Block) → b ∷ block_in h bs ≡ block_in h (b ∷ bs)
+    block_after b (Steps steps) bs = refl
+    block_after b (Scope fail) bs = refl
+    block_after b (Nursery id) bs = refl
+    block_after b (Repeat pass left body) bs = refl
+    block_after b (Try handler cleanup) bs = refl
+    block_after b (Handler others cleanup) bs = refl
+    block_after b (Cleanup outcome) bs = refl
 
     by_frames : (hs : List Frame) → blocks_of (hs ++ f ∷ []) ≡ block_in f (blocks_of hs)
     by_frames [] = by_frame f
     by_frames (Steps steps ∷ hs) = by_frames hs
-    by_frames (Scope fail ∷ hs) = ap (λ (bs : List Block). a_scope ∷ bs) (by_frames hs) ∙ block_behind a_scope f (blocks_of hs)
-    by_frames (Nursery id ∷ hs) = ap (λ (bs : List Block). a_nursery id ∷ bs) (by_frames hs) ∙ block_behind (a_nursery id) f (blocks_of hs)
+    by_frames (Scope fail ∷ hs) = ap (λ (bs : List Block). a_scope ∷ bs) (by_frames hs) ∙ block_after a_scope f (blocks_of hs)
+    by_frames (Nursery id ∷ hs) = ap (λ (bs : List Block). a_nursery id ∷ bs) (by_frames hs) ∙ block_after (a_nursery id) f (blocks_of hs)
     by_frames (Repeat pass left body ∷ hs) = by_frames hs
     by_frames (Try handler cleanup ∷ hs) = by_frames hs
     by_frames (Handler others cleanup ∷ hs) = by_frames hs

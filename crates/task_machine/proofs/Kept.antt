@@ -23,11 +23,11 @@ use Rattle.task_machine.specs.Labels as label
 use Rattle.task_machine.specs.Left.{keys_of, keys_in, OwnFirst}
 use Rattle.task_machine.specs.Stacked.{IsKey}
 use Rattle.task_machine.proofs.Blocks.{blocks_append, Innermost, opened_in, opened_out, opened_some, opened_waits, StaysBut, opened_stays, runs_in_waits, runs_in_later}
-use Rattle.task_machine.proofs.Cancels.{open_round}
-use Rattle.task_machine.proofs.Fits.{LastOf, last_of, first_key, head_among, round_open}
+use Rattle.task_machine.proofs.Cancels.{open_around}
+use Rattle.task_machine.proofs.Fits.{LastOf, last_of, first_key, head_among, around_open}
 use Rattle.task_machine.proofs.FrameLemmas.{frames_push}
 use Rattle.task_machine.proofs.Leaves.{keys_pushed, Top}
-use Rattle.task_machine.proofs.Others.{is_mine, among_left, among_right, level_at, all_behind, others_entered, others_left}
+use Rattle.task_machine.proofs.Others.{is_mine, among_left, among_right, level_at, all_after, others_entered, others_left}
 use Rattle.task_machine.proofs.OwnLemmas.{ids, last_pushed}
 use Rattle.task_machine.proofs.Stacked.{one_of}
 
@@ -77,9 +77,9 @@ same_outer (Some st) (Some su) e = one_keys (keys_of st) (keys_of su) e
     one_keys : (a b : List ℕ) → Some a ≡ Some b → a ≡ b
     one_keys a b f = cc
 
-keys_round : (old new : Tree) (scope : Option ℕ) → SameKeys old new → keys_of (outer_of new scope) ≡ keys_of (outer_of old scope)
-keys_round old new None same = refl
-keys_round old new (Some k) same = same_outer (stack_of new k) (stack_of old k) (same k)
+keys_around : (old new : Tree) (scope : Option ℕ) → SameKeys old new → keys_of (outer_of new scope) ≡ keys_of (outer_of old scope)
+keys_around old new None same = refl
+keys_around old new (Some k) same = same_outer (stack_of new k) (stack_of old k) (same k)
 
 others_same : (old new : Tree) (book : NurseryBook) (bs : List Block) (own : List Own) (waits : Option ℕ) → SameKeys old new →
     OthersRun old book bs own waits → OthersRun new book bs own waits
@@ -105,8 +105,8 @@ fits_signed fs part home own n old new labels book waits same h =
         home = λ k e. same_open (stack_of new k) (stack_of old k) (same k) (h.runs.home k e);
         scope = λ k e. same_open (stack_of new k) (stack_of old k) (same k) (h.runs.scope k e);
         first =
-            keys_round old new (last_or home (ids own)) same ∙ h.runs.first
-            ∙ ap (λ (ks : List ℕ). keys_in own ++ ks) (sym (keys_round old new home same));
+            keys_around old new (last_or home (ids own)) same ∙ h.runs.first
+            ∙ ap (λ (ks : List ℕ). keys_in own ++ ks) (sym (keys_around old new home same));
         froms = h.runs.froms;
         opened = h.runs.opened;
       };
@@ -120,7 +120,7 @@ fits_signed fs part home own n old new labels book waits same h =
 own_open : (tree : Tree) → IsChain tree → (home : Option ℕ) (own : List Own) (key : ℕ) → OwnFirst tree home own →
     IsAmong key (keys_in own) → IsOpen tree key
 own_open tree chain home own key first i =
-    open_round tree chain (last_or home (ids own)) key
+    open_around tree chain (last_or home (ids own)) key
     (is_key key (outer_of tree (last_or home (ids own))) (subst (IsAmong key) (sym first)
     (among_left key (keys_in own) (keys_of (outer_of tree home)) i)))
 
@@ -215,28 +215,28 @@ first_below n (x ∷ own) o a =
     (first_below n own o (All-tail (λ (y : Own). y.at < n) x (own ++ o ∷ []) a))
 
 -- what encloses the innermost scope stays open when that is closed
-behind_open : (old new : Tree) → IsChain old → IsOwn old → IsApart old → (home : Option ℕ) (os : List Own) (o : Own) → Top old home os o →
+after_open : (old new : Tree) → IsChain old → IsOwn old → IsApart old → (home : Option ℕ) (os : List Own) (o : Own) → Top old home os o →
     OthersKeep old new o.id → (key : ℕ) →
     IsAmong key (keys_of (outer_of old home)) → IsOpen new key
-behind_open old new chain owns apart home os o top keep key i =
-    let named : top.level.label ≡ o.id = one_of _ _ (owns o.id (top.level ∷ top.behind) top.at) in
-    let at = level_at key top.behind (subst (IsAmong key) (sym top.keys) (among_right key (keys_in os) (keys_of (outer_of old home)) i)) in
-    let round : stack_of old at.level.label ≡ Some (at.level ∷ at.behind) =
-    chain o.id (top.level ∷ top.behind) top.at (top.level ∷ at.before) at.level at.behind (ap (λ (s : Stack). top.level ∷ s) at.is) in
+after_open old new chain owns apart home os o top keep key i =
+    let named : top.level.label ≡ o.id = one_of _ _ (owns o.id (top.level ∷ top.following) top.at) in
+    let at = level_at key top.following (subst (IsAmong key) (sym top.keys) (among_right key (keys_in os) (keys_of (outer_of old home)) i)) in
+    let around : stack_of old at.level.label ≡ Some (at.level ∷ at.following) =
+    chain o.id (top.level ∷ top.following) top.at (top.level ∷ at.before) at.level at.following (ap (λ (s : Stack). top.level ∷ s) at.is) in
     let differs : at.level.label ≢ o.id =
-    All-head (λ (m : Level ℕ). m.label ≢ o.id) at.level at.behind
-    (all_behind (λ (m : Level ℕ). m.label ≢ o.id) at.before (at.level ∷ at.behind)
+    All-head (λ (m : Level ℕ). m.label ≢ o.id) at.level at.following
+    (all_after (λ (m : Level ℕ). m.label ≢ o.id) at.before (at.level ∷ at.following)
     (subst (λ (s : Stack). All (λ (m : Level ℕ). m.label ≢ o.id) s) at.is
-    (subst (λ (k : ℕ). All (λ (m : Level ℕ). m.label ≢ k) top.behind) named
-    (apart o.id (top.level ∷ top.behind) top.at [] top.level top.behind refl)))) in
-    subst (IsOpen new) at.named (subst IsSome (sym (keep at.level.label differs ∙ round)) refl)
+    (subst (λ (k : ℕ). All (λ (m : Level ℕ). m.label ≢ k) top.following) named
+    (apart o.id (top.level ∷ top.following) top.at [] top.level top.following refl)))) in
+    subst (IsOpen new) at.named (subst IsSome (sym (keep at.level.label differs ∙ around)) refl)
 
 -- the home of a task stays open when the innermost of its scopes is closed
 pub home_open : (old new : Tree) → IsChain old → IsOwn old → IsApart old → (home : Option ℕ) (os : List Own) (o : Own) → Top old home os o →
     OthersKeep old new o.id →
     ForSome home (IsOpen old) → ForSome home (IsOpen new)
 home_open old new chain owns apart home os o top keep opened key e =
-    behind_open old new chain owns apart home os o top keep key (head_among (keys_of (outer_of old home)) key
+    after_open old new chain owns apart home os o top keep key (head_among (keys_of (outer_of old home)) key
     (first_key old home owns opened ∙ e))
 
 -- what holds of a task is kept when it leaves its innermost block, a scope
@@ -251,7 +251,7 @@ fits_left fs fail part home os o n old new labels more book chain owns apart top
         in_range = subst AreInRangeFrames (frames_push (λ id. []) fs (Scope fail)) h.runs.in_range;
         starts = subst StartsFit (frames_push (λ id. []) fs (Scope fail)) h.runs.starts;
         home = home_open old new chain owns apart home os o top keep h.runs.home;
-        scope = round_open old new chain owns apart home os o h.runs.home top keep;
+        scope = around_open old new chain owns apart home os o h.runs.home top keep;
         first = first;
         froms = first_below n os o h.runs.froms;
         opened = opened_stays labels more book book o.id (blocks_of fs) os (record { named = u.others; nurseries = λ id m e differs. e })

@@ -31,21 +31,21 @@ keys_pushed (o ∷ os) x = ap (λ (ks : List ℕ). ks ++ o.id ∷ []) (keys_push
 
 -- each rest of a stack is the stack of its first key
 abbrev Suffixes : Tree → Stack → Stack → Type 0
-Suffixes tree before st = (front : Stack) (l : Level ℕ) (behind : Stack) → before ++ st ≡ front ++ l ∷ behind →
-    stack_of tree l.label ≡ Some (l ∷ behind)
+Suffixes tree before st = (front : Stack) (l : Level ℕ) (following : Stack) → before ++ st ≡ front ++ l ∷ following →
+    stack_of tree l.label ≡ Some (l ∷ following)
 
-rest_round : (tree : Tree) (before ls : Stack) → Suffixes tree before ls → outer_of tree (head_of (keys_of ls)) ≡ ls
-rest_round tree before [] chain = refl
-rest_round tree before (l ∷ ls) chain = ap (λ (o : Option Stack). unwrap_or o []) (chain before l ls refl)
+rest_around : (tree : Tree) (before ls : Stack) → Suffixes tree before ls → outer_of tree (head_of (keys_of ls)) ≡ ls
+rest_around tree before [] chain = refl
+rest_around tree before (l ∷ ls) chain = ap (λ (o : Option Stack). unwrap_or o []) (chain before l ls refl)
 
-home_round : (tree : Tree) → IsChain tree → IsOwn tree → (home : Option ℕ) →
+home_around : (tree : Tree) → IsChain tree → IsOwn tree → (home : Option ℕ) →
     outer_of tree (head_of (keys_of (outer_of tree home))) ≡ outer_of tree home
-home_round tree chain own None = refl
-home_round tree chain own (Some h) = by_stack (stack_of tree h) refl
+home_around tree chain own None = refl
+home_around tree chain own (Some h) = by_stack (stack_of tree h) refl
   where
     by_stack : (o : Option Stack) → stack_of tree h ≡ o → outer_of tree (head_of (keys_of (unwrap_or o []))) ≡ unwrap_or o []
     by_stack None e = refl
-    by_stack (Some st) e = rest_round tree [] st (λ front l behind f. chain h st e front l behind f)
+    by_stack (Some st) e = rest_around tree [] st (λ front l following f. chain h st e front l following f)
 
 -- either of two outer scopes with one stack
 same_last : (tree : Tree) (a b : Option ℕ) (ks : List ℕ) → outer_of tree a ≡ outer_of tree b →
@@ -54,14 +54,14 @@ same_last tree a b [] e = e
 same_last tree a b (k ∷ ks) e = refl
 
 -- what encloses the scope that is left
-pub round_last : (tree : Tree) → IsChain tree → IsOwn tree → (home : Option ℕ) (os : List Own) (x : Own) (l : Level ℕ) (ls : Stack) →
+pub around_last : (tree : Tree) → IsChain tree → IsOwn tree → (home : Option ℕ) (os : List Own) (x : Own) (l : Level ℕ) (ls : Stack) →
     stack_of tree x.id ≡ Some (l ∷ ls) →
     keys_of ls ≡ keys_in os ++ keys_of (outer_of tree home) → outer_of tree (last_or home (ids os)) ≡ ls
-round_last tree chain own home os x l ls stack keys =
-    same_last tree home (head_of (keys_of (outer_of tree home))) (ids os) (sym (home_round tree chain own home))
+around_last tree chain own home os x l ls stack keys =
+    same_last tree home (head_of (keys_of (outer_of tree home))) (ids os) (sym (home_around tree chain own home))
     ∙ ap (outer_of tree) (sym (first_is_last os (keys_of (outer_of tree home))))
     ∙ ap (λ (ks : List ℕ). outer_of tree (head_of ks)) (sym keys)
-    ∙ rest_round tree (l ∷ []) ls (λ front m behind e. chain x.id (l ∷ ls) stack front m behind e)
+    ∙ rest_around tree (l ∷ []) ls (λ front m following e. chain x.id (l ∷ ls) stack front m following e)
 
 -- a stack that is shorter is of another key
 keeps_outer : (old new : Tree) (key : ℕ) (l : Level ℕ) (ls : Stack) → OthersKeep old new key → stack_of old key ≡ Some (l ∷ ls) →
@@ -77,14 +77,14 @@ keeps_outer old new key l ls others stack (Some p) short = ap (λ (o : Option St
         omega (arith, short, f)
 
 -- a key is in no rest of its own stack, so its label may change
-same_behind : (labels more : Labels) (tree : Tree) (key : ℕ) (label : Option Label) (whole before st : Stack) →
+same_after : (labels more : Labels) (tree : Tree) (key : ℕ) (label : Option Label) (whole before st : Stack) →
     Updates labels more key label → stack_of tree key ≡ Some whole →
     length st < length whole → Suffixes tree before st → SameOn labels more st
-same_behind labels more tree key label whole before [] u stack short chain = tt
-same_behind labels more tree key label whole before (l ∷ ls) u stack short chain = (
+same_after labels more tree key label whole before [] u stack short chain = tt
+same_after labels more tree key label whole before (l ∷ ls) u stack short chain = (
   sym (u.others l.label other),
-  same_behind labels more tree key label whole (before ++ l ∷ []) ls u stack (omega (arith, short))
-      (λ front m behind e. chain front m behind (sym (append_assoc before (l ∷ []) ls) ∙ e)),
+  same_after labels more tree key label whole (before ++ l ∷ []) ls u stack (omega (arith, short))
+      (λ front m following e. chain front m following (sym (append_assoc before (l ∷ []) ls) ∙ e)),
 )
   where
     other : l.label ≢ key
@@ -108,10 +108,10 @@ same_labels labels more froms (l ∷ ls) (p ∷ ps) same a = (sym same.0 ∙ a.0
 -- enclose its home
 pub record Top (tree : Tree) (home : Option ℕ) (os : List Own) (x : Own) : Type 0 where
   pub level : Level ℕ
-  pub behind : Stack
-  pub at : stack_of tree x.id ≡ Some (level ∷ behind)
-  pub keys : keys_of behind ≡ keys_in os ++ keys_of (outer_of tree home)
-  pub round : outer_of tree (last_or home (ids os)) ≡ behind
+  pub following : Stack
+  pub at : stack_of tree x.id ≡ Some (level ∷ following)
+  pub keys : keys_of following ≡ keys_in os ++ keys_of (outer_of tree home)
+  pub around : outer_of tree (last_or home (ids os)) ≡ following
 
 length_keys : (st : Stack) → length (keys_of st) ≡ length st
 length_keys [] = refl
@@ -135,7 +135,7 @@ top_of tree chain owns home own os x pushed opened first last = by_stack (stack_
         ap (λ (ks : List Own). keys_in ks ++ keys_of (outer_of tree home)) pushed
         ∙ ap (λ (ks : List ℕ). ks ++ keys_of (outer_of tree home)) (keys_pushed os x) in
         let keys : keys_of ls ≡ keys_in os ++ keys_of (outer_of tree home) = tail_of l.label x.id _ _ (sym whole ∙ first ∙ split) in
-        record { level = l; behind = ls; at = e; keys = keys; round = round_last tree chain owns home os x l ls e keys }
+        record { level = l; following = ls; at = e; keys = keys; around = around_last tree chain owns home os x l ls e keys }
 
     by_stack : (o : Option Stack) → stack_of tree x.id ≡ o → Top tree home os x
     by_stack None e = absurd (let f : is_some (stack_of tree x.id) ≡ true = opened in let g : is_some (stack_of tree x.id) ≡ false =
@@ -147,34 +147,34 @@ top_of tree chain owns home own os x pushed opened first last = by_stack (stack_
 pub first_after : (old new : Tree) (home : Option ℕ) (os : List Own) (x : Own) → OthersKeep old new x.id → Top old home os x →
     OwnFirst new home os
 first_after old new home os x others top =
-    let shorter : length (keys_of top.behind) ≡ length (keys_in os) + length (keys_of (outer_of old home)) =
+    let shorter : length (keys_of top.following) ≡ length (keys_in os) + length (keys_of (outer_of old home)) =
     ap length top.keys ∙ length-append (keys_in os) _ in
-    let n : length (outer_of old (last_or home (ids os))) < length (top.level ∷ top.behind) =
-    subst (λ (st : Stack). length st < length (top.level ∷ top.behind)) (sym top.round) (omega arith) in
-    let m : length (outer_of old home) < length (top.level ∷ top.behind) =
-    (let a = length_keys (outer_of old home) in let b = length_keys top.behind in omega (arith, shorter, a, b)) in
-    ap keys_of (keeps_outer old new x.id top.level top.behind others top.at (last_or home (ids os)) n)
-    ∙ ap keys_of top.round ∙ top.keys
-    ∙ ap (λ (st : Stack). keys_in os ++ keys_of st) (sym (keeps_outer old new x.id top.level top.behind others top.at home m))
+    let n : length (outer_of old (last_or home (ids os))) < length (top.level ∷ top.following) =
+    subst (λ (st : Stack). length st < length (top.level ∷ top.following)) (sym top.around) (omega arith) in
+    let m : length (outer_of old home) < length (top.level ∷ top.following) =
+    (let a = length_keys (outer_of old home) in let b = length_keys top.following in omega (arith, shorter, a, b)) in
+    ap keys_of (keeps_outer old new x.id top.level top.following others top.at (last_or home (ids os)) n)
+    ∙ ap keys_of top.around ∙ top.keys
+    ∙ ap (λ (st : Stack). keys_in os ++ keys_of st) (sym (keeps_outer old new x.id top.level top.following others top.at home m))
 
 -- and its places are those that enclose the one that is left
 pub places_after : (labels more : Labels) (old new : Tree) (home : Option ℕ) (os : List Own) (x : Own) (label : Option Label) →
     IsChain old → OthersKeep old new x.id →
-    Updates labels more x.id label → (top : Top old home os x) → (froms : Table) (ps : List Place) → AreAt labels froms top.behind ps →
+    Updates labels more x.id label → (top : Top old home os x) → (froms : Table) (ps : List Place) → AreAt labels froms top.following ps →
     AreAt more froms (outer_of new (last_or home (ids os))) ps
 places_after labels more old new home os x label chain others u top froms ps a =
-    let n : length (outer_of old (last_or home (ids os))) < length (top.level ∷ top.behind) =
-    subst (λ (st : Stack). length st < length (top.level ∷ top.behind)) (sym top.round) (omega arith) in
+    let n : length (outer_of old (last_or home (ids os))) < length (top.level ∷ top.following) =
+    subst (λ (st : Stack). length st < length (top.level ∷ top.following)) (sym top.around) (omega arith) in
     subst (λ (st : Stack). AreAt more froms st ps)
-    (sym (keeps_outer old new x.id top.level top.behind others top.at (last_or home (ids os)) n ∙ top.round))
-    (same_labels labels more froms top.behind ps
-    (same_behind labels more old x.id label (top.level ∷ top.behind) (top.level ∷ []) top.behind u top.at (omega arith)
-    (λ front l behind e. chain x.id (top.level ∷ top.behind) top.at front l behind e)) a)
+    (sym (keeps_outer old new x.id top.level top.following others top.at (last_or home (ids os)) n ∙ top.around))
+    (same_labels labels more froms top.following ps
+    (same_after labels more old x.id label (top.level ∷ top.following) (top.level ∷ []) top.following u top.at (omega arith)
+    (λ front l following e. chain x.id (top.level ∷ top.following) top.at front l following e)) a)
 
 -- the innermost place, by the scope that is left
 pub left_from : (labels : Labels) (froms : Table) (tree : Tree) (home outer : Option ℕ) (os : List Own) (x : Own) (p : Place)
     (ps : List Place) → (top : Top tree home os x) →
-    outer ≡ Some x.id → AreAt labels froms (outer_of tree outer) (p ∷ ps) → AreAt labels froms (top.level ∷ top.behind) (p ∷ ps)
+    outer ≡ Some x.id → AreAt labels froms (outer_of tree outer) (p ∷ ps) → AreAt labels froms (top.level ∷ top.following) (p ∷ ps)
 left_from labels froms tree home outer os x p ps top last a =
     subst (λ (st : Stack). AreAt labels froms st (p ∷ ps)) (ap (outer_of tree) last ∙ ap (λ (o : Option Stack). unwrap_or o []) top.at) a
 

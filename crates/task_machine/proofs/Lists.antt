@@ -4,10 +4,10 @@ use Rattle.std.proofs.lemmas.Option.{none-some}
 use Rattle.std.specs.List.{slice_get}
 
 -- what is in the second of two lists
-pub got_behind : {A : Type 0} (xs ys : List A) (i j : ℕ) → j ≡ length xs + i → slice_get (xs ++ ys) j ≡ slice_get ys i
-got_behind [] ys i j e = ap (slice_get ys) (let f : j ≡ i = omega (arith, e) in f)
-got_behind (x ∷ xs) ys i zero e = absurd (omega (arith, e))
-got_behind (x ∷ xs) ys i (suc j) e = got_behind xs ys i j (omega (arith, e))
+pub got_after : {A : Type 0} (xs ys : List A) (i j : ℕ) → j ≡ length xs + i → slice_get (xs ++ ys) j ≡ slice_get ys i
+got_after [] ys i j e = ap (slice_get ys) (let f : j ≡ i = omega (arith, e) in f)
+got_after (x ∷ xs) ys i zero e = absurd (omega (arith, e))
+got_after (x ∷ xs) ys i (suc j) e = got_after xs ys i j (omega (arith, e))
 
 -- what is in the first
 pub got_first : {A : Type 0} (xs ys : List A) (i : ℕ) (x : A) → slice_get xs i ≡ Some x → slice_get (xs ++ ys) i ≡ Some x
@@ -16,18 +16,18 @@ got_first (y ∷ xs) ys zero x e = e
 got_first (y ∷ xs) ys (suc i) x e = got_first xs ys i x e
 
 -- an index after the first ones, and what is there
-pub record GotBehind {A : Type 0} (first : ℕ) (ys : List A) (at : ℕ) (x : A) : Type 0 where
+pub record GotAfter {A : Type 0} (first : ℕ) (ys : List A) (at : ℕ) (x : A) : Type 0 where
   pub place : ℕ
-  pub behind : at ≡ first + place
+  pub following : at ≡ first + place
   pub got : slice_get ys place ≡ Some x
 
 -- what is in two lists is in one of them
 pub got_either : {A : Type 0} (xs ys : List A) (at : ℕ) (x : A) → slice_get (xs ++ ys) at ≡ Some x →
-    (slice_get xs at ≡ Some x) ⊎ GotBehind (length xs) ys at x
-got_either [] ys at x e = inr (record { place = at; behind = omega arith; got = e })
+    (slice_get xs at ≡ Some x) ⊎ GotAfter (length xs) ys at x
+got_either [] ys at x e = inr (record { place = at; following = omega arith; got = e })
 got_either (y ∷ xs) ys zero x e = inl e
 got_either {A} (y ∷ xs) ys (suc at) x e = by_rest (got_either xs ys at x e)
   where
-    by_rest : (slice_get xs at ≡ Some x) ⊎ GotBehind (length xs) ys at x → (slice_get xs at ≡ Some x) ⊎ GotBehind (suc (length xs)) ys (suc at) x
+    by_rest : (slice_get xs at ≡ Some x) ⊎ GotAfter (length xs) ys at x → (slice_get xs at ≡ Some x) ⊎ GotAfter (suc (length xs)) ys (suc at) x
     by_rest (inl g) = inl g
-    by_rest (inr g) = inr (record { place = g.place; behind = (let f = g.behind in omega (arith, f)); got = g.got })
+    by_rest (inr g) = inr (record { place = g.place; following = (let f = g.following in omega (arith, f)); got = g.got })

@@ -13,7 +13,7 @@ use Rattle.task_machine.specs.Fitting.{Block, a_scope, AreOthers, HasRunning, Ru
 use Rattle.task_machine.specs.Left.{keys_of, keys_in}
 use Rattle.task_machine.specs.Stacked.{IsKey}
 use Rattle.task_machine.proofs.Blocks.{runs_in_more, runs_in_outer, runs_in_later}
-use Rattle.task_machine.proofs.Cancels.{open_round}
+use Rattle.task_machine.proofs.Cancels.{open_around}
 use Rattle.task_machine.proofs.Leaves.{Top}
 use Rattle.task_machine.proofs.Stacked.{one_of}
 
@@ -46,22 +46,22 @@ is_mine key (o ∷ own) = by_test (o.id == key) refl (is_mine key own)
 pub record LevelAt (key : ℕ) (st : Stack) : Type 0 where
   pub before : Stack
   pub level : Level ℕ
-  pub behind : Stack
-  pub is : st ≡ before ++ level ∷ behind
+  pub following : Stack
+  pub is : st ≡ before ++ level ∷ following
   pub named : level.label ≡ key
 
 -- a key among those of a stack is that of one of its levels
 pub level_at : (key : ℕ) (st : Stack) → IsAmong key (keys_of st) → LevelAt key st
 level_at key [] i = absurd i
-level_at key (l ∷ ls) (inl e) = record { before = []; level = l; behind = ls; is = refl; named = sym e }
+level_at key (l ∷ ls) (inl e) = record { before = []; level = l; following = ls; is = refl; named = sym e }
 level_at key (l ∷ ls) (inr i) =
     let at = level_at key ls i in
-    record { before = l ∷ at.before; level = at.level; behind = at.behind; is = ap (λ (st : Stack). l ∷ st) at.is; named = at.named }
+    record { before = l ∷ at.before; level = at.level; following = at.following; is = ap (λ (st : Stack). l ∷ st) at.is; named = at.named }
 
 -- what holds for each level of a stack holds for each after the first of them
-pub all_behind : (P : Level ℕ → Type 0) (before st : Stack) → All P (before ++ st) → All P st
-all_behind P [] st a = a
-all_behind P (l ∷ before) st a = all_behind P before st (All-tail P l (before ++ st) a)
+pub all_after : (P : Level ℕ → Type 0) (before st : Stack) → All P (before ++ st) → All P st
+all_after P [] st a = a
+all_after P (l ∷ before) st a = all_after P before st (All-tail P l (before ++ st) a)
 
 all_else : (key : ℕ) (st : Stack) → (IsKey key st → ⊥) → All (λ (l : Level ℕ). l.label ≢ key) st
 all_else key [] never = All-nil (λ (l : Level ℕ). l.label ≢ key)
@@ -106,17 +106,17 @@ not_mine : (tree : Tree) → IsChain tree → IsOwn tree → IsApart tree → (h
     (other : ℕ) (st : Stack) →
     IsAmong other (keys_in os) → stack_of tree other ≡ Some st → All (λ (l : Level ℕ). l.label ≢ o.id) st
 not_mine tree chain owns apart home os o top other st i e =
-    let named : top.level.label ≡ o.id = one_of _ _ (owns o.id (top.level ∷ top.behind) top.at) in
-    let at = level_at other top.behind (subst (λ (ks : List ℕ). IsAmong other ks) (sym top.keys)
+    let named : top.level.label ≡ o.id = one_of _ _ (owns o.id (top.level ∷ top.following) top.at) in
+    let at = level_at other top.following (subst (λ (ks : List ℕ). IsAmong other ks) (sym top.keys)
     (among_left other (keys_in os) (keys_of (outer_of tree home)) i)) in
-    let round : stack_of tree at.level.label ≡ Some (at.level ∷ at.behind) =
-    chain o.id (top.level ∷ top.behind) top.at (top.level ∷ at.before) at.level at.behind (ap (λ (s : Stack). top.level ∷ s) at.is) in
-    let same : at.level ∷ at.behind ≡ st = one_stack _ _ (sym round ∙ ap (stack_of tree) at.named ∙ e) in
+    let around : stack_of tree at.level.label ≡ Some (at.level ∷ at.following) =
+    chain o.id (top.level ∷ top.following) top.at (top.level ∷ at.before) at.level at.following (ap (λ (s : Stack). top.level ∷ s) at.is) in
+    let same : at.level ∷ at.following ≡ st = one_stack _ _ (sym around ∙ ap (stack_of tree) at.named ∙ e) in
     subst (λ (s : Stack). All (λ (l : Level ℕ). l.label ≢ o.id) s) same
-    (all_behind (λ (l : Level ℕ). l.label ≢ o.id) at.before (at.level ∷ at.behind)
+    (all_after (λ (l : Level ℕ). l.label ≢ o.id) at.before (at.level ∷ at.following)
     (subst (λ (s : Stack). All (λ (l : Level ℕ). l.label ≢ o.id) s) at.is
-    (subst (λ (k : ℕ). All (λ (l : Level ℕ). l.label ≢ k) top.behind) named
-    (apart o.id (top.level ∷ top.behind) top.at [] top.level top.behind refl))))
+    (subst (λ (k : ℕ). All (λ (l : Level ℕ). l.label ≢ k) top.following) named
+    (apart o.id (top.level ∷ top.following) top.at [] top.level top.following refl))))
   where
     one_stack : (a b : Stack) → Some a ≡ Some b → a ≡ b
     one_stack a b f = cc
@@ -150,7 +150,7 @@ others_entered old new book more chain bs own b o closed keep later run key st e
         runs_in_more more bs b i (runs_in_later book more bs i None later (run key st before (others_first key own o a) i x at within))
     by_place (inr same) =
         let is_open : IsOpen old o.id =
-        open_round old chain (Some key) o.id
+        open_around old chain (Some key) o.id
         (subst (λ (y : Option Stack). IsKey o.id (unwrap_or y [])) (sym before) (subst (λ (y : Own). IsKey y.id st) (sym same) within)) in
         absurd (let f : false ≡ true = subst IsSome closed is_open in cc)
 

@@ -16,8 +16,8 @@ use Rattle.task_machine.specs.Fitting.{Block, a_scope, a_nursery, blocks_of, Are
 use Rattle.task_machine.specs.Labels.{Labels}
 use Rattle.task_machine.specs.Labels as label
 use Rattle.task_machine.specs.Left.{OwnFirst}
-use Rattle.task_machine.proofs.Blocks.{opened_length, opened_stays, runs_behind, runs_in_later}
-use Rattle.task_machine.proofs.Fits.{LastOf, last_of, Ready, round_open}
+use Rattle.task_machine.proofs.Blocks.{opened_length, opened_stays, runs_after, runs_in_later}
+use Rattle.task_machine.proofs.Fits.{LastOf, last_of, Ready, around_open}
 use Rattle.task_machine.proofs.Kept.{stays_but, first_below, home_open}
 use Rattle.task_machine.proofs.Leaves.{Top, top_of}
 use Rattle.task_machine.proofs.Others.{got_before, others_but, innermost_of}
@@ -93,7 +93,7 @@ ready_settled fs id part home own n tree labels book chain owns apart settled h 
           (innermost_of tree book chain owns apart home (blocks_of fs) l.before l.last (Some id)
           (top_of tree chain owns home own l.before l.last l.is (h.runs.scope l.last.id scope_is) h.runs.first scope_is)
           (subst (λ (os : List Own). OthersRun tree book (blocks_of fs) os (Some id)) l.is h.others)
-          (λ r. settled_quiet book id settled (runs_behind book (blocks_of fs) (length l.before) (Some id)
+          (λ r. settled_quiet book id settled (runs_after book (blocks_of fs) (length l.before) (Some id)
           (let e = opened_length labels book (blocks_of fs) l.before at.outer in omega (arith, e)) r)));
       labelled = λ key e. subst (λ (k : ℕ). IsSome (labels k)) (one_of l.last.id key (sym scope_is ∙ e))
           (has_label (nursery_at book id) at.nursery);
@@ -138,7 +138,7 @@ fits_settled fs id part home os o n old new labels more book after chain owns ap
         in_range = h.runs.in_range;
         starts = h.runs.starts;
         home = home_open old new chain owns apart home os o top keep h.runs.home;
-        scope = round_open old new chain owns apart home os o h.runs.home top keep;
+        scope = around_open old new chain owns apart home os o h.runs.home top keep;
         first = first;
         froms = first_below n os o h.runs.froms;
         opened = by_nursery (nursery_at book id) refl at.nursery;

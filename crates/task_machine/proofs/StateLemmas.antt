@@ -61,10 +61,10 @@ is_scope : (labels : Labels) (Q : Members → Type 0) (p : Option Members) (o : 
 is_scope labels Q None o i = i
 is_scope labels Q (Some n) o i = i.0.scope
 
-one_behind : (id key : ℕ) (bs : List Block) (waits : Option ℕ) → HasNurseryOf id bs waits → ((id ≡ key) ⊎ HasBlock id bs)
+one_after : (id key : ℕ) (bs : List Block) (waits : Option ℕ) → HasNurseryOf id bs waits → ((id ≡ key) ⊎ HasBlock id bs)
     ⊎ (waits ≡ Some id)
-one_behind id key bs waits (inl h) = inl (inr h)
-one_behind id key bs waits (inr e) = inr e
+one_after id key bs waits (inl h) = inl (inr h)
+one_after id key bs waits (inr e) = inr e
 
 keyed_onto : (P : ℕ → ℕ → Type 0) (now : Numbers) (labels : Labels) (book : NurseryBook) (fs : List Frame) (own : List Own)
     (waits : Option ℕ) (outer : List rest.Frame)
@@ -90,7 +90,7 @@ keyed_onto P now labels book (Nursery id ∷ fs) (o ∷ own) waits outer ks has 
     subst (λ (zs : List ℕ). KeyedAfter P waits now (frames_onto now fs (rest.in_nursery (now id) ∷ outer)) zs)
     (sym (append_assoc (keys_in own) (o.id ∷ []) ks))
     (keyed_onto P now labels book fs own waits (rest.in_nursery (now id) ∷ outer) (o.id ∷ ks)
-    (λ key x i n. has key x (one_behind key id (blocks_of fs) waits i) n) h.2
+    (λ key x i n. has key x (one_after key id (blocks_of fs) waits i) n) h.2
     ((id, refl, has id o (inl (inl refl)) (is_scope labels (λ n. n.body ≡ None) (nursery_at book id) o h.0)), k))
 keyed_onto P now labels book (Repeat pass left body ∷ fs) own waits outer ks has h k =
     keyed_onto P now labels book fs own waits (frame_of now (Repeat pass left body) ∷ outer) ks has h k

@@ -21,7 +21,7 @@ use Rattle.task_machine.specs.declared.entry.Entry.{Entry}
 use Rattle.task_machine.specs.Noted.{entry_of, IsSlice, shown_made, AreNoted}
 use Rattle.turn_semantics.specs.Midway.{Place, Midway, Begun, Move, after_move, no_move, then_move}
 use Rattle.turn_semantics.specs.Steps.{froms_after, step_of, turn_of}
-use Rattle.turn_semantics.specs.Placed.{PlacedAfter, places_behind}
+use Rattle.turn_semantics.specs.Placed.{PlacedAfter, outer_places}
 use Rattle.turn_semantics.specs.Names.{NewIn}
 use Rattle.turn_semantics.proofs.Events.{froms_append}
 use Rattle.turn_semantics.proofs.Turns.{turned_step}
@@ -372,7 +372,7 @@ stands_where s u froms numbers ps t here stands count exc goes took =
       places = took.places;
       numbered = λ id has. took.nurseries.numbered id (inl has);
       placed = subst (λ (gs : List rest.Frame). PlacedAfter o.stopped gs o.places) (sym took.frames_after) step.placed;
-      new = subst (λ (gs : List rest.Frame). NewIn gs (places_behind o.stopped o.places)) (sym took.frames_after) names.frames;
+      new = subst (λ (gs : List rest.Frame). NewIn gs (outer_places o.stopped o.places)) (sym took.frames_after) names.frames;
       own = names.own;
     }
 

@@ -145,7 +145,7 @@ module _ (b : State) (whole : List Frame) (froms : Table) (numbers : Numbers) (s
       o.frames ≡ frames_of numbers fs → o.places ≡ ps → o.made ≡ [] → o.begun ≡ [] → WaitsNot o.stopped →
       MovesAs numbers b.book b.part goes h o →
       Took (with_frames b whole) (record b { frames = fs; task_state = h }) goes froms numbers o
-  took_task_states fs h goes o same gs round made none not moves =
+  took_task_states fs h goes o same gs around made none not moves =
       let u : State = record b { frames = fs; task_state = h } in
       took_quiet u goes o [] (quiet_by b whole u refl refl refl same)
       (none_noted (buffer_of b.part) o.made (ap (λ (es : List rest.Event). shown_made (buffer_of b.part) es) made)) none (sym gs) at moves
@@ -154,7 +154,7 @@ module _ (b : State) (whole : List Frame) (froms : Table) (numbers : Numbers) (s
       at : AreAt b.labels (froms_after froms o.made) (stack_in b) o.places
       at =
           subst (λ (es : List rest.Event). AreAt b.labels (froms_after froms es) (stack_in b) o.places) (sym made)
-          (subst (λ (qs : List Place). AreAt b.labels froms (stack_in b) qs) (sym round) stands.places)
+          (subst (λ (qs : List Place). AreAt b.labels froms (stack_in b) qs) (sym around) stands.places)
 
   -- the task continues: at the end of a block, at a `try`, its handler or its cleanup, and where it raises
   pub took_onward : (fs : List Frame) (exc : Option held.Exc) (o : Move) → blocks_of fs ≡ blocks_of whole →
@@ -216,7 +216,7 @@ module _ (b : State) (whole : List Frame) (froms : Table) (numbers : Numbers) (s
       record {
         numbers_after = numbers;
         frames_after = refl;
-        places = x.round;
+        places = x.around;
         moves = (x.exc, refl);
         entries = x.entry ∷ [];
         noted = x.entries;

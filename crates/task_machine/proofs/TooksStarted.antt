@@ -43,7 +43,7 @@ use Rattle.task_machine.specs.States.{State, here_at, path_at, stack_in}
 use Rattle.task_machine.specs.Stops.{Numbers}
 use Rattle.task_machine.proofs.Acting.{block_of, start_acts, starts_acts}
 use Rattle.task_machine.proofs.Begins.{begins_more}
-use Rattle.task_machine.proofs.Lists.{got_behind, got_first, GotBehind, got_either}
+use Rattle.task_machine.proofs.Lists.{got_after, got_first, GotAfter, got_either}
 use Rattle.task_machine.proofs.Nurseries.{has_last, nurseries_put}
 use Rattle.task_machine.proofs.Taking.{shown_append}
 use Rattle.task_machine.proofs.Tooks.{none_noted}
@@ -73,7 +73,7 @@ numbered_at first (suc k) i less = by_order (λ lt. numbered_at first k i lt) (n
     by_order inner true e = got_first (consecutive first k) ((first + k) ∷ []) i (first + i) (inner (grind (arith, nat_tests)))
     by_order inner false e =
         let same : i ≡ k = grind (arith, nat_tests) in
-        got_behind (consecutive first k) ((first + k) ∷ []) 0 i (let f = numbered_length first k in omega (arith, f, same))
+        got_after (consecutive first k) ((first + k) ∷ []) 0 i (let f = numbered_length first k in omega (arith, f, same))
         ∙ ap (λ (n : ℕ). Some (first + n)) (sym same)
 
 running_length : (k : ℕ) → length (running_children k) ≡ k
@@ -90,7 +90,7 @@ running_at (suc k) i less = by_order (λ lt. running_at k i lt) (nat_lt i k) ref
     by_order inner true e = got_first (running_children k) (None ∷ []) i None (inner (grind (arith, nat_tests)))
     by_order inner false e =
         let same : i ≡ k = grind (arith, nat_tests) in
-        got_behind (running_children k) (None ∷ []) 0 i (let f = running_length k in omega (arith, f, same))
+        got_after (running_children k) (None ∷ []) 0 i (let f = running_length k in omega (arith, f, same))
 
 all_running : (k : ℕ) → All (λ (e : End). e ≡ None) (running_children k)
 all_running zero = All-nil (λ (e : End). e ≡ None)
@@ -210,14 +210,14 @@ module _ (b : State) (whole fs : List Frame) (id : ℕ) (left : Bor (List Step))
           is : key ≡ id
           is = eqb-true key id e
 
-          by_part : (slice_get (numbers key) place ≡ Some number) ⊎ GotBehind (length (numbers key)) added place number →
+          by_part : (slice_get (numbers key) place ≡ Some number) ⊎ GotAfter (length (numbers key)) added place number →
               (HasBlock key (blocks_of whole) × (slice_get (numbers key) place ≡ Some number)) ⊎ BeginsAt key place number tasks bs
           by_part (inl got) = inl (there key has, got)
           by_part (inr got) =
               inr
               (subst (λ (k : ℕ). BeginsAt k place number tasks bs) (sym is)
               (subst (λ (x : ℕ). BeginsAt id x number tasks bs)
-              (sym (got.behind ∙ ap (λ (x : ℕ). x + got.place) (ap (λ (k : ℕ). length (numbers k)) is ∙ have_numbers n was)))
+              (sym (got.following ∙ ap (λ (x : ℕ). x + got.place) (ap (λ (k : ℕ). length (numbers k)) is ∙ have_numbers n was)))
               (begins got.place number got.got)))
 
       covered : (key place number : ℕ) → HasNurseryOf key (blocks_of u.frames) None → slice_get (more key) place ≡ Some number →
@@ -352,25 +352,25 @@ begins_over self id n name k body ps first (suc i) tasks c at number e =
 
     by_part : (slice_get (consecutive first i) at ≡ Some number → BeginsAt id (length n.children + at) number c.0
         (begun_over name (here_inside self) k body ps first i)) →
-        (slice_get (consecutive first i) at ≡ Some number) ⊎ GotBehind (length (consecutive first i)) ((first + i) ∷ []) at number →
+        (slice_get (consecutive first i) at ≡ Some number) ⊎ GotAfter (length (consecutive first i)) ((first + i) ∷ []) at number →
         BeginsAt id (length n.children + at) number (c.0 ++ c.1 ∷ []) (begun_over name (here_inside self) k body ps first i ++ last ∷ [])
     by_part before (inl got) =
         begins_more id (length n.children + at) number c.0 (c.1 ∷ []) (begun_over name (here_inside self) k body ps first i) (last ∷ [])
         (before got)
-    by_part before (inr got) = by_place got.place got.behind got.got
+    by_part before (inr got) = by_place got.place got.following got.got
       where
         by_place : (j : ℕ) → at ≡ length (consecutive first i) + j → slice_get ((first + i) ∷ []) j ≡ Some number →
             BeginsAt id (length n.children + at) number (c.0 ++ c.1 ∷ [])
             (begun_over name (here_inside self) k body ps first i ++ last ∷ [])
-        by_place zero behind at_first =
+        by_place zero following at_first =
             same_long id (length n.children + at) number c.0 (c.1 ∷ []) (begun_over name (here_inside self) k body ps first i) (last ∷ [])
             (children_long self id n name k body ps first i c.0 c.3)
             (inl (
               ap (λ (h : Option Home). home_in h) c.4.home_is ∙ ap (λ (x : ℕ). Some (id, length n.children + x))
-                  (let f = numbered_length first i in let g : i ≡ at = omega (arith, f, behind) in g),
+                  (let f = numbered_length first i in let g : i ≡ at = omega (arith, f, following) in g),
               same_Some (first + i) number at_first,
             ))
-        by_place (suc j) behind at_first = absurd (let f : None ≡ Some number = at_first in cc)
+        by_place (suc j) following at_first = absurd (let f : None ≡ Some number = at_first in cc)
 
 -- ---- the children of a `start`
 
@@ -394,7 +394,7 @@ module _ (b : State) (whole fs : List Frame) (id : ℕ) (left : Bor (List Step))
             (range_of b.part) body id 0 s.nursery ps count s.child got
             (subst (λ (o : Option Members). IsSomeAnd o (λ m. (m.scope ≡ s.nursery.scope)
             × (slice_get m.children (length s.nursery.children + 0) ≡ Some None)))
-            (sym s.book.changed) (refl, got_behind s.nursery.children (None ∷ []) 0 (length s.nursery.children + 0) refl))
+            (sym s.book.changed) (refl, got_after s.nursery.children (None ∷ []) 0 (length s.nursery.children + 0) refl))
             (mine b whole fs id left u froms numbers stopped ps stands held same apart world) in_range,
         tt,
       ) refl refl (start_acts b.tick count (label_here name (here_inside b)) b.tick (scoping_in b) (scoping_in b) refl) begins
@@ -411,7 +411,7 @@ module _ (b : State) (whole fs : List Frame) (id : ℕ) (left : Bor (List Step))
       got : slice_get (more id) (length s.nursery.children + 0) ≡ Some count
       got =
           ap (λ (ns : List ℕ). slice_get ns (length s.nursery.children + 0)) (numbers_put numbers id (numbers id ++ count ∷ []) id refl)
-          ∙ got_behind (numbers id) (count ∷ []) 0 (length s.nursery.children + 0)
+          ∙ got_after (numbers id) (count ∷ []) 0 (length s.nursery.children + 0)
           (ap (λ (x : ℕ). x + 0) (sym (have_numbers b whole fs id left u froms numbers stopped ps stands held same apart world s.nursery s.was)))
 
   -- the given number of children are started
@@ -428,7 +428,7 @@ module _ (b : State) (whole fs : List Frame) (id : ℕ) (left : Bor (List Step))
       (λ i less.
       subst (λ (o : Option Members). IsSomeAnd o (λ m. (m.scope ≡ s.nursery.scope)
       × (slice_get m.children (length s.nursery.children + i) ≡ Some None)))
-      (sym s.book.changed) (refl, got_behind s.nursery.children (running_children k) i (length s.nursery.children + i) refl ∙ running_at k i less))
+      (sym s.book.changed) (refl, got_after s.nursery.children (running_children k) i (length s.nursery.children + i) refl ∙ running_at k i less))
       (mine b whole fs id left u froms numbers stopped ps stands held same apart world) in_range k (omega arith) s.tasks s.children)
       (over_froms name (here_inside b) b.tick count k froms)
       (over_unshown (buffer_of b.part) name (here_inside b) b.tick count k)
@@ -441,6 +441,6 @@ module _ (b : State) (whole fs : List Frame) (id : ℕ) (left : Bor (List Step))
       got : (i : ℕ) → i < k → slice_get (more id) (length s.nursery.children + i) ≡ Some (count + i)
       got i less =
           ap (λ (ns : List ℕ). slice_get ns (length s.nursery.children + i)) (numbers_put numbers id (numbers id ++ consecutive count k) id refl)
-          ∙ got_behind (numbers id) (consecutive count k) i (length s.nursery.children + i)
+          ∙ got_after (numbers id) (consecutive count k) i (length s.nursery.children + i)
           (ap (λ (x : ℕ). x + i) (sym (have_numbers b whole fs id left u froms numbers stopped ps stands held same apart world s.nursery s.was)))
           ∙ numbered_at count k i less

@@ -28,7 +28,7 @@ pub record ExitsFrom
     pub entry : Entry
     pub entries : after.entries ≡ before.entries ++ entry ∷ []
     pub shown : AreNoted (buffer_of before.part) (entry ∷ []) (noted before.tick (left_as kind p.label left.caught) ∷ [])
-    pub round : AreAt after.labels froms (stack_in after) ps
+    pub around : AreAt after.labels froms (stack_in after) ps
 
 abbrev pub ExitsAt : State → State → Kind → Option Exc → Option Exc → Type 0
 ExitsAt before after kind exc goes_on =

@@ -60,9 +60,9 @@ HasBody (tree.attempt body handler cleanup) = Unit {0}
 HasBody _ = ⊥
 
 -- the frames that enclose the innermost one
-abbrev pub frames_behind : List rest.Frame → List rest.Frame
-frames_behind [] = []
-frames_behind (f ∷ fs) = fs
+abbrev pub outer_frames : List rest.Frame → List rest.Frame
+outer_frames [] = []
+outer_frames (f ∷ fs) = fs
 
 -- a block with a scope of its own: a scope, or a nursery with its key
 pub data Block : Type 0 where

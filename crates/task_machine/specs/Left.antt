@@ -28,7 +28,7 @@ OwnFirst tree home own = keys_of (outer_of tree (last_or home (map (λ (o : Own)
 pub record LeavesFrom (before after : State) (closed : Closed) (froms : Table) (p : Place) (ps : List Place) : Type 0 where
   pub label : closed.label ≡ p.label
   pub caught : closed.catches ≡ catches (froms p.label) p.shield (stack_at froms ps) before.tick
-  pub round : AreAt after.labels froms (stack_in after) ps
+  pub around : AreAt after.labels froms (stack_in after) ps
 
 abbrev pub LeavesAt : State → State → Closed → Type 0
 LeavesAt before after closed =

@@ -16,7 +16,7 @@ use Rattle.job_meaning.specs.Rest.{Stopped}
 use Rattle.task_machine.specs.declared.entry.Entry.{Entry}
 use Rattle.task_machine.specs.Noted.{AreNoted}
 use Rattle.turn_semantics.specs.Midway.{Place, Midway, Begun, Move}
-use Rattle.turn_semantics.specs.Placed.{PlacedAfter, places_behind}
+use Rattle.turn_semantics.specs.Placed.{PlacedAfter, outer_places}
 use Rattle.turn_semantics.specs.Names.{NewIn, OwnNames, names_at}
 use Rattle.turn_semantics.specs.Steps.{froms_after, step_of, turn_of}
 use Rattle.turn_semantics.specs.Wakes as wakes
@@ -80,7 +80,7 @@ pub record Stands (s : State) (froms : Table) (numbers : Numbers) (stopped : Opt
   pub places : AreAt s.labels froms (stack_in s) ps
   pub numbered : AreNumbered numbers s.book s.frames
   pub placed : PlacedAfter stopped (frames_of numbers s.frames) ps
-  pub new : NewIn (frames_of numbers s.frames) (places_behind stopped ps)
+  pub new : NewIn (frames_of numbers s.frames) (outer_places stopped ps)
   pub own : OwnNames (names_at ps)
 
 -- A task that was started is this child: it has not begun its steps, and runs at its place of its nursery, which has its

@@ -4,7 +4,7 @@ ghost use Rattle.job_tree.specs.InRange.{IsInRangeStep};
 ghost use Rattle.job_tree.specs.Starting.{StartsAt};
 ghost use Rattle.turn_semantics.specs.Placed.{in_body};
 ghost use Rattle.turn_semantics.specs.Bound.{step_length, frames_length};
-ghost use Rattle.task_machine.specs.Fitting.{Fits, HasBody, frames_behind};
+ghost use Rattle.task_machine.specs.Fitting.{Fits, HasBody, outer_frames};
 ghost use Rattle.task_machine.specs.Frames.{frames_of};
 ghost use Rattle.task_machine.specs.Standing.{waits_by, RunsAs};
 ghost use Rattle.task_machine.specs.States.{state_of};
@@ -36,7 +36,7 @@ impl<'a> Task<'a> {
         requires tick { world.old.tick ≤ 2 ^ 62 }
         requires task_state { IsInRangeTaskState self.old.task_state }
         requires in_range { IsInRangeStep (step_of step.now) }
-        requires starts { StartsAt (in_body (frames_behind (frames_of (λ id. []) self.old.frames.items))) (step_of step.now) }
+        requires starts { StartsAt (in_body (outer_frames (frames_of (λ id. []) self.old.frames.items))) (step_of step.now) }
         ensures keeps { OnOk result (KeepsRest me self.old self.new world.old world.new) }
         ensures fits { OnOk result (Fits (state_of self.new world.new) None) }
         ensures waits { IfOk result (λ moved. waits_by moved self.new.task_state ≡ None) }
@@ -83,7 +83,7 @@ impl<'a> Task<'a> {
         requires task_state { IsInRangeTaskState self.old.task_state }
         requires has_block { HasBody (step_of step.now) }
         requires in_range { IsInRangeStep (step_of step.now) }
-        requires starts { StartsAt (in_body (frames_behind (frames_of (λ id. []) self.old.frames.items))) (step_of step.now) }
+        requires starts { StartsAt (in_body (outer_frames (frames_of (λ id. []) self.old.frames.items))) (step_of step.now) }
         ensures keeps { OnOk result (KeepsRest me self.old self.new world.old world.new) }
         ensures fits { OnOk result (Fits (state_of self.new world.new) None) }
         ensures waits { IfOk result (λ moved. waits_by moved self.new.task_state ≡ None) }

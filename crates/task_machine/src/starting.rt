@@ -6,7 +6,7 @@ ghost use Rattle.nursery_book.specs.Book.{HasNursery};
 ghost use Rattle.task_machine.specs.declared.stop.TaskState.TheVariants.{ToBegin};
 ghost use Rattle.job_tree.specs.InRange.{IsInRangeOver};
 ghost use Rattle.turn_semantics.specs.Placed.{in_body};
-ghost use Rattle.task_machine.specs.Fitting.{Fits, frames_behind, InBody};
+ghost use Rattle.task_machine.specs.Fitting.{Fits, outer_frames, InBody};
 ghost use Rattle.task_machine.specs.Frames.{frames_of};
 ghost use Rattle.task_machine.specs.Stops.{Numbers};
 ghost use Rattle.task_machine.specs.Started.{StartsOne, StartsOver, StartsChildren};
@@ -117,7 +117,7 @@ impl<'a> Task<'a> {
     ) -> Result<(), AllocError>
         requires fits { Fits (state_of self.now world.old) None }
         requires over { IsInRangeOver over }
-        requires body { IsTrue (in_body (frames_behind (frames_of (λ id. []) self.now.frames.items))) }
+        requires body { IsTrue (in_body (outer_frames (frames_of (λ id. []) self.now.frames.items))) }
         ensures rest { OnOk result (world.new ≡ record world.old { book = world.new.book; started = world.new.started }) }
         ensures fits { OnOk result (Fits (state_of self.now world.new) None) }
         ensures children { OnOk result (StartsChildren (state_of self.now world.old) (state_of self.now world.new) name over body.now) }
@@ -135,7 +135,7 @@ impl<'a> Task<'a> {
 
     // The nursery in whose body the task is: the frame that encloses the steps that it is in.
     fn nursery(&self) -> NurseryId
-        requires { IsTrue (in_body (frames_behind (frames_of (λ id. []) self.now.frames.items))) }
+        requires { IsTrue (in_body (outer_frames (frames_of (λ id. []) self.now.frames.items))) }
         ensures { InBody self.now.frames.items result }
     {
         let frames = self.frames.as_slice();

@@ -12,7 +12,7 @@ use Rattle.job_meaning.specs.Asking.{Answer, lines, missing, counted, Purpose, s
 use Rattle.turn_semantics.specs.Midway.{Place, stack_at, Midway, Begun, Move}
 use Rattle.turn_semantics.specs.Steps.{sleeps, falls_asleep, with_started, begun_over, handler_if, step_try, step_on, step_steps, step_frames, step_of, begins_passes, step_pass}
 use Rattle.turn_semantics.specs.Wakes.{Wake, begins, sees, is_due, has_answer, settles, goes_on_with, with_answer, leaves_settled, wake_of, CanWake, from_start, from_asking, from_sleep, from_due, from_wait}
-use Rattle.turn_semantics.specs.Placed.{in_body, Placed, places_behind, IsAmong, HasChild, HasChildAfter, AllHoused}
+use Rattle.turn_semantics.specs.Placed.{in_body, Placed, outer_places, IsAmong, HasChild, HasChildAfter, AllHoused}
 use Rattle.turn_semantics.proofs.Keeps.{last_or_before}
 
 among_left : (i : ℕ) (is js : List ℕ) → IsAmong i is → IsAmong i (is ++ js)
@@ -155,7 +155,7 @@ module _ (t : ℕ) (froms : Table) (here : Here) (i : ℕ) (home : List Place) w
 
   -- a wake
   pub wake_stays : {w : Wake} {s : Stopped} → CanWake w s → (fs : List Frame) (ps : List Place) →
-      HasChild i home fs (places_behind (Some s) ps) →
+      HasChild i home fs (outer_places (Some s) ps) →
       Stays (wake_of froms t here w s fs ps)
   wake_stays from_start fs ps h = inr h
   wake_stays (from_asking {a} {kernel} {purpose}) fs ps h = stays_answered a purpose fs ps h

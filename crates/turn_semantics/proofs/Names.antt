@@ -12,7 +12,7 @@ use Rattle.job_meaning.specs.Asking.{Answer, lines, missing, counted, Purpose, s
 use Rattle.job_meaning.proofs.Distinct.{Among, among_left, among_right, Distinct, distinct_left, distinct_right, distinct_by_bytes}
 use Rattle.turn_semantics.specs.Midway.{Place, stack_at, Midway, Begun, Move, after_move, then_move}
 use Rattle.turn_semantics.specs.Wakes.{Wake, goes_on_with, leaves_settled, wake_of, turn_from, CanWake, from_start, from_sleep, from_due, from_asking, from_wait}
-use Rattle.turn_semantics.specs.Placed.{places_behind}
+use Rattle.turn_semantics.specs.Placed.{outer_places}
 use Rattle.turn_semantics.specs.Steps.{falls_asleep, sleeps, with_started, begun_over, step_on, step_steps, handler_if, step_try, step_frames, step_of, froms_after, turn_of, begins_passes, step_pass}
 use Rattle.turn_semantics.specs.Names.{IsName, names_at, OwnNames, AreNew, IsNew, IsNewHandler, IsNewCleanup, NewIn, AllNew, StaysNew}
 
@@ -20,59 +20,59 @@ use Rattle.turn_semantics.specs.Names.{IsName, names_at, OwnNames, AreNew, IsNew
 
 -- no name of one list is in the other
 abbrev NoName : List (List ℕ) → List (List ℕ) → Type 0
-NoName ns round = (n : List ℕ) → Among n ns → IsName n round → ⊥
+NoName ns around = (n : List ℕ) → Among n ns → IsName n around → ⊥
 
-more_round : (name : List ℕ) (ns round : List (List ℕ)) → (Among name ns → ⊥) → NoName ns round → NoName ns (name ∷ round)
-more_round name ns round d h n i (inl e) = d (subst (λ (x : List ℕ). Among x ns) e i)
-more_round name ns round d h n i (inr j) = h n i j
+more_around : (name : List ℕ) (ns around : List (List ℕ)) → (Among name ns → ⊥) → NoName ns around → NoName ns (name ∷ around)
+more_around name ns around d h n i (inl e) = d (subst (λ (x : List ℕ). Among x ns) e i)
+more_around name ns around d h n i (inr j) = h n i j
 
 mutual
   -- steps that give each name once, and none of an enclosing scope, enter no scope that has the name of an enclosing
   -- one
-  pub new_steps : (ss : Steps) (round : List (List ℕ)) → Distinct (names_of ss) → NoName (names_of ss) round → AreNew round ss
-  new_steps stop round d h = tt
-  new_steps (step s ss) round d h = (
-    new_step s round (distinct_left (names_in s) (names_of ss) d) (λ n i. h n (among_left n (names_in s) (names_of ss) i)),
-    new_steps ss round (distinct_right (names_in s) (names_of ss) d) (λ n i. h n (among_right n (names_in s) (names_of ss) i)),
+  pub new_steps : (ss : Steps) (around : List (List ℕ)) → Distinct (names_of ss) → NoName (names_of ss) around → AreNew around ss
+  new_steps stop around d h = tt
+  new_steps (step s ss) around d h = (
+    new_step s around (distinct_left (names_in s) (names_of ss) d) (λ n i. h n (among_left n (names_in s) (names_of ss) i)),
+    new_steps ss around (distinct_right (names_in s) (names_of ss) d) (λ n i. h n (among_right n (names_in s) (names_of ss) i)),
   )
 
   -- the same of one step
-  pub new_step : (s : Step) (round : List (List ℕ)) → Distinct (names_in s) → NoName (names_in s) round → IsNew round s
-  new_step (sleep n) round d h = tt
-  new_step checkpoint round d h = tt
-  new_step forever round d h = tt
-  new_step (pace k) round d h = tt
-  new_step (find text) round d h = tt
-  new_step (head n) round d h = tt
-  new_step longest round d h = tt
-  new_step (need text name) round d h = tt
-  new_step (raise name) round d h = tt
-  new_step (cancel name) round d h = tt
-  new_step (scope name deadline shield fail body) round d h =
-      (h name (inl refl), new_steps body (name ∷ round) d.1 (more_round name (names_of body) round d.0 (λ n i. h n (inr i))))
-  new_step (nursery name deadline shield body) round d h =
-      (h name (inl refl), new_steps body (name ∷ round) d.1 (more_round name (names_of body) round d.0 (λ n i. h n (inr i))))
-  new_step (start name over body) round d h = new_steps body round d.1 (λ n i. h n (inr i))
-  new_step (repeat count body) round d h = new_steps body round d h
-  new_step (attempt body handler cleanup) round d h =
+  pub new_step : (s : Step) (around : List (List ℕ)) → Distinct (names_in s) → NoName (names_in s) around → IsNew around s
+  new_step (sleep n) around d h = tt
+  new_step checkpoint around d h = tt
+  new_step forever around d h = tt
+  new_step (pace k) around d h = tt
+  new_step (find text) around d h = tt
+  new_step (head n) around d h = tt
+  new_step longest around d h = tt
+  new_step (need text name) around d h = tt
+  new_step (raise name) around d h = tt
+  new_step (cancel name) around d h = tt
+  new_step (scope name deadline shield fail body) around d h =
+      (h name (inl refl), new_steps body (name ∷ around) d.1 (more_around name (names_of body) around d.0 (λ n i. h n (inr i))))
+  new_step (nursery name deadline shield body) around d h =
+      (h name (inl refl), new_steps body (name ∷ around) d.1 (more_around name (names_of body) around d.0 (λ n i. h n (inr i))))
+  new_step (start name over body) around d h = new_steps body around d.1 (λ n i. h n (inr i))
+  new_step (repeat count body) around d h = new_steps body around d h
+  new_step (attempt body handler cleanup) around d h =
       let front = distinct_left (names_of body ++ handled_names handler) (cleaned_names cleanup) d in (
-        new_steps body round (distinct_left (names_of body) (handled_names handler) front)
+        new_steps body around (distinct_left (names_of body) (handled_names handler) front)
             (λ n i. h n (among_left n (names_of body ++ handled_names handler) (cleaned_names cleanup)
             (among_left n (names_of body) (handled_names handler) i))),
-        new_handler handler round (distinct_right (names_of body) (handled_names handler) front)
+        new_handler handler around (distinct_right (names_of body) (handled_names handler) front)
             (λ n i. h n (among_left n (names_of body ++ handled_names handler) (cleaned_names cleanup)
             (among_right n (names_of body) (handled_names handler) i))),
-        new_cleanup cleanup round (distinct_right (names_of body ++ handled_names handler) (cleaned_names cleanup) d)
+        new_cleanup cleanup around (distinct_right (names_of body ++ handled_names handler) (cleaned_names cleanup) d)
             (λ n i. h n (among_right n (names_of body ++ handled_names handler) (cleaned_names cleanup) i)),
       )
 
-  new_handler : (x : Handled) (round : List (List ℕ)) → Distinct (handled_names x) → NoName (handled_names x) round → IsNewHandler round x
-  new_handler unhandled round d h = tt
-  new_handler (except name body) round d h = new_steps body round d h
+  new_handler : (x : Handled) (around : List (List ℕ)) → Distinct (handled_names x) → NoName (handled_names x) around → IsNewHandler around x
+  new_handler unhandled around d h = tt
+  new_handler (except name body) around d h = new_steps body around d h
 
-  new_cleanup : (x : Cleaned) (round : List (List ℕ)) → Distinct (cleaned_names x) → NoName (cleaned_names x) round → IsNewCleanup round x
-  new_cleanup uncleaned round d h = tt
-  new_cleanup (finally body) round d h = new_steps body round d h
+  new_cleanup : (x : Cleaned) (around : List (List ℕ)) → Distinct (cleaned_names x) → NoName (cleaned_names x) around → IsNewCleanup around x
+  new_cleanup uncleaned around d h = tt
+  new_cleanup (finally body) around d h = new_steps body around d h
 
 -- a job whose names are given once
 pub new_job : (job : Tree) → GivesNamesOnce job → NewIn (steps_left job.steps ∷ []) []
@@ -206,12 +206,12 @@ answer_new froms t here (counted n) (paces k) fs ps h own = sleeps_new froms _ t
 -- a nursery whose last member ended is left
 settled_new : (froms : Table) (t : ℕ) (exc : Option Exc) (children : List ℕ) (ended : ℕ) (e : Option Exc) (fs : List Frame)
     (ps : List Place) →
-    NewIn fs (places_behind (Some (awaiting children ended e)) ps) → OwnNames (names_at ps) → StaysNew (leaves_settled froms t exc fs ps)
+    NewIn fs (outer_places (Some (awaiting children ended e)) ps) → OwnNames (names_at ps) → StaysNew (leaves_settled froms t exc fs ps)
 settled_new froms t exc children ended e fs [] h own = record { frames = h; own = own; begun = tt }
 settled_new froms t exc children ended e fs (p ∷ ps) h own = record { frames = h; own = own.1; begun = tt }
 
 wake_new : (froms : Table) (t : ℕ) (here : Here) {w : Wake} {s : Stopped} → CanWake w s → (fs : List Frame) (ps : List Place) →
-    NewIn fs (places_behind (Some s) ps) →
+    NewIn fs (outer_places (Some s) ps) →
     OwnNames (names_at ps) → StaysNew (wake_of froms t here w s fs ps)
 wake_new froms t here from_start fs ps h own = record { frames = h; own = own; begun = tt }
 wake_new froms t here (from_asking {a} {kernel} {purpose}) fs ps h own = answer_new froms t here a purpose fs ps h own
@@ -225,8 +225,8 @@ then_new None o q e h k = let g =
     k refl in record { frames = g.frames; own = g.own; begun = all_new_append o.begun q.begun h.begun g.begun }
 
 -- the frames of a task that did not stop
-not_stopped : (o : Move) → o.stopped ≡ None → NewIn o.frames (places_behind o.stopped o.places) → NewIn o.frames o.places
-not_stopped o e h = subst (λ (s : Option Stopped). NewIn o.frames (places_behind s o.places)) e h
+not_stopped : (o : Move) → o.stopped ≡ None → NewIn o.frames (outer_places o.stopped o.places) → NewIn o.frames o.places
+not_stopped o e h = subst (λ (s : Option Stopped). NewIn o.frames (outer_places s o.places)) e h
 
 turn_new : (n : ℕ) (froms : Table) (t : ℕ) (here : Here) (m : Midway) → NewIn m.frames m.places → OwnNames (names_at m.places) →
     StaysNew (turn_of n froms t here m)
@@ -241,7 +241,7 @@ turn_new (suc n) froms t here m h own =
 -- a whole turn keeps it
 pub turn_stays_new : (n t : ℕ) (here : Here) (froms : Table) (w : Wake) (rest : Rest) (ps : List Place) (count : ℕ) →
     CanWake w rest.stopped →
-    NewIn rest.frames (places_behind (Some rest.stopped) ps) → OwnNames (names_at ps) →
+    NewIn rest.frames (outer_places (Some rest.stopped) ps) → OwnNames (names_at ps) →
     StaysNew (turn_from n froms t here w rest.stopped rest.frames ps count)
 unfolding turn_from
 turn_stays_new n t here froms w rest ps count c h own =

@@ -18,8 +18,8 @@ use Rattle.turn_semantics.proofs.Kids.{kids_grow, step_kids}
 -- ---- events, one after another
 
 -- events before a result, in two parts
-pub behind_append : (told : ChildOutcomes) (es fs : List Event) (r : Result) → after_events told (es ++ fs) r ≡ after_events told es (after_events told fs r)
-behind_append told es fs r =
+pub after_append : (told : ChildOutcomes) (es fs : List Event) (r : Result) → after_events told (es ++ fs) r ≡ after_events told es (after_events told fs r)
+after_append told es fs r =
     ap (λ (x : Log). record r { log = x }) (ap (λ (x : Log). followed_by x r.log) (fill_append told es fs)
     ∙ followed_assoc (fill told es) (fill told fs) r.log)
 
@@ -165,7 +165,7 @@ module _ (t : ℕ) (here : Here) (froms : Table) (Given : Table → ChildOutcome
             x.keeps table told g a ahead (told_first t table told o.begun q.begun h)
             ∙ ap (λ (r : Result). after_events told o.made r) (on table told
             ∙ y.keeps table told tt (turned_agrees o x table told a made) more (told_second t table told o.begun q.begun h))
-            ∙ sym (behind_append told o.made q.made (left_after table told here t q))
+            ∙ sym (after_append told o.made q.made (left_after table told here t q))
 
         keeps : (table : Table) (told : ChildOutcomes) → Given table told → AgreesOn t table froms ps →
             AgreesAhead t table (fill told (o.made ++ q.made)) (before table told).log → AllTold t table told (o.begun ++ q.begun) →

@@ -11,7 +11,7 @@ use Rattle.turn_semantics.specs.Midway.{Place, stack_at, Begun, Move, after_even
 use Rattle.turn_semantics.specs.Placed.{PlacedStop}
 use Rattle.turn_semantics.specs.Wakes.{Wake, WakesBy}
 use Rattle.turn_semantics.specs.Turned.{AgreesOn, AgreesAhead, AllTold, BegunIn, TurnsOver}
-use Rattle.turn_semantics.proofs.Turns.{behind_append}
+use Rattle.turn_semantics.proofs.Turns.{after_append}
 
 -- A whole turn leaves the result of the task unchanged: what it did before, its stop and its frames before the turn
 -- have the same result as what it has done, its stop and its frames after it.
@@ -26,7 +26,7 @@ pub turn_comes_to : (u t : ℕ) (here : Here) (froms : Table) (w : Wake) (rest :
     ≡ task_comes_to (by_table table) told (made ++ o.made) (record { stopped = s; frames = o.frames }) here (stack_at table o.places) t
 turn_comes_to u t here froms w rest ps count o made s x e table told g a b h =
     ap (λ (r : Result). after_events told made r) (x.keeps table told g a b h)
-    ∙ (sym (behind_append told made o.made (left_after table told here t o))
+    ∙ (sym (after_append told made o.made (left_after table told here t o))
     ∙ ap (λ (z : Option Stopped). after_events told (made ++ o.made) (stop_comes_to z table told here t o.frames o.places o.exc)) e)
 
 -- a task that was started, and whose block is no nursery's body, may begin inside any scopes and nurseries

@@ -9,7 +9,7 @@ use Rattle.job_meaning.specs.Walk.{by_table, Here}
 use Rattle.job_meaning.specs.Rest.{steps_left, Event, ChildOutcomes, fill, Stopped, Rest, rest_comes_to, task_comes_to}
 use Rattle.turn_semantics.specs.Midway.{Place, stack_at, Midway, Move}
 use Rattle.turn_semantics.specs.Steps.{froms_after, step_of}
-use Rattle.turn_semantics.specs.Placed.{Placed, PlacedStop, places_behind}
+use Rattle.turn_semantics.specs.Placed.{Placed, PlacedStop, outer_places}
 use Rattle.turn_semantics.specs.Wakes.{Wake, wake_of, turn_from, WakesBy, CanWake}
 use Rattle.turn_semantics.specs.Turned.{AgreesOn, AgreesAhead, AllTold, Known, MadeAt, made_sign, EntersIn, EntersOnceWith, IsSome, Goes, TurnsOver}
 use Rattle.turn_semantics.specs.Bound.{frames_length}
@@ -70,5 +70,5 @@ EachStepStaysNew = (froms : Table) (t : ℕ) (here : Here) (m : Midway) → NewI
 abbrev pub EachTurnStaysNew : Type 0
 EachTurnStaysNew =
     (n t : ℕ) (here : Here) (froms : Table) (w : Wake) (rest : Rest) (ps : List Place) (count : ℕ) → CanWake w rest.stopped →
-    NewIn rest.frames (places_behind (Some rest.stopped) ps) → OwnNames (names_at ps) →
+    NewIn rest.frames (outer_places (Some rest.stopped) ps) → OwnNames (names_at ps) →
     StaysNew (turn_from n froms t here w rest.stopped rest.frames ps count)

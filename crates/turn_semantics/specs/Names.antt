@@ -3,7 +3,7 @@ use Rattle.std.specs.Prelude.{◌≡◌, ◌⊎◌, ℕ, List, [], ◌∷◌}
 use Rattle.job_tree.specs.Tree.{Step, sleep, checkpoint, forever, pace, find, head, longest, need, raise, cancel, scope, nursery, start, repeat, attempt, Steps, stop, step, Handled, unhandled, except, Cleaned, uncleaned, finally}
 use Rattle.job_meaning.specs.Rest.{Frame, steps_left, in_scope, in_nursery, in_repeat, in_try, in_handler, in_cleanup}
 use Rattle.turn_semantics.specs.Midway.{Place, Begun, Move}
-use Rattle.turn_semantics.specs.Placed.{places_behind}
+use Rattle.turn_semantics.specs.Placed.{outer_places}
 
 -- a name is among these
 abbrev pub IsName : List ℕ → List (List ℕ) → Type 0
@@ -23,33 +23,33 @@ OwnNames (n ∷ ns) = (IsName n ns → ⊥) × OwnNames ns
 -- steps inside scopes of these names, none of which enters a scope with the name of an enclosing one
 abbrev mutual
   pub AreNew : List (List ℕ) → Steps → Type 0
-  AreNew round stop = Unit {0}
-  AreNew round (step s ss) = IsNew round s × AreNew round ss
+  AreNew around stop = Unit {0}
+  AreNew around (step s ss) = IsNew around s × AreNew around ss
 
   pub IsNew : List (List ℕ) → Step → Type 0
-  IsNew round (sleep n) = Unit {0}
-  IsNew round checkpoint = Unit {0}
-  IsNew round forever = Unit {0}
-  IsNew round (pace k) = Unit {0}
-  IsNew round (find text) = Unit {0}
-  IsNew round (head n) = Unit {0}
-  IsNew round longest = Unit {0}
-  IsNew round (need text name) = Unit {0}
-  IsNew round (raise name) = Unit {0}
-  IsNew round (cancel name) = Unit {0}
-  IsNew round (scope name deadline shield fail body) = (IsName name round → ⊥) × AreNew (name ∷ round) body
-  IsNew round (nursery name deadline shield body) = (IsName name round → ⊥) × AreNew (name ∷ round) body
-  IsNew round (start name over body) = AreNew round body
-  IsNew round (repeat count body) = AreNew round body
-  IsNew round (attempt body handler cleanup) = AreNew round body × IsNewHandler round handler × IsNewCleanup round cleanup
+  IsNew around (sleep n) = Unit {0}
+  IsNew around checkpoint = Unit {0}
+  IsNew around forever = Unit {0}
+  IsNew around (pace k) = Unit {0}
+  IsNew around (find text) = Unit {0}
+  IsNew around (head n) = Unit {0}
+  IsNew around longest = Unit {0}
+  IsNew around (need text name) = Unit {0}
+  IsNew around (raise name) = Unit {0}
+  IsNew around (cancel name) = Unit {0}
+  IsNew around (scope name deadline shield fail body) = (IsName name around → ⊥) × AreNew (name ∷ around) body
+  IsNew around (nursery name deadline shield body) = (IsName name around → ⊥) × AreNew (name ∷ around) body
+  IsNew around (start name over body) = AreNew around body
+  IsNew around (repeat count body) = AreNew around body
+  IsNew around (attempt body handler cleanup) = AreNew around body × IsNewHandler around handler × IsNewCleanup around cleanup
 
   pub IsNewHandler : List (List ℕ) → Handled → Type 0
-  IsNewHandler round unhandled = Unit {0}
-  IsNewHandler round (except name body) = AreNew round body
+  IsNewHandler around unhandled = Unit {0}
+  IsNewHandler around (except name body) = AreNew around body
 
   pub IsNewCleanup : List (List ℕ) → Cleaned → Type 0
-  IsNewCleanup round uncleaned = Unit {0}
-  IsNewCleanup round (finally body) = AreNew round body
+  IsNewCleanup around uncleaned = Unit {0}
+  IsNewCleanup around (finally body) = AreNew around body
 
 -- the same for the frames of a task with these enclosing scopes and nurseries
 abbrev pub NewIn : List Frame → List Place → Type 0
@@ -71,6 +71,6 @@ AllNew (b ∷ bs) = AreNew (names_at b.places) b.body × OwnNames (names_at b.pl
 
 -- What a move keeps: no scope is entered that has the name of an enclosing one, by the task and by the children begun.
 pub record StaysNew (o : Move) : Type 0 where
-  pub frames : NewIn o.frames (places_behind o.stopped o.places)
+  pub frames : NewIn o.frames (outer_places o.stopped o.places)
   pub own : OwnNames (names_at o.places)
   pub begun : AllNew o.begun

@@ -47,14 +47,14 @@ PlacedAfter (Some s) fs ps = PlacedStop s fs ps
 
 -- the scopes and nurseries that enclose the nursery that a task waits for, and all that enclose a task that does not
 -- wait
-abbrev pub places_behind : Option Stopped → List Place → List Place
-places_behind None ps = ps
-places_behind (Some to_begin) ps = ps
-places_behind (Some (asking kernel purpose)) ps = ps
-places_behind (Some (asleep n since)) ps = ps
-places_behind (Some (awaiting children ended exc)) [] = []
-places_behind (Some (awaiting children ended exc)) (p ∷ ps) = ps
-places_behind (Some (at_end u e)) ps = ps
+abbrev pub outer_places : Option Stopped → List Place → List Place
+outer_places None ps = ps
+outer_places (Some to_begin) ps = ps
+outer_places (Some (asking kernel purpose)) ps = ps
+outer_places (Some (asleep n since)) ps = ps
+outer_places (Some (awaiting children ended exc)) [] = []
+outer_places (Some (awaiting children ended exc)) (p ∷ ps) = ps
+outer_places (Some (at_end u e)) ps = ps
 
 -- the scopes and nurseries that enclose a task and are not those of its own frames: those of its home
 abbrev pub home_places : List Frame → List Place → List Place
@@ -71,7 +71,7 @@ home_places (in_cleanup outcome ∷ fs) ps = home_places fs ps
 
 -- and for a task that stopped, or did not
 abbrev pub home_after : Option Stopped → List Frame → List Place → List Place
-home_after s fs ps = home_places fs (places_behind s ps)
+home_after s fs ps = home_places fs (outer_places s ps)
 
 -- numbers of children that are below the count of those started
 abbrev pub AllBelow : ℕ → List ℕ → Type 0
@@ -128,7 +128,7 @@ WaitsFor i home (Some (at_end u e)) ps = ⊥
 
 -- and for any nursery of a task
 abbrev pub HasChildAfter : ℕ → List Place → Option Stopped → List Frame → List Place → Type 0
-HasChildAfter i home s fs ps = WaitsFor i home s ps ⊎ HasChild i home fs (places_behind s ps)
+HasChildAfter i home s fs ps = WaitsFor i home s ps ⊎ HasChild i home fs (outer_places s ps)
 
 -- each child begun belongs to a nursery of the task, and is enclosed by that nursery and those that enclose it
 abbrev pub AllHoused : List Begun → Option Stopped → List Frame → List Place → Type 0

@@ -8,7 +8,7 @@ use Rattle.job_meaning.specs.Before.{upto}
 use Rattle.job_tree.specs.Starting.{StartsIn}
 use Rattle.job_meaning.specs.Rest.{Event, noted, signs, enters, starts, ChildOutcomes, fill, Frame, Stopped, to_begin, asking, asleep, awaiting, at_end, Rest, rest_comes_to, rest_at_start, rest_weight, frames_weight, stop_weight}
 use Rattle.turn_semantics.specs.Midway.{Place, stack_at, Midway, Begun, Move, after_events, left_of, left_after, begun_comes_to}
-use Rattle.turn_semantics.specs.Placed.{PlacedAfter, places_behind, home_after, KidsAfter, HasChild, HasChildAfter, AllHoused}
+use Rattle.turn_semantics.specs.Placed.{PlacedAfter, outer_places, home_after, KidsAfter, HasChild, HasChildAfter, AllHoused}
 use Rattle.turn_semantics.specs.Wakes.{Wake, WakesBy}
 use Rattle.turn_semantics.specs.Steps.{froms_after}
 
@@ -164,7 +164,7 @@ pub record Turned
     pub housed : AllHoused o.begun o.stopped o.frames o.places
     -- and each child of a nursery whose body had not ended stays in it
     pub stays :
-        (i : ℕ) (home : List Place) → HasChild i home frames_before (places_behind stop_before places_before) →
+        (i : ℕ) (home : List Place) → HasChild i home frames_before (outer_places stop_before places_before) →
         HasChildAfter i home o.stopped o.frames o.places
     -- each event is made now, and signs are for labels of scopes and nurseries that enclose the task
     pub made_now : MadeAt t (labels_of places_before) o.made

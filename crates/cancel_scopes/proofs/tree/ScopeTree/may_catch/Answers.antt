@@ -1,7 +1,7 @@
 use Rattle.std.proofs.Common.{◌∙◌, sym, refl}
-use Rattle.cancel_scopes.specs.Kept.{find_in, round, outline_of}
+use Rattle.cancel_scopes.specs.Kept.{find_in, around, outline_of}
 use Rattle.cancel_scopes.proofs.StackLemmas.{kept_where_open, found_at}
-use Rattle.cancel_scopes.proofs.CatchLemmas.{stack_is, stack_round, catches-not, catches-shielded, catches-inner, catches-outermost}
+use Rattle.cancel_scopes.proofs.CatchLemmas.{stack_is, stack_around, catches-not, catches-shielded, catches-inner, catches-outermost}
 use Rattle.cancel_scopes.proofs.tree.ScopeTree.may_catch.Goals as goal
 
 pub index-scope-requires : goal.index-scope-requires
@@ -18,7 +18,7 @@ returns-then-not-is_reached c stack is =
 
 pub seen-requires : goal.seen-requires
 seen-requires c =
-    rw (stack_round c.args.self.now c.self.inside.store.scopes.slots c.id.inside.key c.in-Some.parent (outline_of c.index-scope.result.now)
+    rw (stack_around c.args.self.now c.self.inside.store.scopes.slots c.id.inside.key c.in-Some.parent (outline_of c.index-scope.result.now)
     c.self.view_is c.self.invariant.tree (found_at c.self.inside.store.scopes.slots c.id.inside.key c.index-scope.result.now
     c.index-scope.ensures) c.in-Some.is) refl
 
@@ -40,8 +40,8 @@ returns-else-scope c stack is =
     c.index-scope.ensures) is)
     (sym c.is_reached.ensures ∙ c.if-not-is_reached.false)
     c.if-scope.false
-    (c.seen.ensures (round (find_in c.self.inside.store.scopes.slots) (outline_of c.index-scope.result.now))
-    (stack_round c.args.self.now c.self.inside.store.scopes.slots c.id.inside.key c.in-Some.parent (outline_of c.index-scope.result.now)
+    (c.seen.ensures (around (find_in c.self.inside.store.scopes.slots) (outline_of c.index-scope.result.now))
+    (stack_around c.args.self.now c.self.inside.store.scopes.slots c.id.inside.key c.in-Some.parent (outline_of c.index-scope.result.now)
     c.self.view_is c.self.invariant.tree (found_at c.self.inside.store.scopes.slots c.id.inside.key c.index-scope.result.now
     c.index-scope.ensures) c.in-Some.is))
 

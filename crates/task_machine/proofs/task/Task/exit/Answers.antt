@@ -28,5 +28,5 @@ returns-clause-at c =
           (left_of c.in_ok-left.left) (option_map exc_of c.args.exc) ((c.in_ok-entry.ensures (buffer_of c.args.self.now.part)).1)
           (c.in_ok-entry.ensures (buffer_of c.args.self.now.part)).0
           c.in_ok-left.ensures at.label at.caught (c.now-2.ensures ∙ tick);
-      round = at.round;
+      around = at.around;
     }

@@ -64,15 +64,15 @@ returns-clause-at c =
     c.pop.new.self.items c.in-Some.own
     c.in-Some.ensures.items (c.requires.«open» c.in-Some.own.id last) c.requires.own last in
     λ froms p ps a.
-    let at : AreAt (label_at world) froms (top.level ∷ top.behind) (p ∷ ps) =
+    let at : AreAt (label_at world) froms (top.level ∷ top.following) (p ∷ ps) =
     left_from (label_at world) froms world.scopes (home_scope self) _ c.pop.new.self.items c.in-Some.own p ps top last a in
     let named : top.level.label ≡ c.in-Some.own.id =
-    one_of _ _ (c.stacks_are_chains.ensures.own c.in-Some.own.id (top.level ∷ top.behind) top.at) in
+    one_of _ _ (c.stacks_are_chains.ensures.own c.in-Some.own.id (top.level ∷ top.following) top.at) in
     record {
       label = one_of _ _ (sym c.leave-label.ensures.label ∙ ap (label_at world) (sym named) ∙ at.0);
-      caught = c.catches-catches.ensures (top.level ∷ top.behind) top.at
-          ∙ catches_at (label_at world) froms top.level top.behind p ps world.tick at;
-      round =
+      caught = c.catches-catches.ensures (top.level ∷ top.following) top.at
+          ∙ catches_at (label_at world) froms top.level top.following p ps world.tick at;
+      around =
           places_after (label_at world) (label_at c.leave-label.new.self) world.scopes c.leave-label.new.self.scopes (home_scope self)
           c.pop.new.self.items c.in-Some.own None
           c.stacks_are_chains.ensures.chain c.leave-label.ensures.others c.leave-label.ensures.taken top froms ps at.3;

@@ -9,7 +9,7 @@ use Rattle.task_machine.specs.declared.frame.Frame.TheVariants.{Scope, Nursery}
 use Rattle.task_machine.specs.declared.task.Task.{Task}
 use Rattle.task_machine.specs.declared.world.World.{World}
 use Rattle.task_machine.specs.Entered.{label_in}
-use Rattle.task_machine.specs.Fitting.{frames_behind}
+use Rattle.task_machine.specs.Fitting.{outer_frames}
 use Rattle.task_machine.specs.Frames.{frames_of}
 use Rattle.task_machine.specs.States.{state_of}
 use Rattle.task_machine.proofs.AdvancesSteps.{takes_scope, takes_nursery, takes_repeat, takes_attempt}
@@ -23,7 +23,7 @@ returns-in_ok-enter_scope-in-Scope-clause-fits c =
     let laws = c.stacks_are_chains.ensures in
     let e = c.in_ok-enter_scope-in-Scope.ensures in
     let in_range = subst (λ (s : Step). IsInRangeStep (step_of s)) c.in-Scope.is c.requires.in_range in
-    let starts = subst (λ (s : Step). StartsAt (in_body (frames_behind (frames_of (λ id. []) c.args.self.now.frames.items))) (step_of s))
+    let starts = subst (λ (s : Step). StartsAt (in_body (outer_frames (frames_of (λ id. []) c.args.self.now.frames.items))) (step_of s))
     c.in-Scope.is c.requires.starts in
     scope_fits c.in-Scope.fail c.in-Scope.body (label_in c.args.self.now c.in-Scope.name) (state_of c.args.self.now c.args.world.now)
     (state_of c.enter_scope.new.self c.enter_scope.new.world) (record { chain = laws.chain; own = laws.own; apart = laws.apart }) c.requires.fits e.own e.frames in_range.1 starts
@@ -59,7 +59,7 @@ returns-in_ok-enter_nursery-in-Nursery-clause-fits c =
     let laws = c.stacks_are_chains.ensures in
     let e = c.in_ok-enter_nursery-in-Nursery.ensures in
     let in_range = subst (λ (s : Step). IsInRangeStep (step_of s)) c.in-Nursery.is c.requires.in_range in
-    let starts = subst (λ (s : Step). StartsAt (in_body (frames_behind (frames_of (λ id. []) c.args.self.now.frames.items))) (step_of s))
+    let starts = subst (λ (s : Step). StartsAt (in_body (outer_frames (frames_of (λ id. []) c.args.self.now.frames.items))) (step_of s))
     c.in-Nursery.is c.requires.starts in
     nursery_fits c.args.me c.in-Nursery.body (label_in c.args.self.now c.in-Nursery.name) (state_of c.args.self.now c.args.world.now)
     (state_of c.enter_nursery.new.self c.enter_nursery.new.world) (record { chain = laws.chain; own = laws.own; apart = laws.apart }) c.requires.fits e.own e.nursery in_range.1 starts
@@ -112,7 +112,7 @@ pub returns-in_ok-begin_passes-in-Repeat-clause-fits : goal.returns-in_ok-begin_
 returns-in_ok-begin_passes-in-Repeat-clause-fits c =
     let e = c.in_ok-begin_passes-in-Repeat.ensures in
     let in_range = subst (λ (s : Step). IsInRangeStep (step_of s)) c.in-Repeat.is c.requires.in_range in
-    let starts = subst (λ (s : Step). StartsAt (in_body (frames_behind (frames_of (λ id. []) c.args.self.now.frames.items))) (step_of s))
+    let starts = subst (λ (s : Step). StartsAt (in_body (outer_frames (frames_of (λ id. []) c.args.self.now.frames.items))) (step_of s))
     c.in-Repeat.is c.requires.starts in
     repeat_fits c.in-Repeat.count c.in-Repeat.body (state_of c.args.self.now c.args.world.now) (state_of c.begin_passes.new.self c.args.world.now) c.requires.fits
     in_range.0 in_range.1 starts e.blocks (e.step (λ id. []) []) (ap (λ (t : Task). state_of t c.args.world.now) e.stays)

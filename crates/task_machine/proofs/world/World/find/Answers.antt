@@ -18,7 +18,7 @@ outwards-smaller c =
     let world = c.args.self.now in
     subst (λ (o : Option ℕ). length (outer_of world.scopes c.parent-at.result) < length (outer_of world.scopes o)) (sym c.in-Some.is)
     (shorter world.scopes c.in-Some.id c.parent-at.result c.stacks_are_chains.ensures.own
-    (c.outwards.invariant.lives c.in-Some.id c.in-Some.is) c.parent-at.ensures.round)
+    (c.outwards.invariant.lives c.in-Some.id c.in-Some.is) c.parent-at.ensures.around)
 
 pub outwards-preserved : goal.outwards-preserved
 outwards-preserved c =
@@ -29,5 +29,5 @@ outwards-preserved c =
           c.outwards.invariant.same
           ∙ ap (λ (o : Option ℕ). scope_named (label_at world) c.args.name (outer_of world.scopes o)) c.in-Some.is
           ∙ found_outwards (label_at world) c.args.name world.scopes c.in-Some.id c.parent-at.result c.stacks_are_chains.ensures.own
-          (c.outwards.invariant.lives c.in-Some.id c.in-Some.is) (sym c.has_name.ensures ∙ c.if-has_name.false) c.parent-at.ensures.round;
+          (c.outwards.invariant.lives c.in-Some.id c.in-Some.is) (sym c.has_name.ensures ∙ c.if-has_name.false) c.parent-at.ensures.around;
     }
