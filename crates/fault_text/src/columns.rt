@@ -48,7 +48,7 @@ pub(crate) fn step_of(alloc: Global, line: &Line) -> Result<Vec<u8>, AllocError>
     ensures { IfOk result (λ text. text.items ≡ step_text (line_held line.now)) }
 {
     let mut text = Vec::new(alloc);
-    push_wait(alloc, &mut text, line.variant.step.wait)?;
+    push_wait(&mut text, line.variant.step.wait)?;
     Ok(text)
 }
 

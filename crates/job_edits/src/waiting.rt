@@ -132,7 +132,7 @@ pub(crate) fn first_mark(mark: Mark, tokens: &[Token]) -> Option<usize>
 
 /// Appends a waiting step as it is printed: its tokens, with a space between two of them. The only error is that memory
 /// was refused.
-pub fn push_wait(alloc: Global, out: &mut Vec<u8>, wait: Wait) -> Result<(), AllocError>
+pub fn push_wait(out: &mut Vec<u8>, wait: Wait) -> Result<(), AllocError>
     ensures { OnOk result (out.new.items ≡ out.old.items ++ wait_text wait) }
 {
     match wait {
@@ -142,7 +142,7 @@ pub fn push_wait(alloc: Global, out: &mut Vec<u8>, wait: Wait) -> Result<(), All
         Wait::Pace(lines) => push_counted(out, b"pace ", lines),
         Wait::Need(text, name) => {
             out.extend_from_slice(b"need ")?;
-            push_canon(alloc, out, &[Shape::Text(text)])?;
+            push_canon(out, &[Shape::Text(text)])?;
             out.extend_from_slice(b" ")?;
             out.extend_from_slice(name.bytes())
         }

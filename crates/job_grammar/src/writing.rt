@@ -23,7 +23,7 @@ pub fn write_job(alloc: Global, job: &Job) -> Result<Vec<u8>, AllocError>
 {
     let shapes = shapes_of_job(alloc, job)?;
     let mut text = Vec::from_slice(alloc, first_line(job.text_format()))?;
-    push_canon(alloc, &mut text, &shapes)?;
+    push_canon(&mut text, &shapes)?;
     Ok(text)
 }
 

@@ -45,7 +45,7 @@ fn text_of(alloc: Global, format: Format, tokens: &[SpacedToken]) -> Result<Vec<
     ensures { IfOk result (λ text. text.items ≡ first_line format ++ (spaced_text tokens.now ++ 10 ∷ [])) }
 {
     let mut text = Vec::from_slice(alloc, first_line(format))?;
-    push_tokens(alloc, &mut text, tokens)?;
+    push_tokens(&mut text, tokens)?;
     text.push(b'\n')?;
     Ok(text)
 }

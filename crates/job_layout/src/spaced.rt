@@ -28,29 +28,25 @@ pub(crate) fn width(alloc: Global, shape: Shape) -> Result<usize, AllocError>
     ensures { IfOk result (λ width. width ≡ length (token shape)) }
 {
     let mut text = Vec::new(alloc);
-    push_canon(alloc, &mut text, &[shape])?;
+    push_canon(&mut text, &[shape])?;
     Ok(text.len())
 }
 
 // Appends the tokens.
-pub(crate) fn push_tokens(
-    alloc: Global,
-    out: &mut Vec<u8>,
-    tokens: &[SpacedToken],
-) -> Result<(), AllocError>
+pub(crate) fn push_tokens(out: &mut Vec<u8>, tokens: &[SpacedToken]) -> Result<(), AllocError>
     ensures { OnOk result (out.new.items ≡ out.old.items ++ spaced_text tokens.now) }
 {
     'tokens: for token in tokens {
-        push_token(alloc, out, *token)?;
+        push_token(out, *token)?;
     }
     Ok(())
 }
 
-fn push_token(alloc: Global, out: &mut Vec<u8>, next: SpacedToken) -> Result<(), AllocError>
+fn push_token(out: &mut Vec<u8>, next: SpacedToken) -> Result<(), AllocError>
     ensures { OnOk result (out.new.items ≡ out.old.items ++ (gap_text next.gap ++ token next.shape)) }
 {
     push_gap(out, next.gap)?;
-    push_canon(alloc, out, &[next.shape])?;
+    push_canon(out, &[next.shape])?;
     Ok(())
 }
 

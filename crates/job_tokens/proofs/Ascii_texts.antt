@@ -10,7 +10,8 @@ use Rattle.job_tokens.specs.declared.token.Mark.TheVariants as mark
 use Rattle.job_tokens.specs.declared.token.Shape.{Shape}
 use Rattle.job_tokens.specs.declared.token.Shape.TheVariants as shape
 use Rattle.job_tokens.specs.Lexing.{is_plain}
-use Rattle.job_tokens.specs.Canon.{hex_digit, unit, mark_byte, token, is_wordlike, gap, canon_after}
+use Rattle.digits.specs.Hex.{hex_digit}
+use Rattle.job_tokens.specs.Canon.{unit, mark_byte, token, is_wordlike, gap, canon_after}
 use Rattle.job_tokens.proofs.Round_bytes.{and_parts, and_whole, either_way}
 use Rattle.job_tokens.proofs.Round_numbers.{digits_of_number}
 use Rattle.job_tokens.proofs.Round_strings.{AreBytes}
@@ -60,8 +61,8 @@ hex_small : (d : ℕ) → d < 16 → is_small (hex_digit d) ≡ true
 hex_small d lt = by_test (either_way (ltb d 10))
   where
     by_test : (ltb d 10 ≡ true) ⊎ (ltb d 10 ≡ false) → is_small (hex_digit d) ≡ true
-    by_test (inl t) = rw t (small (48 + d) (omega arith))
-    by_test (inr f) = rw f (small (87 + d) (omega arith))
+    by_test (inl t) = rw t (small (d + 48) (omega arith))
+    by_test (inr f) = rw f (small (d + 87) (omega arith))
 
 unit_small : (b : ℕ) → b < 256 → list_all is_small (unit b) ≡ true
 unit_small b lt = by_escape (either_way (eqb b 34 || eqb b 92))

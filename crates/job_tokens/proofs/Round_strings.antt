@@ -5,7 +5,8 @@ use Rattle.std.proofs.lemmas.Bool.{le-leb, le-ltb, cases_lt}
 use Rattle.job_tree.specs.Words.{is_digit, is_text}
 use Rattle.job_tokens.specs.declared.token.Shape.TheVariants as shape
 use Rattle.job_tokens.specs.Lexing.{hex_value, unit_at, is_plain, after_quote, units, string_of, string_at, token_at}
-use Rattle.job_tokens.specs.Canon.{hex_digit, unit}
+use Rattle.digits.specs.Hex.{hex_digit}
+use Rattle.job_tokens.specs.Canon.{unit}
 use Rattle.job_tokens.proofs.Round_bytes.{and_whole, or_none, either_way}
 
 lt-ltb : (a b : ℕ) → a < b → ltb a b ≡ true
@@ -17,19 +18,19 @@ hex_value-digit d small = elim (cases_lt d 10) [ inl lt ↦ low lt | inr ge ↦ 
     low : d < 10 → hex_value (hex_digit d) ≡ Some d
     low lt =
         let is : ltb d 10 ≡ true = lt-ltb d 10 lt in
-        let digit : is_digit (48 + d) ≡ true =
-        and_whole (leb 48 (48 + d)) (leb (48 + d) 57) (le-leb _ _ (omega arith)) (le-leb _ _ (omega arith)) in
-        let value : 48 + d - 48 ≡ d = omega arith in
+        let digit : is_digit (d + 48) ≡ true =
+        and_whole (leb 48 (d + 48)) (leb (d + 48) 57) (le-leb _ _ (omega arith)) (le-leb _ _ (omega arith)) in
+        let value : d + 48 - 48 ≡ d = omega arith in
         rw (is, digit, value) refl
 
     high : 10 ≤ d → hex_value (hex_digit d) ≡ Some d
     high ge =
         let is : ltb d 10 ≡ false = le-ltb d 10 ge in
-        let none : leb (87 + d) 57 ≡ false = grind arith in
-        let digit : is_digit (87 + d) ≡ false = ap (λ (x : Bool). leb 48 (87 + d) && x) none ∙ and_false (leb 48 (87 + d)) in
-        let letter : (leb 97 (87 + d) && leb (87 + d) 102) ≡ true =
-        and_whole (leb 97 (87 + d)) (leb (87 + d) 102) (le-leb _ _ (omega arith)) (le-leb _ _ (omega arith)) in
-        let value : 87 + d - 87 ≡ d = omega arith in
+        let none : leb (d + 87) 57 ≡ false = grind arith in
+        let digit : is_digit (d + 87) ≡ false = ap (λ (x : Bool). leb 48 (d + 87) && x) none ∙ and_false (leb 48 (d + 87)) in
+        let letter : (leb 97 (d + 87) && leb (d + 87) 102) ≡ true =
+        and_whole (leb 97 (d + 87)) (leb (d + 87) 102) (le-leb _ _ (omega arith)) (le-leb _ _ (omega arith)) in
+        let value : d + 87 - 87 ≡ d = omega arith in
         rw (is, digit, letter, value) refl
       where
         and_false : (b : Bool) → (b && false) ≡ false

@@ -1,15 +1,16 @@
 ghost use Rattle.std.specs.Prelude.{◌≡◌, ◌+◌, ◌<◌, ◌++◌, ◌∷◌, [], OnOk};
 ghost use Rattle.std.specs.List.{flat_map};
 ghost use Rattle.std.specs.Fmt.{decimal};
-ghost use Rattle.job_tokens.specs.Canon.{hex_digit, unit, mark_byte, number as canon_number, token, is_wordlike, gap, canon_of};
+ghost use Rattle.job_tokens.specs.Canon.{unit, mark_byte, number as canon_number, token, is_wordlike, gap, canon_of};
 
 use crate::token::{Mark, Shape};
-use std::alloc::{AllocError, Global};
+use digits::{hex_digit, push_number};
+use std::alloc::AllocError;
 
 /// Appends the canonical text of the tokens to `out`: one space between two words or numbers and no other blanks, digits
 /// without leading zeros, and one spelling for each byte of a string. The only error is that memory was refused; `out`
 /// may then hold a part of the text.
-pub fn push_canon(alloc: Global, out: &mut Vec<u8>, shapes: &[Shape]) -> Result<(), AllocError>
+pub fn push_canon(out: &mut Vec<u8>, shapes: &[Shape]) -> Result<(), AllocError>
     ensures { OnOk result (out.new.items ≡ out.old.items ++ canon_of shapes.now) }
 {
     let mut before = false;
@@ -18,7 +19,7 @@ pub fn push_canon(alloc: Global, out: &mut Vec<u8>, shapes: &[Shape]) -> Result<
         if before && following {
             out.push(b' ')?;
         }
-        push_token(alloc, out, *shape)?;
+        push_token(out, *shape)?;
         before = following;
     }
     Ok(())
@@ -36,25 +37,22 @@ fn is_wordlike(shape: Shape) -> bool
     }
 }
 
-fn push_token(alloc: Global, out: &mut Vec<u8>, shape: Shape) -> Result<(), AllocError>
+fn push_token(out: &mut Vec<u8>, shape: Shape) -> Result<(), AllocError>
     ensures { OnOk result (out.new.items ≡ out.old.items ++ token shape) }
 {
     match shape {
         Shape::Word(word) => out.extend_from_slice(word.bytes()),
-        Shape::Number(number) => push_number(alloc, out, number),
+        Shape::Number(number) => push_value(out, number),
         Shape::Text(text) => push_string(out, text.bytes()),
         Shape::Mark(mark) => Ok(out.push(mark_byte(mark))?),
     }
 }
 
-fn push_number(alloc: Global, out: &mut Vec<u8>, number: Option<u64>) -> Result<(), AllocError>
+fn push_value(out: &mut Vec<u8>, number: Option<u64>) -> Result<(), AllocError>
     ensures { OnOk result (out.new.items ≡ out.old.items ++ canon_number number) }
 {
     match number {
-        Some(number) => {
-            let digits = number.to_string(alloc)?;
-            out.extend_from_slice(digits.as_bytes())
-        }
+        Some(number) => push_number(out, number),
         None => Ok(()),
     }
 }
@@ -80,13 +78,6 @@ fn push_unit(out: &mut Vec<u8>, byte: u8) -> Result<(), AllocError>
         return out.extend_from_slice(&[byte]);
     }
     out.extend_from_slice(&[b'\\', b'x', hex_digit(byte / 16), hex_digit(byte % 16)])
-}
-
-fn hex_digit(d: u8) -> u8
-    requires { d < 16 }
-    ensures { result ≡ hex_digit d }
-{
-    if d < 10 { b'0' + d } else { b'a' - 10 + d }
 }
 
 fn mark_byte(mark: Mark) -> u8

@@ -76,7 +76,7 @@ fn step_value(alloc: Global, line: &Line) -> Result<Value, AllocError>
     ensures { IfOk result (λ value. view value ≡ text_json (step_text (line_held line.now))) }
 {
     let mut text = Vec::new(alloc);
-    push_wait(alloc, &mut text, line.variant.step.wait)?;
+    push_wait(&mut text, line.variant.step.wait)?;
     text_value(alloc, text.as_slice())
 }
 

@@ -21,7 +21,7 @@ fn canonical_text(alloc: Global, tokens: &[Token]) -> Result<Vec<u8>, AllocError
         shapes.push(token.shape)?;
     }
     let mut text = Vec::new(alloc);
-    push_canon(alloc, &mut text, shapes.as_slice())?;
+    push_canon(&mut text, shapes.as_slice())?;
     Ok(text)
 }
 

@@ -1,6 +1,6 @@
 use job_tokens::{Shape, push_canon};
 use job_tree::Text;
-use std::alloc::{AllocError, Global};
+use std::alloc::AllocError;
 
 // Begins a line at a level.
 pub(crate) fn begin(out: &mut Vec<u8>, level: usize) -> Result<(), AllocError> {
@@ -26,7 +26,7 @@ pub(crate) fn push_gap(out: &mut Vec<u8>) -> Result<(), AllocError> {
 }
 
 // Appends a string of a job as a Python string, which has the same escapes.
-pub(crate) fn push_text(alloc: Global, out: &mut Vec<u8>, text: Text) -> Result<(), AllocError> {
+pub(crate) fn push_text(out: &mut Vec<u8>, text: Text) -> Result<(), AllocError> {
     out.extend_from_slice(b"b")?;
-    push_canon(alloc, out, &[Shape::Text(text)])
+    push_canon(out, &[Shape::Text(text)])
 }

@@ -4,12 +4,11 @@ use crate::place::Place;
 use crate::words::Words;
 use digits::push_number;
 use job_tree::{Body, Deadline, Handler, Name, Step};
-use std::alloc::{AllocError, Global};
+use std::alloc::AllocError;
 
 // Appends the statements for the steps of a block at its place.
 #[cycle(steps)]
 pub(crate) fn push_steps(
-    alloc: Global,
     out: &mut Vec<u8>,
     words: &Words,
     place: &Place,
@@ -19,7 +18,7 @@ pub(crate) fn push_steps(
         return push_line(out, place.level, b"pass");
     }
     'steps: for step in steps {
-        push_step(alloc, out, words, place, step)?;
+        push_step(out, words, place, step)?;
     }
     Ok(())
 }
@@ -27,25 +26,23 @@ pub(crate) fn push_steps(
 // Appends a block. If Python allows no more enclosing blocks in one function, the block gets a function of its own.
 #[cycle(steps)]
 fn push_block(
-    alloc: Global,
     out: &mut Vec<u8>,
     words: &Words,
     place: &Place,
     body: &Body,
 ) -> Result<(), AllocError> {
     if !place.is_deep() {
-        return push_steps(alloc, out, words, place, body.as_slice());
+        return push_steps(out, words, place, body.as_slice());
     }
     push_gap(out)?;
     push_line(out, place.level, b"async def nested_block():")?;
-    push_steps(alloc, out, words, &place.in_function(), body.as_slice())?;
+    push_steps(out, words, &place.in_function(), body.as_slice())?;
     out.extend_from_slice(b"\n")?;
     push_line(out, place.level, b"await nested_block()")
 }
 
 #[cycle(steps)]
 fn push_step(
-    alloc: Global,
     out: &mut Vec<u8>,
     words: &Words,
     place: &Place,
@@ -60,7 +57,7 @@ fn push_step(
             body,
         } => {
             push_scope(out, place, *name, *deadline, *shield, *fail)?;
-            push_block(alloc, out, words, &place.inside(1), body)
+            push_block(out, words, &place.inside(1), body)
         }
         Step::Nursery {
             name,
@@ -69,29 +66,28 @@ fn push_step(
             body,
         } => {
             push_nursery(out, place, *name, *deadline, *shield)?;
-            push_block(alloc, out, words, &place.in_nursery(*name), body)
+            push_block(out, words, &place.in_nursery(*name), body)
         }
         Step::Start { name, over, body } => {
             push_task(out, place.level, *name, *over)?;
-            push_block(alloc, out, words, &place.in_function(), body)?;
+            push_block(out, words, &place.in_function(), body)?;
             push_starts(out, place, *name, *over)
         }
         Step::Repeat { count, body } => {
             push_repeat(out, place.level, *count)?;
-            push_block(alloc, out, words, &place.inside(1), body)
+            push_block(out, words, &place.inside(1), body)
         }
         Step::Try {
             body,
             handler,
             cleanup,
-        } => push_try(alloc, out, words, place, body, handler, cleanup),
-        _ => push_plain(alloc, out, words, place.level, step),
+        } => push_try(out, words, place, body, handler, cleanup),
+        _ => push_plain(out, words, place.level, step),
     }
 }
 
 #[cycle(steps)]
 fn push_try(
-    alloc: Global,
     out: &mut Vec<u8>,
     words: &Words,
     place: &Place,
@@ -101,20 +97,19 @@ fn push_try(
 ) -> Result<(), AllocError> {
     if place.is_deep_in_cleanups() {
         if let Some(cleanup) = cleanup {
-            return push_try_apart(alloc, out, words, place, body, handler, cleanup);
+            return push_try_apart(out, words, place, body, handler, cleanup);
         }
     }
     push_line(out, place.level, b"try:")?;
-    push_block(alloc, out, words, &place.inside(2), body)?;
-    push_handler(alloc, out, words, place, handler)?;
-    push_cleanup(alloc, out, words, place, cleanup)
+    push_block(out, words, &place.inside(2), body)?;
+    push_handler(out, words, place, handler)?;
+    push_cleanup(out, words, place, cleanup)
 }
 
 // Appends a `try` inside nested cleanups. Its own cleanup is a function that is defined before it, since Python compiles a
 // `finally` twice.
 #[cycle(steps)]
 fn push_try_apart(
-    alloc: Global,
     out: &mut Vec<u8>,
     words: &Words,
     place: &Place,
@@ -126,9 +121,9 @@ fn push_try_apart(
     push_line(out, place.level, b"async def nested_block():")?;
     let inside = place.in_function();
     push_line(out, inside.level, b"async def nested_cleanup():")?;
-    push_block(alloc, out, words, &inside.in_function(), cleanup)?;
+    push_block(out, words, &inside.in_function(), cleanup)?;
     out.extend_from_slice(b"\n")?;
-    push_try(alloc, out, words, &inside, body, handler, &None)?;
+    push_try(out, words, &inside, body, handler, &None)?;
     push_line(out, inside.level, b"finally:")?;
     push_line(out, inside.in_function().level, b"await nested_cleanup()")?;
     out.extend_from_slice(b"\n")?;
@@ -137,7 +132,6 @@ fn push_try_apart(
 
 #[cycle(steps)]
 fn push_handler(
-    alloc: Global,
     out: &mut Vec<u8>,
     words: &Words,
     place: &Place,
@@ -152,12 +146,11 @@ fn push_handler(
     out.extend_from_slice(b"with handling(")?;
     push_handled(out, words, handler.name)?;
     out.extend_from_slice(b", error):\n")?;
-    push_block(alloc, out, words, &inside.inside(1), &handler.body)
+    push_block(out, words, &inside.inside(1), &handler.body)
 }
 
 #[cycle(steps)]
 fn push_cleanup(
-    alloc: Global,
     out: &mut Vec<u8>,
     words: &Words,
     place: &Place,
@@ -167,29 +160,23 @@ fn push_cleanup(
         return Ok(());
     };
     push_line(out, place.level, b"finally:")?;
-    push_block(alloc, out, words, &place.in_cleanup(), cleanup)
+    push_block(out, words, &place.in_cleanup(), cleanup)
 }
 
 // Appends the line for a step without a block.
 fn push_plain(
-    alloc: Global,
     out: &mut Vec<u8>,
     words: &Words,
     level: usize,
     step: &Step,
 ) -> Result<(), AllocError> {
     begin(out, level)?;
-    push_statement(alloc, out, words, step)?;
+    push_statement(out, words, step)?;
     out.extend_from_slice(b"\n")
 }
 
 // Appends the statement of that line.
-fn push_statement(
-    alloc: Global,
-    out: &mut Vec<u8>,
-    words: &Words,
-    step: &Step,
-) -> Result<(), AllocError> {
+fn push_statement(out: &mut Vec<u8>, words: &Words, step: &Step) -> Result<(), AllocError> {
     match step {
         Step::Sleep(ticks) => push_call(out, b"await trio.sleep(", *ticks),
         Step::Checkpoint => out.extend_from_slice(b"await trio.lowlevel.checkpoint()"),
@@ -197,14 +184,14 @@ fn push_statement(
         Step::Pace(lines) => push_call(out, b"await pace(part, ", *lines),
         Step::Find(text) => {
             out.extend_from_slice(b"find(part, ")?;
-            push_text(alloc, out, *text)?;
+            push_text(out, *text)?;
             out.extend_from_slice(b")")
         }
         Step::Head(count) => push_call(out, b"head(part, ", *count),
         Step::Longest => out.extend_from_slice(b"longest(part)"),
         Step::Need { text, name } => {
             out.extend_from_slice(b"need(part, ")?;
-            push_text(alloc, out, *text)?;
+            push_text(out, *text)?;
             out.extend_from_slice(b", ")?;
             push_class(out, words, *name)?;
             out.extend_from_slice(b")")

@@ -46,7 +46,7 @@ fn design_of(alloc: Global, job: &Job) -> Result<Vec<u8>, AllocError> {
     let mut text = Vec::new(alloc);
     push_imports(&mut text, &words)?;
     push_classes(&mut text, &words)?;
-    push_root(alloc, &mut text, &words, job)?;
+    push_root(&mut text, &words, job)?;
     push_helpers(&mut text, &words)?;
     Ok(text)
 }
@@ -63,12 +63,12 @@ fn footer_of(alloc: Global, job: &Job) -> Result<Vec<u8>, AllocError>
 }
 
 // Appends the function of the root task.
-fn push_root(alloc: Global, out: &mut Vec<u8>, words: &Words, job: &Job) -> Result<(), AllocError> {
+fn push_root(out: &mut Vec<u8>, words: &Words, job: &Job) -> Result<(), AllocError> {
     out.extend_from_slice(b"\n\nasync def ")?;
     push_name(out, job.name())?;
     out.extend_from_slice(b"(part):\n")?;
     if words.uses().start {
         push_line(out, 1, b"start = trio.current_time()")?;
     }
-    push_steps(alloc, out, words, &Place::root(job.name()), job.steps())
+    push_steps(out, words, &Place::root(job.name()), job.steps())
 }
