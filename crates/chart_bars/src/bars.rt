@@ -9,7 +9,6 @@ ghost use Rattle.chart_bars.specs.Indexed.{walked_in};
 use crate::bar::Bar;
 use crate::blocks::push_blocks;
 use crate::index::StoryIndex;
-use crate::kinds::{is_end, is_start};
 use job_story::{Event, Froms};
 use std::alloc::{AllocError, Global};
 
@@ -44,7 +43,7 @@ fn push_bars<'i, 'e>(
     ensures { OnOk result (map bar_of bars.new.items ≡ map bar_of bars.old.items
         ++ bars_at (table_in froms.now) until (walked_in index.entry.now) (event_of event.entry.now)) }
 {
-    if !is_start(&event.what) {
+    if !event.what.is_start() {
         return Ok(());
     }
     let own = index.events_of(&event.task);
@@ -62,7 +61,7 @@ fn end_in<'e>(events: &[&'e Event]) -> Option<&'e Event>
     ensures { event_seen result ≡ end_in (map event_in events.now) }
 {
     'events: for event in events {
-        if is_end(&event.what) {
+        if event.what.is_end() {
             return Some(*event);
         }
     }

@@ -118,10 +118,7 @@ fn push_arrow_from(
 fn is_of_task(bar: &Bar<'_, '_>, task: &Label) -> bool
     ensures { result ≡ (is_start (what_of bar.now.first.now.what) && same_label task.now bar.now.first.now.task) }
 {
-    match bar.first.what {
-        What::Starts { .. } => *task == bar.first.task,
-        What::Happens(_) | What::Ends { .. } => false,
-    }
+    bar.first.what.is_start() && *task == bar.first.task
 }
 
 // Appends an arrow to a row from that of a task with these events.

@@ -40,7 +40,7 @@ fn note_sleeping<'e>(
         ++ start_if (is_start (what_of event.entry.now.what) && sleeps_forever (last_event event.entry.now.task (map event_in lasts.now.events.now) None))
         event.entry.now.task ls) }
 {
-    if !starts(&event.what) || !sleeps_forever(lasts.last(&event.task)) {
+    if !event.what.is_start() || !sleeps_forever(lasts.last(&event.task)) {
         return Ok(());
     }
     tasks.push(&event.task)?;
@@ -57,16 +57,5 @@ fn sleeps_forever(last: Option<&Event>) -> bool
     match &event.what {
         What::Happens(Happening::Sleeps { until }) => until.is_none(),
         _ => false,
-    }
-}
-
-// Returns whether an event is the start of a task.
-fn starts(what: &What) -> bool
-    ensures { result ≡ is_start (what_of what.now) }
-{
-    match what {
-        What::Starts { .. } => true,
-        What::Happens(_) => false,
-        What::Ends { .. } => false,
     }
 }

@@ -8,6 +8,7 @@
 
 mod event;
 mod froms;
+mod kinds;
 mod laws;
 
 pub use event::{Event, Happening, Kind, Range, Span, What};

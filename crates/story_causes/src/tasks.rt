@@ -9,7 +9,7 @@ ghost use Rattle.story_causes.specs.Seen.{event_in};
 use crate::lasts::LastEvents;
 use exc_groups::Label;
 use indexmap::IndexSet;
-use job_story::{Event, What};
+use job_story::Event;
 use std::alloc::{AllocError, Global};
 
 /// What is known of the tasks of a story: which tasks have ended, by the events in the order of the walk, and what each did last, by
@@ -48,7 +48,7 @@ impl<'s, 'e> Tasks<'s, 'e> {
     pub fn is_running(&self, event: &Event) -> bool
         ensures { result ≡ (is_start (what_of event.now.what) && not (has_ended event.now.task (map event_in self.now.walked.now))) }
     {
-        starts(&event.what) && !self.has_ended(&event.task)
+        event.what.is_start() && !self.has_ended(&event.task)
     }
 
     // Returns whether a task has ended.
@@ -82,31 +82,9 @@ fn note_end<'e>(ended: &mut IndexSet<&'e Label>, event: &'e Event) -> Result<(),
     ensures { OnOk result ((l : tree.Label) → is_among ended.new l
         ≡ (is_among ended.old l || (is_end (what_of event.entry.now.what) && same_label l event.entry.now.task))) }
 {
-    if !ends(&event.what) {
+    if !event.what.is_end() {
         return Ok(());
     }
     ended.insert(&event.task)?;
     Ok(())
-}
-
-// Returns whether an event is the end of a task.
-fn ends(what: &What) -> bool
-    ensures { result ≡ is_end (what_of what.now) }
-{
-    match what {
-        What::Starts { .. } => false,
-        What::Happens(_) => false,
-        What::Ends { .. } => true,
-    }
-}
-
-// Returns whether an event is the start of a task.
-fn starts(what: &What) -> bool
-    ensures { result ≡ is_start (what_of what.now) }
-{
-    match what {
-        What::Starts { .. } => true,
-        What::Happens(_) => false,
-        What::Ends { .. } => false,
-    }
 }

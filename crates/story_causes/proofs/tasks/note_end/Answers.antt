@@ -6,5 +6,5 @@ use Rattle.story_causes.proofs.tasks.note_end.Goals as goal
 
 pub returns : goal.returns
 returns c = λ l.
-    let ended : is_end (what_of c.args.event.now.what) ≡ true = cc c.if-not-ends.ensures in
+    let ended : is_end (what_of c.args.event.now.what) ≡ true = cc c.if-not-is_end.ensures in
     rw ended (among_more c.args.ended.now c.insert.new.self c.args.event.now.task c.in_ok-insert.ensures.updates.0 l)
