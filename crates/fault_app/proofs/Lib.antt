@@ -1,5 +1,4 @@
 pub mod Outcomes
 pub mod Summaries
 pub mod OutcomeLemmas
-pub mod Lexed
 pub mod Tabled

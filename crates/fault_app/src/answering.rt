@@ -1,6 +1,5 @@
-ghost use Rattle.std.specs.Prelude.{◌≡◌, ◌<◌, ◌≤◌, drop, length, map, IfOk, IfErr, OnOk, None};
+ghost use Rattle.std.specs.Prelude.{◌≡◌, ◌<◌, ◌≤◌, length, map, IfOk, IfErr, OnOk};
 ghost use Rattle.job_meaning.specs.declared.limits.TheConstants.{MAX_INPUT};
-ghost use Rattle.job_grammar.specs.Refusals.{Spells, HasTokens};
 ghost use Rattle.nursery_app.specs.Verdict.{CountsFailure};
 ghost use Rattle.fault_text.specs.Views.{job_outcome_held, line_held};
 ghost use Rattle.fault_app.specs.Verdicts.{IsVerdict, IsTableOf, IsSent, IsFaultsFault};
@@ -9,10 +8,9 @@ ghost use Rattle.job_report.specs.declared.limits.TheConstants.{MAX_FAILURES};
 use crate::told::{FaultLines, fault_lines};
 use crate::verdict::FaultsVerdict;
 use fault_text::{Deny, denied_text, table};
-use job_grammar::{FIRST_LINE_LENGTH, Job, Name};
+use job_grammar::Name;
 use job_report::{Out, send};
 use job_runner::Settings;
-use job_tokens::{Lexed, Token, lex};
 use nursery_app::{Gate, ServeFault, refusal};
 use std::alloc::{AllocError, Global};
 use std::thread::Threads;
@@ -90,24 +88,4 @@ fn table_and_denied(
     let bytes = table(alloc, limit, &told.first, told.lines.as_slice())?;
     let denied = denied_text(alloc, limit, &told.first, told.lines.as_slice(), deny)?;
     Ok((denied, bytes))
-}
-
-/// Returns the tokens of a text. The caller must ensure that the text spells the job. The only error is that memory was
-/// refused.
-pub fn tokens_of(alloc: Global, text: &[u8], job: &Job) -> Result<Vec<Token>, AllocError>
-    requires { Spells text.now job.now }
-    ensures { IfOk result (λ tokens. HasTokens text.now tokens.items None) }
-{
-    let Lexed { tokens, fault } = lex(alloc, after_first_line(text), text.len())?;
-    match fault {
-        None => Ok(tokens),
-        Some(_) => unreachable!(),
-    }
-}
-
-// Returns the bytes after the first line of a text.
-fn after_first_line(text: &[u8]) -> &[u8]
-    ensures { result.now ≡ drop 11 text.now }
-{
-    text.split_at(FIRST_LINE_LENGTH.min(text.len())).1
 }

@@ -14,7 +14,7 @@ mod summary;
 mod told;
 mod verdict;
 
-pub use answering::{faults, tokens_of};
+pub use answering::faults;
 pub use fault_text::Deny;
 pub use job_outcome::{job_outcome_of_text, outcome_of_job};
 pub use summary::{Summary, summary_of};

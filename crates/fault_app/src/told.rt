@@ -4,12 +4,11 @@ ghost use Rattle.job_grammar.specs.Refusals.{Spells, IsFair};
 ghost use Rattle.fault_text.specs.Views.{job_outcome_held, line_held};
 ghost use Rattle.fault_app.specs.Verdicts.{AreFaultLines};
 
-use crate::answering::tokens_of;
 use crate::job_outcome::outcome_of_job;
 use crate::lines::Author;
 use fault_text::{JobOutcome, Line};
 use job_edits::{Plan, variants};
-use job_grammar::{Job, JobFault, Name, read_job};
+use job_grammar::{Job, JobFault, Name, read_job, spelled_tokens};
 use job_runner::Settings;
 use nursery_app::Gate;
 use slot_work::answers_for;
@@ -67,7 +66,7 @@ fn lines_of_job<R: Threads + Sync, G: Gate + Sync>(
     ensures { IfOk result (λ told. AreFaultLines job_text.now input.now settings.limit name (job_outcome_held told.first)
         (map line_held told.lines.items)) }
 {
-    let tokens = tokens_of(alloc, job_text, job)?;
+    let tokens = spelled_tokens(alloc, job_text, job)?;
     let variants = variants(alloc, tokens.as_slice())?;
     let author = Author {
         text: job_text,

@@ -4,3 +4,4 @@ pub mod Canonical
 pub mod Sound_jobs
 pub mod Tails
 pub mod Writing_blocks
+pub mod Lexed

@@ -13,6 +13,7 @@ mod heads;
 mod job;
 mod laws;
 mod reading;
+mod spelled;
 mod writing;
 
 pub use fault::{JobFault, JobKind};
@@ -21,4 +22,5 @@ pub use job::{Job, to_format_2};
 pub use job_tree::{Body, Deadline, Format, Handler, Name, Step, Text};
 pub use laws::{canonical_text_spells, spelled_jobs_are_sound, spells_one_job};
 pub use reading::{FIRST_LINE_LENGTH, MAX_BYTES, first_line, format_of, read_job};
+pub use spelled::spelled_tokens;
 pub use writing::write_job;

@@ -2,7 +2,6 @@
 use Rattle.std.proofs.Common.{◌≡◌, ℕ, Option, Some, None, List, [], length, drop, ap, subst, ◌∙◌}
 use Rattle.job_tree.specs.Tree.{Tree}
 use Rattle.job_tokens.specs.declared.token.Token.{Token}
-use Rattle.job_tokens.specs.Lexing.{Lexes}
 use Rattle.job_tokens.proofs.LeftToRight.{Lexes-unique}
 use Rattle.job_syntax.specs.declared.keyword.Keyword.{Keyword}
 use Rattle.job_checks.specs.Reserved.{reserved_in}
@@ -14,16 +13,6 @@ use Rattle.job_lint.specs.Warnings.{in_job, job_warnings}
 use Rattle.job_lint.specs.Fitting.{opening_keywords, keywords_of, AllStandAtKeywords}
 use Rattle.job_lint.proofs.Keywords.{as_many_places, same_keywords}
 use Rattle.job_lint.proofs.Standing.{as_many, all_stand}
-
--- the tokens reach to the end of the text
-pub lexed_to_the_end : (text body : List ℕ) (job : Tree) (tokens : List Token) (fault : Option ℕ) (at : ℕ) → body ≡ drop 11 text →
-    fault ≡ Some at → Spells text job → Lexes (length text) body tokens fault → ⊥
-lexed_to_the_end text body job tokens fault at rest some spells lexed =
-    spells.2 kind.Token at (
-      tokens,
-      subst (λ (f : Option ℕ). Lexes (length text) (drop 11 text) tokens f) some
-          (subst (λ (b : List ℕ). Lexes (length text) b tokens fault) rest lexed),
-    )
 
 -- the tokens have the opening keywords of the tree
 pub keywords_of_text : (text : List ℕ) (job : Tree) (tokens : List Token) → Spells text job → HasTokens text tokens None →

@@ -1,7 +1,7 @@
-ghost use Rattle.std.specs.Prelude.{◌≡◌, ℕ, None, Err, drop, IfOk, IfErr, MatchResult};
+ghost use Rattle.std.specs.Prelude.{ℕ, Err, IfOk, IfErr, MatchResult};
 ghost use Rattle.job_tree.specs.Tree.{Tree};
 ghost use Rattle.job_grammar.specs.declared.fault.JobKind.{JobKind};
-ghost use Rattle.job_grammar.specs.Refusals.{Spells, HasTokens, IsRefused, IsFair, AnswersUnlessMemory};
+ghost use Rattle.job_grammar.specs.Refusals.{Spells, IsRefused, IsFair, AnswersUnlessMemory};
 ghost use Rattle.job_lint.specs.Linted.{AreWarnings, IsOkUnlessMemory};
 
 use crate::around::in_job;
@@ -9,8 +9,7 @@ use crate::laws::law_keywords_have_places;
 use crate::opening::opening_places;
 use crate::walk::walk_steps;
 use crate::warning::Warning;
-use job_grammar::{FIRST_LINE_LENGTH, Job, JobFault, read_job};
-use job_tokens::{Lexed, Token, lex};
+use job_grammar::{Job, JobFault, read_job, spelled_tokens};
 use std::alloc::{AllocError, Global};
 
 /// Returns the probable mistakes in the job that a text spells, in the order of the keywords that they are about. If the text
@@ -44,28 +43,9 @@ fn lints_of_job(alloc: Global, text: &[u8], job: &Job) -> Result<Vec<Warning>, A
     ensures { IfOk result (λ warnings. AreWarnings text.now warnings.items) }
 {
     law_keywords_have_places();
-    let tokens = tokens_of(alloc, text, job)?;
+    let tokens = spelled_tokens(alloc, text, job)?;
     let places = opening_places(alloc, tokens.as_slice())?;
     let mut found = Vec::new(alloc);
     walk_steps(job.steps(), places.as_slice(), in_job(), 0, &mut found)?;
     Ok(found)
-}
-
-// Returns the tokens of a text that spells a job.
-fn tokens_of(alloc: Global, text: &[u8], job: &Job) -> Result<Vec<Token>, AllocError>
-    requires { Spells text.now job.now }
-    ensures { IfOk result (λ tokens. HasTokens text.now tokens.items None) }
-{
-    let Lexed { tokens, fault } = lex(alloc, after_first_line(text), text.len())?;
-    match fault {
-        None => Ok(tokens),
-        Some(_) => unreachable!(),
-    }
-}
-
-// Returns the bytes after the first line of a text.
-fn after_first_line(text: &[u8]) -> &[u8]
-    ensures { result.now ≡ drop 11 text.now }
-{
-    text.split_at(FIRST_LINE_LENGTH.min(text.len())).1
 }

@@ -6,9 +6,8 @@ ghost use Rattle.race_app.specs.Answers.{IsRaceAnswer};
 
 use crate::author::Author;
 use crate::lines::lines_for;
-use fault_app::tokens_of;
 use job_edits::{Finer, Site, copied_starts, shifts, sites};
-use job_grammar::{Job, JobFault, read_job};
+use job_grammar::{Job, JobFault, read_job, spelled_tokens};
 use job_runner::{Forward, NoGate, Settings, run_to_end};
 use nursery_app::Gate;
 use race_text::Line;
@@ -81,7 +80,7 @@ fn answer_for_job<R: Threads + Sync, G: Gate + Sync>(
     if run.end() > limit {
         return Ok(RaceAnswer::Limit);
     }
-    let tokens = tokens_of(alloc, job_text, job)?;
+    let tokens = spelled_tokens(alloc, job_text, job)?;
     let sites = sites(alloc, tokens.as_slice())?;
     let Some(finer) = Finer::of(sites.as_slice()) else {
         return Ok(RaceAnswer::NoFinerTicks);

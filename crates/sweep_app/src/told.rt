@@ -6,10 +6,10 @@ ghost use Rattle.sweep_app.specs.Answers.{AreValuesOf, IsSweepAnswer};
 use crate::number::{Found, number_for};
 use crate::values::Swept;
 use crate::verdict::Missing;
-use fault_app::{outcome_of_job, tokens_of};
+use fault_app::outcome_of_job;
 use fault_text::JobOutcome;
 use job_edits::Target;
-use job_grammar::{Job, JobFault, read_job};
+use job_grammar::{Job, JobFault, read_job, spelled_tokens};
 use job_runner::Settings;
 use nursery_app::Gate;
 use slot_work::answers_for;
@@ -80,7 +80,7 @@ fn answer_for_job<R: Threads + Sync, G: Gate + Sync>(
     requires spells { Spells job_text.now job.now }
     ensures { IfOk result (IsSweepAnswer job_text.now input.now settings.limit target values.now) }
 {
-    let tokens = tokens_of(alloc, job_text, job)?;
+    let tokens = spelled_tokens(alloc, job_text, job)?;
     match number_for(alloc, job_text, tokens.as_slice(), target)? {
         Found::Number(number) => {
             let swept = Swept {

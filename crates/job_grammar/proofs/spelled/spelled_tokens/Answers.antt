@@ -1,5 +1,5 @@
-use Rattle.fault_app.proofs.Lexed.{lexed_to_the_end}
-use Rattle.fault_app.proofs.answering.tokens_of.Goals as goal
+use Rattle.job_grammar.proofs.Lexed.{lexed_to_the_end}
+use Rattle.job_grammar.proofs.spelled.spelled_tokens.Goals as goal
 
 pub unreachable-requires : goal.unreachable-requires
 unreachable-requires c =
