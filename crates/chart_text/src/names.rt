@@ -1,6 +1,7 @@
 ghost use Rattle.std.specs.Prelude.{◌≡◌, ◌++◌, Some, OnOk, codes, if◌then◌else◌};
 ghost use Rattle.exc_groups.specs.Held.{exc_of};
-ghost use Rattle.job_story.specs.Held.{unboxed_exc, kind_of, what_of};
+ghost use Rattle.block_exits.specs.Held.{kind_of};
+ghost use Rattle.job_story.specs.Held.{unboxed_exc, what_of};
 ghost use Rattle.job_story.specs.Sentences.{kind_text};
 ghost use Rattle.exc_text.specs.Texts.{label_text, end_text};
 ghost use Rattle.chart_bars.specs.Held.{bar_of};

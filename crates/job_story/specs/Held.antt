@@ -6,22 +6,16 @@ use Rattle.buffer_parts.specs.Lines as lines
 use Rattle.exc_groups.specs.Exceptions as tree
 use Rattle.exc_groups.specs.Held.{exc_of}
 use Rattle.exc_groups.specs.declared.exc.Exc.{Exc}
-use Rattle.job_meaning.specs.Walk as walks
+use Rattle.block_exits.specs.Held.{kind_of}
 use Rattle.job_story.specs.Story as story
 use Rattle.job_story.specs.Events as events
 use Rattle.job_story.specs.declared.event.Range.{Range}
 use Rattle.job_story.specs.declared.event.Span.{Span}
-use Rattle.job_story.specs.declared.event.Kind.{Kind}
-use Rattle.job_story.specs.declared.event.Kind.TheVariants.{Scope, Nursery}
 use Rattle.job_story.specs.declared.event.Happening.{Happening}
 use Rattle.job_story.specs.declared.event.Happening.TheVariants.{Enters, Sleeps, IsCancelled, Finds, Misses, Raises, Cancels, Handles, Cleans, Replaces, Waits, Leaves}
 use Rattle.job_story.specs.declared.event.What.{What}
 use Rattle.job_story.specs.declared.event.What.TheVariants.{Starts, Happens, Ends}
 use Rattle.job_story.specs.declared.event.Event.{Event}
-
-abbrev pub kind_of : Kind → walks.Kind
-kind_of (Scope fail) = walks.a_scope fail
-kind_of Nursery = walks.a_nursery
 
 abbrev pub range_in : Range → lines.Range
 range_in range = record { from = range.from; to = range.to }

@@ -1,3 +1,4 @@
+use block_exits::Kind;
 use exc_groups::{Exc, Label};
 use job_tree::Name;
 
@@ -17,18 +18,6 @@ pub struct Span {
     pub at: usize,
     /// The length in bytes, without the newline.
     pub len: usize,
-}
-
-/// What a block is: a cancel scope or a nursery.
-#[derive(Clone, Copy, Debug, PartialEq, Eq)]
-pub enum Kind {
-    /// A cancel scope. A `fail` scope raises `TooSlow` if it caught a cancellation and nothing else is left.
-    Scope {
-        /// Whether it is a `fail` scope.
-        fail: bool,
-    },
-    /// A nursery.
-    Nursery,
 }
 
 /// One thing that happened to a task. Exceptions are boxed, so that the many events without one take less memory.

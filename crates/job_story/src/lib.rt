@@ -11,6 +11,7 @@ mod froms;
 mod kinds;
 mod laws;
 
-pub use event::{Event, Happening, Kind, Range, Span, What};
+pub use block_exits::Kind;
+pub use event::{Event, Happening, Range, Span, What};
 pub use froms::Froms;
 pub use laws::{law_froms_of_meaning, law_story};

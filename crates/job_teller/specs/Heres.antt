@@ -12,7 +12,7 @@ use Rattle.job_meaning.specs.Walk as meaning
 use Rattle.job_meaning.specs.Walk.{Kind, a_scope, a_nursery, stack_inside, here_in, home_of, in_pass, label_here, label_over}
 use Rattle.job_story.specs.Froms.{table_in}
 use Rattle.job_story.specs.Story.{Tale}
-use Rattle.job_story.specs.declared.event.Kind as held
+use Rattle.block_exits.specs.declared.kind.Kind as held
 use Rattle.job_story.specs.Tell.{Scene, at_place, tell, tell_child, tell_each, tell_gathered, tell_wait}
 use Rattle.job_teller.specs.declared.block.Block.{Block}
 use Rattle.job_teller.specs.declared.here.Here.{Here}

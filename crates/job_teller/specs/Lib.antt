@@ -1,4 +1,3 @@
 pub mod Stacks
-pub mod Lefts
 pub mod Heres
 pub mod Tales

@@ -7,7 +7,8 @@ ghost use Rattle.job_story.specs.Story.{Story, Tale};
 ghost use Rattle.job_story.specs.Tell.{Scene, told_at, failed_at, and_tale, handled_by, cleaned_by, tell_gathered, tell_child};
 ghost use Rattle.job_teller.specs.Tales.{IsTold};
 
-use crate::excs::{boxed_copy, copy_of, handler_exc, move_all, outcome_after, with_exc};
+use crate::excs::{boxed_copy, copy_of, move_all, with_exc};
+use block_exits::{handler_exc, outcome_after};
 use exc_groups::{Exc, Label, Whose, group};
 use std::alloc::{AllocError, Global};
 

@@ -3,7 +3,7 @@ ghost use Rattle.buffer_parts.specs.Part.{buffer_of, range_of};
 ghost use Rattle.job_tree.specs.Blocks.{step_of, steps_of, handled_of, cleaned_of};
 ghost use Rattle.job_tree.specs.InRange.{AreInRange, IsInRangeStep, IsInRangeOver, IsInRangeHandler, IsInRangeCleanup};
 ghost use Rattle.job_tree.specs.Names.{copies_of, size_of, size_in, handled_size, cleaned_size};
-ghost use Rattle.job_story.specs.Held.{kind_of};
+ghost use Rattle.block_exits.specs.Held.{kind_of};
 ghost use Rattle.job_story.specs.Story.{Tale};
 ghost use Rattle.job_story.specs.Tell.{tell, tell_step, tell_handler, tell_cleanup, tell_block, tell_each, tell_passes};
 ghost use Rattle.job_story.specs.declared.event.Event.{Event as HeldEvent};

@@ -2,7 +2,8 @@ ghost use Rattle.std.specs.Prelude.{◌≡◌, ◌++◌, [], ◌∷◌, Some, ta
 ghost use Rattle.serde_json.specs.Data.{boolean, put as with_member};
 ghost use Rattle.serde_json.specs.View.{view, members_view};
 ghost use Rattle.exc_groups.specs.Held.{exc_of};
-ghost use Rattle.job_story.specs.Held.{unboxed_exc, kind_of, span_in, happening_of};
+ghost use Rattle.block_exits.specs.Held.{kind_of};
+ghost use Rattle.job_story.specs.Held.{unboxed_exc, span_in, happening_of};
 ghost use Rattle.json_report.specs.Values.{list_of, label_json, exc_json};
 ghost use Rattle.json_story.specs.Events.{tick_json, label_or_null, exc_or_null, why_json, cancel_from, failure_from, kind_key, span_json, happening_word, with_happening};
 ghost use Rattle.json_story.specs.Known.{events_in, froms_in};

@@ -105,7 +105,7 @@ fn push_place(text: &mut Vec<u8>, label: &Label, tick: u64) -> Result<(), AllocE
     push_number(text, tick)
 }
 
-// Appends what was raised_exc, as `A@task@0`.
+// Appends what was raised, as `A@task@0`.
 fn push_raised(text: &mut Vec<u8>, name: &Name, task: &Label, tick: u64) -> Result<(), AllocError> {
     push_bytes(text, name.bytes())?;
     push_place(text, task, tick)

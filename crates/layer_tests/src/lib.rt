@@ -14,6 +14,8 @@ mod claims;
 mod clocks;
 #[cfg(test)]
 mod deadlines;
+#[cfg(test)]
+mod exits;
 mod fixtures;
 #[cfg(test)]
 mod grammar;

@@ -4,7 +4,7 @@ use Rattle.std.specs.Borrow.{Bor}
 use Rattle.indexmap.specs.IndexMap.{IndexMap, get_by}
 use Rattle.exc_groups.specs.Exceptions.{Label}
 use Rattle.job_meaning.specs.Log.{same_label}
-use Rattle.job_story.specs.Held.{kind_of}
+use Rattle.block_exits.specs.Held.{kind_of}
 use Rattle.job_story.specs.Tell.{is_from}
 use Rattle.job_story.specs.Causes as why
 use Rattle.story_causes.specs.declared.causes.Entering.{Entering}

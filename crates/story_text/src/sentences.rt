@@ -2,7 +2,8 @@ ghost use Rattle.std.specs.Prelude.{◌≡◌, ◌++◌, [], Some, None, OnOk, c
 ghost use Rattle.std.specs.Option.{option_map};
 ghost use Rattle.exc_groups.specs.Held.{exc_of};
 ghost use Rattle.exc_groups.specs.Split.{is_cancelled, drop};
-ghost use Rattle.job_story.specs.Held.{unboxed_exc, kind_of, happening_of, what_of};
+ghost use Rattle.block_exits.specs.Held.{kind_of};
+ghost use Rattle.job_story.specs.Held.{unboxed_exc, happening_of, what_of};
 ghost use Rattle.job_story.specs.Sentences.{kind_text, with_exc, entering_text, until_text, since_text, cleanup_text, cause_text, entered_text, count_text, caught_text, leaving_text, sign_text, cancel_text, cancelled_text, happening_text, home_text, what_text};
 ghost use Rattle.exc_text.specs.Texts.{label_text, exc_text, end_text};
 ghost use Rattle.story_causes.specs.Found.{entering_in_code, cause_in_code};

@@ -25,7 +25,7 @@ use Rattle.turn_semantics.specs.Steps.{onward, makes, sleeps, falls_asleep, labe
 use Rattle.task_machine.specs.declared.entry.Entry.{Entry}
 use Rattle.task_machine.specs.declared.frame.Frame.{Frame}
 use Rattle.task_machine.specs.declared.frame.Frame.TheVariants.{Scope, Nursery}
-use Rattle.task_machine.specs.declared.outcome.Kind.TheVariants as kind
+use Rattle.block_exits.specs.declared.kind.Kind.TheVariants as kind
 use Rattle.task_machine.specs.declared.stop.TaskState.{TaskState}
 use Rattle.task_machine.specs.declared.stop.TaskState.TheVariants.{Awaits, Over}
 use Rattle.task_machine.specs.declared.stop.Moved.{Moved}

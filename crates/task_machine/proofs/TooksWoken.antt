@@ -25,7 +25,7 @@ use Rattle.turn_semantics.specs.Placed.{PlacedStop}
 use Rattle.turn_semantics.specs.Steps.{makes, leaves, froms_after}
 use Rattle.turn_semantics.specs.Wakes.{lines_made, leaves_settled}
 use Rattle.task_machine.specs.declared.frame.Frame.{Frame}
-use Rattle.task_machine.specs.declared.outcome.Kind.TheVariants as kind
+use Rattle.block_exits.specs.declared.kind.Kind.TheVariants as kind
 use Rattle.task_machine.specs.declared.stop.Moved.TheVariants.{On}
 use Rattle.task_machine.specs.Acts.{Leaves, scoping_in}
 use Rattle.task_machine.specs.Exits.{ExitsAt}

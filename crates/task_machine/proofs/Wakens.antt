@@ -21,7 +21,7 @@ use Rattle.task_machine.specs.declared.entry.Entry.TheVariants as entries
 use Rattle.turn_semantics.specs.Midway.{Place, Move}
 use Rattle.turn_semantics.specs.Steps.{onward, sleeps}
 use Rattle.turn_semantics.specs.Wakes.{Wake, begins, sees, is_due, has_answer, settles, goes_on_with, wake_of}
-use Rattle.task_machine.specs.declared.outcome.Kind.TheVariants as kind
+use Rattle.block_exits.specs.declared.kind.Kind.TheVariants as kind
 use Rattle.task_machine.specs.declared.stop.TaskState.{TaskState}
 use Rattle.task_machine.specs.declared.stop.TaskState.TheVariants.{Asked, Awaits}
 use Rattle.task_machine.specs.declared.stop.Moved.{Moved}

@@ -11,9 +11,9 @@ use Rattle.task_machine.specs.declared.entry.Entry.{Entry}
 use Rattle.turn_semantics.specs.Midway.{Place, stack_at}
 use Rattle.turn_semantics.specs.Names.{names_at, OwnNames}
 use Rattle.turn_semantics.specs.Steps.{signs_home, froms_after}
-use Rattle.task_machine.specs.declared.outcome.Kind.{Kind}
+use Rattle.block_exits.specs.declared.kind.Kind.{Kind}
 use Rattle.task_machine.specs.Acts.{Signed, key_failed}
-use Rattle.task_machine.specs.Kinds.{kind_of}
+use Rattle.block_exits.specs.Held.{kind_of}
 use Rattle.task_machine.specs.Noted.{AreNoted}
 use Rattle.task_machine.specs.Stacked.{AreAt}
 use Rattle.task_machine.specs.States.{State, stack_in}

@@ -9,7 +9,6 @@ pub mod Stacked
 pub mod Acts
 pub mod Laws
 pub mod Noted
-pub mod Kinds
 pub mod Stops
 pub mod Entered
 pub mod Left

@@ -16,11 +16,12 @@ ghost use Rattle.task_machine.specs.Exits.{ExitsAt, FailsAt};
 ghost use Rattle.task_machine.specs.Fitting.{SameKeys};
 ghost use Rattle.task_machine.specs.States.{state_of};
 
+use crate::block_entries::block_entry;
 use crate::leaving::Closed;
-use crate::outcome::{Kind, exc_after, left_with};
 use crate::stop::{Moved, Stop, TaskState};
 use crate::task::Task;
 use crate::world::World;
+use block_exits::{Kind, exc_after, left_with};
 use cancel_scopes::stacks_are_chains;
 use exc_groups::Exc;
 use nursery_book::NurseryId;
@@ -53,7 +54,7 @@ impl<'a> Task<'a> {
         let left = left_with(self.alloc, catches, exc)?;
         let caught = left.caught;
         let exc = exc_after(self.alloc, kind, &label, world.now(), left)?;
-        let entry = kind.entry(self.alloc, label, world.now(), caught)?;
+        let entry = block_entry(self.alloc, kind, label, world.now(), caught)?;
         self.entries.push(entry)?;
         Ok(exc)
     }

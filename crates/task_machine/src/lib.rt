@@ -10,6 +10,7 @@
 //! and the jobs whose steps it borrows.
 #![tactic(auto)]
 
+mod block_entries;
 mod boxing;
 mod cancelling;
 mod entering;
@@ -19,7 +20,6 @@ mod frame;
 mod labels;
 mod laws;
 mod leaving;
-mod outcome;
 mod pausing;
 mod repeating;
 mod running;

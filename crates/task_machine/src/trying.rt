@@ -13,8 +13,8 @@ ghost use Rattle.task_machine.specs.Stops.{Numbers};
 
 use crate::boxing::{box_exc, unbox_exc};
 use crate::frame::Frame;
-use crate::outcome::handler_exc;
 use crate::task::Task;
+use block_exits::handler_exc;
 use exc_groups::{Exc, Match, split};
 use job_tree::{Body, Handler};
 use std::alloc::AllocError;

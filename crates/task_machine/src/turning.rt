@@ -12,11 +12,11 @@ ghost use Rattle.task_machine.specs.Waking.{WakesFrom, IsInRangeTaskState};
 
 use crate::boxing::unbox_exc;
 use crate::frame::Frame;
-use crate::outcome::{Kind, outcome_after};
 use crate::stop::{Moved, Stop, Wake};
 use crate::task::Task;
 use crate::world::World;
 use autojump_clock::TaskId;
+use block_exits::{Kind, outcome_after};
 use cancel_scopes::stacks_are_chains;
 use exc_groups::Exc;
 use job_tree::Step;

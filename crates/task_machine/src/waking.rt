@@ -17,10 +17,10 @@ ghost use Rattle.task_machine.specs.Waiters.{SameWaiters};
 ghost use Rattle.task_machine.specs.Waking.{WakesFrom, wake_in, answer_in, settled_exc, IsInRangeTaskState, IsInRangePurpose};
 
 use crate::entry::Entry;
-use crate::outcome::Kind;
 use crate::stop::{Moved, Purpose, TaskState, Wake};
 use crate::task::Task;
 use crate::world::World;
+use block_exits::Kind;
 use buffer_parts::Line;
 use cancel_scopes::stacks_are_chains;
 use exc_groups::Exc;

@@ -5,11 +5,11 @@ use Rattle.cancel_scopes.specs.Sight.{catches}
 use Rattle.exc_groups.specs.Exceptions.{Label, Exc}
 use Rattle.exc_groups.specs.Held.{exc_of}
 use Rattle.job_meaning.specs.Walk.{Left, left_with, exc_after}
-use Rattle.job_story.specs.Held.{unboxed_exc, kind_of}
+use Rattle.block_exits.specs.Held.{kind_of, left_of}
+use Rattle.job_story.specs.Held.{unboxed_exc}
 use Rattle.job_story.specs.Story.{leaves}
 use Rattle.job_story.specs.Tell.{story_of_one}
 use Rattle.job_teller.specs.Heres.{scopes_of}
-use Rattle.job_teller.specs.Lefts.{left_of}
 use Rattle.job_teller.proofs.Adding.{adds_like}
 use Rattle.job_teller.proofs.notes.leave.Goals as goal
 

@@ -14,7 +14,8 @@ use Rattle.job_tree.specs.Names.{size_of, size_in}
 use Rattle.job_tree.proofs.Weights.{weight_at}
 use Rattle.job_meaning.specs.Walk.{stack_inside, home_of, label_over}
 use Rattle.job_story.specs.Events.{event, starts, ends}
-use Rattle.job_story.specs.Held.{unboxed_exc, kind_of, event_of, range_in}
+use Rattle.block_exits.specs.Held.{kind_of}
+use Rattle.job_story.specs.Held.{unboxed_exc, event_of, range_in}
 use Rattle.job_story.specs.Story.{Tale, enters, handles, cleans}
 use Rattle.job_story.specs.Tell.{story_of_one, tell, tell_block, tell_each, replacement}
 use Rattle.job_teller.specs.declared.block.Block.{Block}

@@ -4,7 +4,7 @@ use Rattle.exc_groups.specs.Held.{exc_of}
 use Rattle.buffer_parts.specs.Part.{buffer_of}
 use Rattle.task_machine.specs.declared.task.Task.{Task}
 use Rattle.task_machine.specs.declared.world.World.{World}
-use Rattle.task_machine.specs.Kinds.{kind_of, left_of}
+use Rattle.block_exits.specs.Held.{kind_of, left_of}
 use Rattle.task_machine.proofs.Exits.{exc_goes_on, leaving_noted}
 use Rattle.task_machine.proofs.task.Task.exit.Goals as goal
 
