@@ -1,10 +1,8 @@
 -- The parts of a group one by one.
-use Rattle.std.proofs.Common.{◌≡◌, ℕ, zero, suc, ◌+◌, ◌<◌, ◌≤◌, List, [], ◌∷◌, ◌++◌, length, take, append_assoc, append-nil, arith}
+use Rattle.std.proofs.Common.{◌≡◌, ℕ, zero, suc, ◌+◌, ◌<◌, List, [], ◌∷◌, ◌++◌, length, take, append_assoc, append-nil, arith}
 use Rattle.std.specs.Prelude.{slice_index_or, codes}
 use Rattle.exc_groups.specs.declared.exc.Exc.{Exc}
-use Rattle.exc_groups.specs.Exceptions.{Excs, no_parts, part}
 use Rattle.exc_groups.specs.Held.{exc_of, excs_of}
-use Rattle.exc_groups.specs.Weigh.{weight_of, weight_in}
 use Rattle.exc_text.specs.Texts.{exc_text, more_text}
 
 -- a further part follows a comma and a space
@@ -16,14 +14,3 @@ more_text-take (e ∷ es) (suc i) d h =
     let step : suc i + 1 ≡ suc (i + 1) = omega arith in
     let before = more_text-take es i d (omega arith) in
     rw step (simp (before, append_assoc))
-
-weight_of-some : (es : Excs) → 1 ≤ weight_of es
-weight_of-some no_parts = omega arith
-weight_of-some (part e es) = omega (arith, weight_of-some es)
-
--- a part weighs less than all parts together
-pub weight_in-at : (es : List Exc) (i : ℕ) (d : Exc) → i < length es →
-    weight_in (exc_of (slice_index_or es i d)) + 1 ≤ weight_of (excs_of es)
-weight_in-at [] i d h = absurd (omega arith)
-weight_in-at (e ∷ es) zero d h = omega (arith, weight_of-some (excs_of es))
-weight_in-at (e ∷ es) (suc i) d h = omega (arith, weight_in-at es i d (omega arith))

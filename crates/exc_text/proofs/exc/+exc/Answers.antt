@@ -1,5 +1,6 @@
 use Rattle.std.proofs.Common.{arith, append_assoc}
-use Rattle.exc_text.proofs.Parts.{more_text-take, weight_in-at}
+use Rattle.exc_groups.proofs.PartsLemmas.{weight_in-at}
+use Rattle.exc_text.proofs.Parts.{more_text-take}
 use Rattle.exc_text.proofs.exc.+exc.Goals as goal
 
 pub push_more-push_exc-requires : goal.push_more-push_exc-requires

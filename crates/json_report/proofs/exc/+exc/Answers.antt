@@ -1,5 +1,5 @@
 use Rattle.std.proofs.Common.{arith}
-use Rattle.exc_text.proofs.Parts.{weight_in-at}
+use Rattle.exc_groups.proofs.PartsLemmas.{weight_in-at}
 use Rattle.json_report.proofs.Parts.{parts_pushed}
 use Rattle.json_report.proofs.exc.+exc.Goals as goal
 
