@@ -3,6 +3,31 @@ use Rattle.std.specs.Prelude.{ℕ, ◌||◌, if◌then◌else◌, List, Option, 
 use Rattle.std.specs.Str.{bytes_eq}
 use Rattle.refusal_text.specs.declared.advice.Advice.{Advice}
 use Rattle.refusal_text.specs.declared.advice.Advice.TheVariants as advice
+use Rattle.refusal_text.specs.declared.advice.PythonSyntax.{PythonSyntax}
+use Rattle.refusal_text.specs.declared.advice.PythonSyntax.TheVariants as python
+use Rattle.refusal_text.specs.declared.advice.TrioWord.{TrioWord}
+use Rattle.refusal_text.specs.declared.advice.TrioWord.TheVariants as trio
+
+-- what Python writes in another way
+abbrev pub python_sentence : PythonSyntax → List ℕ
+python_sentence python.NoDots =
+    codes "Trio's names are written here without `trio.`: `sleep 1;`, `scope NAME after 5 { .. }`, `nursery NAME { .. }`\n"
+python_sentence python.DoubleQuotes = codes "a string is written in double quotes, as in `find \"error\";`\n"
+python_sentence python.NoHyphens = codes "a name has letters, digits and `_`: `my_job`, and not `my-job`\n"
+python_sentence python.NoParentheses = codes "a step has no parentheses: `sleep 1;`, and not `sleep(1)`\n"
+python_sentence python.NoColons = codes "a block is written between braces, without a colon: `scope work after 5 { .. }`\n"
+python_sentence python.OneException = codes "a handler has one name: for another one, put a second `try` around this one\n"
+python_sentence python.NoStars = codes "`except NAME { .. }` is Python's `except*` already: leave out the star\n"
+
+-- a word of a program on Trio
+abbrev pub trio_sentence : TrioWord → List ℕ
+trio_sentence trio.MoveOn = codes "Trio's `move_on_after` is `scope NAME after N { .. }` here\n"
+trio_sentence trio.FailAfter = codes "Trio's `fail_after` is `scope NAME after N fail { .. }` here\n"
+trio_sentence trio.Await = codes "there is no `await` here: a step that waits is written as `sleep 1;`\n"
+trio_sentence trio.Async = codes "there is no `async` here: a nursery is `nursery NAME { .. }`, a task `start NAME { .. }`\n"
+trio_sentence trio.OpenNursery = codes "Trio's `open_nursery` is `nursery NAME { .. }` here\n"
+trio_sentence trio.StartSoon = codes "Trio's `start_soon` is `start NAME { .. }` here, right inside a nursery\n"
+trio_sentence trio.SleepForever = codes "Trio's `sleep_forever` is `forever;` here\n"
 
 -- the sentence, with its newline
 abbrev pub advice_text : Advice → List ℕ
@@ -13,33 +38,20 @@ advice_text advice.Feed =
     codes "this is a feed, which holds its input: write `nursery < FILE`, or put the job and the input into two files\n"
 advice_text advice.NoComments = codes "a job text has no comments\n"
 advice_text advice.WholeTicks = codes "times are whole ticks: choose a smaller tick, and multiply every number\n"
-advice_text advice.NoDots =
-    codes "Trio's names are written here without `trio.`: `sleep 1;`, `scope NAME after 5 { .. }`, `nursery NAME { .. }`\n"
-advice_text advice.DoubleQuotes = codes "a string is written in double quotes, as in `find \"error\";`\n"
-advice_text advice.NoHyphens = codes "a name has letters, digits and `_`: `my_job`, and not `my-job`\n"
-advice_text advice.NoParentheses = codes "a step has no parentheses: `sleep 1;`, and not `sleep(1)`\n"
-advice_text advice.NoColons = codes "a block is written between braces, without a colon: `scope work after 5 { .. }`\n"
-advice_text advice.OneException = codes "a handler has one name: for another one, put a second `try` around this one\n"
-advice_text advice.NoStars = codes "`except NAME { .. }` is Python's `except*` already: leave out the star\n"
 advice_text advice.NewerFormat = codes "format 2 has this: begin the job text with the line `trio-job 2`\n"
 advice_text advice.Unnamed = codes "each job, scope, nursery and start has a name, as in `scope work after 5 { .. }`\n"
 advice_text advice.HeadOrder = codes "the head of a scope is `scope NAME after N shield fail`, in this order\n"
-advice_text advice.MoveOn = codes "Trio's `move_on_after` is `scope NAME after N { .. }` here\n"
-advice_text advice.FailAfter = codes "Trio's `fail_after` is `scope NAME after N fail { .. }` here\n"
-advice_text advice.NoAwait = codes "there is no `await` here: a step that waits is written as `sleep 1;`\n"
-advice_text advice.NoAsync = codes "there is no `async` here: a nursery is `nursery NAME { .. }`, a task `start NAME { .. }`\n"
-advice_text advice.OpenNursery = codes "Trio's `open_nursery` is `nursery NAME { .. }` here\n"
-advice_text advice.StartSoon = codes "Trio's `start_soon` is `start NAME { .. }` here, right inside a nursery\n"
-advice_text advice.SleepForever = codes "Trio's `sleep_forever` is `forever;` here\n"
+advice_text (advice.Python syntax) = python_sentence syntax
+advice_text (advice.Trio word) = trio_sentence word
 
 -- what a job has in place of a word of a program on Trio
 abbrev pub trio_advice : List ℕ → Option Advice
 trio_advice word =
-    if bytes_eq word (codes "move_on_after") || bytes_eq word (codes "move_on_at") then Some advice.MoveOn
-    else if bytes_eq word (codes "fail_after") || bytes_eq word (codes "fail_at") then Some advice.FailAfter
-    else if bytes_eq word (codes "await") then Some advice.NoAwait
-    else if bytes_eq word (codes "async") then Some advice.NoAsync
-    else if bytes_eq word (codes "open_nursery") then Some advice.OpenNursery
-    else if bytes_eq word (codes "start_soon") then Some advice.StartSoon
-    else if bytes_eq word (codes "sleep_forever") then Some advice.SleepForever
+    if bytes_eq word (codes "move_on_after") || bytes_eq word (codes "move_on_at") then Some (advice.Trio trio.MoveOn)
+    else if bytes_eq word (codes "fail_after") || bytes_eq word (codes "fail_at") then Some (advice.Trio trio.FailAfter)
+    else if bytes_eq word (codes "await") then Some (advice.Trio trio.Await)
+    else if bytes_eq word (codes "async") then Some (advice.Trio trio.Async)
+    else if bytes_eq word (codes "open_nursery") then Some (advice.Trio trio.OpenNursery)
+    else if bytes_eq word (codes "start_soon") then Some (advice.Trio trio.StartSoon)
+    else if bytes_eq word (codes "sleep_forever") then Some (advice.Trio trio.SleepForever)
     else None

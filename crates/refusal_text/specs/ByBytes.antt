@@ -6,6 +6,7 @@ use Rattle.job_tree.specs.Words.{is_digit, is_word_byte}
 use Rattle.nursery_app.specs.Feed.{feed_parts}
 use Rattle.refusal_text.specs.declared.advice.Advice.{Advice}
 use Rattle.refusal_text.specs.declared.advice.Advice.TheVariants as advice
+use Rattle.refusal_text.specs.declared.advice.PythonSyntax.TheVariants as python
 
 -- a line that is exactly `%input` begins at or before this place
 abbrev pub is_in_feed : List ℕ → ℕ → Bool
@@ -43,23 +44,23 @@ version_advice text =
 
 -- `.`, after this byte
 abbrev pub dot_advice : Option ℕ → Advice
-dot_advice None = advice.NoDots
-dot_advice (Some before) = if is_digit before || before == 32 then advice.WholeTicks else advice.NoDots
+dot_advice None = advice.Python python.NoDots
+dot_advice (Some before) = if is_digit before || before == 32 then advice.WholeTicks else advice.Python python.NoDots
 
 -- `-`, after this byte
 abbrev pub hyphen_advice : Option ℕ → Option Advice
 hyphen_advice None = None
-hyphen_advice (Some before) = if is_word_byte before then Some advice.NoHyphens else None
+hyphen_advice (Some before) = if is_word_byte before then Some (advice.Python python.NoHyphens) else None
 
 -- the hint for a byte that other languages use
 abbrev pub plain_advice : ℕ → Option Advice
 plain_advice b =
     if b == 35 || b == 47 then Some advice.NoComments
-    else if b == 39 then Some advice.DoubleQuotes
-    else if b == 40 || b == 41 then Some advice.NoParentheses
-    else if b == 58 then Some advice.NoColons
-    else if b == 124 then Some advice.OneException
-    else if b == 42 then Some advice.NoStars
+    else if b == 39 then Some (advice.Python python.DoubleQuotes)
+    else if b == 40 || b == 41 then Some (advice.Python python.NoParentheses)
+    else if b == 58 then Some (advice.Python python.NoColons)
+    else if b == 124 then Some (advice.Python python.OneException)
+    else if b == 42 then Some (advice.Python python.NoStars)
     else None
 
 -- the hint for a byte, given the byte before it

@@ -1,5 +1,5 @@
 ghost use Rattle.std.specs.Prelude.{◌≡◌};
-ghost use Rattle.refusal_text.specs.Advice.{advice_text, trio_advice};
+ghost use Rattle.refusal_text.specs.Advice.{advice_text, python_sentence, trio_sentence, trio_advice};
 
 use job_tree::Name;
 
@@ -18,6 +18,21 @@ pub(crate) enum Advice {
     NoComments,
     /// A fraction of a tick.
     WholeTicks,
+    /// What is there would be allowed in format 2.
+    NewerFormat,
+    /// A scope, nursery, start or job without a name.
+    Unnamed,
+    /// The words in the head of a scope in another order.
+    HeadOrder,
+    /// What is there is Python.
+    Python(PythonSyntax),
+    /// A word of a program on Trio.
+    Trio(TrioWord),
+}
+
+/// What Python writes in another way than a job.
+#[derive(Clone, Copy)]
+pub(crate) enum PythonSyntax {
     /// A dotted name, such as `trio.sleep`.
     NoDots,
     /// A string in single quotes.
@@ -32,20 +47,19 @@ pub(crate) enum Advice {
     OneException,
     /// The star of `except*`.
     NoStars,
-    /// What is there would be allowed in format 2.
-    NewerFormat,
-    /// A scope, nursery, start or job without a name.
-    Unnamed,
-    /// The words in the head of a scope in another order.
-    HeadOrder,
+}
+
+/// A word of a program on Trio that is no word of the language.
+#[derive(Clone, Copy)]
+pub(crate) enum TrioWord {
     /// Trio's `move_on_after` and `move_on_at`.
     MoveOn,
     /// Trio's `fail_after` and `fail_at`.
     FailAfter,
     /// Python's `await`.
-    NoAwait,
+    Await,
     /// Python's `async`.
-    NoAsync,
+    Async,
     /// Trio's `open_nursery`.
     OpenNursery,
     /// Trio's `start_soon`.
@@ -76,26 +90,6 @@ impl Advice {
             Advice::WholeTicks => {
                 "times are whole ticks: choose a smaller tick, and multiply every number\n"
             }
-            Advice::NoDots => {
-                "Trio's names are written here without `trio.`: `sleep 1;`, `scope NAME after 5 { .. }`, `nursery NAME { .. }`\n"
-            }
-            Advice::DoubleQuotes =>
-                "a string is written in double quotes, as in `find \"error\";`\n",
-            Advice::NoHyphens => {
-                "a name has letters, digits and `_`: `my_job`, and not `my-job`\n"
-            }
-            Advice::NoParentheses => {
-                "a step has no parentheses: `sleep 1;`, and not `sleep(1)`\n"
-            }
-            Advice::NoColons => {
-                "a block is written between braces, without a colon: `scope work after 5 { .. }`\n"
-            }
-            Advice::OneException => {
-                "a handler has one name: for another one, put a second `try` around this one\n"
-            }
-            Advice::NoStars => {
-                "`except NAME { .. }` is Python's `except*` already: leave out the star\n"
-            }
             Advice::NewerFormat => {
                 "format 2 has this: begin the job text with the line `trio-job 2`\n"
             }
@@ -105,19 +99,62 @@ impl Advice {
             Advice::HeadOrder => {
                 "the head of a scope is `scope NAME after N shield fail`, in this order\n"
             }
-            Advice::MoveOn => "Trio's `move_on_after` is `scope NAME after N { .. }` here\n",
-            Advice::FailAfter => "Trio's `fail_after` is `scope NAME after N fail { .. }` here\n",
-            Advice::NoAwait => {
+            Advice::Python(syntax) => syntax.text(),
+            Advice::Trio(word) => word.text(),
+        }
+    }
+}
+
+impl PythonSyntax {
+    // Returns the sentence, with its newline.
+    fn text(self) -> &'static str
+        ensures { result.now ≡ python_sentence self }
+    {
+        match self {
+            PythonSyntax::NoDots => {
+                "Trio's names are written here without `trio.`: `sleep 1;`, `scope NAME after 5 { .. }`, `nursery NAME { .. }`\n"
+            }
+            PythonSyntax::DoubleQuotes => {
+                "a string is written in double quotes, as in `find \"error\";`\n"
+            }
+            PythonSyntax::NoHyphens => {
+                "a name has letters, digits and `_`: `my_job`, and not `my-job`\n"
+            }
+            PythonSyntax::NoParentheses => {
+                "a step has no parentheses: `sleep 1;`, and not `sleep(1)`\n"
+            }
+            PythonSyntax::NoColons => {
+                "a block is written between braces, without a colon: `scope work after 5 { .. }`\n"
+            }
+            PythonSyntax::OneException => {
+                "a handler has one name: for another one, put a second `try` around this one\n"
+            }
+            PythonSyntax::NoStars => {
+                "`except NAME { .. }` is Python's `except*` already: leave out the star\n"
+            }
+        }
+    }
+}
+
+impl TrioWord {
+    // Returns the sentence, with its newline.
+    fn text(self) -> &'static str
+        ensures { result.now ≡ trio_sentence self }
+    {
+        match self {
+            TrioWord::MoveOn => "Trio's `move_on_after` is `scope NAME after N { .. }` here\n",
+            TrioWord::FailAfter => "Trio's `fail_after` is `scope NAME after N fail { .. }` here\n",
+            TrioWord::Await => {
                 "there is no `await` here: a step that waits is written as `sleep 1;`\n"
             }
-            Advice::NoAsync => {
+            TrioWord::Async => {
                 "there is no `async` here: a nursery is `nursery NAME { .. }`, a task `start NAME { .. }`\n"
             }
-            Advice::OpenNursery => "Trio's `open_nursery` is `nursery NAME { .. }` here\n",
-            Advice::StartSoon => {
+            TrioWord::OpenNursery => "Trio's `open_nursery` is `nursery NAME { .. }` here\n",
+            TrioWord::StartSoon => {
                 "Trio's `start_soon` is `start NAME { .. }` here, right inside a nursery\n"
             }
-            Advice::SleepForever => "Trio's `sleep_forever` is `forever;` here\n",
+            TrioWord::SleepForever => "Trio's `sleep_forever` is `forever;` here\n",
         }
     }
 }
@@ -128,19 +165,19 @@ pub(crate) fn trio_advice(word: Name) -> Option<Advice>
 {
     let word = word.bytes();
     if word == b"move_on_after".as_slice() || word == b"move_on_at".as_slice() {
-        Some(Advice::MoveOn)
+        Some(Advice::Trio(TrioWord::MoveOn))
     } else if word == b"fail_after".as_slice() || word == b"fail_at".as_slice() {
-        Some(Advice::FailAfter)
+        Some(Advice::Trio(TrioWord::FailAfter))
     } else if word == b"await".as_slice() {
-        Some(Advice::NoAwait)
+        Some(Advice::Trio(TrioWord::Await))
     } else if word == b"async".as_slice() {
-        Some(Advice::NoAsync)
+        Some(Advice::Trio(TrioWord::Async))
     } else if word == b"open_nursery".as_slice() {
-        Some(Advice::OpenNursery)
+        Some(Advice::Trio(TrioWord::OpenNursery))
     } else if word == b"start_soon".as_slice() {
-        Some(Advice::StartSoon)
+        Some(Advice::Trio(TrioWord::StartSoon))
     } else if word == b"sleep_forever".as_slice() {
-        Some(Advice::SleepForever)
+        Some(Advice::Trio(TrioWord::SleepForever))
     } else {
         None
     }

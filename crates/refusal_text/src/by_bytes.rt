@@ -1,7 +1,7 @@
 ghost use Rattle.std.specs.Prelude.{◌≡◌};
 ghost use Rattle.refusal_text.specs.ByBytes.{is_in_feed, feed_advice, has_order_mark, ascii_advice, has_returns, has_blank, version_advice, dot_advice, hyphen_advice, plain_advice, byte_advice};
 
-use crate::advice::Advice;
+use crate::advice::{Advice, PythonSyntax};
 use job_tree::{is_digit, is_word_byte};
 use nursery_app::split_feed;
 
@@ -86,7 +86,7 @@ fn dot_advice(before: Option<u8>) -> Advice
 {
     match before {
         Some(before) if is_digit(before) || before == b' ' => Advice::WholeTicks,
-        _ => Advice::NoDots,
+        _ => Advice::Python(PythonSyntax::NoDots),
     }
 }
 
@@ -95,7 +95,7 @@ fn hyphen_advice(before: Option<u8>) -> Option<Advice>
     ensures { result ≡ hyphen_advice before }
 {
     match before {
-        Some(before) if is_word_byte(before) => Some(Advice::NoHyphens),
+        Some(before) if is_word_byte(before) => Some(Advice::Python(PythonSyntax::NoHyphens)),
         _ => None,
     }
 }
@@ -106,11 +106,11 @@ fn plain_advice(byte: u8) -> Option<Advice>
 {
     match byte {
         b'#' | b'/' => Some(Advice::NoComments),
-        b'\'' => Some(Advice::DoubleQuotes),
-        b'(' | b')' => Some(Advice::NoParentheses),
-        b':' => Some(Advice::NoColons),
-        b'|' => Some(Advice::OneException),
-        b'*' => Some(Advice::NoStars),
+        b'\'' => Some(Advice::Python(PythonSyntax::DoubleQuotes)),
+        b'(' | b')' => Some(Advice::Python(PythonSyntax::NoParentheses)),
+        b':' => Some(Advice::Python(PythonSyntax::NoColons)),
+        b'|' => Some(Advice::Python(PythonSyntax::OneException)),
+        b'*' => Some(Advice::Python(PythonSyntax::NoStars)),
         _ => None,
     }
 }
