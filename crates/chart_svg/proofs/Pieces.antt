@@ -79,6 +79,7 @@ ended : (old : List ℕ) (tag : Tag) (attributes : List Attribute) (a new : List
 ended old tag attributes a new p q =
     q ∙ ap (λ z. z ++ codes ">") p ∙ append_assoc old (codes "<" ++ tag_name tag ++ attributes_text attributes) (codes ">")
 
+-- a start tag after four attributes: `o` has its name, and each of `a` to `d` one attribute more
 four : (old : List ℕ) (tag : Tag) (p q r s : Attribute) (o a b c d : List ℕ) → o ≡ old ++ (codes "<" ++ tag_name tag) →
     a ≡ o ++ attribute_text p → b ≡ a ++ attribute_text q → c ≡ b ++ attribute_text r → d ≡ c ++ attribute_text s →
     IsBegun old tag (p ∷ q ∷ r ∷ s ∷ []) d
@@ -93,6 +94,7 @@ pub start_of_four : {T E : Type 0} (result : Result T E) (old : List ℕ) (tag :
 start_of_four result old tag p q r s o a b c d new begun ap_ bp cp dp =
     on_ok_weaker result (λ h. ended old tag (p ∷ q ∷ r ∷ s ∷ []) d new (four old tag p q r s o a b c d begun ap_ bp cp dp) h)
 
+-- a start tag whose six attributes are appended one by one
 pub start_of_six : {T E : Type 0} (result : Result T E) (old : List ℕ) (tag : Tag) (p q r s t u : Attribute) (o a b c d e f new : List ℕ) →
     o ≡ old ++ (codes "<" ++ tag_name tag) → a ≡ o ++ attribute_text p → b ≡ a ++ attribute_text q → c ≡ b ++ attribute_text r →
     d ≡ c ++ attribute_text s → e ≡ d ++ attribute_text t → f ≡ e ++ attribute_text u → OnOk result (new ≡ f ++ codes ">") →
@@ -103,6 +105,7 @@ start_of_six result old tag p q r s t u o a b c d e f new begun ap_ bp cp dp ep 
     on_ok_weaker result
     (λ h. ended old tag (p ∷ q ∷ r ∷ s ∷ t ∷ u ∷ []) f new (next old tag (p ∷ q ∷ r ∷ s ∷ t ∷ []) u e f begun_five fp) h)
 
+-- a start tag whose seven attributes are appended one by one
 pub start_of_seven : {T E : Type 0} (result : Result T E) (old : List ℕ) (tag : Tag) (p q r s t u v : Attribute) (o a b c d e f g new : List ℕ) →
     o ≡ old ++ (codes "<" ++ tag_name tag) → a ≡ o ++ attribute_text p → b ≡ a ++ attribute_text q → c ≡ b ++ attribute_text r →
     d ≡ c ++ attribute_text s → e ≡ d ++ attribute_text t → f ≡ e ++ attribute_text u → g ≡ f ++ attribute_text v →

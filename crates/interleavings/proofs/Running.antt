@@ -42,6 +42,7 @@ begun_small k t m [] x i = absurd i
 begun_small k t m (b ∷ bs) x (inl e) = let a : x.serial ≡ m = ap (λ (z : Started). z.serial) e in omega arith
 begun_small k t m (b ∷ bs) x (inr i) = let a : x.serial < suc m + length bs = begun_small k t (suc m) bs x i in omega arith
 
+-- the run invariant is kept by the turn of a task that stops again
 kept_turn : (k f : Table) (whole : Result) (t m : ℕ) (q : Started) (qs others : List Started) (wake : Wake) (o : Move) (s : Stopped) →
     Kept k f whole t m qs → Front q qs others → MayWake f (q ∷ others) t q wake q.rest.stopped →
     TurnsOver q.stop t q.here f wake q.rest q.places q.count o → o.stopped ≡ Some s →

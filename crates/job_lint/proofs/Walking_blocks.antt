@@ -33,6 +33,7 @@ steps_at (x ∷ xs) (suc i) s lt is =
     let e : suc i + 1 ≡ suc (i + 1) = omega arith in
     rw e (steps_at xs i s (omega arith) is)
 
+-- the walk is at the next step of the slice that the code reads
 pub at_item : (places : List ℕ) (around : Around) (number : ℕ) (all : Steps) (old : List Warning) (unreachable : Bool) (next : ℕ)
     (ss : List Step) (i : ℕ) (s : Step) (now : List Warning) →
     AtStep places around number all old unreachable next (steps_of (drop i ss)) now → i < length ss → s ≡ get_or ss i s →
@@ -46,6 +47,7 @@ pub room_at : (places : List ℕ) (around : Around) (number : ℕ) (all rest : S
     number + openings_of all ≤ length places → next + 1 + openings_in s ≤ length places
 room_at places around number all rest old unreachable next s now at room = omega (arith, at.count, room)
 
+-- after one more step: its own warning and those inside it are found, and the walk is at the step after it
 pub at_next : (places : List ℕ) (around : Around) (number : ℕ) (all rest : Steps) (old mid own now : List Warning)
     (unreachable dead : Bool) (next after : ℕ) (s : tree.Step) → AtStep places around number all old unreachable next (step s rest) mid →
     Adds mid own (warnings_at unreachable around (numbered_in places next) s) → after ≡ next + 1 + openings_in s →

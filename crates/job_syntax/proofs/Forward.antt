@@ -84,6 +84,7 @@ number_step format inside s first ss ps is printed (r, (n, e), (r', e', (q, bloc
     step_on format inside (s n) ss (first ∷ ps) q b.0 (is n) b.1 (ap (on first) (e ∙ ap (on (number n)) (e' ∙ ap (on ends) b.2))
     ∙ sym (printed n (steps_pieces b.0 q))) fits
 
+-- a step that is a keyword and one name is read back from its tokens
 name_step : (format : Format) (inside : Bool) (s : List ℕ → Step) (role : Role) (name : Nonterminal)
     (names : (ps rest : List Piece) → Stands format name ps rest → (n : List ℕ) × (ps ≡ name_piece role n ∷ rest)) (first : Piece)
     (ss : List Nonterminal)

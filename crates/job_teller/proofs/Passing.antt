@@ -59,6 +59,7 @@ pub room_pass : (h : Here) (t count : ℕ) (body : Steps) (i : ℕ) (start : Lis
 room_pass h t count body i start w now at lt =
     record { room = omega (arith, at.room.room, left_size i count (1 + size_of body) lt); small = at.room.small }
 
+-- a pass that ended with an exception ends the loop, and what was told is the tale of the whole loop
 pub pass_failed : (h : Here) (t count : ℕ) (body : Steps) (i : ℕ) (start mid now : List held.Event) (w v x : Told) →
     AtPass h t count body i start w mid → i < count → (u : ℕ) → u ≡ w.end → Tells h.task.now mid v now (pass body h i u) →
     ((p q : Tale) → IsTold w p → IsTold v q → IsTold x (and_tale p q)) → is_some x.exc ≡ true →
@@ -68,6 +69,7 @@ pass_failed h t count body i start mid now w v x at lt u ends tells join failed 
     (pass body h) y) at.going
     (first_left i count (pass body h) lt) u ends tells join failed
 
+-- a pass that ended well: the walk is at the next pass, with the tales so far (`w`) and of this pass (`v`) joined
 pub pass_next : (h : Here) (t count : ℕ) (body : Steps) (i : ℕ) (start mid now : List held.Event) (w v x : Told) →
     AtPass h t count body i start w mid → i < count → (u : ℕ) → u ≡ w.end → Tells h.task.now mid v now (pass body h i u) →
     ((p q : Tale) → IsTold w p → IsTold v q → IsTold x (and_tale p q)) → is_some x.exc ≡ false →

@@ -20,6 +20,7 @@ use Rattle.job_teller.specs.declared.told.Told.{Told}
 use Rattle.job_teller.specs.Tales.{Tells}
 use Rattle.job_meaning.proofs.Ends.{count_le}
 
+-- a `find` shows its lines, by the answer of the kernel
 pub shows_found : (me : Label) (before after : List held.Event) (part : Part) (needle : Bor (List ℕ)) (text : List ℕ) (a : Answer)
     (lines : List Line) (w : Told) (t : ℕ) →
     IsAnswer (Find needle) part a → a ≡ answers.Lines lines → needle.now ≡ text →
@@ -56,6 +57,7 @@ shows_needed_if me before after buffer None lines name label w t at h = absurd a
 shows_needed_if me before after buffer (Some l) lines name label w t at h =
     subst (λ (ls : List Span). Tells me before w after (tell_lines ls t)) at.places h
 
+-- a `need` that has its line shows it, by the answer of the kernel
 pub shows_needed : (me : Label) (before after : List held.Event) (part : Part) (needle : Bor (List ℕ)) (text : List ℕ) (a : Answer)
     (lines : List Line) (name : List ℕ) (label : Label) (w : Told) (t : ℕ) →
     IsAnswer (Need needle) part a → a ≡ answers.Lines lines → needle.now ≡ text →
@@ -66,6 +68,7 @@ shows_needed me before after part needle text a lines name label w t is lines_is
     (shows_needed_if me before after (buffer_of part) (needed_in (buffer_of part) needle.now (range_of part)) lines name label w t (subst
     (IsAnswer (Need needle) part) lines_is is) h)
 
+-- a `need` that has no line raises its name, by the answer of the kernel
 pub misses_needed : (me : Label) (before after : List held.Event) (part : Part) (needle : Bor (List ℕ)) (text : List ℕ) (a : Answer)
     (name : List ℕ) (label : Label) (w : Told) (t : ℕ) →
     IsAnswer (Need needle) part a → ((lines : List Line) → a ≡ answers.Lines lines → ⊥) → needle.now ≡ text →

@@ -26,6 +26,7 @@ pub slept_never : (me : Label) (before after : List held.Event) (w : Told) (st :
 unfolding tell_sleep
 slept_never me before after w st c until n t e h k = rw e (record { told = k (asleep_for n t until); events = h })
 
+-- a sleep at whose start the task is cancelled already
 pub slept_now : (me : Label) (before after : List held.Event) (w : Told) (st : Stack) (c : Bool) (until : Tick) (n t from : ℕ) →
     sight st ≡ Some from → from ≤ t → Adds me before after (story_of_one t (is_cancelled (seer st from) None c)) →
     ((s : Story) → IsTold w (failed_at cancelled t s)) → Tells me before w after (tell_sleep st c until n t)
@@ -36,6 +37,7 @@ slept_now me before after w st c until n t from e le h k = rw e (by_test (nat_le
     by_test true x = record { told = k _; events = h }
     by_test false x = absurd (grind (arith, nat_tests))
 
+-- a sleep that is cancelled while the task is asleep
 pub slept_later : (me : Label) (before mid after : List held.Event) (w : Told) (st : Stack) (c : Bool) (until : Tick) (n t from : ℕ) →
     sight st ≡ Some from → t < from → from ≤ t + n → Adds me before mid (asleep_for n t until) →
     Adds me mid after (story_of_one from (is_cancelled (seer st from) (Some t) c)) → ((s : Story) → IsTold w (failed_at cancelled from s)) →
@@ -49,6 +51,7 @@ slept_later me before mid after w st c until n t from e lt le h g k = rw e (by_t
     by_test false x true y = record { told = k _; events = adds_then me before mid after _ _ h g }
     by_test false x false y = absurd (grind (arith, nat_tests))
 
+-- a sleep that ends before the tick from which the task is cancelled
 pub slept_past : (me : Label) (before after : List held.Event) (w : Told) (st : Stack) (c : Bool) (until : Tick) (n t from : ℕ) →
     sight st ≡ Some from → t + n < from → Adds me before after (asleep_for n t until) → ((s : Story) → IsTold w (told_at (t + n) s)) →
     Tells me before w after (tell_sleep st c until n t)

@@ -94,6 +94,7 @@ pub room_step : (h : Here) (t : ℕ) (all rest : Steps) (s : Step) (start : List
     AtStep h t all (step s rest) start w now → HasRoom (size_in s) h w.end
 room_step h t all rest s start w now at = record { room = omega (arith, at.room.room); small = at.room.small }
 
+-- a step that ended with an exception ends the block, and what was told is the tale of the whole block
 pub at_failed : (h : Here) (t : ℕ) (all rest : Steps) (s : Step) (start mid now : List held.Event) (w v x : Told) →
     AtStep h t all (step s rest) start w mid → (u : ℕ) → u ≡ w.end → Tells h.task.now mid v now (tell_step (table_of h) s (scene_of h)
     (scopes_of h) u) →
@@ -104,6 +105,7 @@ at_failed h t all rest s start mid now w v x at u ends tells join failed =
     going_failed h.task.now start mid now w v x _ _ (λ y. tell_step (table_of h) s (scene_of h) (scopes_of h) y)
     (λ y. tell (table_of h) rest (scene_of h) (scopes_of h) y) at.going (λ y. refl) u ends tells join failed
 
+-- a step that ended well: the walk is at the next step, with the tales so far (`w`) and of this step (`v`) joined
 pub at_next : (h : Here) (t : ℕ) (all rest : Steps) (s : Step) (start mid now : List held.Event) (w v x : Told) →
     AtStep h t all (step s rest) start w mid → (u : ℕ) → u ≡ w.end → Tells h.task.now mid v now (tell_step (table_of h) s (scene_of h)
     (scopes_of h) u) →

@@ -35,6 +35,7 @@ pub told_of_task : (name : List ℕ) (table : Table) (until : Tick) (ending : En
     bytes ≡ document (story_json name until table (Some label) walked) → IsTold name table until ending (Some asked) walked given bytes
 told_of_task name table until ending asked walked label given bytes found is text = inl (Some label, (refl, sym found), is, text)
 
+-- the verdict and the bytes if a task was asked for that the story does not have
 pub told_of_none : (name : List ℕ) (table : Table) (until : Tick) (ending : Ending) (asked : List ℕ) (walked : List Event)
     (nearest : Vec ℕ) (given : StoryVerdict) (bytes : List ℕ) → task_named asked walked ≡ None →
     nearest.items ≡ label_or_nothing (nearest_in asked walked) → given ≡ story.NoTask nearest → bytes ≡ [] →
@@ -74,6 +75,7 @@ by_told job input limit asked ending given bytes h (inl t) =
 by_told job input limit asked ending given bytes h (inr t) =
     subst (λ (v : StoryVerdict). IsStoryVerdict job input limit asked v bytes) (sym t.2) (t.1, t.3)
 
+-- the verdict and the document for a job that was read: that of the story by the table of its meaning, up to the limit
 pub job_explained : (job : Tree) (input : List ℕ) (limit : ℕ) (asked : Option (List ℕ)) (ending : Ending) (table : Table) (until : Tick)
     (events walked : List Event) (given : StoryVerdict) (bytes : List ℕ) → IsEnding job input limit ending →
     table ≡ meaning_table job input → until ≡ until_of ending limit →

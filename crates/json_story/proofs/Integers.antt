@@ -49,6 +49,7 @@ put_three : (k l m : List ℕ) (d e f : Data) (ms : Members) → has_float d ≡
     members_have_float ms ≡ false → members_have_float (put k d (put l e (put m f ms))) ≡ false
 put_three k l m d e f ms hd he hf hm = with_put k d (put l e (put m f ms)) hd (put_two l m e f ms he hf hm)
 
+-- four members without a floating-point number, put into an object that has none
 put_four : (k l m n : List ℕ) (d e f g : Data) (ms : Members) → has_float d ≡ false → has_float e ≡ false → has_float f ≡ false →
     has_float g ≡ false → members_have_float ms ≡ false → members_have_float (put k d (put l e (put m f (put n g ms)))) ≡ false
 put_four k l m n d e f g ms hd he hf hg hm =

@@ -13,6 +13,7 @@ pub of_moved : (line column : ℕ) (moment : Moment) (hair : Hair) (found : Foun
     value ≡ race_line_json (moved line column moment hair found)
 of_moved line column moment hair found step text value t s v = v ∙ ap (moved_json line column hair found) (t ∙ s)
 
+-- the JSON object of copies that meet, by its text
 pub of_copies : (line column : ℕ) (name : List ℕ) (count : ℕ) (one other : Label) (tick : ℕ) (step text : List ℕ) (value : Data) →
     text ≡ step → step ≡ step_text (copies line column name count one other tick) →
     value ≡ copies_json line column one other tick text → value ≡ race_line_json (copies line column name count one other tick)

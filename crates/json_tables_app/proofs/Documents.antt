@@ -36,6 +36,7 @@ of_fault_lines limit deny bytes denied first lines ks ms k b m d =
       denied_are = d ∙ ap (λ (xs : List faults_kept.Line). faults.denied_text limit deny first (map faults_held.line_held xs)) m;
     }
 
+-- the document of the faults, by the lines that were run
 pub of_faults : (text input : List ℕ) (limit l : ℕ) (name : List ℕ) (deny : Deny) (bytes denied : List ℕ) (first : JobOutcome)
     (lines : List faults.Line) →
     AreFaultLines text input limit name first lines → l ≡ limit → of_faults_are.IsDocumentOf l deny first lines bytes denied →
@@ -48,6 +49,7 @@ of_faults text input limit l name deny bytes denied first lines are at document_
       document_is = subst (λ (n : ℕ). of_faults_are.IsDocumentOf n deny first lines bytes denied) at document_of;
     }
 
+-- the document of a sweep, by the values that were run
 pub of_values : (text input : List ℕ) (limit l : ℕ) (target : Target) (values bytes : List ℕ) (first : JobOutcome) (vs us : List Value) →
     AreSweepValues text input limit target values first (map value_held vs) → l ≡ limit → us ≡ vs →
     bytes ≡ document (sweep_json l first (map value_held us)) → of_values_are.IsDocument text input limit target values bytes

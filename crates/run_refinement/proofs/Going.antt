@@ -98,6 +98,8 @@ begun_stopped k t m [] x i = absurd i
 begun_stopped k t m (b ∷ bs) x (inl e) = subst (StoppedBy t) (sym e) (record { stop = omega arith; body = tt })
 begun_stopped k t m (b ∷ bs) x (inr i) = begun_stopped k t (suc m) bs x i
 
+-- after a turn that stopped, each task is stopped by the tick of the turn: the task itself, the children that it started, and
+-- the others
 turn_stopped : (k f : Table) (t m : ℕ) (q : Started) (qs others : List Started) (wake : wakes.Wake) (o : Move) (s : Stopped) →
     Front q qs others →
     TurnsOver q.stop t q.here f wake q.rest q.places q.count o → o.stopped ≡ Some s → ((z : Started) → In z qs → StoppedBy t z) →

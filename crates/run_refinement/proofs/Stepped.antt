@@ -54,6 +54,7 @@ pub record IsToldNow (numbers : Numbers) (book : NurseryBook) (part : Part) (sto
   pub told : IsTold part stop task_state s
   pub now : StopsAt t froms (Some s) ps
 
+-- how the code stopped and how the definitions did, put together in one record
 told_now : (numbers : Numbers) (book : NurseryBook) (part : Part) (stop : Stop) (task_state : TaskState) (t : ℕ) (froms : Table) (ps : List Place)
     (o : Option Stopped) (s : Stopped) → o ≡ Some s →
     StopsAs numbers book part stop task_state o → StopsAt t froms o ps → IsToldNow numbers book part stop task_state t froms ps s

@@ -118,6 +118,7 @@ pub told_of_all : (table : Table) (until : Option ℕ) (ending : Ending) (asked 
 told_of_all table until ending asked walked about given bytes h e is text =
     inl (None, about_all asked walked (subst (IsAsked asked walked) e h), is, text)
 
+-- the verdict and the bytes if a task was asked for, and the story has it
 pub told_of_task : (table : Table) (until : Option ℕ) (ending : Ending) (asked : Option (List ℕ)) (walked : List Event) (about : About)
     (label : Bor Label) (given : StoryVerdict) (bytes : List ℕ) → IsAsked asked walked about → about ≡ Task label →
     given ≡ verdict_of ending → bytes ≡ story_told table until (Some label.now) walked →
@@ -125,6 +126,7 @@ pub told_of_task : (table : Table) (until : Option ℕ) (ending : Ending) (asked
 told_of_task table until ending asked walked about label given bytes h e is text =
     let k = subst (IsAsked asked walked) e h in inl (Some label.now, about_task asked walked label.now k.0 k.1 k.2, is, text)
 
+-- the verdict and the bytes if a task was asked for that the story does not have
 pub told_of_none : (table : Table) (until : Option ℕ) (ending : Ending) (asked : Option (List ℕ)) (walked : List Event) (about : About)
     (nearest : Vec ℕ) (given : StoryVerdict) (bytes : List ℕ) → IsAsked asked walked about → about ≡ NoTask nearest →
     given ≡ verdict.NoTask nearest → bytes ≡ [] → IsTold table until ending asked walked given bytes
@@ -150,6 +152,7 @@ by_told job input limit asked ending given bytes h (inl t) =
 by_told job input limit asked ending given bytes h (inr t) =
     subst (λ (v : StoryVerdict). IsJobVerdict job input limit asked v bytes) (sym t.2) (t.1, t.3)
 
+-- the verdict and the bytes for a job that was read: those of the story by the table of its meaning, up to the limit
 pub job_told : (job : Tree) (input : List ℕ) (limit : ℕ) (asked : Option (List ℕ)) (ending : Ending) (table : Table) (until : Option ℕ)
     (events walked : List Event) (given : StoryVerdict) (bytes : List ℕ) → IsEnding job input limit ending →
     table ≡ meaning_table job input → until ≡ until_of ending limit →

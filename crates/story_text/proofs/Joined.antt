@@ -19,6 +19,7 @@ pub three : {T E : Type 0} (r : Result T E) (old a b c one more new : List ℕ) 
     OnOk r (new ≡ more ++ c) → OnOk r (new ≡ old ++ (a ++ b ++ c))
 three r old a b c one more new p q h = two r old (a ++ b) c more new (two_lists old a b one more p q) h
 
+-- four pieces that are appended one by one are appended together
 pub four : {T E : Type 0} (r : Result T E) (old a b c d one more most new : List ℕ) → one ≡ old ++ a → more ≡ one ++ b →
     most ≡ more ++ c → OnOk r (new ≡ most ++ d) → OnOk r (new ≡ old ++ (a ++ b ++ c ++ d))
 four r old a b c d one more most new p q s h = three r old (a ++ b) c d more most new (two_lists old a b one more p q) s h

@@ -114,6 +114,7 @@ sleep_case t froms n w home fs ps count p h le = by_sight (seen (stack_at froms 
           weight = omega arith;
         }
 
+-- the case of a step that asks a kernel
 asks_case : (t : ℕ) (froms : Table) (kernel : Kernel) (purpose : Purpose) (w : ℕ) (home : List Place) (fs : List Frame) (ps : List Place)
     (count : ℕ) →
     Suits kernel purpose → Placed fs ps → home_places fs ps ≡ home → weight_of_stop (Some (asking kernel purpose)) + frames_weight fs ≤ w →
@@ -131,6 +132,7 @@ asks_case t froms kernel purpose w home fs ps count suits p h le =
           omega arith;
     }
 
+-- the case of a step that enters a scope or nursery
 enter_case : (t : ℕ) (froms : Table) (label : Label) (shield : Bool) (deadline : Tick) (body : Steps) (exit : Frame) (w : ℕ)
     (home : List Place) (fs : List Frame) (ps : List Place) (count : ℕ) →
     Placed (steps_left body ∷ exit ∷ fs) (record { label = label; shield = shield } ∷ ps) →
@@ -261,6 +263,7 @@ over_made name here t first ls (suc k) =
     made_append t (starts_over name here t first k) (starts (first + k) (label_over name here k) t ∷ []) ls
     (over_made name here t first ls k) (refl, tt)
 
+-- the case of a step that starts one child or several
 start_case : (t : ℕ) (froms : Table) (here : Here) (name : List ℕ) (over : Option ℕ) (body ss : Steps) (fs : List Frame) (ps : List Place)
     (count : ℕ) →
     StartsIn false body → StartsIn (in_body fs) ss → Placed fs ps →
