@@ -9,6 +9,7 @@ mod arguments;
 mod command;
 mod common;
 mod examples;
+mod options;
 mod parser;
 mod reading;
 mod sweeping;
