@@ -1,8 +1,8 @@
 #!/usr/bin/env python3
 """Measures the processor minutes that the gate takes, by crate and by kind of work.
 
-    python3 bench/gate.py                           # rt ci --anew, at the top of the repository
-    python3 bench/gate.py --edits rt ci --anew NAME # another command, and a line for each must-fail edit
+    python3 bench/gate.py                           # rt ci from nothing, at the top of the repository
+    python3 bench/gate.py --edits bash .ci/run      # another command, and a line for each must-fail edit
 
 Runs the command, and reads the processor time of every process below it from /proc several times a second. The table has a row
 for each crate: the proof of the crate, the proof of its tests, the check that its must-fail edits begin with, and the edits.
@@ -53,8 +53,12 @@ def below(root, found):
     return set(reached)
 
 
-def work_of(pid):
-    """The work of a process as (crate, kind, number of the edit or None), or None where it is no check or build of a crate."""
+def work_of(pid, tried):
+    """The work of a process as (crate, kind, number of the edit or None), or None where it is no check or build of a crate.
+
+    `tried` has the folders of the edits that were tried over each kept check, in order. Some kits keep a check for all edits of a crate
+    and number them; the others try them in turn, and the first one is also the check that they begin with.
+    """
     words = read(f"/proc/{pid}/cmdline").decode(errors="replace").split("\0")
     if "--crate-name" not in words:
         return None
@@ -66,7 +70,13 @@ def work_of(pid):
     if "/rt-edit-" in folder:
         kept = words[words.index("--incremental") + 1] if "--incremental" in words else ""
         number = re.search(r"/(\d+)$", kept)
-        return crate, "edits begin" if kept.endswith("/seed") else "edits", number and int(number[1])
+        if number or kept.endswith("/seed"):
+            return crate, "edits" if number else "edits begin", number and int(number[1])
+        folders = tried.setdefault(kept or folder, [])
+        if folder not in folders:
+            folders.append(folder)
+        at = folders.index(folder)
+        return crate, "edits" if at else "edits begin", at
     return crate, "tests" if "--test" in words else "proof", None
 
 
@@ -74,7 +84,7 @@ def run(command, pause):
     """Runs the command. Returns its status, the seconds of processor time of each work, of all, and the seconds that passed."""
     begin = time.monotonic()
     child = subprocess.Popen(command)
-    works, used = {}, {}
+    works, used, tried = {}, {}, {}
     while child.poll() is None:
         found = list(processes())
         ours = below(child.pid, found)
@@ -82,7 +92,7 @@ def run(command, pause):
             if pid in ours:
                 key = pid, start
                 # a fork has its parent's words until it runs a program
-                works[key] = work_of(pid) or works.get(key)
+                works[key] = work_of(pid, tried) or works.get(key)
                 used[key] = max(seconds, used.get(key, 0))
         time.sleep(pause)
     times = resource.getrusage(resource.RUSAGE_CHILDREN)
@@ -94,7 +104,8 @@ def run(command, pause):
 
 def edit_names(crate):
     folder = f"crates/{crate}/must-fail"
-    return sorted(os.listdir(folder)) if os.path.isdir(folder) else []
+    edits = sorted(os.listdir(folder)) if os.path.isdir(folder) else []
+    return [*edits, "the crate without an edit"]
 
 
 def table(by_work, total):
@@ -121,7 +132,10 @@ def main():
     parser.add_argument("--pause", type=float, default=0.3, help="seconds between two looks")
     parser.add_argument("command", nargs=argparse.REMAINDER)
     given = parser.parse_args()
-    status, by_work, total, passed = run(given.command or ["rt", "ci", "--anew"], given.pause)
+    # (a kit that keeps what it passed has a word against it)
+    helped = subprocess.run(["rt", "help"], capture_output=True, text=True, check=False)
+    anew = ["--anew"] if "--anew" in helped.stdout + helped.stderr else []
+    status, by_work, total, passed = run(given.command or ["rt", "ci", *anew], given.pause)
     say = lambda line: print(line, file=sys.stderr)
     say("")
     for line in table(by_work, total):
