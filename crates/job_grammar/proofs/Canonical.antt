@@ -49,7 +49,7 @@ went_on true o at e = (refl, e)
 went_on false o at e = absurd (no_some at (sym e))
 
 -- the checks along the tokens of a job find nothing
-record PassesTokens (ts : List Token) (job : Tree) : Type 0 where
+pub record PassesTokens (ts : List Token) (job : Tree) : Type 0 where
   pub numbers : number_fault job.format None ts ≡ None
   pub depth : depth_fault 0 ts ≡ None
   pub given : twice_in [] ts (roles_of job) ≡ None
@@ -68,7 +68,8 @@ by_shapes ts us job e old = record {
   size = old.size;
 }
 
-passed : (text : List ℕ) (ts : List Token) (job : Tree) → IsOf text ts job → ((k : JobKind) (at : ℕ) → Finds k text at → ⊥) →
+-- what a text without a fault says about its tokens
+pub passed : (text : List ℕ) (ts : List Token) (job : Tree) → IsOf text ts job → ((k : JobKind) (at : ℕ) → Finds k text at → ⊥) →
     PassesTokens ts job
 passed text ts job is_of none = record {
   numbers = none_of (number_fault job.format None ts) (λ at e. none kind.Number at
@@ -88,7 +89,8 @@ writable format before (shape.Number (Some n)) is in_range = is
 writable format before (shape.Text text) is in_range = is
 writable format before (shape.Mark mark) is in_range = is
 
-all_writable : (format : Format) (before : Option Keyword) (ts : List Token) → AreSpelled ts → number_fault format before ts ≡ None →
+-- so do all tokens of a text whose numbers are in range
+pub all_writable : (format : Format) (before : Option Keyword) (ts : List Token) → AreSpelled ts → number_fault format before ts ≡ None →
     AreWritable (shapes_of ts)
 all_writable format before [] are none = tt
 all_writable format before (t ∷ ts) are none =
@@ -128,7 +130,8 @@ long_enough text headed = elim (cases_lt (length text) 11) [
   | inr ge ↦ ge
 ]
 
-short_enough : (text : List ℕ) → ((at : ℕ) → Finds kind.TooLong text at → ⊥) → length text ≤ most_bytes
+-- a text that is not refused as too long is short enough
+pub short_enough : (text : List ℕ) → ((at : ℕ) → Finds kind.TooLong text at → ⊥) → length text ≤ most_bytes
 short_enough text never = elim (cases_lt most_bytes (length text)) [ inl lt ↦ absurd (never most_bytes (lt, refl)) | inr le ↦ le ]
 
 -- what holds of a first line followed by other bytes
@@ -143,7 +146,7 @@ headed_by One body = record { line = refl; rest = refl; long = length-append (fi
 headed_by Two body = record { line = refl; rest = refl; long = length-append (first_line Two) body; small = refl }
 
 -- the first line, followed by tokens
-headed_spells : (limit : ℕ) (body : List ℕ) (job : Tree) (old : List Token) → limit ≤ most_bytes → 11 + length body ≤ limit →
+pub headed_spells : (limit : ℕ) (body : List ℕ) (job : Tree) (old : List Token) → limit ≤ most_bytes → 11 + length body ≤ limit →
     list_all is_ascii body ≡ true
     → (ts : List Token) → Lexes (11 + length body) body ts None → shapes_of ts ≡ shapes_of old → AreTokensOf old job →
     PassesTokens old job → Spells (first_line job.format ++ body) job

@@ -11,7 +11,7 @@ use Rattle.job_tokens.proofs.Shortest_tokens.{tokens_spelled}
 use Rattle.job_syntax.specs.Pieces.{shapes_in as pieces_shapes, job_pieces}
 use Rattle.job_grammar.specs.declared.fault.JobKind.TheVariants as kind
 use Rattle.job_grammar.specs.Refusals.{most_bytes, first_line, IsOf, Spells}
-use Rattle.job_layout.proofs.Passed.{PassesTokens, passed, all_writable, headed_spells}
+use Rattle.job_grammar.proofs.Canonical.{PassesTokens, passed, all_writable, headed_spells}
 use Rattle.job_grammar.proofs.Passing.{one_spelled, within}
 use Rattle.job_grammar.specs.Canon.{canon}
 use Rattle.job_grammar.specs.Jobs.{IsReadable}

@@ -7,8 +7,7 @@ use Rattle.job_tokens.specs.declared.token.Shape.{Shape}
 use Rattle.job_tokens.specs.declared.token.Shape.TheVariants as shape
 use Rattle.job_tokens.specs.Lexing.{is_blank, after_blanks, token_at}
 use Rattle.job_tokens.specs.Canon.{token, is_wordlike}
-use Rattle.job_tokens.proofs.Round_tokens.{IsWritable, AreWritable}
-use Rattle.job_layout.proofs.Rereading.{BeginsAToken, no_blanks, token_begins, StopsWord, token_again, mark_stops, LexesAs}
+use Rattle.job_tokens.proofs.Round_tokens.{IsWritable, AreWritable, BeginsAToken, no_blanks, token_begins, StopsWord, token_again, mark_stops, LexesAs}
 use Rattle.job_tokens.proofs.Ascii_texts.{is_small, canon_small}
 use Rattle.job_tokens.proofs.Round_bytes.{and_whole}
 use Rattle.std.proofs.lemmas.List.Folds.{list_all-append}

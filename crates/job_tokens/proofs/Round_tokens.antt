@@ -72,11 +72,12 @@ letter_in_word b is = or_left (is_letter b) (is_digit b) (eqb b 95) is
     or_left false y z e = absurd cc
 
 -- the first byte is not a blank
-abbrev BeginsAToken : List ℕ → Type 0
+abbrev pub BeginsAToken : List ℕ → Type 0
 BeginsAToken [] = ⊥
 BeginsAToken (b ∷ bytes) = is_blank b ≡ false
 
-no_blanks : (bytes : List ℕ) → BeginsAToken bytes → after_blanks bytes ≡ bytes
+-- before a token there are no blanks to leave out
+pub no_blanks : (bytes : List ℕ) → BeginsAToken bytes → after_blanks bytes ≡ bytes
 no_blanks [] begins = absurd begins
 no_blanks (b ∷ bytes) begins = rw begins refl
 
@@ -102,7 +103,8 @@ digits_begin : (ds rest : List ℕ) → 0 < length ds → list_all is_digit ds �
 digits_begin [] rest some all = absurd (omega arith)
 digits_begin (b ∷ ds) rest some all = (b, ds, refl, (and_parts (is_digit b) (list_all is_digit ds) all).0)
 
-token_begins : (s : Shape) (rest : List ℕ) → IsWritable s → BeginsAToken (token s ++ rest)
+-- the canonical text of a token does not begin with a blank
+pub token_begins : (s : Shape) (rest : List ℕ) → IsWritable s → BeginsAToken (token s ++ rest)
 token_begins (shape.Word []) rest is = absurd cc
 token_begins (shape.Word (b ∷ word)) rest is =
     let parts = and_parts (starts_word (b ∷ word) && list_all is_word_byte (b ∷ word)) (leb (length (b ∷ word)) 32) is in
@@ -145,11 +147,13 @@ mark_again mark.Open rest = refl
 mark_again mark.Close rest = refl
 mark_again mark.Semicolon rest = refl
 
-abbrev StopsWord : Bool → List ℕ → Type 0
+-- after a word or a number, something that is no part of it
+abbrev pub StopsWord : Bool → List ℕ → Type 0
 StopsWord true rest = prefix_len is_word_byte rest ≡ 0
 StopsWord false rest = Unit {0}
 
-token_again : (s : Shape) (rest : List ℕ) → IsWritable s → StopsWord (is_wordlike s) rest → token_at (token s ++ rest) ≡ Some (s, rest)
+-- a token is read back from its canonical text, whatever follows it
+pub token_again : (s : Shape) (rest : List ℕ) → IsWritable s → StopsWord (is_wordlike s) rest → token_at (token s ++ rest) ≡ Some (s, rest)
 token_again (shape.Word word) rest is stops = word_again word rest is stops
 token_again (shape.Number None) rest is stops = absurd is
 token_again (shape.Number (Some n)) rest le stops = number_again n rest le stops
@@ -159,7 +163,8 @@ token_again (shape.Mark m) rest is stops = mark_again m rest
 
 -- ---- all tokens
 
-mark_stops : (m : Mark) (rest : List ℕ) → prefix_len is_word_byte (mark_byte m ∷ rest) ≡ 0
+-- a mark ends a word
+pub mark_stops : (m : Mark) (rest : List ℕ) → prefix_len is_word_byte (mark_byte m ∷ rest) ≡ 0
 mark_stops mark.Open rest = refl
 mark_stops mark.Close rest = refl
 mark_stops mark.Semicolon rest = refl
@@ -172,7 +177,8 @@ canon_stops true (shape.Number n ∷ ss) = refl
 canon_stops true (shape.Text text ∷ ss) = refl
 canon_stops true (shape.Mark m ∷ ss) = mark_stops m (canon_after false ss)
 
-abbrev LexesAs : ℕ → List ℕ → List Shape → Type 0
+-- these bytes are read as tokens of these shapes
+abbrev pub LexesAs : ℕ → List ℕ → List Shape → Type 0
 LexesAs end bytes ss = (ts : List Token) × Lexes end bytes ts None × (shapes_of ts ≡ ss)
 
 -- the canonical text of tokens that can be written is read as these tokens, to its end

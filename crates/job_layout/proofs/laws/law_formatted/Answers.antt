@@ -1,5 +1,5 @@
 use Rattle.job_layout.proofs.Formatted.{formatted_spells, formatted_again}
-use Rattle.job_layout.proofs.Passed.{short_enough}
+use Rattle.job_grammar.proofs.Canonical.{short_enough}
 use Rattle.job_grammar.specs.declared.fault.JobKind.TheVariants as kind
 use Rattle.job_layout.specs.Layout.{formatted_text}
 use Rattle.job_layout.proofs.laws.law_formatted.Goals as goal
