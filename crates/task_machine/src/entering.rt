@@ -19,15 +19,6 @@ use exc_groups::Label;
 use job_tree::{Body, Deadline, Name};
 use std::alloc::AllocError;
 
-// A cancel scope or a nursery to be entered.
-#[derive(Clone, Copy)]
-pub(crate) struct Block<'a> {
-    pub(crate) name: Name,
-    pub(crate) deadline: Deadline,
-    pub(crate) shield: bool,
-    pub(crate) body: &'a Body,
-}
-
 impl<'a> Task<'a> {
     // Enters a scope with that label, inside those that enclose the task. After an error the task and the world can only be
     // dropped.
@@ -61,27 +52,30 @@ impl<'a> Task<'a> {
     // Enters a cancel scope and begins its body. After an error the task and the world can only be dropped.
     pub(crate) fn enter_scope(
         &mut self,
-        block: Block<'a>,
+        name: Name,
+        deadline: Deadline,
+        shield: bool,
         fail: bool,
+        body: &'a Body,
         world: &mut World<'a>,
     ) -> Result<(), AllocError>
         requires scope { ForSome (scope_of self.old) (IsOpen world.old.scopes) }
-        requires in_range { IsInRangeDeadline block.deadline }
+        requires in_range { IsInRangeDeadline deadline }
         requires tick { world.old.tick ≤ 2 ^ 62 }
         ensures stays { OnOk result (self.new
             ≡ record self.old { frames = self.new.frames; own = self.new.own; froms = self.new.froms }) }
-        ensures frames { OnOk result (EntersBlock self.old.frames.items self.new.frames.items (Scope fail) block.entry.body.now) }
-        ensures own { OnOk result (Enters (scope_of self.old) (label_in self.old block.entry.name)
-            (due block.entry.deadline world.old.tick) (scoping_of self.old world.old) (scoping_of self.new world.new)) }
+        ensures frames { OnOk result (EntersBlock self.old.frames.items self.new.frames.items (Scope fail) body.now) }
+        ensures own { OnOk result (Enters (scope_of self.old) (label_in self.old name)
+            (due deadline world.old.tick) (scoping_of self.old world.old) (scoping_of self.new world.new)) }
         ensures world { OnOk result (world.new ≡ record world.old { scopes = world.new.scopes; labels = world.new.labels }) }
         ensures at { OnOk result (EntersAt (state_of self.old world.old) (state_of self.new world.new)
-            (label_in self.old block.entry.name) block.entry.shield (due block.entry.deadline world.old.tick)) }
+            (label_in self.old name) shield (due deadline world.old.tick)) }
     {
-        let deadline = due(block.deadline, world.now());
-        let label = self.label_here(block.name)?;
-        self.enter(label, block.shield, deadline, world)?;
+        let until = due(deadline, world.now());
+        let label = self.label_here(name)?;
+        self.enter(label, shield, until, world)?;
         self.push(Frame::Scope { fail })?;
-        self.push(Frame::Steps(block.body.as_slice()))
+        self.push(Frame::Steps(body.as_slice()))
     }
 
     // Enters a nursery, which is added to the book, and begins its body. After an error the task and the world can
@@ -89,30 +83,33 @@ impl<'a> Task<'a> {
     pub(crate) fn enter_nursery(
         &mut self,
         me: TaskId,
-        block: Block<'a>,
+        name: Name,
+        deadline: Deadline,
+        shield: bool,
+        body: &'a Body,
         world: &mut World<'a>,
     ) -> Result<(), AllocError>
         requires scope { ForSome (scope_of self.old) (IsOpen world.old.scopes) }
-        requires in_range { IsInRangeDeadline block.deadline }
+        requires in_range { IsInRangeDeadline deadline }
         requires tick { world.old.tick ≤ 2 ^ 62 }
         ensures stays { OnOk result (self.new
             ≡ record self.old { frames = self.new.frames; own = self.new.own; froms = self.new.froms }) }
         ensures nursery { OnOk result (EntersNursery me (state_of self.old world.old) (state_of self.new world.new)
-            (label_in self.old block.entry.name) block.entry.body.now) }
-        ensures own { OnOk result (Enters (scope_of self.old) (label_in self.old block.entry.name)
-            (due block.entry.deadline world.old.tick) (scoping_of self.old world.old) (scoping_of self.new world.new)) }
+            (label_in self.old name) body.now) }
+        ensures own { OnOk result (Enters (scope_of self.old) (label_in self.old name)
+            (due deadline world.old.tick) (scoping_of self.old world.old) (scoping_of self.new world.new)) }
         ensures world { OnOk result (world.new
             ≡ record world.old { scopes = world.new.scopes; labels = world.new.labels; book = world.new.book }) }
         ensures at { OnOk result (EntersAt (state_of self.old world.old) (state_of self.new world.new)
-            (label_in self.old block.entry.name) block.entry.shield (due block.entry.deadline world.old.tick)) }
+            (label_in self.old name) shield (due deadline world.old.tick)) }
     {
-        let deadline = due(block.deadline, world.now());
-        let label = self.label_here(block.name)?;
+        let until = due(deadline, world.now());
+        let label = self.label_here(name)?;
         let kept = label.copy(self.alloc)?;
-        let scope = self.enter(kept, block.shield, deadline, world)?;
+        let scope = self.enter(kept, shield, until, world)?;
         let id = world.book.open(scope, me, label)?;
         self.push(Frame::Nursery { id })?;
-        self.push(Frame::Steps(block.body.as_slice()))?;
+        self.push(Frame::Steps(body.as_slice()))?;
         Ok(())
     }
 }

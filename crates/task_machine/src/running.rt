@@ -11,7 +11,6 @@ ghost use Rattle.task_machine.specs.States.{state_of};
 ghost use Rattle.task_machine.specs.Waiters.{KeepsRest};
 ghost use Rattle.task_machine.specs.Waking.{IsInRangeTaskState};
 
-use crate::entering::Block;
 use crate::stop::{Moved, Purpose};
 use crate::task::Task;
 use crate::world::World;
@@ -100,13 +99,7 @@ impl<'a> Task<'a> {
                 fail,
                 body,
             } => {
-                let block = Block {
-                    name: *name,
-                    deadline: *deadline,
-                    shield: *shield,
-                    body,
-                };
-                self.enter_scope(block, *fail, world)?;
+                self.enter_scope(*name, *deadline, *shield, *fail, body, world)?;
                 Ok(Moved::On(None))
             }
             Step::Nursery {
@@ -115,13 +108,7 @@ impl<'a> Task<'a> {
                 shield,
                 body,
             } => {
-                let block = Block {
-                    name: *name,
-                    deadline: *deadline,
-                    shield: *shield,
-                    body,
-                };
-                self.enter_nursery(me, block, world)?;
+                self.enter_nursery(me, *name, *deadline, *shield, body, world)?;
                 Ok(Moved::On(None))
             }
             Step::Start { name, over, body } => {

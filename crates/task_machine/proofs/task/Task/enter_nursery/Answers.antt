@@ -22,7 +22,7 @@ use Rattle.task_machine.proofs.task.Task.enter_nursery.Goals as goal
 pub returns-clause-nursery : goal.returns-clause-nursery
 returns-clause-nursery c =
     let book : c.enter.new.world.book ≡ c.args.world.now.book = ap (λ (w : World). w.book) c.in_ok-scope.ensures.world in
-    let label : Label = label_in c.args.self.now c.args.block.name in
+    let label : Label = label_in c.args.self.now c.args.name in
     record {
       id = c.in_ok-id.id;
       scope = c.in_ok-scope.scope;
@@ -49,17 +49,17 @@ pub returns-clause-at : goal.returns-clause-at
 returns-clause-at c =
     let scopes = c.enter.new.world.scopes in
     let labels = label_at c.enter.new.world in
-    let label : Label = label_in c.args.self.now c.args.block.name in
-    let place : Place = record { label = label; shield = c.args.block.shield } in
+    let label : Label = label_in c.args.self.now c.args.name in
+    let place : Place = record { label = label; shield = c.args.shield } in
     let scope : scope_of c.push-2.new.self ≡ scope_of c.enter.new.self =
     ap scope_of c.in_ok-push-2.ensures.stays ∙ ap scope_of c.in_ok-push.ensures.stays in
-    let deadline : c.due-deadline.result ≡ due c.args.block.deadline c.args.world.now.tick =
-    c.due-deadline.ensures.due ∙ ap (λ (t : ℕ). due c.args.block.deadline t) c.now.ensures in
+    let deadline : c.due-until.result ≡ due c.args.deadline c.args.world.now.tick =
+    c.due-until.ensures.due ∙ ap (λ (t : ℕ). due c.args.deadline t) c.now.ensures in
     let entered =
     subst (λ (l : Label). EntersAt (state_of c.args.self.now c.args.world.now) (state_of c.enter.new.self c.enter.new.world) l
-    c.args.block.shield c.due-deadline.result) (c.in_ok-kept.ensures ∙ c.in_ok-label.ensures) c.in_ok-scope.ensures.at in
+    c.args.shield c.due-until.result) (c.in_ok-kept.ensures ∙ c.in_ok-label.ensures) c.in_ok-scope.ensures.at in
     λ froms ps new at.
-    subst (λ (s : Option ℕ). AreAt labels (froms_after_entry froms label (due c.args.block.deadline c.args.world.now.tick)) (outer_of scopes s)
+    subst (λ (s : Option ℕ). AreAt labels (froms_after_entry froms label (due c.args.deadline c.args.world.now.tick)) (outer_of scopes s)
     (place ∷ ps)) (sym scope)
     (subst (λ (d : Tick). AreAt labels (froms_after_entry froms label d) (outer_of scopes (scope_of c.enter.new.self)) (place ∷ ps)) deadline
     (entered froms ps new at))
