@@ -45,6 +45,18 @@ pub record Innermost (labels : Labels) (book : NurseryBook) (bs : List Block) (o
   pub others : AreOthers o.id own
   pub outer : Opened labels book bs own None
 
+-- the last of some scopes, none of which has that id
+pub last_else : (own : List Own) (o : Own) (key : ℕ) → AreOthers key (own ++ o ∷ []) → o.id ≢ key
+last_else [] o key a = All-head (λ (y : Own). y.id ≢ key) o [] a
+last_else (y ∷ own) o key a = last_else own o key (All-tail (λ (z : Own). z.id ≢ key) y (own ++ o ∷ []) a)
+
+-- and those before it
+pub first_else : (own : List Own) (o : Own) (key : ℕ) → AreOthers key (own ++ o ∷ []) → AreOthers key own
+first_else [] o key a = All-nil (λ (y : Own). y.id ≢ key)
+first_else (y ∷ own) o key a =
+    All-cons (λ (z : Own). z.id ≢ key) y own (All-head (λ (z : Own). z.id ≢ key) y (own ++ o ∷ []) a)
+    (first_else own o key (All-tail (λ (z : Own). z.id ≢ key) y (own ++ o ∷ []) a))
+
 -- the last scope that a task opened is that of its innermost block, and the others are those of the outer ones
 pub opened_out : (labels : Labels) (book : NurseryBook) (bs : List Block) (own : List Own) (b : Block) (o : Own) →
     Opened labels book (bs ++ b ∷ []) (own ++ o ∷ []) None → Innermost labels book bs own b o
@@ -60,16 +72,6 @@ opened_out labels book (c ∷ bs) (x ∷ own) b o h =
       others = All-cons (λ (y : Own). y.id ≢ o.id) x own (λ f. last_else own o x.id h.1 (sym f)) inner.others;
       outer = (h.0, first_else own o x.id h.1, inner.outer);
     }
-  where
-    last_else : (own : List Own) (o : Own) (key : ℕ) → AreOthers key (own ++ o ∷ []) → o.id ≢ key
-    last_else [] o key a = All-head (λ (y : Own). y.id ≢ key) o [] a
-    last_else (y ∷ own) o key a = last_else own o key (All-tail (λ (z : Own). z.id ≢ key) y (own ++ o ∷ []) a)
-
-    first_else : (own : List Own) (o : Own) (key : ℕ) → AreOthers key (own ++ o ∷ []) → AreOthers key own
-    first_else [] o key a = All-nil (λ (y : Own). y.id ≢ key)
-    first_else (y ∷ own) o key a =
-        All-cons (λ (z : Own). z.id ≢ key) y own (All-head (λ (z : Own). z.id ≢ key) y (own ++ o ∷ []) a)
-        (first_else own o key (All-tail (λ (z : Own). z.id ≢ key) y (own ++ o ∷ []) a))
 
 -- a task that is in a block opened its scope
 pub opened_some : (labels : Labels) (book : NurseryBook) (bs : List Block) (own : List Own) (b : Block) →

@@ -123,16 +123,12 @@ pub head_among : (ks : List ℕ) (k : ℕ) → head_of ks ≡ Some k → IsAmong
 head_among [] k e = absurd (let f : None ≡ Some k = e in cc)
 head_among (x ∷ ks) k e = inl (sym (one_of x k e))
 
--- what encloses the scope that was left stays open
-pub around_open : (old new : Tree) → IsChain old → IsOwn old → IsApart old → (home : Option ℕ) (os : List Own) (o : Own) →
-    ForSome home (IsOpen old) → Top old home os o →
-    OthersKeep old new o.id → ForSome (last_or home (ids os)) (IsOpen new)
-around_open old new chain owns apart home os o opened top keep id e =
+-- each scope around one that was left stays open
+pub outer_open : (old new : Tree) → IsChain old → IsOwn old → IsApart old → (home : Option ℕ) (os : List Own) (o : Own) →
+    (top : Top old home os o) → OthersKeep old new o.id → (key : ℕ) → IsAmong key (keys_of top.following) → IsOpen new key
+outer_open old new chain owns apart home os o top keep key i =
     let named : top.level.label ≡ o.id = one_of _ _ (owns o.id (top.level ∷ top.following) top.at) in
-    let first : head_of (keys_of top.following) ≡ Some id =
-    ap head_of top.keys ∙ first_is_last os (keys_of (outer_of old home))
-    ∙ ap (λ (h : Option ℕ). last_or h (ids os)) (first_key old home owns opened) ∙ e in
-    let at = level_at id top.following (head_among (keys_of top.following) id first) in
+    let at = level_at key top.following i in
     let around : stack_of old at.level.label ≡ Some (at.level ∷ at.following) =
     chain o.id (top.level ∷ top.following) top.at (top.level ∷ at.before) at.level at.following (ap (λ (s : Stack). top.level ∷ s) at.is) in
     let differs : at.level.label ≢ o.id =
@@ -142,3 +138,13 @@ around_open old new chain owns apart home os o opened top keep id e =
     (subst (λ (k : ℕ). All (λ (m : Level ℕ). m.label ≢ k) top.following) named
     (apart o.id (top.level ∷ top.following) top.at [] top.level top.following refl)))) in
     subst (IsOpen new) at.named (subst IsSome (sym (keep at.level.label differs ∙ around)) refl)
+
+-- what encloses the scope that was left stays open
+pub around_open : (old new : Tree) → IsChain old → IsOwn old → IsApart old → (home : Option ℕ) (os : List Own) (o : Own) →
+    ForSome home (IsOpen old) → Top old home os o →
+    OthersKeep old new o.id → ForSome (last_or home (ids os)) (IsOpen new)
+around_open old new chain owns apart home os o opened top keep id e =
+    let first : head_of (keys_of top.following) ≡ Some id =
+    ap head_of top.keys ∙ first_is_last os (keys_of (outer_of old home))
+    ∙ ap (λ (h : Option ℕ). last_or h (ids os)) (first_key old home owns opened) ∙ e in
+    outer_open old new chain owns apart home os o top keep id (head_among (keys_of top.following) id first)

@@ -24,10 +24,10 @@ use Rattle.task_machine.specs.Left.{keys_of, keys_in, OwnFirst}
 use Rattle.task_machine.specs.Stacked.{IsKey}
 use Rattle.task_machine.proofs.Blocks.{blocks_append, Innermost, opened_in, opened_out, opened_some, opened_waits, StaysBut, opened_stays, runs_in_waits, runs_in_later}
 use Rattle.task_machine.proofs.Cancels.{open_around}
-use Rattle.task_machine.proofs.Fits.{LastOf, last_of, first_key, head_among, around_open}
+use Rattle.task_machine.proofs.Fits.{LastOf, last_of, first_key, head_among, outer_open, around_open}
 use Rattle.task_machine.proofs.FrameLemmas.{frames_push}
 use Rattle.task_machine.proofs.Leaves.{keys_pushed, Top}
-use Rattle.task_machine.proofs.Others.{is_mine, among_left, among_right, level_at, all_after, others_entered, others_left}
+use Rattle.task_machine.proofs.Others.{is_mine, among_left, among_right, others_entered, others_left}
 use Rattle.task_machine.proofs.OwnLemmas.{ids, last_pushed}
 use Rattle.task_machine.proofs.Stacked.{one_of}
 
@@ -219,17 +219,8 @@ after_open : (old new : Tree) → IsChain old → IsOwn old → IsApart old → 
     OthersKeep old new o.id → (key : ℕ) →
     IsAmong key (keys_of (outer_of old home)) → IsOpen new key
 after_open old new chain owns apart home os o top keep key i =
-    let named : top.level.label ≡ o.id = one_of _ _ (owns o.id (top.level ∷ top.following) top.at) in
-    let at = level_at key top.following (subst (IsAmong key) (sym top.keys) (among_right key (keys_in os) (keys_of (outer_of old home)) i)) in
-    let around : stack_of old at.level.label ≡ Some (at.level ∷ at.following) =
-    chain o.id (top.level ∷ top.following) top.at (top.level ∷ at.before) at.level at.following (ap (λ (s : Stack). top.level ∷ s) at.is) in
-    let differs : at.level.label ≢ o.id =
-    All-head (λ (m : Level ℕ). m.label ≢ o.id) at.level at.following
-    (all_after (λ (m : Level ℕ). m.label ≢ o.id) at.before (at.level ∷ at.following)
-    (subst (λ (s : Stack). All (λ (m : Level ℕ). m.label ≢ o.id) s) at.is
-    (subst (λ (k : ℕ). All (λ (m : Level ℕ). m.label ≢ k) top.following) named
-    (apart o.id (top.level ∷ top.following) top.at [] top.level top.following refl)))) in
-    subst (IsOpen new) at.named (subst IsSome (sym (keep at.level.label differs ∙ around)) refl)
+    outer_open old new chain owns apart home os o top keep key
+    (subst (IsAmong key) (sym top.keys) (among_right key (keys_in os) (keys_of (outer_of old home)) i))
 
 -- the home of a task stays open when the innermost of its scopes is closed
 pub home_open : (old new : Tree) → IsChain old → IsOwn old → IsApart old → (home : Option ℕ) (os : List Own) (o : Own) → Top old home os o →

@@ -1,7 +1,7 @@
 -- A nursery that a task waits for is settled, and one that gets children.
 use Rattle.std.proofs.Common.{◌≡◌, ◌≢◌, inl, inr, ℕ, zero, suc, ◌<◌, Bool, true, false, ◌&&◌, ◌==◌, Option, Some, None, List, [], ◌∷◌, ◌++◌, length, refl, ap, sym, ◌∙◌, subst, arith}
 use Rattle.std.proofs.lemmas.Bool.{eqb-true, eq-eqb}
-use Rattle.std.proofs.lemmas.List.Elements.{All-nil, All-cons, All-head, All-tail}
+use Rattle.std.proofs.lemmas.List.Elements.{All-nil, All-cons}
 use Rattle.std.specs.Prelude.{IsSome, is_some}
 use Rattle.std.specs.Option.{IsSomeAnd}
 use Rattle.std.specs.List.{last_or, list_all}
@@ -16,7 +16,7 @@ use Rattle.task_machine.specs.Fitting.{Block, a_scope, a_nursery, blocks_of, Are
 use Rattle.task_machine.specs.Labels.{Labels}
 use Rattle.task_machine.specs.Labels as label
 use Rattle.task_machine.specs.Left.{OwnFirst}
-use Rattle.task_machine.proofs.Blocks.{opened_length, opened_stays, runs_after, runs_in_later}
+use Rattle.task_machine.proofs.Blocks.{last_else, first_else, opened_length, opened_stays, runs_after, runs_in_later}
 use Rattle.task_machine.proofs.Fits.{LastOf, last_of, Ready, around_open}
 use Rattle.task_machine.proofs.Kept.{stays_but, first_below, home_open}
 use Rattle.task_machine.proofs.Leaves.{Top, top_of}
@@ -45,16 +45,6 @@ awaited_of labels book (c ∷ bs) (x ∷ os) o id h =
       apart = All-cons (λ (y : Own). y.id ≢ o.id) x os (λ f. last_else os o x.id h.1 (sym f)) inner.apart;
       outer = (h.0, first_else os o x.id h.1, inner.outer);
     }
-  where
-    last_else : (own : List Own) (o : Own) (key : ℕ) → AreOthers key (own ++ o ∷ []) → o.id ≢ key
-    last_else [] o key a = All-head (λ (y : Own). y.id ≢ key) o [] a
-    last_else (y ∷ own) o key a = last_else own o key (All-tail (λ (z : Own). z.id ≢ key) y (own ++ o ∷ []) a)
-
-    first_else : (own : List Own) (o : Own) (key : ℕ) → AreOthers key (own ++ o ∷ []) → AreOthers key own
-    first_else [] o key a = All-nil (λ (y : Own). y.id ≢ key)
-    first_else (y ∷ own) o key a =
-        All-cons (λ (z : Own). z.id ≢ key) y own (All-head (λ (z : Own). z.id ≢ key) y (own ++ o ∷ []) a)
-        (first_else own o key (All-tail (λ (z : Own). z.id ≢ key) y (own ++ o ∷ []) a))
 
 awaited_some : (labels : Labels) (book : NurseryBook) (bs : List Block) (own : List Own) (id : ℕ) → Opened labels book bs own (Some id) →
     0 < length own
