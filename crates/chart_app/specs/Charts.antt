@@ -1,6 +1,5 @@
 -- What `chart` writes: the chart of a job's meaning over an input, or the refusal that the meaning names.
-use Rattle.std.specs.Prelude.{◌≡◌, ℕ, ◌≤◌, ◌<◌, nat_le, Option, List, length, take, IsSome, IsNone}
-use Rattle.std.specs.Io.KnownBytes.{Appends}
+use Rattle.std.specs.Prelude.{◌≡◌, ℕ, ◌≤◌, ◌<◌, nat_le, List, IsSome, IsNone}
 use Rattle.job_tree.specs.Tree.{Tree}
 use Rattle.cancel_scopes.specs.Sight.{Tick}
 use Rattle.job_grammar.specs.Refusals.{Spells, IsRefused}
@@ -10,8 +9,6 @@ use Rattle.job_story.specs.Events.{Event}
 use Rattle.nursery_app.specs.Verdict.{refusal_line}
 use Rattle.nursery_app.specs.declared.verdict.Verdict.{Verdict}
 use Rattle.nursery_app.specs.declared.verdict.Verdict.TheVariants.{Done, Raised, JobRefused, Limit}
-use Rattle.nursery_app.specs.declared.verdict.ServeFault.{ServeFault}
-use Rattle.nursery_app.specs.declared.verdict.ServeFault.TheVariants.{Send, NoMemory}
 use Rattle.story_app.specs.Stories.{story_events, until_if}
 use Rattle.story_app.specs.declared.meaning.Ending.{Ending}
 use Rattle.story_app.specs.declared.meaning.Ending.TheVariants as ending
@@ -65,15 +62,3 @@ IsJobVerdict form job input limit verdict bytes = IsVerdictOn job input limit ve
 abbrev pub IsVerdict : Form → List ℕ → List ℕ → ℕ → Verdict → List ℕ → Type 0
 IsVerdict form text input limit (JobRefused fault) bytes = IsRefused text fault.kind fault.at × (bytes ≡ refusal_line fault)
 IsVerdict form text input limit verdict bytes = (job : Tree) × Spells text job × IsJobVerdict form job input limit verdict bytes
-
--- All bytes of the verdict were sent.
-abbrev pub IsSent : Form → List ℕ → List ℕ → ℕ → Option (List ℕ) → Option (List ℕ) → Verdict → Type 0
-IsSent form text input limit before after verdict =
-    (bytes : List ℕ) × IsVerdict form text input limit verdict bytes × Appends before after bytes
-
--- The writer failed after the first `sent` of the verdict's bytes; or memory was refused, and nothing was sent.
-abbrev pub IsChartFault : Form → List ℕ → List ℕ → ℕ → Option (List ℕ) → Option (List ℕ) → ServeFault → Type 0
-IsChartFault form text input limit before after (Send sent) =
-    (verdict : Verdict) × (bytes : List ℕ) × IsVerdict form text input limit verdict bytes × (sent < length bytes)
-    × Appends before after (take sent bytes)
-IsChartFault form text input limit before after NoMemory = after ≡ before

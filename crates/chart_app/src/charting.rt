@@ -1,7 +1,7 @@
 ghost use Rattle.std.specs.Prelude.{◌≡◌, ◌<◌, ◌≤◌, length, IfOk, IfErr, OnOk};
 ghost use Rattle.job_meaning.specs.declared.limits.TheConstants.{MAX_INPUT};
-ghost use Rattle.nursery_app.specs.Verdict.{CountsFailure};
-ghost use Rattle.chart_app.specs.Charts.{verdict_of, IsJobVerdict, IsVerdict, IsSent, IsChartFault};
+ghost use Rattle.chart_app.specs.Charts.{verdict_of, IsJobVerdict, IsVerdict};
+ghost use Rattle.nursery_app.specs.Sending.{IsSent, IsServeFault, CountsFailure};
 ghost use Rattle.job_report.specs.declared.limits.TheConstants.{MAX_FAILURES};
 
 use crate::drawing::chart_of;
@@ -40,11 +40,11 @@ pub fn chart<R: Threads + Sync, P: Pick, G: Gate + Sync, W: Out>(
     requires countable { W.failed out.old < MAX_FAILURES }
 
     // The bytes written are the chart of the meaning, or the refusal that the meaning names.
-    ensures sent { IfOk result (IsSent form job_text.now input.now settings.limit (W.contents out.old) (W.contents out.new)) }
+    ensures sent { IfOk result (IsSent (IsVerdict form job_text.now input.now settings.limit) (W.contents out.old) (W.contents out.new)) }
     ensures well { OnOk result (W.failed out.new ≡ W.failed out.old) }
 
     // A writer that failed took the first of those bytes. If memory was refused, nothing was sent.
-    ensures fault { IfErr result (IsChartFault form job_text.now input.now settings.limit (W.contents out.old) (W.contents out.new)) }
+    ensures fault { IfErr result (IsServeFault (IsVerdict form job_text.now input.now settings.limit) (W.contents out.old) (W.contents out.new)) }
     ensures counted { IfErr result (CountsFailure (W.failed out.old) (W.failed out.new)) }
 {
     let (verdict, bytes) = answer(rt, alloc, job_text, input, settings, form, picker, gate)?;

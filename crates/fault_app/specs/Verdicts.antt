@@ -1,12 +1,9 @@
 -- The results of `faults`: the outcome of a job with each fault, or the refusal of its text.
-use Rattle.std.specs.Prelude.{◌≡◌, ℕ, ◌<◌, Option, None, List, [], length, take}
-use Rattle.std.specs.Io.KnownBytes.{Appends}
+use Rattle.std.specs.Prelude.{◌≡◌, ℕ, None, List}
 use Rattle.job_tree.specs.Tree.{Tree}
 use Rattle.job_tokens.specs.declared.token.Token.{Token}
 use Rattle.job_grammar.specs.Refusals.{Spells, HasTokens, IsRefused}
 use Rattle.nursery_app.specs.Verdict.{refusal_line}
-use Rattle.nursery_app.specs.declared.verdict.ServeFault.{ServeFault}
-use Rattle.nursery_app.specs.declared.verdict.ServeFault.TheVariants.{Send, NoMemory}
 use Rattle.job_edits.specs.Faults.{variants_in, plan_of}
 use Rattle.fault_text.specs.JobOutcomes.{JobOutcome, job_outcome_of}
 use Rattle.fault_text.specs.Table.{Line, table_text, denied_text}
@@ -43,15 +40,3 @@ pub record IsTable (text input : List ℕ) (limit : ℕ) (name : List ℕ) (deny
 abbrev pub IsVerdict : List ℕ → List ℕ → ℕ → List ℕ → Deny → FaultsVerdict → List ℕ → Type 0
 IsVerdict text input limit name deny (Told denied) bytes = IsTable text input limit name deny bytes denied.items
 IsVerdict text input limit name deny (JobRefused fault) bytes = IsRefused text fault.kind fault.at × (bytes ≡ refusal_line fault)
-
--- All bytes of the verdict were sent.
-abbrev pub IsSent : List ℕ → List ℕ → ℕ → List ℕ → Deny → Option (List ℕ) → Option (List ℕ) → FaultsVerdict → Type 0
-IsSent text input limit name deny before after verdict =
-    (bytes : List ℕ) × IsVerdict text input limit name deny verdict bytes × Appends before after bytes
-
--- The writer failed after the first `sent` of the verdict's bytes; or memory was refused, and nothing was sent.
-abbrev pub IsFaultsFault : List ℕ → List ℕ → ℕ → List ℕ → Deny → Option (List ℕ) → Option (List ℕ) → ServeFault → Type 0
-IsFaultsFault text input limit name deny before after (Send sent) =
-    (verdict : FaultsVerdict) × (bytes : List ℕ) × IsVerdict text input limit name deny verdict bytes × (sent < length bytes)
-    × Appends before after (take sent bytes)
-IsFaultsFault text input limit name deny before after NoMemory = after ≡ before

@@ -1,13 +1,10 @@
 -- What `format` writes for a job text, and whether a text is formatted.
-use Rattle.std.specs.Prelude.{◌≡◌, ℕ, ◌+◌, ◌<◌, ◌==◌, if◌then◌else◌, Option, Some, None, List, [], ◌∷◌, length, take}
-use Rattle.std.specs.Io.KnownBytes.{Appends}
+use Rattle.std.specs.Prelude.{◌≡◌, ℕ, ◌+◌, ◌==◌, if◌then◌else◌, Option, Some, None, List, [], ◌∷◌}
 use Rattle.job_tree.specs.Tree.{Tree}
 use Rattle.job_grammar.specs.Refusals.{Spells, IsRefused}
 use Rattle.job_layout.specs.Layout.{formatted_text}
 use Rattle.job_layout.specs.Faults.{IsFormatted, IsTooLong}
 use Rattle.nursery_app.specs.Verdict.{refusal_line}
-use Rattle.nursery_app.specs.declared.verdict.ServeFault.{ServeFault}
-use Rattle.nursery_app.specs.declared.verdict.ServeFault.TheVariants.{Send, NoMemory}
 use Rattle.format_app.specs.declared.verdict.FormatVerdict.{FormatVerdict}
 use Rattle.format_app.specs.declared.verdict.FormatVerdict.TheVariants as verdicts
 use Rattle.format_app.specs.declared.verdict.FormatCheck.{FormatCheck}
@@ -22,16 +19,6 @@ abbrev pub IsAnswer : List ℕ → FormatVerdict → List ℕ → Type 0
 IsAnswer text verdicts.Formatted bytes = IsFormatted text bytes
 IsAnswer text (verdicts.JobRefused fault) bytes = IsRefused text fault.kind fault.at × (bytes ≡ refusal_line fault)
 IsAnswer text (verdicts.TooLong long) bytes = HasLongFormat text long × (bytes ≡ [])
-
--- All bytes of the verdict were sent.
-abbrev pub IsSent : List ℕ → Option (List ℕ) → Option (List ℕ) → FormatVerdict → Type 0
-IsSent text before after verdict = (bytes : List ℕ) × IsAnswer text verdict bytes × Appends before after bytes
-
--- The writer failed after the first `sent` of the bytes; or memory was refused, and nothing was sent.
-abbrev pub IsFormatFault : List ℕ → Option (List ℕ) → Option (List ℕ) → ServeFault → Type 0
-IsFormatFault text before after (Send sent) =
-    (verdict : FormatVerdict) × (bytes : List ℕ) × IsAnswer text verdict bytes × (sent < length bytes) × Appends before after (take sent bytes)
-IsFormatFault text before after NoMemory = after ≡ before
 
 -- ---- whether a text is formatted
 

@@ -1,6 +1,6 @@
 ghost use Rattle.std.specs.Prelude.{◌≡◌, ◌<◌, IfOk, IfErr, OnOk};
-ghost use Rattle.nursery_app.specs.Verdict.{CountsFailure};
-ghost use Rattle.format_app.specs.Formats.{IsAnswer, IsSent, IsFormatFault};
+ghost use Rattle.format_app.specs.Formats.{IsAnswer};
+ghost use Rattle.nursery_app.specs.Sending.{IsSent, IsServeFault, CountsFailure};
 ghost use Rattle.job_report.specs.declared.limits.TheConstants.{MAX_FAILURES};
 
 use crate::verdict::FormatVerdict;
@@ -18,9 +18,9 @@ pub fn format<W: Out>(
     out: &mut W,
 ) -> Result<FormatVerdict, ServeFault>
     requires { W.failed out.old < MAX_FAILURES }
-    ensures sent { IfOk result (IsSent job_text.now (W.contents out.old) (W.contents out.new)) }
+    ensures sent { IfOk result (IsSent (IsAnswer job_text.now) (W.contents out.old) (W.contents out.new)) }
     ensures well { OnOk result (W.failed out.new ≡ W.failed out.old) }
-    ensures fault { IfErr result (IsFormatFault job_text.now (W.contents out.old) (W.contents out.new)) }
+    ensures fault { IfErr result (IsServeFault (IsAnswer job_text.now) (W.contents out.old) (W.contents out.new)) }
     ensures counted { IfErr result (CountsFailure (W.failed out.old) (W.failed out.new)) }
 {
     let (verdict, bytes) = answer(alloc, job_text)?;

@@ -1,7 +1,6 @@
 -- What `explain_json` writes: the story of a job's meaning over an input as JSON, or the refusal that the meaning names.
-use Rattle.std.specs.Prelude.{◌≡◌, ◌⊎◌, ℕ, ◌≤◌, ◌<◌, nat_le, Option, List, [], length, take, IsSome, IsNone}
+use Rattle.std.specs.Prelude.{◌≡◌, ◌⊎◌, ℕ, ◌≤◌, ◌<◌, nat_le, Option, List, [], IsSome, IsNone}
 use Rattle.std.specs.Global.{Vec}
-use Rattle.std.specs.Io.KnownBytes.{Appends}
 use Rattle.job_tree.specs.Tree.{Tree}
 use Rattle.exc_groups.specs.Exceptions.{Label}
 use Rattle.cancel_scopes.specs.Sight.{Tick}
@@ -14,8 +13,6 @@ use Rattle.story_app.specs.Tellings.{verdict_of}
 use Rattle.story_app.specs.declared.meaning.Ending.{Ending}
 use Rattle.story_app.specs.declared.verdict.StoryVerdict.{StoryVerdict}
 use Rattle.story_app.specs.declared.verdict.StoryVerdict.TheVariants as story
-use Rattle.nursery_app.specs.declared.verdict.ServeFault.{ServeFault}
-use Rattle.nursery_app.specs.declared.verdict.ServeFault.TheVariants.{Send, NoMemory}
 use Rattle.json_report.specs.Values.{document}
 use Rattle.json_story.specs.Stories.{story_json}
 use Rattle.json_app.specs.Answers.{refusal_json}
@@ -51,18 +48,6 @@ abbrev pub IsStory : List ℕ → List ℕ → ℕ → Option (List ℕ) → Sto
 IsStory text input limit asked (story.JobRefused fault) bytes =
     IsRefused text fault.kind fault.at × (bytes ≡ document (refusal_json text fault))
 IsStory text input limit asked verdict bytes = (job : Tree) × Spells text job × IsStoryVerdict job input limit asked verdict bytes
-
--- All of the verdict's bytes were sent.
-abbrev pub IsStorySent : List ℕ → List ℕ → ℕ → Option (List ℕ) → Option (List ℕ) → Option (List ℕ) → StoryVerdict → Type 0
-IsStorySent text input limit asked before after verdict =
-    (bytes : List ℕ) × IsStory text input limit asked verdict bytes × Appends before after bytes
-
--- The writer failed after the first `sent` of the verdict's bytes; or memory was refused, and nothing was sent.
-abbrev pub IsStoryFault : List ℕ → List ℕ → ℕ → Option (List ℕ) → Option (List ℕ) → Option (List ℕ) → ServeFault → Type 0
-IsStoryFault text input limit asked before after (Send sent) =
-    (verdict : StoryVerdict) × (bytes : List ℕ) × IsStory text input limit asked verdict bytes × (sent < length bytes)
-    × Appends before after (take sent bytes)
-IsStoryFault text input limit asked before after NoMemory = after ≡ before
 
 -- ---- steps
 

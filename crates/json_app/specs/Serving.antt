@@ -1,14 +1,11 @@
 -- What `serve_json` writes: the report of a job's meaning over an input as JSON, or the refusal that the meaning names.
-use Rattle.std.specs.Prelude.{◌≡◌, ℕ, ◌≤◌, ◌<◌, Option, List, length, take, IsSome, IsNone}
-use Rattle.std.specs.Io.KnownBytes.{Appends}
+use Rattle.std.specs.Prelude.{◌≡◌, ℕ, ◌≤◌, ◌<◌, List, IsSome, IsNone}
 use Rattle.job_tree.specs.Tree.{Tree}
 use Rattle.job_grammar.specs.Refusals.{Spells, IsRefused}
 use Rattle.job_meaning.specs.Meaning.{meaning, meaning_end}
 use Rattle.job_meaning.specs.Shown.{meaning_rows}
 use Rattle.nursery_app.specs.declared.verdict.Verdict.{Verdict}
 use Rattle.nursery_app.specs.declared.verdict.Verdict.TheVariants.{Done, Raised, JobRefused, Limit}
-use Rattle.nursery_app.specs.declared.verdict.ServeFault.{ServeFault}
-use Rattle.nursery_app.specs.declared.verdict.ServeFault.TheVariants.{Send, NoMemory}
 use Rattle.json_report.specs.Values.{report_json, document}
 use Rattle.json_app.specs.Answers.{refusal_json, limit_json}
 
@@ -30,14 +27,3 @@ abbrev pub IsVerdict : List ℕ → List ℕ → ℕ → Verdict → List ℕ �
 IsVerdict text input limit (JobRefused fault) bytes =
     IsRefused text fault.kind fault.at × (bytes ≡ document (refusal_json text fault))
 IsVerdict text input limit verdict bytes = (job : Tree) × Spells text job × IsJobVerdict job input limit verdict bytes
-
--- All of the verdict's bytes were sent.
-abbrev pub IsSent : List ℕ → List ℕ → ℕ → Option (List ℕ) → Option (List ℕ) → Verdict → Type 0
-IsSent text input limit before after verdict = (bytes : List ℕ) × IsVerdict text input limit verdict bytes × Appends before after bytes
-
--- The writer failed after the first `sent` of the verdict's bytes; or memory was refused, and nothing was sent.
-abbrev pub IsJsonFault : List ℕ → List ℕ → ℕ → Option (List ℕ) → Option (List ℕ) → ServeFault → Type 0
-IsJsonFault text input limit before after (Send sent) =
-    (verdict : Verdict) × (bytes : List ℕ) × IsVerdict text input limit verdict bytes × (sent < length bytes)
-    × Appends before after (take sent bytes)
-IsJsonFault text input limit before after NoMemory = after ≡ before

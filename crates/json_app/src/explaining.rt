@@ -1,8 +1,8 @@
 ghost use Rattle.std.specs.Prelude.{◌≡◌, ◌<◌, ◌≤◌, length, IfOk, IfErr, OnOk};
 ghost use Rattle.std.specs.Option.{option_copied};
 ghost use Rattle.job_meaning.specs.declared.limits.TheConstants.{MAX_INPUT};
-ghost use Rattle.nursery_app.specs.Verdict.{CountsFailure};
-ghost use Rattle.json_app.specs.Explaining.{IsStoryVerdict, IsStory, IsStorySent, IsStoryFault};
+ghost use Rattle.json_app.specs.Explaining.{IsStoryVerdict, IsStory};
+ghost use Rattle.nursery_app.specs.Sending.{IsSent, IsServeFault, CountsFailure};
 ghost use Rattle.job_report.specs.declared.limits.TheConstants.{MAX_FAILURES};
 
 use crate::about::story_about;
@@ -39,11 +39,11 @@ pub fn explain_json<R: Threads + Sync, P: Pick, G: Gate + Sync, W: Out>(
     requires countable { W.failed out.old < MAX_FAILURES }
 
     // The bytes written are the story of the meaning as JSON, or the refusal that it names.
-    ensures sent { IfOk result (IsStorySent job_text.now input.now settings.limit (option_copied task.entry) (W.contents out.old) (W.contents out.new)) }
+    ensures sent { IfOk result (IsSent (IsStory job_text.now input.now settings.limit (option_copied task.entry)) (W.contents out.old) (W.contents out.new)) }
     ensures well { OnOk result (W.failed out.new ≡ W.failed out.old) }
 
     // A writer that failed took the front of those bytes; after memory was refused, nothing was sent.
-    ensures fault { IfErr result (IsStoryFault job_text.now input.now settings.limit (option_copied task.entry) (W.contents out.old) (W.contents out.new)) }
+    ensures fault { IfErr result (IsServeFault (IsStory job_text.now input.now settings.limit (option_copied task.entry)) (W.contents out.old) (W.contents out.new)) }
     ensures counted { IfErr result (CountsFailure (W.failed out.old) (W.failed out.new)) }
 {
     let (verdict, bytes) = answer(rt, alloc, job_text, input, settings, task, picker, gate)?;

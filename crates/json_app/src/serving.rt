@@ -1,7 +1,7 @@
 ghost use Rattle.std.specs.Prelude.{◌≡◌, ◌<◌, ◌≤◌, length, IfOk, IfErr, OnOk};
 ghost use Rattle.job_meaning.specs.declared.limits.TheConstants.{MAX_INPUT};
-ghost use Rattle.nursery_app.specs.Verdict.{CountsFailure};
-ghost use Rattle.json_app.specs.Serving.{IsJobVerdict, IsVerdict, IsSent, IsJsonFault};
+ghost use Rattle.json_app.specs.Serving.{IsJobVerdict, IsVerdict};
+ghost use Rattle.nursery_app.specs.Sending.{IsSent, IsServeFault, CountsFailure};
 ghost use Rattle.job_report.specs.declared.limits.TheConstants.{MAX_FAILURES};
 
 use crate::answers::{past_limit, refusal};
@@ -33,11 +33,11 @@ pub fn serve_json<R: Threads + Sync, P: Pick, G: Gate + Sync, W: Out>(
     requires countable { W.failed out.old < MAX_FAILURES }
 
     // The bytes written are the report of the meaning as JSON, or the refusal that it names.
-    ensures sent { IfOk result (IsSent job_text.now input.now settings.limit (W.contents out.old) (W.contents out.new)) }
+    ensures sent { IfOk result (IsSent (IsVerdict job_text.now input.now settings.limit) (W.contents out.old) (W.contents out.new)) }
     ensures well { OnOk result (W.failed out.new ≡ W.failed out.old) }
 
     // A writer that failed took the front of those bytes; after memory was refused, nothing was sent.
-    ensures fault { IfErr result (IsJsonFault job_text.now input.now settings.limit (W.contents out.old) (W.contents out.new)) }
+    ensures fault { IfErr result (IsServeFault (IsVerdict job_text.now input.now settings.limit) (W.contents out.old) (W.contents out.new)) }
     ensures counted { IfErr result (CountsFailure (W.failed out.old) (W.failed out.new)) }
 {
     let (verdict, bytes) = answer(rt, alloc, job_text, input, settings, picker, gate)?;

@@ -1,9 +1,6 @@
 -- What `faults_json` writes: the outcome of a job with each fault, or the refusal of its text.
-use Rattle.std.specs.Prelude.{◌≡◌, ℕ, ◌<◌, Option, List, length, take}
-use Rattle.std.specs.Io.KnownBytes.{Appends}
+use Rattle.std.specs.Prelude.{◌≡◌, ℕ, List}
 use Rattle.job_grammar.specs.Refusals.{IsRefused}
-use Rattle.nursery_app.specs.declared.verdict.ServeFault.{ServeFault}
-use Rattle.nursery_app.specs.declared.verdict.ServeFault.TheVariants.{Send, NoMemory}
 use Rattle.fault_text.specs.JobOutcomes.{JobOutcome}
 use Rattle.fault_text.specs.Table.{Line, denied_text}
 use Rattle.fault_text.specs.declared.deny.Deny.{Deny}
@@ -32,15 +29,3 @@ abbrev pub IsVerdict : List ℕ → List ℕ → ℕ → List ℕ → Deny → F
 IsVerdict text input limit name deny (Told denied) bytes = IsDocument text input limit name deny bytes denied.items
 IsVerdict text input limit name deny (JobRefused fault) bytes =
     IsRefused text fault.kind fault.at × (bytes ≡ document (refusal_json text fault))
-
--- All bytes of the verdict were sent.
-abbrev pub IsSent : List ℕ → List ℕ → ℕ → List ℕ → Deny → Option (List ℕ) → Option (List ℕ) → FaultsVerdict → Type 0
-IsSent text input limit name deny before after verdict =
-    (bytes : List ℕ) × IsVerdict text input limit name deny verdict bytes × Appends before after bytes
-
--- The writer failed after the first `sent` of the verdict's bytes; or memory was refused, and nothing was sent.
-abbrev pub IsFaultsFault : List ℕ → List ℕ → ℕ → List ℕ → Deny → Option (List ℕ) → Option (List ℕ) → ServeFault → Type 0
-IsFaultsFault text input limit name deny before after (Send sent) =
-    (verdict : FaultsVerdict) × (bytes : List ℕ) × IsVerdict text input limit name deny verdict bytes × (sent < length bytes)
-    × Appends before after (take sent bytes)
-IsFaultsFault text input limit name deny before after NoMemory = after ≡ before

@@ -1,9 +1,6 @@
 -- What `lints_json` writes: the probable mistakes in a job text, or its refusal.
-use Rattle.std.specs.Prelude.{◌≡◌, ℕ, ◌<◌, Option, List, [], length, take}
-use Rattle.std.specs.Io.KnownBytes.{Appends}
+use Rattle.std.specs.Prelude.{◌≡◌, ℕ, ◌<◌, List, [], length}
 use Rattle.job_grammar.specs.Refusals.{IsRefused}
-use Rattle.nursery_app.specs.declared.verdict.ServeFault.{ServeFault}
-use Rattle.nursery_app.specs.declared.verdict.ServeFault.TheVariants.{Send, NoMemory}
 use Rattle.job_lint.specs.Linted.{AreWarnings}
 use Rattle.job_lint.specs.declared.warning.Warning.{Warning}
 use Rattle.json_report.specs.Values.{document}
@@ -22,14 +19,3 @@ abbrev pub IsVerdict : List ℕ → LintsVerdict → List ℕ → Type 0
 IsVerdict text Clean bytes = IsDocument text [] bytes
 IsVerdict text Warned bytes = (found : List Warning) × (0 < length found) × IsDocument text found bytes
 IsVerdict text (JobRefused fault) bytes = IsRefused text fault.kind fault.at × (bytes ≡ document (refusal_json text fault))
-
--- All bytes of the verdict were sent.
-abbrev pub IsSent : List ℕ → Option (List ℕ) → Option (List ℕ) → LintsVerdict → Type 0
-IsSent text before after verdict = (bytes : List ℕ) × IsVerdict text verdict bytes × Appends before after bytes
-
--- The writer failed after the first `sent` of the verdict's bytes; or memory was refused, and nothing was sent.
-abbrev pub IsLintsFault : List ℕ → Option (List ℕ) → Option (List ℕ) → ServeFault → Type 0
-IsLintsFault text before after (Send sent) =
-    (verdict : LintsVerdict) × (bytes : List ℕ) × IsVerdict text verdict bytes × (sent < length bytes)
-    × Appends before after (take sent bytes)
-IsLintsFault text before after NoMemory = after ≡ before

@@ -1,10 +1,7 @@
 -- What `races_json` writes: the places of a job on which its outcome depends by a hair, or the refusal of its text, or the limit,
 -- or nothing.
-use Rattle.std.specs.Prelude.{◌≡◌, ℕ, ◌<◌, Bool, if◌then◌else◌, Option, List, [], length, take}
-use Rattle.std.specs.Io.KnownBytes.{Appends}
+use Rattle.std.specs.Prelude.{◌≡◌, ℕ, Bool, if◌then◌else◌, List, []}
 use Rattle.job_grammar.specs.Refusals.{IsRefused}
-use Rattle.nursery_app.specs.declared.verdict.ServeFault.{ServeFault}
-use Rattle.nursery_app.specs.declared.verdict.ServeFault.TheVariants.{Send, NoMemory}
 use Rattle.race_text.specs.Lines.{Line}
 use Rattle.race_text.specs.Table.{denied_text}
 use Rattle.race_app.specs.Answers.{AreRaceLines, IsLate, HasNoFiner}
@@ -31,15 +28,3 @@ IsVerdict text input limit deny (JobRefused fault) bytes =
     IsRefused text fault.kind fault.at × (bytes ≡ document (refusal_json text fault))
 IsVerdict text input limit deny Limit bytes = IsLate text input limit × (bytes ≡ document (limit_json limit))
 IsVerdict text input limit deny NoFinerTicks bytes = HasNoFiner text input limit × (bytes ≡ [])
-
--- All bytes of the verdict were sent.
-abbrev pub IsSent : List ℕ → List ℕ → ℕ → Bool → Option (List ℕ) → Option (List ℕ) → RacesVerdict → Type 0
-IsSent text input limit deny before after verdict =
-    (bytes : List ℕ) × IsVerdict text input limit deny verdict bytes × Appends before after bytes
-
--- The writer failed after the first `sent` of the verdict's bytes; or memory was refused, and nothing was sent.
-abbrev pub IsRacesFault : List ℕ → List ℕ → ℕ → Bool → Option (List ℕ) → Option (List ℕ) → ServeFault → Type 0
-IsRacesFault text input limit deny before after (Send sent) =
-    (verdict : RacesVerdict) × (bytes : List ℕ) × IsVerdict text input limit deny verdict bytes × (sent < length bytes)
-    × Appends before after (take sent bytes)
-IsRacesFault text input limit deny before after NoMemory = after ≡ before

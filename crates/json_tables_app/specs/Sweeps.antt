@@ -1,10 +1,7 @@
 -- What `sweep_json` writes: the outcome of a job for each value of a number, or the refusal of its text, or nothing where it has
 -- no such number.
-use Rattle.std.specs.Prelude.{◌≡◌, ℕ, ◌<◌, Option, List, [], length, take}
-use Rattle.std.specs.Io.KnownBytes.{Appends}
+use Rattle.std.specs.Prelude.{◌≡◌, ℕ, List, []}
 use Rattle.job_grammar.specs.Refusals.{IsRefused}
-use Rattle.nursery_app.specs.declared.verdict.ServeFault.{ServeFault}
-use Rattle.nursery_app.specs.declared.verdict.ServeFault.TheVariants.{Send, NoMemory}
 use Rattle.job_edits.specs.declared.number.Target.{Target}
 use Rattle.fault_text.specs.JobOutcomes.{JobOutcome}
 use Rattle.sweep_text.specs.Groups.{Value}
@@ -28,15 +25,3 @@ IsVerdict text input limit target values Told bytes = IsDocument text input limi
 IsVerdict text input limit target values (JobRefused fault) bytes =
     IsRefused text fault.kind fault.at × (bytes ≡ document (refusal_json text fault))
 IsVerdict text input limit target values (NoTarget missing) bytes = IsWithoutTarget text target missing × (bytes ≡ [])
-
--- All bytes of the verdict were sent.
-abbrev pub IsSent : List ℕ → List ℕ → ℕ → Target → List ℕ → Option (List ℕ) → Option (List ℕ) → SweepVerdict → Type 0
-IsSent text input limit target values before after verdict =
-    (bytes : List ℕ) × IsVerdict text input limit target values verdict bytes × Appends before after bytes
-
--- The writer failed after the first `sent` of the verdict's bytes; or memory was refused, and nothing was sent.
-abbrev pub IsSweepFault : List ℕ → List ℕ → ℕ → Target → List ℕ → Option (List ℕ) → Option (List ℕ) → ServeFault → Type 0
-IsSweepFault text input limit target values before after (Send sent) =
-    (verdict : SweepVerdict) × (bytes : List ℕ) × IsVerdict text input limit target values verdict bytes × (sent < length bytes)
-    × Appends before after (take sent bytes)
-IsSweepFault text input limit target values before after NoMemory = after ≡ before

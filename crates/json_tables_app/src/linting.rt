@@ -1,7 +1,7 @@
 ghost use Rattle.std.specs.Prelude.{◌≡◌, ◌<◌, [], length, IfOk, IfErr, OnOk};
-ghost use Rattle.nursery_app.specs.Verdict.{CountsFailure};
 ghost use Rattle.job_lint.specs.Linted.{AreWarnings};
-ghost use Rattle.json_tables_app.specs.Lints.{IsVerdict, IsSent, IsLintsFault};
+ghost use Rattle.json_tables_app.specs.Lints.{IsVerdict};
+ghost use Rattle.nursery_app.specs.Sending.{IsSent, IsServeFault, CountsFailure};
 ghost use Rattle.job_report.specs.declared.limits.TheConstants.{MAX_FAILURES};
 
 use crate::verdict::LintsVerdict;
@@ -25,11 +25,11 @@ pub fn lints_json<W: Out>(
     requires countable { W.failed out.old < MAX_FAILURES }
 
     // The bytes written are the document of all warnings, or that of the refusal of the text.
-    ensures sent { IfOk result (IsSent job_text.now (W.contents out.old) (W.contents out.new)) }
+    ensures sent { IfOk result (IsSent (IsVerdict job_text.now) (W.contents out.old) (W.contents out.new)) }
     ensures well { OnOk result (W.failed out.new ≡ W.failed out.old) }
 
     // A writer that failed took the first of those bytes. If memory was refused, nothing was sent.
-    ensures fault { IfErr result (IsLintsFault job_text.now (W.contents out.old) (W.contents out.new)) }
+    ensures fault { IfErr result (IsServeFault (IsVerdict job_text.now) (W.contents out.old) (W.contents out.new)) }
     ensures counted { IfErr result (CountsFailure (W.failed out.old) (W.failed out.new)) }
 {
     let (verdict, bytes) = answer(alloc, job_text)?;

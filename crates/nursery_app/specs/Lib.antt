@@ -1,6 +1,7 @@
 pub mod Feed
 pub mod Reads
 pub mod Verdict
+pub mod Sending
 pub mod Checking
 pub mod Places
 pub mod Statuses

@@ -1,5 +1,5 @@
 -- What `serve` writes: the report of a job's meaning over an input, or the refusal that the meaning names.
-use Rattle.std.specs.Prelude.{◌≡◌, ℕ, ◌+◌, ◌<◌, ◌≤◌, Option, List, ◌++◌, length, take, codes, decimal, IsSome, IsNone}
+use Rattle.std.specs.Prelude.{◌≡◌, ℕ, ◌+◌, ◌<◌, ◌≤◌, List, ◌++◌, codes, decimal, IsSome, IsNone}
 use Rattle.job_tree.specs.Tree.{Tree}
 use Rattle.job_grammar.specs.declared.fault.JobFault.{JobFault}
 use Rattle.job_grammar.specs.Kinds.{number_of, name_of}
@@ -7,11 +7,8 @@ use Rattle.job_grammar.specs.Refusals.{Spells, IsRefused}
 use Rattle.job_meaning.specs.Meaning.{meaning, meaning_end}
 use Rattle.job_meaning.specs.Shown.{meaning_rows}
 use Rattle.job_report.specs.Text.{report_text}
-use Rattle.std.specs.Io.KnownBytes.{Appends}
 use Rattle.nursery_app.specs.declared.verdict.Verdict.{Verdict}
 use Rattle.nursery_app.specs.declared.verdict.Verdict.TheVariants.{Done, Raised, JobRefused, Limit}
-use Rattle.nursery_app.specs.declared.verdict.ServeFault.{ServeFault}
-use Rattle.nursery_app.specs.declared.verdict.ServeFault.TheVariants.{Send, NoMemory}
 
 -- the line for a refused job, such as `refused J6 Syntax at 27`
 abbrev pub refusal_line : JobFault → List ℕ
@@ -39,22 +36,6 @@ IsVerdict text input limit Done bytes = (job : Tree) × IsReport text input limi
 IsVerdict text input limit Raised bytes = (job : Tree) × IsReport text input limit job bytes × IsSome (meaning job input).exc
 IsVerdict text input limit (JobRefused fault) bytes = IsRefused text fault.kind fault.at × (bytes ≡ refusal_line fault)
 IsVerdict text input limit Limit bytes = (job : Tree) × Spells text job × (limit < meaning_end job input) × (bytes ≡ limit_line limit)
-
--- All of the verdict's bytes were sent.
-abbrev pub IsSent : List ℕ → List ℕ → ℕ → Option (List ℕ) → Option (List ℕ) → Verdict → Type 0
-IsSent text input limit before after verdict = (bytes : List ℕ) × IsVerdict text input limit verdict bytes × Appends before after bytes
-
--- The writer failed after the first `sent` of the verdict's bytes; or memory was refused, and nothing was sent.
-abbrev pub IsServeFault : List ℕ → List ℕ → ℕ → Option (List ℕ) → Option (List ℕ) → ServeFault → Type 0
-IsServeFault text input limit before after (Send sent) =
-    (verdict : Verdict) × (bytes : List ℕ) × IsVerdict text input limit verdict bytes × (sent < length bytes)
-    × Appends before after (take sent bytes)
-IsServeFault text input limit before after NoMemory = after ≡ before
-
--- the count of a writer's failures rises by one if a sending stops, and otherwise stays
-abbrev pub CountsFailure : ℕ → ℕ → ServeFault → Type 0
-CountsFailure before after (Send sent) = after ≡ before + 1
-CountsFailure before after NoMemory = after ≡ before
 
 -- the verdict on a job that was read
 abbrev pub IsRunVerdict : Tree → List ℕ → ℕ → Verdict → List ℕ → Type 0

@@ -1,8 +1,8 @@
 ghost use Rattle.std.specs.Prelude.{◌≡◌, ◌++◌, ◌<◌, codes, IfOk, IfErr, OnOk};
 ghost use Rattle.job_grammar.specs.Canon.{canon};
-ghost use Rattle.nursery_app.specs.Verdict.{CountsFailure};
 ghost use Rattle.job_meaning.specs.Laws.{in_format_2};
-ghost use Rattle.nursery_app.specs.Checking.{IsAnswer, IsAnswerSent, IsAnswerFault, as_it_is};
+ghost use Rattle.nursery_app.specs.Checking.{IsAnswer, as_it_is};
+ghost use Rattle.nursery_app.specs.Sending.{IsSent, IsServeFault, CountsFailure};
 ghost use Rattle.job_report.specs.declared.limits.TheConstants.{MAX_FAILURES};
 
 use crate::lines::refusal;
@@ -20,9 +20,9 @@ pub fn check<W: Out>(
     out: &mut W,
 ) -> Result<CheckVerdict, ServeFault>
     requires { W.failed out.old < MAX_FAILURES }
-    ensures sent { IfOk result (IsAnswerSent as_it_is job_text.now (W.contents out.old) (W.contents out.new)) }
+    ensures sent { IfOk result (IsSent (IsAnswer as_it_is job_text.now) (W.contents out.old) (W.contents out.new)) }
     ensures well { OnOk result (W.failed out.new ≡ W.failed out.old) }
-    ensures fault { IfErr result (IsAnswerFault as_it_is job_text.now (W.contents out.old) (W.contents out.new)) }
+    ensures fault { IfErr result (IsServeFault (IsAnswer as_it_is job_text.now) (W.contents out.old) (W.contents out.new)) }
     ensures counted { IfErr result (CountsFailure (W.failed out.old) (W.failed out.new)) }
 {
     let (verdict, bytes) = check_answer(alloc, job_text)?;
@@ -49,9 +49,9 @@ pub fn upgrade<W: Out>(
     out: &mut W,
 ) -> Result<CheckVerdict, ServeFault>
     requires { W.failed out.old < MAX_FAILURES }
-    ensures sent { IfOk result (IsAnswerSent in_format_2 job_text.now (W.contents out.old) (W.contents out.new)) }
+    ensures sent { IfOk result (IsSent (IsAnswer in_format_2 job_text.now) (W.contents out.old) (W.contents out.new)) }
     ensures well { OnOk result (W.failed out.new ≡ W.failed out.old) }
-    ensures fault { IfErr result (IsAnswerFault in_format_2 job_text.now (W.contents out.old) (W.contents out.new)) }
+    ensures fault { IfErr result (IsServeFault (IsAnswer in_format_2 job_text.now) (W.contents out.old) (W.contents out.new)) }
     ensures counted { IfErr result (CountsFailure (W.failed out.old) (W.failed out.new)) }
 {
     let (verdict, bytes) = upgrade_answer(alloc, job_text)?;

@@ -1,9 +1,9 @@
 ghost use Rattle.std.specs.Prelude.{◌≡◌, ◌<◌, ◌≤◌, [], length, if◌then◌else◌, IfOk, IfErr, OnOk, map};
 ghost use Rattle.job_meaning.specs.declared.limits.TheConstants.{MAX_INPUT};
-ghost use Rattle.nursery_app.specs.Verdict.{CountsFailure};
 ghost use Rattle.race_text.specs.Table.{denied_text};
 ghost use Rattle.race_text.specs.Views.{line_held};
-ghost use Rattle.race_app.specs.Verdicts.{IsTableOf, IsVerdict, IsSent, IsRacesFault};
+ghost use Rattle.race_app.specs.Verdicts.{IsTableOf, IsVerdict};
+ghost use Rattle.nursery_app.specs.Sending.{IsSent, IsServeFault, CountsFailure};
 ghost use Rattle.job_report.specs.declared.limits.TheConstants.{MAX_FAILURES};
 
 use crate::told::{RaceAnswer, RaceLines, race_lines};
@@ -41,11 +41,11 @@ pub fn races<R: Threads + Sync, G: Gate + Sync, W: Out>(
     requires countable { W.failed out.old < MAX_FAILURES }
 
     // The bytes written are the table of all hairs, or the refusal of the text, or the line of the limit, or there are none.
-    ensures sent { IfOk result (IsSent job_text.now input.now settings.limit deny (W.contents out.old) (W.contents out.new)) }
+    ensures sent { IfOk result (IsSent (IsVerdict job_text.now input.now settings.limit deny) (W.contents out.old) (W.contents out.new)) }
     ensures well { OnOk result (W.failed out.new ≡ W.failed out.old) }
 
     // A writer that failed took the first of those bytes; if memory was refused, nothing was sent.
-    ensures fault { IfErr result (IsRacesFault job_text.now input.now settings.limit deny (W.contents out.old) (W.contents out.new)) }
+    ensures fault { IfErr result (IsServeFault (IsVerdict job_text.now input.now settings.limit deny) (W.contents out.old) (W.contents out.new)) }
     ensures counted { IfErr result (CountsFailure (W.failed out.old) (W.failed out.new)) }
 {
     let (verdict, bytes) = answer(rt, alloc, job_text, input, settings, deny, gate)?;

@@ -1,6 +1,5 @@
 -- What `explain` writes: the story of a job's meaning over an input, or the refusal that the meaning names.
-use Rattle.std.specs.Prelude.{◌≡◌, ℕ, ◌≤◌, ◌<◌, Bool, true, false, nat_le, Option, Some, None, List, [], length, take, IsSome, IsNone}
-use Rattle.std.specs.Io.KnownBytes.{Appends}
+use Rattle.std.specs.Prelude.{◌≡◌, ℕ, ◌≤◌, ◌<◌, Bool, true, false, nat_le, Option, Some, None, List, [], IsSome, IsNone}
 use Rattle.job_tree.specs.Tree.{Tree}
 use Rattle.exc_groups.specs.Exceptions.{Label}
 use Rattle.job_grammar.specs.Refusals.{Spells, IsRefused}
@@ -13,8 +12,6 @@ use Rattle.job_story.specs.Limit.{walked_to, story_to}
 use Rattle.job_story.specs.Focus.{story_of_task, story_of_task_to, task_named}
 use Rattle.nursery_app.specs.Verdict.{refusal_line}
 use Rattle.story_focus.specs.Nearest.{nearest_in}
-use Rattle.nursery_app.specs.declared.verdict.ServeFault.{ServeFault}
-use Rattle.nursery_app.specs.declared.verdict.ServeFault.TheVariants.{Send, NoMemory}
 use Rattle.story_app.specs.declared.verdict.StoryVerdict.{StoryVerdict}
 use Rattle.story_app.specs.declared.verdict.StoryVerdict.TheVariants.{Done, Raised, JobRefused, Limit, NoTask}
 
@@ -92,15 +89,3 @@ IsJobVerdict job input limit asked (NoTask nearest) bytes =
 abbrev pub IsVerdict : List ℕ → List ℕ → ℕ → Option (List ℕ) → StoryVerdict → List ℕ → Type 0
 IsVerdict text input limit asked (JobRefused fault) bytes = IsRefused text fault.kind fault.at × (bytes ≡ refusal_line fault)
 IsVerdict text input limit asked verdict bytes = (job : Tree) × Spells text job × IsJobVerdict job input limit asked verdict bytes
-
--- All bytes of the verdict were sent.
-abbrev pub IsSent : List ℕ → List ℕ → ℕ → Option (List ℕ) → Option (List ℕ) → Option (List ℕ) → StoryVerdict → Type 0
-IsSent text input limit asked before after verdict =
-    (bytes : List ℕ) × IsVerdict text input limit asked verdict bytes × Appends before after bytes
-
--- The writer failed after the first `sent` of the verdict's bytes; or memory was refused, and nothing was sent.
-abbrev pub IsStoryFault : List ℕ → List ℕ → ℕ → Option (List ℕ) → Option (List ℕ) → Option (List ℕ) → ServeFault → Type 0
-IsStoryFault text input limit asked before after (Send sent) =
-    (verdict : StoryVerdict) × (bytes : List ℕ) × IsVerdict text input limit asked verdict bytes × (sent < length bytes)
-    × Appends before after (take sent bytes)
-IsStoryFault text input limit asked before after NoMemory = after ≡ before

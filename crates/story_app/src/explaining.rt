@@ -1,8 +1,8 @@
 ghost use Rattle.std.specs.Prelude.{◌≡◌, ◌<◌, ◌≤◌, length, IfOk, IfErr, OnOk};
 ghost use Rattle.std.specs.Option.{option_copied};
 ghost use Rattle.job_meaning.specs.declared.limits.TheConstants.{MAX_INPUT};
-ghost use Rattle.nursery_app.specs.Verdict.{CountsFailure};
-ghost use Rattle.story_app.specs.Stories.{IsVerdict, IsSent, IsStoryFault};
+ghost use Rattle.story_app.specs.Stories.{IsVerdict};
+ghost use Rattle.nursery_app.specs.Sending.{IsSent, IsServeFault, CountsFailure};
 ghost use Rattle.job_report.specs.declared.limits.TheConstants.{MAX_FAILURES};
 
 use crate::telling::job_verdict;
@@ -40,11 +40,11 @@ pub fn explain<R: Threads + Sync, P: Pick, G: Gate + Sync, W: Out>(
     requires countable { W.failed out.old < MAX_FAILURES }
 
     // The bytes written are the story of the meaning, or the refusal that the meaning names.
-    ensures sent { IfOk result (IsSent job_text.now input.now settings.limit (option_copied task.entry) (W.contents out.old) (W.contents out.new)) }
+    ensures sent { IfOk result (IsSent (IsVerdict job_text.now input.now settings.limit (option_copied task.entry)) (W.contents out.old) (W.contents out.new)) }
     ensures well { OnOk result (W.failed out.new ≡ W.failed out.old) }
 
     // A writer that failed took the first of those bytes. If memory was refused, nothing was sent.
-    ensures fault { IfErr result (IsStoryFault job_text.now input.now settings.limit (option_copied task.entry) (W.contents out.old) (W.contents out.new)) }
+    ensures fault { IfErr result (IsServeFault (IsVerdict job_text.now input.now settings.limit (option_copied task.entry)) (W.contents out.old) (W.contents out.new)) }
     ensures counted { IfErr result (CountsFailure (W.failed out.old) (W.failed out.new)) }
 {
     let (verdict, bytes) = answer(rt, alloc, job_text, input, settings, task, picker, gate)?;

@@ -1,7 +1,7 @@
 ghost use Rattle.std.specs.Prelude.{◌≡◌, ◌<◌, ◌≤◌, length, IfOk, IfErr, OnOk};
 ghost use Rattle.job_meaning.specs.declared.limits.TheConstants.{MAX_INPUT};
-ghost use Rattle.nursery_app.specs.Verdict.{CountsFailure};
-ghost use Rattle.sweep_app.specs.Verdicts.{IsVerdict, IsSent, IsSweepFault};
+ghost use Rattle.sweep_app.specs.Verdicts.{IsVerdict};
+ghost use Rattle.nursery_app.specs.Sending.{IsSent, IsServeFault, CountsFailure};
 ghost use Rattle.job_report.specs.declared.limits.TheConstants.{MAX_FAILURES};
 
 use crate::told::{SweepAnswer, sweep_values};
@@ -39,11 +39,11 @@ pub fn sweep<R: Threads + Sync, G: Gate + Sync, W: Out>(
     requires countable { W.failed out.old < MAX_FAILURES }
 
     // The bytes written are the text of all values, or the refusal of the text, or there are none.
-    ensures sent { IfOk result (IsSent job_text.now input.now settings.limit target values.now (W.contents out.old) (W.contents out.new)) }
+    ensures sent { IfOk result (IsSent (IsVerdict job_text.now input.now settings.limit target values.now) (W.contents out.old) (W.contents out.new)) }
     ensures well { OnOk result (W.failed out.new ≡ W.failed out.old) }
 
     // A writer that failed took the first of those bytes; if memory was refused, nothing was sent.
-    ensures fault { IfErr result (IsSweepFault job_text.now input.now settings.limit target values.now (W.contents out.old) (W.contents out.new)) }
+    ensures fault { IfErr result (IsServeFault (IsVerdict job_text.now input.now settings.limit target values.now) (W.contents out.old) (W.contents out.new)) }
     ensures counted { IfErr result (CountsFailure (W.failed out.old) (W.failed out.new)) }
 {
     let (verdict, bytes) = answer(rt, alloc, job_text, input, settings, target, values, gate)?;
