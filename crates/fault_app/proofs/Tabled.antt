@@ -1,4 +1,4 @@
--- The lines of a job's faults, and the text of them.
+-- The lines of a job's faults.
 use Rattle.std.proofs.Common.{◌≡◌, ℕ, None, List, map, ap, subst, ◌∙◌}
 use Rattle.job_tree.specs.Tree.{Tree}
 use Rattle.job_tokens.specs.declared.token.Token.{Token}
@@ -8,14 +8,12 @@ use Rattle.job_edits.specs.declared.plan.Plan.{Plan}
 use Rattle.job_edits.specs.Faults.{variants_in, plan_of}
 use Rattle.fault_text.specs.JobOutcomes as told
 use Rattle.fault_text.specs.Table as told_lines
-use Rattle.fault_text.specs.Table.{table_text, denied_text}
 use Rattle.fault_text.specs.Views.{line_held}
-use Rattle.fault_text.specs.declared.deny.Deny.{Deny}
 use Rattle.fault_text.specs.declared.line.Line.{Line}
 use Rattle.slot_work.specs.Answers.{AreAnswers}
 use Rattle.slot_work.proofs.Answered.{seen_as}
 use Rattle.fault_app.specs.JobOutcomes.{IsLine}
-use Rattle.fault_app.specs.Verdicts.{AreFaultLines, IsTableOf, IsTable}
+use Rattle.fault_app.specs.Answers.{AreFaultLines}
 
 -- given the limit of the settings, the tokens of the text, and the variants, as they were passed on
 pub are_lines : (text input : List ℕ) (limit l : ℕ) (name : List ℕ) (job : Tree) (tokens ts us : List Token) (variants vs : List Variant)
@@ -40,27 +38,4 @@ are_lines text input limit l name job tokens ts us variants vs plan first lines 
           subst (λ (xs : List Variant). AreAnswers (IsLine text input limit (plan_of name tokens)) xs held) (w ∙ v ∙ ap variants_in t)
           limited;
       first_is = f ∙ ap (λ (n : ℕ). told.job_outcome_of n None job input) at;
-    }
-
--- given the lines, as they were passed on
-pub is_table_of : (limit : ℕ) (deny : Deny) (bytes denied : List ℕ) (first : told.JobOutcome) (lines ks ms : List Line) →
-    ks ≡ lines → bytes ≡ table_text limit first (map line_held ks) → ms ≡ lines →
-    denied ≡ denied_text limit deny first (map line_held ms) → IsTableOf limit deny first (map line_held lines) bytes denied
-is_table_of limit deny bytes denied first lines ks ms k b m d =
-    record {
-      table = b ∙ ap (λ (xs : List Line). table_text limit first (map line_held xs)) k;
-      denied_are = d ∙ ap (λ (xs : List Line). denied_text limit deny first (map line_held xs)) m;
-    }
-
--- given the limit of the settings, as it was passed on
-pub is_table : (text input : List ℕ) (limit l : ℕ) (name : List ℕ) (deny : Deny) (bytes denied : List ℕ) (first : told.JobOutcome)
-    (lines : List told_lines.Line) →
-    AreFaultLines text input limit name first lines → l ≡ limit → IsTableOf l deny first lines bytes denied →
-    IsTable text input limit name deny bytes denied
-is_table text input limit l name deny bytes denied first lines are at table =
-    record {
-      first = first;
-      lines = lines;
-      lines_are = are;
-      table_is = subst (λ (n : ℕ). IsTableOf n deny first lines bytes denied) at table;
     }

@@ -1,4 +1,3 @@
 pub mod JobOutcomes
-pub mod Verdicts
-pub mod Statuses
+pub mod Answers
 pub mod Held

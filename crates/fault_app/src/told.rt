@@ -2,7 +2,7 @@ ghost use Rattle.std.specs.Prelude.{◌≤◌, length, IfOk, IfErr, map};
 ghost use Rattle.job_meaning.specs.declared.limits.TheConstants.{MAX_INPUT};
 ghost use Rattle.job_grammar.specs.Refusals.{Spells, IsFair};
 ghost use Rattle.fault_text.specs.Views.{job_outcome_held, line_held};
-ghost use Rattle.fault_app.specs.Verdicts.{AreFaultLines};
+ghost use Rattle.fault_app.specs.Answers.{AreFaultLines};
 
 use crate::job_outcome::outcome_of_job;
 use crate::lines::Author;

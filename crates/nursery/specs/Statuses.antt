@@ -24,22 +24,17 @@ use Rattle.job_lint.specs.Linted.{AreWarnings}
 use Rattle.json_app.specs.Serving as documents
 use Rattle.json_app.specs.Explaining as told
 use Rattle.fault_text.specs.declared.deny.Deny.{Deny}
-use Rattle.fault_app.specs.declared.verdict.FaultsVerdict.{FaultsVerdict}
-use Rattle.fault_app.specs.Verdicts as job_outcomes
-use Rattle.fault_app.specs.Statuses.{faults_status_of}
-use Rattle.race_app.specs.declared.verdict.RacesVerdict.{RacesVerdict}
-use Rattle.race_app.specs.Verdicts as races
-use Rattle.race_app.specs.Statuses.{races_status_of}
 use Rattle.job_edits.specs.declared.number.Target.{Target}
-use Rattle.sweep_app.specs.declared.verdict.SweepVerdict.{SweepVerdict}
-use Rattle.sweep_app.specs.Verdicts as sweeps
-use Rattle.sweep_app.specs.Statuses.{sweep_status_of}
-use Rattle.json_tables_app.specs.declared.verdict.LintsVerdict.{LintsVerdict}
-use Rattle.json_tables_app.specs.Faults as json_job_outcomes
-use Rattle.json_tables_app.specs.Races as json_races
-use Rattle.json_tables_app.specs.Sweeps as json_sweeps
-use Rattle.json_tables_app.specs.Lints as json_lints
-use Rattle.json_tables_app.specs.Statuses.{lints_status_of}
+use Rattle.table_app.specs.declared.form.Form.{Form as TableForm}
+use Rattle.table_app.specs.declared.verdict.FaultsVerdict.{FaultsVerdict}
+use Rattle.table_app.specs.declared.verdict.RacesVerdict.{RacesVerdict}
+use Rattle.table_app.specs.declared.verdict.SweepVerdict.{SweepVerdict}
+use Rattle.table_app.specs.declared.verdict.LintsVerdict.{LintsVerdict}
+use Rattle.table_app.specs.Faults as job_outcomes
+use Rattle.table_app.specs.Races as races
+use Rattle.table_app.specs.Sweeps as sweeps
+use Rattle.table_app.specs.Lints as lints
+use Rattle.table_app.specs.Statuses.{faults_status_of, races_status_of, sweep_status_of, lints_status_of}
 use Rattle.feed_tests.specs.declared.stop.TestStop.{TestStop}
 use Rattle.feed_tests.specs.declared.stop.TestStop.TheVariants as tests
 use Rattle.nursery.specs.declared.stop.Stop.{Stop}
@@ -82,20 +77,21 @@ TellsChart form text input limit status =
     (verdict : Verdict) × (bytes : List ℕ) × charts.IsVerdict form text input limit verdict bytes × (status ≡ verdicts.status_of verdict)
 
 -- the status is that of the verdict on the job with each fault
-abbrev pub TellsFaults : List ℕ → List ℕ → ℕ → List ℕ → Deny → ℕ → Type 0
-TellsFaults text input limit name deny status =
-    (verdict : FaultsVerdict) × (bytes : List ℕ) × job_outcomes.IsVerdict text input limit name deny verdict bytes
+abbrev pub TellsFaults : TableForm → List ℕ → List ℕ → ℕ → List ℕ → Deny → ℕ → Type 0
+TellsFaults form text input limit name deny status =
+    (verdict : FaultsVerdict) × (bytes : List ℕ) × job_outcomes.IsVerdict form text input limit name deny verdict bytes
     × (status ≡ faults_status_of verdict)
 
 -- the status is that of the verdict on the job with each of its places moved by a hair
-abbrev pub TellsRaces : List ℕ → List ℕ → ℕ → Bool → ℕ → Type 0
-TellsRaces text input limit deny status =
-    (verdict : RacesVerdict) × (bytes : List ℕ) × races.IsVerdict text input limit deny verdict bytes × (status ≡ races_status_of verdict)
+abbrev pub TellsRaces : TableForm → List ℕ → List ℕ → ℕ → Bool → ℕ → Type 0
+TellsRaces form text input limit deny status =
+    (verdict : RacesVerdict) × (bytes : List ℕ) × races.IsVerdict form text input limit deny verdict bytes
+    × (status ≡ races_status_of verdict)
 
 -- the status is that of the verdict on the job for each value of a number
-abbrev pub TellsSweep : List ℕ → List ℕ → ℕ → Target → List ℕ → ℕ → Type 0
-TellsSweep text input limit target values status =
-    (verdict : SweepVerdict) × (bytes : List ℕ) × sweeps.IsVerdict text input limit target values verdict bytes
+abbrev pub TellsSweep : TableForm → List ℕ → List ℕ → ℕ → Target → List ℕ → ℕ → Type 0
+TellsSweep form text input limit target values status =
+    (verdict : SweepVerdict) × (bytes : List ℕ) × sweeps.IsVerdict form text input limit target values verdict bytes
     × (status ≡ sweep_status_of verdict)
 
 -- the status is 0 if the text spells a job, and that of a refusal if it is refused
@@ -133,26 +129,7 @@ TellsLints text status =
     ((warnings : List Warning) × AreWarnings text warnings × (status ≡ lint_status warnings))
     ⊎ ((fault : JobFault) × IsRefused text fault.kind fault.at × (status ≡ 2))
 
--- ---- tables as JSON documents
-
--- the status is that of the verdict on the job with each fault
-abbrev pub TellsJsonFaults : List ℕ → List ℕ → ℕ → List ℕ → Deny → ℕ → Type 0
-TellsJsonFaults text input limit name deny status =
-    (verdict : FaultsVerdict) × (bytes : List ℕ) × json_job_outcomes.IsVerdict text input limit name deny verdict bytes
-    × (status ≡ faults_status_of verdict)
-
--- the status is that of the verdict on the job with each of its places moved by a hair
-abbrev pub TellsJsonRaces : List ℕ → List ℕ → ℕ → Bool → ℕ → Type 0
-TellsJsonRaces text input limit deny status =
-    (verdict : RacesVerdict) × (bytes : List ℕ) × json_races.IsVerdict text input limit deny verdict bytes × (status ≡ races_status_of verdict)
-
--- the status is that of the verdict on the job for each value of a number
-abbrev pub TellsJsonSweep : List ℕ → List ℕ → ℕ → Target → List ℕ → ℕ → Type 0
-TellsJsonSweep text input limit target values status =
-    (verdict : SweepVerdict) × (bytes : List ℕ) × json_sweeps.IsVerdict text input limit target values verdict bytes
-    × (status ≡ sweep_status_of verdict)
-
--- the status is that of the verdict on the warnings of the job
+-- the status is that of the verdict on the warnings of the job, written as a JSON document
 abbrev pub TellsJsonLints : List ℕ → ℕ → Type 0
 TellsJsonLints text status =
-    (verdict : LintsVerdict) × (bytes : List ℕ) × json_lints.IsVerdict text verdict bytes × (status ≡ lints_status_of verdict)
+    (verdict : LintsVerdict) × (bytes : List ℕ) × lints.IsVerdict text verdict bytes × (status ≡ lints_status_of verdict)

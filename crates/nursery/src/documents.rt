@@ -9,6 +9,12 @@ use json_app::{explain_json, serve_json};
 use nursery_app::{NoGate, Pick, Settings, WriteOut};
 use std::io;
 use std::thread::Threads;
+use table_app::Form;
+
+// Returns the form in which a table is written: a JSON document if that is asked for, and otherwise a text.
+pub(crate) fn table_form(json: bool) -> Form {
+    if json { Form::Json } else { Form::Text }
+}
 
 // Runs a job text over an input in the order of a picker, writes the report as a JSON document, and returns the status.
 pub(crate) fn run_as_json<R: Print + Eprint + Threads + Sync + AllocGlobal, P: Pick>(

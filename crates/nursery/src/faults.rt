@@ -1,19 +1,19 @@
 ghost use Rattle.std.specs.Prelude.{◌≡◌, ◌≤◌, length, IfOk};
-ghost use Rattle.fault_app.specs.Statuses.{faults_status_of};
 ghost use Rattle.job_meaning.specs.declared.limits.TheConstants.{MAX_INPUT};
-ghost use Rattle.nursery.specs.Statuses.{TellsFaults, TellsJsonFaults};
+ghost use Rattle.table_app.specs.Statuses.{faults_status_of};
+ghost use Rattle.nursery.specs.Statuses.{TellsFaults};
 
 use crate::answers::{read_both, tell_refusal, word_of};
+use crate::documents::table_form;
 use crate::progress::Progress;
 use crate::stop::Stop;
-use fault_app::{FaultsVerdict, faults};
-use json_tables_app::faults_json;
 use nursery_app::WriteOut;
 use nursery_cli::FaultsArgs;
 use std::io;
 use std::rt::Files;
 use std::thread::Threads;
 use std::time::Clock;
+use table_app::{FaultsVerdict, Form, faults};
 
 // Writes the outcome of a job file over an input file, or over no input, with each fault of it, and returns the status. The name
 // is that of the exception that a faulty step raises. Progress is shown if standard error is a terminal.
@@ -25,10 +25,7 @@ pub(crate) fn faults_job<R: Files + Input + Print + Eprint + Clock + Threads + S
     let given = read_both(rt, args.job.as_str(), word_of(&args.input))?;
     let progress = Progress::new(rt, at_terminal);
     let (text, input) = (given.text.as_slice(), given.input.as_slice());
-    if args.json {
-        return faults_as_json(rt, args, text, input, &progress);
-    }
-    faults_text(rt, args, text, input, &progress)
+    faults_text(rt, args, text, input, table_form(args.json), &progress)
 }
 
 // Writes the outcome of a job text over an input with each fault of it, and returns the status.
@@ -37,36 +34,16 @@ fn faults_text<R: Print + Eprint + Clock + Threads + Sync + AllocGlobal>(
     args: &FaultsArgs,
     text: &[u8],
     input: &[u8],
+    form: Form,
     progress: &Progress<'_, R>,
 ) -> Result<u8, Stop>
     requires { length input.now ≤ MAX_INPUT }
-    ensures { IfOk result (TellsFaults text.now input.now args.now.settings.limit args.now.name args.now.deny) }
+    ensures { IfOk result (TellsFaults form text.now input.now args.now.settings.limit args.now.name args.now.deny) }
 {
     let (alloc, settings) = (rt.alloc(), args.settings);
     let mut out = WriteOut::new(io::writer(rt));
     let written = faults(
-        rt, alloc, text, input, settings, args.name, args.deny, progress, &mut out,
-    );
-    progress.clear();
-    let verdict = written?;
-    Ok(conclude_faults(rt, args.job.as_str(), text, verdict))
-}
-
-// Does the same, as a JSON document.
-fn faults_as_json<R: Print + Eprint + Clock + Threads + Sync + AllocGlobal>(
-    rt: &R,
-    args: &FaultsArgs,
-    text: &[u8],
-    input: &[u8],
-    progress: &Progress<'_, R>,
-) -> Result<u8, Stop>
-    requires { length input.now ≤ MAX_INPUT }
-    ensures { IfOk result (TellsJsonFaults text.now input.now args.now.settings.limit args.now.name args.now.deny) }
-{
-    let (alloc, settings) = (rt.alloc(), args.settings);
-    let mut out = WriteOut::new(io::writer(rt));
-    let written = faults_json(
-        rt, alloc, text, input, settings, args.name, args.deny, progress, &mut out,
+        rt, alloc, text, input, settings, args.name, args.deny, form, progress, &mut out,
     );
     progress.clear();
     let verdict = written?;

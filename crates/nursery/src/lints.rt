@@ -7,12 +7,12 @@ use crate::stop::Stop;
 use job_files::shown_name;
 use job_grammar::{JobFault, JobKind};
 use job_lint::{Warning, lints, sentence};
-use json_tables_app::{LintsVerdict, lints_json};
 use nursery_app::{WriteOut, refusal, send};
 use refusal_text::pointed_message;
 use std::alloc::{AllocError, Global};
 use std::io;
 use std::rt::Files;
+use table_app::{LintsVerdict, lints_json};
 
 // Writes the probable mistakes in a job file, or the line of its refusal, and returns the status.
 pub(crate) fn lint_job<R: Files + Input + Print + Eprint + AllocGlobal>(

@@ -3,7 +3,7 @@
 //! its outcome, `sweep` the outcome for each value of one of its numbers, `fmt` formats a job text, `check` writes a job's
 //! canonical text, `upgrade` that of the same job in format 2. Without arguments it serves standard input: a job text, a line
 //! that is exactly `%input`, and the input. Its output goes to standard output, and what went wrong to standard error. The work
-//! is in `nursery_app`, `story_app`, `chart_app`, `fault_app`, `race_app` and `sweep_app`.
+//! is in `nursery_app`, `story_app`, `chart_app`, `json_app`, `table_app` and `format_app`.
 #![tactic(auto)]
 
 mod answers;

@@ -1,22 +1,22 @@
 ghost use Rattle.std.specs.Prelude.{◌≡◌, ◌≤◌, length, IfOk};
 ghost use Rattle.job_meaning.specs.declared.limits.TheConstants.{MAX_INPUT};
-ghost use Rattle.race_app.specs.Statuses.{races_status_of};
-ghost use Rattle.nursery.specs.Statuses.{TellsRaces, TellsJsonRaces};
+ghost use Rattle.table_app.specs.Statuses.{races_status_of};
+ghost use Rattle.nursery.specs.Statuses.{TellsRaces};
 
 use crate::answers::{read_both, tell_refusal, tell_running, word_of};
+use crate::documents::table_form;
 use crate::faults::tell_denied;
 use crate::progress::Progress;
 use crate::stop::Stop;
-use json_tables_app::races_json;
 use nursery_app::{Forward, WriteOut};
 use nursery_cli::RacesArgs;
-use race_app::{RacesVerdict, races};
 use std::io;
 use std::rt::Files;
 use std::thread::Threads;
 use std::time::Clock;
+use table_app::{Form, RacesVerdict, races};
 
-/// What is printed if a number of ticks is too large to be made finer.
+// What is printed if a number of ticks is too large to be made finer.
 const NO_FINER_TICKS: &str =
     "error: a `sleep`, `after` or `at` of more than 100000000 ticks has no finer ticks: use a coarser unit of time\n";
 
@@ -30,10 +30,7 @@ pub(crate) fn races_job<R: Files + Input + Print + Eprint + Clock + Threads + Sy
     let given = read_both(rt, args.job.as_str(), word_of(&args.input))?;
     let progress = Progress::new(rt, at_terminal);
     let (text, input) = (given.text.as_slice(), given.input.as_slice());
-    if args.json {
-        return races_as_json(rt, args, text, input, &progress);
-    }
-    races_text(rt, args, text, input, &progress)
+    races_text(rt, args, text, input, table_form(args.json), &progress)
 }
 
 // Writes the places of a job text, run over an input, where a hair changes the outcome, and returns the status.
@@ -42,36 +39,16 @@ fn races_text<R: Print + Eprint + Clock + Threads + Sync + AllocGlobal>(
     args: &RacesArgs,
     text: &[u8],
     input: &[u8],
+    form: Form,
     progress: &Progress<'_, R>,
 ) -> Result<u8, Stop>
     requires { length input.now ≤ MAX_INPUT }
-    ensures { IfOk result (TellsRaces text.now input.now args.now.settings.limit args.now.deny) }
+    ensures { IfOk result (TellsRaces form text.now input.now args.now.settings.limit args.now.deny) }
 {
     let (alloc, settings) = (rt.alloc(), args.settings);
     let mut out = WriteOut::new(io::writer(rt));
     let written = races(
-        rt, alloc, text, input, settings, args.deny, progress, &mut out,
-    );
-    progress.clear();
-    let verdict = written?;
-    Ok(conclude_races(rt, args, text, input, verdict))
-}
-
-// Does the same, as a JSON document.
-fn races_as_json<R: Print + Eprint + Clock + Threads + Sync + AllocGlobal>(
-    rt: &R,
-    args: &RacesArgs,
-    text: &[u8],
-    input: &[u8],
-    progress: &Progress<'_, R>,
-) -> Result<u8, Stop>
-    requires { length input.now ≤ MAX_INPUT }
-    ensures { IfOk result (TellsJsonRaces text.now input.now args.now.settings.limit args.now.deny) }
-{
-    let (alloc, settings) = (rt.alloc(), args.settings);
-    let mut out = WriteOut::new(io::writer(rt));
-    let written = races_json(
-        rt, alloc, text, input, settings, args.deny, progress, &mut out,
+        rt, alloc, text, input, settings, args.deny, form, progress, &mut out,
     );
     progress.clear();
     let verdict = written?;

@@ -1,15 +1,15 @@
 ghost use Rattle.std.specs.Prelude.{◌≡◌, ◌≤◌, length, IfOk};
 ghost use Rattle.job_meaning.specs.declared.limits.TheConstants.{MAX_INPUT};
-ghost use Rattle.sweep_app.specs.Statuses.{sweep_status_of};
-ghost use Rattle.nursery.specs.Statuses.{TellsSweep, TellsJsonSweep};
+ghost use Rattle.table_app.specs.Statuses.{sweep_status_of};
+ghost use Rattle.nursery.specs.Statuses.{TellsSweep};
 
 use crate::answers::{read_both, tell_refusal, word_of};
+use crate::documents::table_form;
 use crate::progress::Progress;
 use crate::stop::Stop;
 use job_edits::Target;
 use job_files::shown_name;
 use job_tree::Name;
-use json_tables_app::sweep_json;
 use nursery_app::WriteOut;
 use nursery_cli::SweepArgs;
 use refusal_text::pointed_message;
@@ -18,7 +18,8 @@ use std::io;
 use std::rt::Files;
 use std::thread::Threads;
 use std::time::Clock;
-use sweep_app::{Missing, SweepVerdict, sweep};
+use sweep_app::Missing;
+use table_app::{Form, SweepVerdict, sweep};
 
 // Writes the outcome of a job file over an input file, or over no input, for each of these values of one of its numbers, and
 // returns the status. Progress is shown if standard error is a terminal.
@@ -30,10 +31,7 @@ pub(crate) fn sweep_job<R: Files + Input + Print + Eprint + Clock + Threads + Sy
     let given = read_both(rt, args.job.as_str(), word_of(&args.input))?;
     let progress = Progress::new(rt, at_terminal);
     let (text, input) = (given.text.as_slice(), given.input.as_slice());
-    if args.json {
-        return sweep_as_json(rt, args, text, input, &progress);
-    }
-    sweep_text(rt, args, text, input, &progress)
+    sweep_text(rt, args, text, input, table_form(args.json), &progress)
 }
 
 // Writes the outcome of a job text over an input for each value, and returns the status.
@@ -42,38 +40,17 @@ fn sweep_text<R: Print + Eprint + Clock + Threads + Sync + AllocGlobal>(
     args: &SweepArgs,
     text: &[u8],
     input: &[u8],
+    form: Form,
     progress: &Progress<'_, R>,
 ) -> Result<u8, Stop>
     requires { length input.now ≤ MAX_INPUT }
-    ensures { IfOk result (TellsSweep text.now input.now args.now.settings.limit args.now.target args.now.values.items) }
+    ensures { IfOk result (TellsSweep form text.now input.now args.now.settings.limit args.now.target args.now.values.items) }
 {
     let (alloc, settings) = (rt.alloc(), args.settings);
     let (target, values) = (args.target, args.values.as_slice());
     let mut out = WriteOut::new(io::writer(rt));
     let written = sweep(
-        rt, alloc, text, input, settings, target, values, progress, &mut out,
-    );
-    progress.clear();
-    let verdict = written?;
-    Ok(conclude_sweep(rt, args, text, verdict))
-}
-
-// Does the same, as a JSON document.
-fn sweep_as_json<R: Print + Eprint + Clock + Threads + Sync + AllocGlobal>(
-    rt: &R,
-    args: &SweepArgs,
-    text: &[u8],
-    input: &[u8],
-    progress: &Progress<'_, R>,
-) -> Result<u8, Stop>
-    requires { length input.now ≤ MAX_INPUT }
-    ensures { IfOk result (TellsJsonSweep text.now input.now args.now.settings.limit args.now.target args.now.values.items) }
-{
-    let (alloc, settings) = (rt.alloc(), args.settings);
-    let (target, values) = (args.target, args.values.as_slice());
-    let mut out = WriteOut::new(io::writer(rt));
-    let written = sweep_json(
-        rt, alloc, text, input, settings, target, values, progress, &mut out,
+        rt, alloc, text, input, settings, target, values, form, progress, &mut out,
     );
     progress.clear();
     let verdict = written?;

@@ -1,13 +1,14 @@
 //! What `faults` writes of worked jobs: the same by 1, 3 and 64 threads; and the lines of it that are denied.
 
 use crate::fixtures::{LIMIT, call_again};
-use fault_app::{Deny, FaultsVerdict, faults};
+use fault_text::Deny;
 use job_report::{MemOut, Out};
 use job_runner::{NoGate, Settings};
 use job_tree::Name;
 use std::process::Abort;
 use std::test::Fail;
 use std::thread::Threads;
+use table_app::{FaultsVerdict, Form, faults};
 
 // What a build may deny, all of it.
 const ALL: Deny = Deny {
@@ -29,7 +30,18 @@ fn faults_again<R: Abort + Threads + Sync + AllocGlobal>(
     let answer = call_again!(
         rt,
         out,
-        faults(rt, alloc, text, b"", settings, name, ALL, &NoGate, out)
+        faults(
+            rt,
+            alloc,
+            text,
+            b"",
+            settings,
+            name,
+            ALL,
+            Form::Text,
+            &NoGate,
+            out
+        )
     );
     Ok(answer?)
 }

@@ -6,10 +6,10 @@ use job_edits::Target;
 use job_report::{MemOut, Out};
 use job_runner::{NoGate, Settings};
 use job_tree::Name;
-use json_tables_app::{faults_json, lints_json, races_json, sweep_json};
 use std::process::Abort;
 use std::test::Fail;
 use std::thread::Threads;
+use table_app::{Form, faults, lints_json, races, sweep};
 
 const NO_DENY: Deny = Deny {
     stuck: false,
@@ -27,7 +27,7 @@ fn faults_are_a_document(rt: HostRuntime) -> Result<(), Fail> {
     let mut out = MemOut::new(rt.alloc(), 100_000, 7, None)?;
     assert!(rt; out.failures() == 0);
     let text = b"trio-job 1\njob m{checkpoint;}";
-    let verdict = faults_json(
+    let verdict = faults(
         &rt,
         rt.alloc(),
         text,
@@ -35,6 +35,7 @@ fn faults_are_a_document(rt: HostRuntime) -> Result<(), Fail> {
         settings,
         name,
         NO_DENY,
+        Form::Json,
         &NoGate,
         &mut out,
     )?;
@@ -46,7 +47,7 @@ fn faults_are_a_document(rt: HostRuntime) -> Result<(), Fail> {
 const SWEEP: &[u8] =
     b"{\"as_it_is\":{\"result\":{\"cancelled\":[],\"cut\":[],\"end\":3,\"exception\":null,\"lost\":false,\"outcome\":\"done\"}},\"counts\":{\"cut\":0,\"refused\":0,\"stuck\":0,\"values\":2},\"lines\":[{\"result\":{\"cancelled\":[],\"cut\":[],\"end\":1,\"exception\":null,\"lost\":false,\"outcome\":\"done\"},\"value\":1},{\"result\":{\"cancelled\":[],\"cut\":[],\"end\":2,\"exception\":null,\"lost\":false,\"outcome\":\"done\"},\"value\":2}]}\n";
 
-// Calls `sweep_json` with a writer that has not failed, and returns the status.
+// Calls `sweep` for a document with a writer that has not failed, and returns the status.
 fn sweep_status<R: Abort + Threads + Sync + AllocGlobal>(
     rt: &R,
     target: Target,
@@ -54,7 +55,7 @@ fn sweep_status<R: Abort + Threads + Sync + AllocGlobal>(
 ) -> Result<u8, Fail> {
     let settings = Settings::new(1, LIMIT).ok_or("settings")?;
     assert!(rt; out.failures() == 0);
-    let verdict = sweep_json(
+    let verdict = sweep(
         rt,
         rt.alloc(),
         b"trio-job 1\njob m{sleep 3;}",
@@ -62,6 +63,7 @@ fn sweep_status<R: Abort + Threads + Sync + AllocGlobal>(
         settings,
         target,
         VALUES,
+        Form::Json,
         &NoGate,
         out,
     )?;
@@ -95,13 +97,14 @@ fn races_are_a_document(rt: HostRuntime) -> Result<(), Fail> {
     let mut out = MemOut::new(rt.alloc(), 100_000, 7, None)?;
     assert!(rt; out.failures() == 0);
     let text = b"trio-job 1\njob m{sleep 3;}";
-    let verdict = races_json(
+    let verdict = races(
         &rt,
         rt.alloc(),
         text,
         b"",
         settings,
         true,
+        Form::Json,
         &NoGate,
         &mut out,
     )?;

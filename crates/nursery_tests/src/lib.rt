@@ -1,5 +1,5 @@
-//! The tests of the crates `job_runner`, `job_report`, `job_lint`, `nursery_app`, `format_app`, `story_app`, `chart_app`, `fault_app`, `race_app`,
-//! `sweep_app`, `json_tables_app`, `expect_text`, `test_app`, `refusal_text` and `nursery_cli`, through what these make public.
+//! The tests of the crates `job_runner`, `job_report`, `job_lint`, `nursery_app`, `format_app`, `story_app`, `chart_app`, `sweep_app`,
+//! `table_app`, `expect_text`, `test_app`, `refusal_text` and `nursery_cli`, through what these make public.
 //!
 //! They show what no clause says: that the reports of worked jobs, worked out by hand, are those of the definitions; the results for
 //! command lines and refused texts; the results when readers and writers fail; and, for the layers below too, that a call that was

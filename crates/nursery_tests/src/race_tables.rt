@@ -4,10 +4,10 @@
 use crate::fixtures::{LIMIT, call_again};
 use job_report::{MemOut, Out};
 use job_runner::{NoGate, Settings};
-use race_app::{RacesVerdict, races};
 use std::process::Abort;
 use std::test::Fail;
 use std::thread::Threads;
+use table_app::{Form, RacesVerdict, races};
 
 // Calls `races` over three lines, again if memory is refused. Races are denied.
 fn races_again<R: Abort + Threads + Sync + AllocGlobal>(
@@ -22,7 +22,17 @@ fn races_again<R: Abort + Threads + Sync + AllocGlobal>(
     let answer = call_again!(
         rt,
         out,
-        races(rt, alloc, text, input, settings, true, &NoGate, out)
+        races(
+            rt,
+            alloc,
+            text,
+            input,
+            settings,
+            true,
+            Form::Text,
+            &NoGate,
+            out
+        )
     );
     Ok(answer?)
 }

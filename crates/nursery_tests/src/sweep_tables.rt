@@ -11,7 +11,8 @@ use std::alloc::{AllocError, Global};
 use std::process::Abort;
 use std::test::Fail;
 use std::thread::Threads;
-use sweep_app::{Missing, SweepVerdict, sweep};
+use sweep_app::Missing;
+use table_app::{Form, SweepVerdict, sweep};
 
 // Calls `sweep`, again if memory is refused.
 fn sweep_again<R: Abort + Threads + Sync + AllocGlobal>(
@@ -27,7 +28,18 @@ fn sweep_again<R: Abort + Threads + Sync + AllocGlobal>(
     let answer = call_again!(
         rt,
         out,
-        sweep(rt, alloc, text, b"", settings, target, values, &NoGate, out)
+        sweep(
+            rt,
+            alloc,
+            text,
+            b"",
+            settings,
+            target,
+            values,
+            Form::Text,
+            &NoGate,
+            out
+        )
     );
     Ok(answer?)
 }

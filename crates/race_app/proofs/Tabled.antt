@@ -1,5 +1,5 @@
--- The lines and the table of a text, given the tokens, places and lines as they were passed on.
-use Rattle.std.proofs.Common.{◌≡◌, ℕ, ◌*◌, ◌<◌, ◌≤◌, Bool, true, false, Option, None, Some, List, [], map, sym, ap, subst, ◌∙◌, arith}
+-- The lines of a text, given the tokens, places and lines as they were passed on.
+use Rattle.std.proofs.Common.{◌≡◌, ℕ, ◌*◌, ◌<◌, ◌≤◌, Bool, true, false, Option, None, Some, List, sym, ap, subst, ◌∙◌, arith}
 use Rattle.std.specs.Prelude.{nat_le, length, if◌then◌else◌}
 use Rattle.std.proofs.lemmas.Bool.Decides.{nat_tests}
 use Rattle.std.specs.Io.Iter.{u64_saturate}
@@ -15,13 +15,10 @@ use Rattle.job_edits.specs.declared.site.Site.{Site}
 use Rattle.job_edits.specs.declared.copied.CopiedStart.{CopiedStart}
 use Rattle.job_edits.specs.declared.finer.Finer.{Finer}
 use Rattle.race_text.specs.Lines as told
-use Rattle.race_text.specs.Table.{table_text, denied_text}
-use Rattle.race_text.specs.Views.{line_held}
 use Rattle.race_text.specs.declared.line.Line.{Line}
 use Rattle.race_app.specs.Ran.{Ran, ran, ran_of}
 use Rattle.race_app.specs.Lines.{AreLines}
 use Rattle.race_app.specs.Answers.{AreRaceLines, IsLate, HasNoFiner}
-use Rattle.race_app.specs.Verdicts.{IsTableOf}
 
 le_test : (m n : ℕ) → m ≤ n → nat_le m n ≡ true
 le_test m n h = grind (arith, nat_tests)
@@ -82,16 +79,6 @@ has_no_finer text input limit job tokens sites spells soon has s none =
       tokens = tokens;
       tokens_are = has;
       none = ap finer_for (sym s) ∙ sym none;
-    }
-
--- given the lines, as they were passed on
-pub is_table_of : (deny : Bool) (hairs : ℕ) (denied bytes : List ℕ) (lines ks ms : List Line) → ks ≡ lines → ms ≡ lines →
-    bytes ≡ table_text hairs (map line_held ks) → denied ≡ (if deny then denied_text (map line_held ms) else []) →
-    IsTableOf deny hairs (map line_held lines) denied bytes
-is_table_of deny hairs denied bytes lines ks ms k m b d =
-    record {
-      table = b ∙ ap (λ (ls : List Line). table_text hairs (map line_held ls)) k;
-      denied_are = d ∙ ap (λ (ls : List Line). if deny then denied_text (map line_held ls) else []) m;
     }
 
 abbrev factor_or : Option Finer → ℕ

@@ -1,5 +1,5 @@
--- The outcome of a job for each value, and the text of it.
-use Rattle.std.proofs.Common.{◌≡◌, ℕ, None, List, map, ap, subst, ◌∙◌}
+-- The outcome of a job for each value.
+use Rattle.std.proofs.Common.{◌≡◌, ℕ, None, List, map, subst}
 use Rattle.job_tree.specs.Tree.{Tree}
 use Rattle.job_tokens.specs.declared.token.Token.{Token}
 use Rattle.job_grammar.specs.Refusals.{Spells, HasTokens}
@@ -8,7 +8,6 @@ use Rattle.job_edits.specs.declared.number.Target.{Target}
 use Rattle.fault_text.specs.JobOutcomes.{JobOutcome}
 use Rattle.fault_text.specs.JobOutcomes as job_outcomes
 use Rattle.sweep_text.specs.Groups as told
-use Rattle.sweep_text.specs.Sweeps.{sweep_text}
 use Rattle.sweep_text.specs.Views.{value_held}
 use Rattle.sweep_text.specs.declared.value.Value.{Value}
 use Rattle.slot_work.specs.Answers.{AreAnswers}
@@ -16,8 +15,7 @@ use Rattle.slot_work.proofs.Answered.{seen_as}
 use Rattle.sweep_app.specs.Values.{IsValue}
 use Rattle.sweep_app.specs.Answers.{AreValues, AreSweepValues, IsWithoutTarget}
 use Rattle.sweep_app.specs.Targets.{IsNumber, IsMissing}
-use Rattle.sweep_app.specs.Verdicts.{IsSweep}
-use Rattle.sweep_app.specs.declared.verdict.Missing.{Missing}
+use Rattle.sweep_app.specs.declared.missing.Missing.{Missing}
 
 -- the values as they were found
 pub are_seen : (text input : List ℕ) (limit : ℕ) (number : Number) (job : Tree) (values : List ℕ) (first : JobOutcome) (vs : List Value) →
@@ -55,18 +53,4 @@ is_without_target text job target missing tokens ts spells has same is =
       tokens = tokens;
       tokens_are = has;
       reason = subst (λ (xs : List Token). IsMissing text xs target missing) same is;
-    }
-
--- given the limit and the values, as they were passed on
-pub is_sweep : (text input : List ℕ) (limit l : ℕ) (target : Target) (values bytes : List ℕ) (first : JobOutcome) (vs us : List Value) →
-    AreSweepValues text input limit target values first (map value_held vs) → l ≡ limit → us ≡ vs →
-    bytes ≡ sweep_text l first (map value_held us) → IsSweep text input limit target values bytes
-is_sweep text input limit l target values bytes first vs us are at same b =
-    record {
-      first = first;
-      vs = map value_held vs;
-      told = are;
-      text_is =
-          b ∙ ap (λ (xs : List Value). sweep_text l first (map value_held xs)) same
-          ∙ ap (λ (n : ℕ). sweep_text n first (map value_held vs)) at;
     }

@@ -13,7 +13,7 @@ use Rattle.sweep_text.specs.Views.{value_held}
 use Rattle.sweep_app.specs.Targets.{IsNumber, IsMissing}
 use Rattle.sweep_app.specs.Values.{IsValue}
 use Rattle.sweep_app.specs.declared.values.Swept.{Swept}
-use Rattle.sweep_app.specs.declared.verdict.Missing.{Missing}
+use Rattle.sweep_app.specs.declared.missing.Missing.{Missing}
 use Rattle.sweep_app.specs.declared.told.SweepValues.{SweepValues}
 use Rattle.sweep_app.specs.declared.told.SweepAnswer.{SweepAnswer}
 use Rattle.sweep_app.specs.declared.told.SweepAnswer.TheVariants.{Values, NoTarget}

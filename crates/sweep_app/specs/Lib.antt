@@ -2,5 +2,3 @@ pub mod Nearest
 pub mod Targets
 pub mod Values
 pub mod Answers
-pub mod Verdicts
-pub mod Statuses

@@ -9,8 +9,8 @@ use Rattle.job_edits.specs.declared.number.Target.TheVariants.{DeadlineOf, At}
 use Rattle.sweep_app.specs.Nearest.{is_one_of, nearest_in}
 use Rattle.sweep_app.specs.declared.number.Found.{Found}
 use Rattle.sweep_app.specs.declared.number.Found.TheVariants as found
-use Rattle.sweep_app.specs.declared.verdict.Missing.{Missing}
-use Rattle.sweep_app.specs.declared.verdict.Missing.TheVariants.{NoBlock, NoDeadline, NoPlace, NoNumber}
+use Rattle.sweep_app.specs.declared.missing.Missing.{Missing}
+use Rattle.sweep_app.specs.declared.missing.Missing.TheVariants.{NoBlock, NoDeadline, NoPlace, NoNumber}
 
 -- the number that is meant
 abbrev pub IsNumber : List ℕ → List Token → Target → Number → Type 0

@@ -2,8 +2,8 @@ ghost use Rattle.std.specs.Prelude.{IfOk};
 ghost use Rattle.sweep_app.specs.Targets.{IsFound};
 ghost use Rattle.job_edits.specs.declared.number.Target.TheVariants as target;
 
+use crate::missing::Missing;
 use crate::nearest::{is_one_of, nearest_in};
-use crate::verdict::Missing;
 use job_edits::{Number, Target, block_names, deadline_of, number_at};
 use job_tokens::Token;
 use job_tree::Name;

@@ -3,9 +3,9 @@ ghost use Rattle.job_meaning.specs.declared.limits.TheConstants.{MAX_INPUT};
 ghost use Rattle.job_grammar.specs.Refusals.{Spells, IsFair};
 ghost use Rattle.sweep_app.specs.Answers.{AreValuesOf, IsSweepAnswer};
 
+use crate::missing::Missing;
 use crate::number::{Found, number_for};
 use crate::values::Swept;
-use crate::verdict::Missing;
 use fault_app::outcome_of_job;
 use fault_text::JobOutcome;
 use job_edits::Target;

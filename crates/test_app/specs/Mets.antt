@@ -1,12 +1,13 @@
 -- Whether an expectation is met.
 use Rattle.std.specs.Prelude.{◌≡◌, ℕ, Bool, true, false, Option, Some, None, List, [], ◌∷◌, codes}
 use Rattle.fault_text.specs.declared.deny.Deny.{Deny}
-use Rattle.fault_app.specs.Verdicts as faults
-use Rattle.fault_app.specs.declared.verdict.FaultsVerdict.{FaultsVerdict}
-use Rattle.fault_app.specs.declared.verdict.FaultsVerdict.TheVariants as told_faults
-use Rattle.race_app.specs.Verdicts as races
-use Rattle.race_app.specs.declared.verdict.RacesVerdict.{RacesVerdict}
-use Rattle.race_app.specs.declared.verdict.RacesVerdict.TheVariants as told_races
+use Rattle.table_app.specs.Faults as faults
+use Rattle.table_app.specs.Races as races
+use Rattle.table_app.specs.declared.form.Form.TheVariants.{Text}
+use Rattle.table_app.specs.declared.verdict.FaultsVerdict.{FaultsVerdict}
+use Rattle.table_app.specs.declared.verdict.FaultsVerdict.TheVariants as told_faults
+use Rattle.table_app.specs.declared.verdict.RacesVerdict.{RacesVerdict}
+use Rattle.table_app.specs.declared.verdict.RacesVerdict.TheVariants as told_races
 use Rattle.expect_text.specs.Patterns.{first_match}
 use Rattle.expect_text.specs.Expectations.{Expected, present, absent, no_races, no_faults}
 use Rattle.test_app.specs.declared.met.Met.{Met}
@@ -57,12 +58,12 @@ faults_answer (told_faults.JobRefused fault) = untold
 -- the answer from the verdict of `races` on a job text over an input, where races are denied
 abbrev pub IsRacesMet : (text input : List ℕ) → (limit : ℕ) → Answer → Type 0
 IsRacesMet text input limit answer =
-    (verdict : RacesVerdict) × (bytes : List ℕ) × races.IsVerdict text input limit true verdict bytes × (answer ≡ races_answer verdict)
+    (verdict : RacesVerdict) × (bytes : List ℕ) × races.IsVerdict Text text input limit true verdict bytes × (answer ≡ races_answer verdict)
 
 -- the answer from the verdict of `faults`, where these kinds are denied
 abbrev pub IsFaultsMet : (text input : List ℕ) → (limit : ℕ) → Deny → Answer → Type 0
 IsFaultsMet text input limit kinds answer =
-    (verdict : FaultsVerdict) × (bytes : List ℕ) × faults.IsVerdict text input limit (codes "Fault") kinds verdict bytes
+    (verdict : FaultsVerdict) × (bytes : List ℕ) × faults.IsVerdict Text text input limit (codes "Fault") kinds verdict bytes
     × (answer ≡ faults_answer verdict)
 
 -- the answer for an expectation of a job text over an input that has this report and this story

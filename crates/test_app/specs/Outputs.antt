@@ -5,11 +5,12 @@ use Rattle.nursery_app.specs.declared.verdict.Verdict.{Verdict}
 use Rattle.story_app.specs.Stories as stories
 use Rattle.story_app.specs.declared.verdict.StoryVerdict.{StoryVerdict}
 use Rattle.chart_app.specs.Charts as charts
-use Rattle.chart_app.specs.declared.form.Form.TheVariants.{Text}
-use Rattle.fault_app.specs.Verdicts as faults
-use Rattle.fault_app.specs.declared.verdict.FaultsVerdict.{FaultsVerdict}
-use Rattle.race_app.specs.Verdicts as races
-use Rattle.race_app.specs.declared.verdict.RacesVerdict.{RacesVerdict}
+use Rattle.chart_app.specs.declared.form.Form.TheVariants as drawn
+use Rattle.table_app.specs.Faults as faults
+use Rattle.table_app.specs.Races as races
+use Rattle.table_app.specs.declared.form.Form.TheVariants.{Text}
+use Rattle.table_app.specs.declared.verdict.FaultsVerdict.{FaultsVerdict}
+use Rattle.table_app.specs.declared.verdict.RacesVerdict.{RacesVerdict}
 use Rattle.expect_text.specs.Expectations.{no_kind}
 use Rattle.test_app.specs.declared.outputs.Output.{Output}
 use Rattle.test_app.specs.declared.outputs.Output.TheVariants.{Report, Story, Chart, Faults, Races}
@@ -28,15 +29,15 @@ IsStory text input limit bytes = (verdict : StoryVerdict) × stories.IsVerdict t
 
 -- the chart as a text of 80 columns
 abbrev pub IsChart : (text input : List ℕ) → (limit : ℕ) → (bytes : List ℕ) → Type 0
-IsChart text input limit bytes = (verdict : Verdict) × charts.IsVerdict (Text 80) text input limit verdict bytes
+IsChart text input limit bytes = (verdict : Verdict) × charts.IsVerdict (drawn.Text 80) text input limit verdict bytes
 
 -- the outcome of the job with each fault, where a step that fails raises `Fault`
 abbrev pub IsFaults : (text input : List ℕ) → (limit : ℕ) → (bytes : List ℕ) → Type 0
-IsFaults text input limit bytes = (verdict : FaultsVerdict) × faults.IsVerdict text input limit (codes "Fault") no_kind verdict bytes
+IsFaults text input limit bytes = (verdict : FaultsVerdict) × faults.IsVerdict Text text input limit (codes "Fault") no_kind verdict bytes
 
 -- the places on which the outcome of the job depends by a hair
 abbrev pub IsRaces : (text input : List ℕ) → (limit : ℕ) → (bytes : List ℕ) → Type 0
-IsRaces text input limit bytes = (verdict : RacesVerdict) × races.IsVerdict text input limit false verdict bytes
+IsRaces text input limit bytes = (verdict : RacesVerdict) × races.IsVerdict Text text input limit false verdict bytes
 
 -- these bytes are an output of a job text over an input
 abbrev pub IsOutput : (text input : List ℕ) → (limit : ℕ) → Output → (bytes : List ℕ) → Type 0

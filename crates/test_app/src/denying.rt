@@ -4,13 +4,13 @@ ghost use Rattle.test_app.specs.Mets.{IsFaultsMet, IsRacesMet, answer_of, denied
 
 use crate::kept::Kept;
 use crate::met::Met;
-use fault_app::{Deny, FaultsVerdict, faults};
+use fault_text::Deny;
 use job_grammar::Name;
 use job_runner::{NoGate, Settings};
 use nursery_app::ServeFault;
-use race_app::{RacesVerdict, races};
 use std::alloc::{AllocError, Global};
 use std::thread::Threads;
+use table_app::{FaultsVerdict, Form, RacesVerdict, faults, races};
 
 // Returns the name of the exception that a failing step raises.
 pub(crate) fn fault_name() -> Name
@@ -35,7 +35,15 @@ pub(crate) fn no_races<R: Threads + Sync>(
 {
     let mut out = Kept::new(alloc);
     match races(
-        rt, alloc, job_text, input, settings, true, &NoGate, &mut out,
+        rt,
+        alloc,
+        job_text,
+        input,
+        settings,
+        true,
+        Form::Text,
+        &NoGate,
+        &mut out,
     ) {
         Ok(RacesVerdict::Told { denied }) => Ok(denial_or_yes(denied)),
         Ok(RacesVerdict::JobRefused(_) | RacesVerdict::Limit | RacesVerdict::NoFinerTicks) => {
@@ -60,7 +68,16 @@ pub(crate) fn no_faults<R: Threads + Sync>(
     let mut out = Kept::new(alloc);
     let name = fault_name();
     match faults(
-        rt, alloc, job_text, input, settings, name, kinds, &NoGate, &mut out,
+        rt,
+        alloc,
+        job_text,
+        input,
+        settings,
+        name,
+        kinds,
+        Form::Text,
+        &NoGate,
+        &mut out,
     ) {
         Ok(FaultsVerdict::Told { denied }) => Ok(denial_or_yes(denied)),
         Ok(FaultsVerdict::JobRefused(_)) => Ok(Met::Untold),

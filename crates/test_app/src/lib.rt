@@ -3,8 +3,8 @@
 //!
 //! The layer promises that `output_of` returns the bytes that the command in question writes, for every number of workers, by
 //! that command's own definitions; and that `meets` returns what the lines of the report and the story, or the verdicts of
-//! `races` and `faults`, say of an expectation (`specs/Mets.antt`). It uses `nursery_app`, `story_app`, `chart_app`, `fault_app`
-//! and `race_app` for the outputs, and `expect_text` for patterns and expectations.
+//! `races` and `faults`, say of an expectation (`specs/Mets.antt`). It uses `nursery_app`, `story_app`, `chart_app` and
+//! `table_app` for the outputs, and `expect_text` for patterns and expectations.
 #![tactic(auto)]
 
 mod denying;

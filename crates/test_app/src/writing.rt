@@ -5,14 +5,14 @@ ghost use Rattle.test_app.specs.Outputs.{IsChart, IsFaults, IsOutput, IsRaces, I
 use crate::denying::fault_name;
 use crate::kept::Kept;
 use crate::outputs::Output;
-use chart_app::{Form, chart};
-use fault_app::{Deny, faults};
+use chart_app::chart;
+use fault_text::Deny;
 use job_runner::{Forward, NoGate, Settings};
 use nursery_app::{ServeFault, serve};
-use race_app::races;
 use std::alloc::{AllocError, Global};
 use std::thread::Threads;
 use story_app::explain;
+use table_app::{Form, faults, races};
 
 /// Returns the bytes that a command writes for a job text over an input: the report, the story of all tasks, the chart as a text
 /// of 80 columns, the outcome of the job with each fault, where a step that fails raises `Fault`, or the races. For a job text
@@ -112,7 +112,7 @@ fn chart_of<R: Threads + Sync>(
 {
     let (text, input, settings) = (asked.text, asked.input, asked.settings);
     let (mut out, mut order) = (Kept::new(alloc), Forward);
-    let form = Form::Text { width: 80 };
+    let form = chart_app::Form::Text { width: 80 };
     chart(
         rt, alloc, text, input, settings, form, &mut order, &NoGate, &mut out,
     )?;
@@ -137,7 +137,16 @@ fn faults_of<R: Threads + Sync>(
         lost: false,
     };
     faults(
-        rt, alloc, text, input, settings, name, deny, &NoGate, &mut out,
+        rt,
+        alloc,
+        text,
+        input,
+        settings,
+        name,
+        deny,
+        Form::Text,
+        &NoGate,
+        &mut out,
     )?;
     Ok(out.into_bytes())
 }
@@ -153,6 +162,16 @@ fn races_of<R: Threads + Sync>(
 {
     let (text, input, settings) = (asked.text, asked.input, asked.settings);
     let mut out = Kept::new(alloc);
-    races(rt, alloc, text, input, settings, false, &NoGate, &mut out)?;
+    races(
+        rt,
+        alloc,
+        text,
+        input,
+        settings,
+        false,
+        Form::Text,
+        &NoGate,
+        &mut out,
+    )?;
     Ok(out.into_bytes())
 }

@@ -1,5 +1,0 @@
-pub mod Faults
-pub mod Sweeps
-pub mod Races
-pub mod Lints
-pub mod Statuses

@@ -1,0 +1,121 @@
+ghost use Rattle.std.specs.Prelude.{◌≡◌, ◌<◌, ◌≤◌, length, map, IfOk, IfErr, OnOk};
+ghost use Rattle.job_meaning.specs.declared.limits.TheConstants.{MAX_INPUT};
+ghost use Rattle.job_report.specs.declared.limits.TheConstants.{MAX_FAILURES};
+ghost use Rattle.nursery_app.specs.Sending.{IsSent, IsServeFault, CountsFailure};
+ghost use Rattle.fault_text.specs.Views.{job_outcome_held, line_held};
+ghost use Rattle.table_app.specs.Faults.{IsTableOf, IsVerdict, table_in};
+
+use crate::form::Form;
+use crate::refusing::refusal_in;
+use crate::verdict::FaultsVerdict;
+use fault_app::{FaultLines, fault_lines};
+use fault_text::{Deny, JobOutcome, Line, denied_text, table};
+use job_grammar::Name;
+use job_report::{Out, send};
+use job_runner::Settings;
+use json_tables::faults_json;
+use nursery_app::{Gate, ServeFault};
+use std::alloc::{AllocError, Global};
+use std::thread::Threads;
+
+/// Writes the outcome of a job over an input: without a fault, and with each fault of each of its waiting steps, one line for
+/// each, in the order of the places of the steps; and then how many faults there are of each kind. A fault is a change of the
+/// job text (`job_edits`). Its line says what the changed text does by the meaning of the job: the tick at which the job ends
+/// and how, or that it does not end by the limit, and notes. A step that fails raises an exception with the given name. If the
+/// job text is refused, writes its refusal. The caller must ensure that the input has at most 16,777,216 bytes (`MAX_INPUT`).
+///
+/// The number of workers in `settings` is the number of threads that run the faults. The gate is called before and after each
+/// fault, with the place of the fault among the lines, by the thread that runs it. Neither changes a byte.
+///
+/// Returns a `ServeFault` if the writer failed (`Send`), which then took the first of the bytes, or if memory was refused. All
+/// bytes are built before the first is sent, so after `NoMemory` nothing was sent.
+pub fn faults<R: Threads + Sync, G: Gate + Sync, W: Out>(
+    rt: &R,
+    alloc: Global,
+    job_text: &[u8],
+    input: &[u8],
+    settings: Settings,
+    name: Name,
+    deny: Deny,
+    form: Form,
+    gate: &G,
+    out: &mut W,
+) -> Result<FaultsVerdict, ServeFault>
+    requires input { length input.now ≤ MAX_INPUT }
+    requires countable { W.failed out.old < MAX_FAILURES }
+
+    // The bytes written are the table of all faults, or the refusal of the text.
+    ensures sent { IfOk result (IsSent (IsVerdict form job_text.now input.now settings.limit name deny) (W.contents out.old)
+        (W.contents out.new)) }
+    ensures well { OnOk result (W.failed out.new ≡ W.failed out.old) }
+
+    // A writer that failed took the first of those bytes. If memory was refused, nothing was sent.
+    ensures fault { IfErr result (IsServeFault (IsVerdict form job_text.now input.now settings.limit name deny) (W.contents out.old)
+        (W.contents out.new)) }
+    ensures counted { IfErr result (CountsFailure (W.failed out.old) (W.failed out.new)) }
+{
+    let (verdict, bytes) = answer(rt, alloc, job_text, input, settings, name, deny, form, gate)?;
+    send(bytes.as_slice(), out)?;
+    Ok(verdict)
+}
+
+// Returns the verdict and all its bytes.
+#[tactic(auto, using(crate::proofs::Tables::of_faults))]
+fn answer<R: Threads + Sync, G: Gate + Sync>(
+    rt: &R,
+    alloc: Global,
+    job_text: &[u8],
+    input: &[u8],
+    settings: Settings,
+    name: Name,
+    deny: Deny,
+    form: Form,
+    gate: &G,
+) -> Result<(FaultsVerdict, Vec<u8>), AllocError>
+    requires { length input.now ≤ MAX_INPUT }
+    ensures { IfOk result (λ r. IsVerdict form job_text.now input.now settings.limit name deny r.0 r.1.items) }
+{
+    match fault_lines(rt, alloc, job_text, input, settings, name, gate) {
+        Ok(told) => {
+            let (denied, bytes) = table_and_denied(alloc, settings.limit(), deny, form, &told)?;
+            Ok((FaultsVerdict::Told { denied }, bytes))
+        }
+        Err(fault) => {
+            let bytes = refusal_in(alloc, form, job_text, fault)?;
+            Ok((FaultsVerdict::JobRefused(fault), bytes))
+        }
+    }
+}
+
+// Returns the lines that are denied, and the bytes of the table.
+#[tactic(auto, using(crate::proofs::Tables::of_fault_lines))]
+fn table_and_denied(
+    alloc: Global,
+    limit: u64,
+    deny: Deny,
+    form: Form,
+    told: &FaultLines,
+) -> Result<(Vec<u8>, Vec<u8>), AllocError>
+    ensures { IfOk result (λ r. IsTableOf form limit deny (job_outcome_held told.now.first) (map line_held told.now.lines.items)
+        r.0.items r.1.items) }
+{
+    let bytes = table_in(alloc, form, limit, &told.first, told.lines.as_slice())?;
+    let denied = denied_text(alloc, limit, &told.first, told.lines.as_slice(), deny)?;
+    Ok((denied, bytes))
+}
+
+// Returns the bytes of the table.
+fn table_in(
+    alloc: Global,
+    form: Form,
+    limit: u64,
+    first: &JobOutcome,
+    lines: &[Line],
+) -> Result<Vec<u8>, AllocError>
+    ensures { IfOk result (λ bytes. bytes.items ≡ table_in form limit (job_outcome_held first.now) (map line_held lines.now)) }
+{
+    match form {
+        Form::Text => table(alloc, limit, first, lines),
+        Form::Json => faults_json(alloc, limit, first, lines),
+    }
+}
