@@ -1,6 +1,28 @@
 // The examples that help prints. `tests/command` compares those of `explain`, `faults`, `races` and `sweep` with what the
 // program writes.
 
+// Returns the text at the end of the help of a command. The texts are not in the table, since the proof of each function that
+// names the table has all of it, and with these texts it is too large.
+pub(crate) fn example_of(command: &str) -> &'static str {
+    match command {
+        "run" => RUN_EXAMPLE,
+        "explain" => EXPLAIN_EXAMPLE,
+        "chart" => CHART_EXAMPLE,
+        "faults" => FAULTS_EXAMPLE,
+        "races" => RACES_EXAMPLE,
+        "sweep" => SWEEP_EXAMPLE,
+        "fmt" => FMT_EXAMPLE,
+        "lint" => LINT_EXAMPLE,
+        "test" => TEST_EXAMPLE,
+        "trio" => TRIO_EXAMPLE,
+        "check" => CHECK_EXAMPLE,
+        "upgrade" => UPGRADE_EXAMPLE,
+        "completions" => COMPLETIONS_EXAMPLE,
+        "man" => MAN_EXAMPLE,
+        _ => "",
+    }
+}
+
 pub(crate) const EXAMPLE: &str =
     "With no words at all, nursery reads standard input: a job text, a line that is exactly `%input`,
 and the input.
@@ -22,7 +44,7 @@ Exit status: 0 the job ended well, or another command did its work; 1 it ended w
 line is denied; 2 the job or the command line was refused; 3 it ends later than the limit; 4 a file
 could not be read or written, or the input is too long; 5 no memory.";
 
-pub(crate) const RUN_EXAMPLE: &str =
+const RUN_EXAMPLE: &str =
     "Example: the job `watch.job` waits at most 10 ticks, and shows the lines that hold \"ERROR\".
 
     $ cat watch.job
@@ -36,7 +58,7 @@ pub(crate) const RUN_EXAMPLE: &str =
       line 6+10 ERROR disk
       scope limit 1 passed";
 
-pub(crate) const EXPLAIN_EXAMPLE: &str = "Example: who cancelled `slow`, and when?
+const EXPLAIN_EXAMPLE: &str = "Example: who cancelled `slow`, and when?
 
     $ cat hedge.job
     trio-job 1
@@ -59,7 +81,7 @@ pub(crate) const EXPLAIN_EXAMPLE: &str = "Example: who cancelled `slow`, and whe
       slow  is cancelled while sleeping since 0 by nursery calls (cancelled by fast at 2)
       slow  ends: cancelled";
 
-pub(crate) const CHART_EXAMPLE: &str =
+const CHART_EXAMPLE: &str =
     "A task is drawn as `|---|`, a scope or nursery as `(===)`; `x` is where a task is cancelled, or from where a
 scope or nursery is, and `!` where an exception is raised. If the ticks do not all fit, those at which
 the fewest things happen are left out.
@@ -83,7 +105,7 @@ Example: one of two calls fails.
 
 Exit status: that of `run`; 3 if the job ends later than the limit, and is drawn up to it.";
 
-pub(crate) const FAULTS_EXAMPLE: &str =
+const FAULTS_EXAMPLE: &str =
     "A fault is a change of one waiting step: an exception is raised in its place (`fails`) or after it
 (`fails late`), it never ends (`hangs`), or the whole job is cancelled from outside (`cancelled`); a
 `need` finds no line (`misses`).
@@ -112,7 +134,7 @@ Example: what if one of two calls fails or hangs?
 
 Exit status: 0, or 1 if a line is denied; the others are those of `run`.";
 
-pub(crate) const RACES_EXAMPLE: &str =
+const RACES_EXAMPLE: &str =
     "A hair is a tenth of a tick. Each `sleep`, `after` and `at` takes a hair less (`earlier`) and a hair more
 (`later`), each `checkpoint`, `pace` and `start` a hair more. A race is a hair that changes the outcome of
 a task, its lines or its scopes.
@@ -135,7 +157,7 @@ Example: two tasks act in the same tick, and one of them cancels the other.
 
 Exit status: 0, or 1 if races are denied and there is one; the others are those of `run`.";
 
-pub(crate) const SWEEP_EXAMPLE: &str =
+const SWEEP_EXAMPLE: &str =
     "Neighbouring values share a line if the outcome of the job is the same, apart from ticks. A value that the
 job text cannot have is shown as `refused`.
 
@@ -162,7 +184,7 @@ The same by the place of the number, which begins in column 21 of line 3:
 
 Exit status: 0; the others are those of `run`.";
 
-pub(crate) const FMT_EXAMPLE: &str =
+const FMT_EXAMPLE: &str =
     "A block that is empty or holds one step without a block is written on one line, if that ends at column
 80 or before. The formatted text spells the same job, and formatting it again changes nothing.
 
@@ -190,7 +212,7 @@ Example:
 Exit status: 0; 1 if `--check` finds a difference; 2 if the job is refused, or its formatted text is
 longer than a job text may be; 4 if a file could not be read or written; 5 no memory.";
 
-pub(crate) const LINT_EXAMPLE: &str =
+const LINT_EXAMPLE: &str =
     "A job with warnings runs as it is. There are warnings about a step after a `forever` or a `raise`; in a
 `finally`, a wait with no shield around it, or a `raise`; a shield without a deadline around a wait; a
 scope that nothing cancels; and a handler of an exception that nothing raises.
@@ -209,7 +231,7 @@ Example:
 
 Exit status: 0; 1 if there is a warning; the others are those of `check`.";
 
-pub(crate) const TEST_EXAMPLE: &str =
+const TEST_EXAMPLE: &str =
     "A feed is a job text, a line `%input` and the input, in a file NAME.feed. NAME.report, NAME.story,
 NAME.chart, NAME.faults and NAME.races beside it are compared with what `nursery`, `explain`, `chart`,
 `faults` and `races` write for it. Each line of NAME.expect is a pattern, in which `*` matches anything:
@@ -230,7 +252,7 @@ Example:
 Exit status: 0; 1 if something differs or is not as expected; 4 if a file could not be read or written,
 or there is nothing to compare with.";
 
-pub(crate) const TRIO_EXAMPLE: &str =
+const TRIO_EXAMPLE: &str =
     "The program is plain Trio, to start real code from: its first lines say how it is run.
 
 Example:
@@ -241,7 +263,7 @@ Example:
 
 Exit status: 0; the others are those of `check`.";
 
-pub(crate) const CHECK_EXAMPLE: &str = "Example:
+const CHECK_EXAMPLE: &str = "Example:
 
     $ cat wait.job
     trio-job 1
@@ -252,7 +274,7 @@ pub(crate) const CHECK_EXAMPLE: &str = "Example:
     job main { sleep }
                      ^";
 
-pub(crate) const UPGRADE_EXAMPLE: &str = "Example:
+const UPGRADE_EXAMPLE: &str = "Example:
 
     $ cat first.job
     trio-job 1
@@ -263,13 +285,13 @@ pub(crate) const UPGRADE_EXAMPLE: &str = "Example:
     trio-job 2
     job main{find\"er\";}";
 
-pub(crate) const COMPLETIONS_EXAMPLE: &str = "Example: for bash, from now on in each new shell:
+const COMPLETIONS_EXAMPLE: &str = "Example: for bash, from now on in each new shell:
 
     $ nursery completions bash > ~/.local/share/bash-completion/completions/nursery
 
 `make install` in the repository puts the scripts of the three shells in their places.";
 
-pub(crate) const MAN_EXAMPLE: &str = "Example:
+const MAN_EXAMPLE: &str = "Example:
 
     $ nursery man > nursery.1
     $ man ./nursery.1";

@@ -13,6 +13,7 @@ mod options;
 mod parser;
 mod reading;
 mod sweeping;
+mod table;
 
 pub use arguments::{ChartArgs, ExplainArgs, FaultsArgs, Order, RacesArgs, RunArgs, SweepArgs};
 pub use command::{Command, CommandFault, FormatMode, Shell};

@@ -1,15 +1,8 @@
-use crate::examples::{
-    CHART_EXAMPLE, CHECK_EXAMPLE, COMPLETIONS_EXAMPLE, EXAMPLE, EXPLAIN_EXAMPLE, FAULTS_EXAMPLE,
-    FMT_EXAMPLE, LINT_EXAMPLE, MAN_EXAMPLE, RACES_EXAMPLE, RUN_EXAMPLE, SWEEP_EXAMPLE,
-    TEST_EXAMPLE, TRIO_EXAMPLE, UPGRADE_EXAMPLE,
-};
-use crate::options::{
-    accept_option, check_option, denied_kinds_option, deny_races_option, fault_name_option,
-    format_mode, input_argument, job_argument, json_option, limit_option, optional_input,
-    order_option, paths_argument, svg_option, sweep_target, target_name_option,
-    target_place_option, task_option, values_option, width_option, workers_option, write_option,
-};
-use clap::{Arg, Command};
+use crate::examples::{EXAMPLE, example_of};
+use crate::options::{ArgRow, Takes};
+use crate::table::{COMMANDS, CommandRow, GroupRow};
+use clap::builder::ValueParser;
+use clap::{Arg, ArgAction, ArgGroup, Command};
 use std::alloc::{AllocError, Global};
 
 /// The limit if none is given, in ticks.
@@ -36,180 +29,86 @@ const VERSION: &str = "0.1.0";
 /// Returns the parser of the words after the program's name: each command with its description, its options and its help. The
 /// only error is that memory was refused.
 pub fn command_line<'a>(alloc: Global) -> Result<Command<'a>, AllocError> {
-    Command::new(alloc, "nursery")
+    let command = Command::new(alloc, "nursery")
         .no_binary_name(true)
         .bin_name("nursery")?
         .version(VERSION)
         .about(ABOUT)
         .after_help(EXAMPLE)
-        .subcommand_required(true)
-        .subcommand(run_parser(alloc)?)?
-        .subcommand(explain_parser(alloc)?)?
-        .subcommand(chart_parser(alloc)?)?
-        .subcommand(faults_parser(alloc)?)?
-        .subcommand(races_parser(alloc)?)?
-        .subcommand(sweep_parser(alloc)?)?
-        .subcommand(fmt_parser(alloc)?)?
-        .subcommand(lint_parser(alloc)?)?
-        .subcommand(test_parser(alloc)?)?
-        .subcommand(trio_parser(alloc)?)?
-        .subcommand(check_parser(alloc)?)?
-        .subcommand(upgrade_parser(alloc)?)?
-        .subcommand(completions_parser(alloc)?)?
-        .subcommand(man_parser(alloc))
+        .subcommand_required(true);
+    with_commands(alloc, command, COMMANDS)
 }
 
-// Returns the parser of the words after `run`.
-fn run_parser<'a>(alloc: Global) -> Result<Command<'a>, AllocError> {
-    let about = "Runs a job over an input and writes the report";
-    let command = job_parser(alloc, "run", about, RUN_EXAMPLE)?
-        .arg(input_argument(alloc))?
-        .arg(workers_option(alloc))?
-        .arg(order_option(alloc))?
-        .arg(limit_option(alloc))?;
-    command.arg(json_option(alloc))
-}
-
-// Returns the parser of the words after `explain`.
-fn explain_parser<'a>(alloc: Global) -> Result<Command<'a>, AllocError> {
-    let about = "Runs a job over an input and reports what happened to each task, when and why";
-    let command = run_like_parser(alloc, "explain", about, EXPLAIN_EXAMPLE)?
-        .arg(task_option(alloc))?
-        .arg(workers_option(alloc))?
-        .arg(order_option(alloc))?
-        .arg(limit_option(alloc))?;
-    command.arg(json_option(alloc))
-}
-
-// Returns the parser of the words after `chart`.
-fn chart_parser<'a>(alloc: Global) -> Result<Command<'a>, AllocError> {
-    let about = "Runs a job over an input and draws who ran when, and what was cancelled";
-    let command = run_like_parser(alloc, "chart", about, CHART_EXAMPLE)?
-        .arg(width_option(alloc))?
-        .arg(svg_option(alloc))?;
-    with_settings(alloc, command)
-}
-
-// Returns the parser of the words after `faults`.
-fn faults_parser<'a>(alloc: Global) -> Result<Command<'a>, AllocError> {
-    let about =
-        "Shows the outcome of a job if any one of its waiting steps fails, hangs or is cancelled";
-    let command = run_like_parser(alloc, "faults", about, FAULTS_EXAMPLE)?
-        .arg(fault_name_option(alloc))?
-        .arg(denied_kinds_option(alloc))?;
-    with_settings(alloc, command)?.arg(json_option(alloc))
-}
-
-// Returns the parser of the words after `races`.
-fn races_parser<'a>(alloc: Global) -> Result<Command<'a>, AllocError> {
-    let about =
-        "Shows where the outcome of a job changes if one step takes a hair more or less time";
-    let command = run_like_parser(alloc, "races", about, RACES_EXAMPLE)?.arg(deny_races_option(
-        alloc,
-    ))?;
-    with_settings(alloc, command)?.arg(json_option(alloc))
-}
-
-// Returns the parser of the words after `sweep`.
-fn sweep_parser<'a>(alloc: Global) -> Result<Command<'a>, AllocError> {
-    let about = "Shows the outcome of a job for each value of one of its numbers";
-    let command = run_like_parser(alloc, "sweep", about, SWEEP_EXAMPLE)?
-        .arg(target_name_option(alloc))?
-        .arg(target_place_option(alloc))?
-        .arg(values_option(alloc))?;
-    let command = command.group(sweep_target(alloc)?)?;
-    with_settings(alloc, command)?.arg(json_option(alloc))
-}
-
-// Returns the parser of the words after `fmt`.
-fn fmt_parser<'a>(alloc: Global) -> Result<Command<'a>, AllocError> {
-    let about = "Formats a job: two spaces for each level, and one step on each line";
-    let command = job_parser(alloc, "fmt", about, FMT_EXAMPLE)?
-        .arg(write_option(alloc))?
-        .arg(check_option(alloc))?;
-    command.group(format_mode(alloc)?)
-}
-
-// Returns the parser of the words after `lint`.
-fn lint_parser<'a>(alloc: Global) -> Result<Command<'a>, AllocError> {
-    let about = "Reports what is probably a mistake in a job, with its place";
-    job_parser(alloc, "lint", about, LINT_EXAMPLE)?.arg(json_option(alloc))
-}
-
-// Returns the parser of the words after `test`.
-fn test_parser<'a>(alloc: Global) -> Result<Command<'a>, AllocError> {
-    let about = "Runs feeds and compares their outputs with those that are kept beside them";
-    let command = Command::new(alloc, "test")
-        .about(about)
-        .after_help(TEST_EXAMPLE)
-        .arg(paths_argument(alloc))?
-        .arg(accept_option(alloc))?;
-    with_settings(alloc, command)
-}
-
-// Returns the parser of the words after `trio`.
-fn trio_parser<'a>(alloc: Global) -> Result<Command<'a>, AllocError> {
-    let about = "Writes a job as a Python program on Trio";
-    job_parser(alloc, "trio", about, TRIO_EXAMPLE)
-}
-
-// Returns the parser of the words after `check`.
-fn check_parser<'a>(alloc: Global) -> Result<Command<'a>, AllocError> {
-    let about = "Writes the canonical text of a job, or says where it is refused and why";
-    job_parser(alloc, "check", about, CHECK_EXAMPLE)
-}
-
-// Returns the parser of the words after `upgrade`.
-fn upgrade_parser<'a>(alloc: Global) -> Result<Command<'a>, AllocError> {
-    let about =
-        "Writes the canonical text of the same job in format 2, which has loops and larger jobs";
-    job_parser(alloc, "upgrade", about, UPGRADE_EXAMPLE)
-}
-
-// Returns the parser of the words after `completions`.
-fn completions_parser<'a>(alloc: Global) -> Result<Command<'a>, AllocError> {
-    let shell = Arg::new(alloc, "shell")
-        .value_name("SHELL")
-        .help("The shell")
-        .value_parser(["bash", "zsh", "fish"].as_slice())
-        .required(true);
-    Command::new(alloc, "completions")
-        .about("Writes a script that completes the words of nursery in a shell")
-        .after_help(COMPLETIONS_EXAMPLE)
-        .arg(shell)
-}
-
-// Returns the parser of the words after `man`.
-fn man_parser<'a>(alloc: Global) -> Command<'a> {
-    Command::new(alloc, "man")
-        .about("Writes the man page")
-        .after_help(MAN_EXAMPLE)
-}
-
-// Returns the parser of a command whose first word is a job file.
-fn job_parser<'a>(
+// Adds the commands of these rows.
+fn with_commands<'a>(
     alloc: Global,
-    name: &'a str,
-    about: &'a str,
-    example: &'a str,
+    program: Command<'a>,
+    rows: &[CommandRow],
 ) -> Result<Command<'a>, AllocError> {
-    Command::new(alloc, name)
-        .about(about)
-        .after_help(example)
-        .arg(job_argument(alloc))
+    let mut program = program;
+    'rows: for row in rows {
+        program = program.subcommand(parser_of(alloc, row)?)?;
+    }
+    Ok(program)
 }
 
-// Returns the parser of a command whose words are a job file and then, or not, an input file.
-fn run_like_parser<'a>(
+// Returns the parser of the words after the name of a command.
+fn parser_of<'a>(alloc: Global, row: &CommandRow) -> Result<Command<'a>, AllocError> {
+    let command = Command::new(alloc, row.name)
+        .about(row.about)
+        .after_help(example_of(row.name));
+    let command = with_args(alloc, command, row.args)?;
+    match row.group {
+        Some(group) => command.group(group_of(alloc, &group)?),
+        None => Ok(command),
+    }
+}
+
+// Adds the arguments and options of these rows.
+fn with_args<'a>(
     alloc: Global,
-    name: &'a str,
-    about: &'a str,
-    example: &'a str,
+    command: Command<'a>,
+    rows: &[ArgRow],
 ) -> Result<Command<'a>, AllocError> {
-    job_parser(alloc, name, about, example)?.arg(optional_input(alloc))
+    let mut command = command;
+    'rows: for row in rows {
+        command = command.arg(arg_of(alloc, row))?;
+    }
+    Ok(command)
 }
 
-// Adds the options for the number of workers and the limit.
-fn with_settings<'a>(alloc: Global, command: Command<'a>) -> Result<Command<'a>, AllocError> {
-    command.arg(workers_option(alloc))?.arg(limit_option(alloc))
+// Returns the group of some options.
+fn group_of<'a>(alloc: Global, row: &GroupRow) -> Result<ArgGroup<'a>, AllocError> {
+    let group = ArgGroup::new(alloc, row.name).required(row.required);
+    group.args(row.options)
+}
+
+// Returns the parser of an argument or option.
+fn arg_of<'a>(alloc: Global, row: &ArgRow) -> Arg<'a> {
+    let arg = Arg::new(alloc, row.name)
+        .help(row.help)
+        .required(row.required);
+    let arg = if row.is_option {
+        arg.long(row.name)
+    } else {
+        arg
+    };
+    let arg = match row.default {
+        Some(word) => arg.default_value(word),
+        None => arg,
+    };
+    taking(arg, row.takes, row.value_name)
+}
+
+// Returns the parser of an argument or option that takes these words.
+fn taking<'a>(arg: Arg<'a>, takes: Takes, value_name: &'a str) -> Arg<'a> {
+    match takes {
+        Takes::Nothing => arg.action(ArgAction::SetTrue),
+        Takes::Word => arg.value_name(value_name),
+        Takes::Words => arg.value_name(value_name).num_args(1..),
+        Takes::Number(least, most) => arg
+            .value_name(value_name)
+            .value_parser(ValueParser::Unsigned(least, most)),
+        Takes::OneOf(words) => arg.value_name(value_name).value_parser(words),
+    }
 }

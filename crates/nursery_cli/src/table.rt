@@ -1,0 +1,135 @@
+use crate::options::{
+    ACCEPT, ArgRow, CHECK, DENIED_KINDS, DENY_RACES, FAULT_NAME, INPUT, JOB, JSON, LIMIT,
+    OPTIONAL_INPUT, ORDER, PATHS, SHELL, SVG, TARGET_NAME, TARGET_PLACE, TASK, VALUES, WIDTH,
+    WORKERS, WRITE,
+};
+
+// Options of a command of which at most one may be given. If the group is required, one of them has to be given.
+#[derive(Clone, Copy)]
+pub(crate) struct GroupRow {
+    pub(crate) name: &'static str,
+    pub(crate) options: &'static [&'static str],
+    pub(crate) required: bool,
+}
+
+// A command: its name, what it does, and its arguments and options in the order in which the help shows them.
+#[derive(Clone, Copy)]
+pub(crate) struct CommandRow {
+    pub(crate) name: &'static str,
+    pub(crate) about: &'static str,
+    pub(crate) args: &'static [ArgRow],
+    pub(crate) group: Option<GroupRow>,
+}
+
+// The commands, in the order in which the help shows them.
+pub(crate) const COMMANDS: &[CommandRow] = &[
+    CommandRow {
+        name: "run",
+        about: "Runs a job over an input and writes the report",
+        args: &[JOB, INPUT, WORKERS, ORDER, LIMIT, JSON],
+        group: None,
+    },
+    CommandRow {
+        name: "explain",
+        about: "Runs a job over an input and reports what happened to each task, when and why",
+        args: &[JOB, OPTIONAL_INPUT, TASK, WORKERS, ORDER, LIMIT, JSON],
+        group: None,
+    },
+    CommandRow {
+        name: "chart",
+        about: "Runs a job over an input and draws who ran when, and what was cancelled",
+        args: &[JOB, OPTIONAL_INPUT, WIDTH, SVG, WORKERS, LIMIT],
+        group: None,
+    },
+    CommandRow {
+        name: "faults",
+        about: "Shows the outcome of a job if any one of its waiting steps fails, hangs or is cancelled",
+        args: &[
+            JOB,
+            OPTIONAL_INPUT,
+            FAULT_NAME,
+            DENIED_KINDS,
+            WORKERS,
+            LIMIT,
+            JSON,
+        ],
+        group: None,
+    },
+    CommandRow {
+        name: "races",
+        about: "Shows where the outcome of a job changes if one step takes a hair more or less time",
+        args: &[JOB, OPTIONAL_INPUT, DENY_RACES, WORKERS, LIMIT, JSON],
+        group: None,
+    },
+    CommandRow {
+        name: "sweep",
+        about: "Shows the outcome of a job for each value of one of its numbers",
+        args: &[
+            JOB,
+            OPTIONAL_INPUT,
+            TARGET_NAME,
+            TARGET_PLACE,
+            VALUES,
+            WORKERS,
+            LIMIT,
+            JSON,
+        ],
+        group: Some(GroupRow {
+            name: "target",
+            options: &["of", "at"],
+            required: true,
+        }),
+    },
+    CommandRow {
+        name: "fmt",
+        about: "Formats a job: two spaces for each level, and one step on each line",
+        args: &[JOB, WRITE, CHECK],
+        group: Some(GroupRow {
+            name: "mode",
+            options: &["write", "check"],
+            required: false,
+        }),
+    },
+    CommandRow {
+        name: "lint",
+        about: "Reports what is probably a mistake in a job, with its place",
+        args: &[JOB, JSON],
+        group: None,
+    },
+    CommandRow {
+        name: "test",
+        about: "Runs feeds and compares their outputs with those that are kept beside them",
+        args: &[PATHS, ACCEPT, WORKERS, LIMIT],
+        group: None,
+    },
+    CommandRow {
+        name: "trio",
+        about: "Writes a job as a Python program on Trio",
+        args: &[JOB],
+        group: None,
+    },
+    CommandRow {
+        name: "check",
+        about: "Writes the canonical text of a job, or says where it is refused and why",
+        args: &[JOB],
+        group: None,
+    },
+    CommandRow {
+        name: "upgrade",
+        about: "Writes the canonical text of the same job in format 2, which has loops and larger jobs",
+        args: &[JOB],
+        group: None,
+    },
+    CommandRow {
+        name: "completions",
+        about: "Writes a script that completes the words of nursery in a shell",
+        args: &[SHELL],
+        group: None,
+    },
+    CommandRow {
+        name: "man",
+        about: "Writes the man page",
+        args: &[],
+        group: None,
+    },
+];
