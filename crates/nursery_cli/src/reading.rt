@@ -11,6 +11,7 @@ use crate::sweeping::{target_of, values_of};
 use clap::ArgMatches;
 use clap::error::ErrorKind;
 use fault_text::Deny;
+use job_runner::Settings;
 use job_syntax::Keyword;
 use job_tree::Name;
 use std::alloc::{AllocError, Global};
@@ -160,17 +161,40 @@ fn job_command(alloc: Global, name: &str, inner: &ArgMatches<'_>) -> Result<Comm
     }
 }
 
+// What the commands that run a job have in common.
+#[derive(Drop)]
+struct JobRun {
+    job: String,
+    input: Option<String>,
+    settings: Settings,
+}
+
+// Returns the job, the input and the settings.
+fn job_run(alloc: Global, job: &str, matches: &ArgMatches<'_>) -> Result<JobRun, CommandFault> {
+    let input = matches.get_str("input");
+    let settings = settings_of(alloc, job, input, matches)?;
+    Ok(JobRun {
+        job: String::from_str(alloc, job)?,
+        input: owned_copy(alloc, input)?,
+        settings,
+    })
+}
+
 // Returns the command `run` with its settings.
 fn run_command(alloc: Global, job: &str, matches: &ArgMatches<'_>) -> Result<Command, CommandFault>
     ensures { IfOk result IsAsked }
 {
-    let Some(input) = matches.get_str("input") else {
+    let JobRun {
+        job,
+        input,
+        settings,
+    } = job_run(alloc, job, matches)?;
+    let Some(input) = input else {
         return Err(refusal(alloc, "error: name the input file\n"));
     };
-    let settings = settings_of(alloc, job, Some(input), matches)?;
     Ok(Command::Run(RunArgs {
-        job: String::from_str(alloc, job)?,
-        input: String::from_str(alloc, input)?,
+        job,
+        input,
         settings,
         order: order_named(matches.get_str("order")),
         json: matches.get_flag("json"),
@@ -185,13 +209,12 @@ fn explain_command(
 ) -> Result<Command, CommandFault>
     ensures { IfOk result IsAsked }
 {
-    let input = matches.get_str("input");
-    let settings = settings_of(alloc, job, input, matches)?;
+    let run = job_run(alloc, job, matches)?;
     Ok(Command::Explain(ExplainArgs {
-        job: String::from_str(alloc, job)?,
-        input: owned_copy(alloc, input)?,
+        job: run.job,
+        input: run.input,
         task: owned_copy(alloc, matches.get_str("task"))?,
-        settings,
+        settings: run.settings,
         order: order_named(matches.get_str("order")),
         json: matches.get_flag("json"),
     }))
@@ -205,18 +228,17 @@ fn chart_command(
 ) -> Result<Command, CommandFault>
     ensures { IfOk result IsAsked }
 {
-    let input = matches.get_str("input");
-    let settings = settings_of(alloc, job, input, matches)?;
+    let run = job_run(alloc, job, matches)?;
     let width = matches.get_one::<usize>("width");
     if !is_width(width) {
         return Err(refusal(alloc, OUT_OF_RANGE));
     }
     Ok(Command::Chart(ChartArgs {
-        job: String::from_str(alloc, job)?,
-        input: owned_copy(alloc, input)?,
+        job: run.job,
+        input: run.input,
         width,
         svg: matches.get_flag("svg"),
-        settings,
+        settings: run.settings,
     }))
 }
 
@@ -238,16 +260,15 @@ fn faults_command(
 ) -> Result<Command, CommandFault>
     ensures { IfOk result IsAsked }
 {
-    let input = matches.get_str("input");
-    let settings = settings_of(alloc, job, input, matches)?;
+    let run = job_run(alloc, job, matches)?;
     let name = raised_name(alloc, matches.get_str("name").unwrap_or(DEFAULT_FAULT))?;
     let deny = denied_kinds(alloc, matches.get_str("deny").unwrap_or(""))?;
     Ok(Command::Faults(FaultsArgs {
-        job: String::from_str(alloc, job)?,
-        input: owned_copy(alloc, input)?,
+        job: run.job,
+        input: run.input,
         name,
         deny,
-        settings,
+        settings: run.settings,
         json: matches.get_flag("json"),
     }))
 }
@@ -260,13 +281,12 @@ fn races_command(
 ) -> Result<Command, CommandFault>
     ensures { IfOk result IsAsked }
 {
-    let input = matches.get_str("input");
-    let settings = settings_of(alloc, job, input, matches)?;
+    let run = job_run(alloc, job, matches)?;
     Ok(Command::Races(RacesArgs {
-        job: String::from_str(alloc, job)?,
-        input: owned_copy(alloc, input)?,
+        job: run.job,
+        input: run.input,
         deny: matches.get_flag("deny"),
-        settings,
+        settings: run.settings,
         json: matches.get_flag("json"),
     }))
 }
@@ -279,16 +299,15 @@ fn sweep_command(
 ) -> Result<Command, CommandFault>
     ensures { IfOk result IsAsked }
 {
-    let input = matches.get_str("input");
-    let settings = settings_of(alloc, job, input, matches)?;
+    let run = job_run(alloc, job, matches)?;
     let target = target_of(alloc, matches.get_str("of"), matches.get_str("at"))?;
     let values = values_of(alloc, matches.get_str("values").unwrap_or(""))?;
     Ok(Command::Sweep(SweepArgs {
-        job: String::from_str(alloc, job)?,
-        input: owned_copy(alloc, input)?,
+        job: run.job,
+        input: run.input,
         target,
         values,
-        settings,
+        settings: run.settings,
         json: matches.get_flag("json"),
     }))
 }
