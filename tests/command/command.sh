@@ -414,6 +414,10 @@ wants 0 'nursery 0.1.0\n' '' --version
 words='explain --help'; holds 0 out 'Usage: nursery explain [OPTIONS] <JOB> [INPUT]' '--task <LABEL>' '--workers <N>' '--order <ORDER>' '--limit <T>'
 words='--help'; holds 0 out 'Usage: nursery <COMMAND>' '  run ' '  explain ' '  faults ' '  races ' '  sweep ' '  check ' '  upgrade ' '$ nursery run first.job log.txt' '  line 0+5 error' 'Exit status'
 words='help'; holds 0 out 'Usage: nursery <COMMAND>'
+# Each command that the help lists has an example of itself in its own help.
+for command in $("$nursery" --help | sed -n '/^Commands/,/^$/s/^  \([a-z]*\)  *[A-Z].*/\1/p'); do
+    [ "$command" = help ] || { words="help $command"; holds 0 out 'Example' "nursery $command "; }
+done
 words='run --help'; holds 0 out 'Usage: nursery run [OPTIONS] <JOB> <INPUT>' '--workers <N>' '--order <ORDER>' '--limit <T>' '  line 6+10 ERROR disk'
 words='faults --help'; holds 0 out 'Usage: nursery faults [OPTIONS] <JOB> [INPUT]' '--name <NAME>' '--deny <KINDS>' '--workers <N>' '--limit <T>'
 words='races --help'; holds 0 out 'Usage: nursery races [OPTIONS] <JOB> [INPUT]' '--deny' '--workers <N>' '--limit <T>'
