@@ -344,7 +344,7 @@ refuses 'trio-job 1\njob main {\n  scope s {\n    sleep 1;\n}\n' 'refused J6 Syn
 refuses 'trio-job 1\njob main { cancel x; }\n' 'refused J9 NotEnclosing at 29' \
     '2:19: no enclosing scope or nursery has this name\njob main { cancel x; }\n                  ^\nno scope or nursery is around this `cancel`'
 refuses 'trio-job 1\njob main { raise Cancelled; }\n' 'refused J10 Reserved at 28' \
-    '2:18: this name is reserved: no keyword, not `Cancelled`, and `TooSlow` only after `except`\njob main { raise Cancelled; }\n                 ^'
+    '2:18: this name is reserved: a name must not be a keyword or `Cancelled`, and `TooSlow` is allowed only after `except`\njob main { raise Cancelled; }\n                 ^'
 nest=$(printf 'scope s%d { ' 1 2 3 4 5 6 7 8 9 10 11 12 13 14 15 16 17 18 19 20 21 22 23 24 25 26 27 28 29 30 31 32)
 printf 'trio-job 1\njob main { %s' "$nest" > bad.job
 for _ in 0 1 2 3 4 5 6 7 8 9 10 11 12 13 14 15 16 17 18 19 20 21 22 23 24 25 26 27 28 29 30 31 32; do printf '}' >> bad.job; done

@@ -69,6 +69,9 @@ job_hints 'Trio'\''s `open_nursery` is `nursery NAME { .. }` here' 'open_nursery
 job_hints 'Trio'\''s `start_soon` is `start NAME { .. }` here, right inside a nursery' 'nursery tasks { start_soon task { } }'
 job_hints 'Trio'\''s `sleep_forever` is `forever;` here' 'sleep_forever;'
 
+job_hints '`fail` is a keyword: choose another name' 'nursery tasks { start fail { sleep 1; } }'
+job_hints '`repeat` is a keyword: choose another name' 'scope repeat { sleep 1; }'
+job_hints "$named" 'scope fail { sleep 1; }'
 job_hints 'did you mean `sleep`?' 'slepe 1;'
 job_hints 'format 2 has this: begin the job text with the line `trio-job 2`' 'repeat 3 { sleep 1; }'
 job_hints 'what can be cancelled here: `tasks`, `work`' 'scope work { nursery tasks { start task { cancel wrok; } } }'

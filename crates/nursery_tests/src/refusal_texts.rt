@@ -107,7 +107,7 @@ pub(crate) const WRONG: &[Row] = &[
     ),
     (
         "trio-job 1\njob a { raise sleep; }",
-        "f:2:15: this name is reserved: no keyword, not `Cancelled`, and `TooSlow` only after `except`\njob a { raise sleep; }\n              ^\n",
+        "f:2:15: this name is reserved: a name must not be a keyword or `Cancelled`, and `TooSlow` is allowed only after `except`\njob a { raise sleep; }\n              ^\n`sleep` is a keyword: choose another name\n",
     ),
     (
         "trio-job 1\njob a { nursery n { start b over 64 { nursery m { start c over 64 { nursery q { start d over 64 { } } } } } } }",
@@ -174,5 +174,18 @@ pub(crate) const HELPED: &[Row] = &[
     (
         "trio-job 2\njob a { repaet 2 { } }",
         "\ndid you mean `repeat`?\n",
+    ),
+    // A keyword may be the next word of a head whose name is missing.
+    (
+        "trio-job 1\njob a { nursery n { start fail { } } }",
+        "\n`fail` is a keyword: choose another name\n",
+    ),
+    (
+        "trio-job 1\njob a { scope fail { } }",
+        "\neach job, scope, nursery and start has a name, as in `scope work after 5 { .. }`\n",
+    ),
+    (
+        "trio-job 1\njob a { raise Cancelled; }",
+        "\njob a { raise Cancelled; }\n              ^\n",
     ),
 ];

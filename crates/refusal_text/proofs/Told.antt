@@ -11,11 +11,10 @@ use Rattle.job_syntax.specs.Syntax.{fault_at, roles_at, whole_job}
 use Rattle.job_syntax.specs.declared.nonterminal.Nonterminal.{Nonterminal}
 use Rattle.job_grammar.specs.Refusals.{HasTokens, format_of}
 use Rattle.nursery_app.specs.Places.{column_of}
-use Rattle.refusal_text.specs.declared.advice.Advice.{Advice}
 use Rattle.refusal_text.specs.declared.hinting.Hint.{Hint}
 use Rattle.refusal_text.specs.Expecting.{expected_nonterminal, IsExpected}
 use Rattle.refusal_text.specs.Scanning.{shape_at, last_before}
-use Rattle.refusal_text.specs.Hinting.{advice_hint, reserved_advice, syntax_hint, twice_hint, IsSyntaxHint, IsTwiceHint}
+use Rattle.refusal_text.specs.Hinting.{reserved_name_hint, syntax_hint, twice_hint, IsSyntaxHint, IsTwiceHint}
 use Rattle.refusal_text.specs.Explaining.{heading, shown_byte, is_newline, last_of, width_before, shown_before, shown_after, most_before, most_after}
 
 -- what the grammar expects after the tokens is what it expects in the text
@@ -114,12 +113,11 @@ helps_text format text at tokens fault h of has is =
     (tokens, fault, has, is ∙ ap (λ (f : Format). syntax_hint f tokens (last_before at None tokens) (shape_at at tokens)) of)
 
 -- the hint where a name is reserved
-pub helps_reserved : (at : ℕ) (given : List Token) (before shape : Option Shape) (a : Option Advice) (h : Option Hint) →
-    before ≡ last_before at None given → shape ≡ shape_at at given → a ≡ reserved_advice before shape → h ≡ advice_hint a
-    → h ≡ advice_hint (reserved_advice (last_before at None given) (shape_at at given))
-helps_reserved at given before shape a h before_is shape_is a_is is =
-    is ∙ ap advice_hint (a_is ∙ ap (reserved_advice before) shape_is
-    ∙ ap (λ (b : Option Shape). reserved_advice b (shape_at at given)) before_is)
+pub helps_reserved : (at : ℕ) (given : List Token) (before shape : Option Shape) (h : Option Hint) →
+    before ≡ last_before at None given → shape ≡ shape_at at given → h ≡ reserved_name_hint before shape
+    → h ≡ reserved_name_hint (last_before at None given) (shape_at at given)
+helps_reserved at given before shape h before_is shape_is is =
+    is ∙ ap (reserved_name_hint before) shape_is ∙ ap (λ (b : Option Shape). reserved_name_hint b (shape_at at given)) before_is
 
 -- the hint where a name is given twice, found by the tokens of the text and their roles
 pub helps_twice : (format : Format) (text : List ℕ) (tokens given : List Token) (roles shown : List Role) (fault stop : Option ℕ)

@@ -57,6 +57,9 @@ pointed_message job text at sentence = heading job (line_of text at) (column_of 
 abbrev pub meant_line : List ℕ → List ℕ
 meant_line bytes = codes "did you mean `" ++ map shown_byte bytes ++ codes "`?\n"
 
+abbrev pub keyword_line : List ℕ → List ℕ
+keyword_line bytes = codes "`" ++ map shown_byte bytes ++ codes "` is a keyword: choose another name\n"
+
 -- some words, and a place as `JOB:LINE:COLUMN`
 abbrev pub place_line : List ℕ → List ℕ → List ℕ → ℕ → List ℕ
 place_line what job text at = what ++ job ++ codes ":" ++ decimal (line_of text at) ++ codes ":" ++ decimal (column_of text at)
@@ -70,6 +73,7 @@ size_line n = codes "the job has " ++ decimal n ++ codes " steps\n"
 abbrev pub hint_line : List ℕ → List ℕ → Hint → List ℕ
 hint_line job text (hint.Advice a) = advice_text a
 hint_line job text (hint.Meant keyword) = meant_line (spelling_of keyword)
+hint_line job text (hint.Keyword keyword) = keyword_line (spelling_of keyword)
 hint_line job text (hint.OpenSince at) = place_line (codes "the innermost block that is not closed begins at ") job text at
 hint_line job text (hint.GivenAt at) = place_line (codes "it was first given at ") job text at
 hint_line job text (hint.Size n) = size_line n

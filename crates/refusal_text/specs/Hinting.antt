@@ -56,23 +56,12 @@ is_head word.Fail = true
 is_head word.Over = true
 is_head _ = false
 
--- the words that a name follows
-abbrev pub is_named : Keyword → Bool
-is_named word.Job = true
-is_named word.Scope = true
-is_named word.Nursery = true
-is_named word.Start = true
-is_named _ = false
-
 abbrev pub if_keyword : (Keyword → Bool) → Option Keyword → Bool
 if_keyword test None = false
 if_keyword test (Some k) = test k
 
 abbrev pub is_head_word : Option Shape → Bool
 is_head_word shape = if_keyword is_head (keyword_in shape)
-
-abbrev pub gives_name : Option Shape → Bool
-gives_name shape = if_keyword is_named (keyword_in shape)
 
 -- ---- the hint where no token begins
 
@@ -148,13 +137,25 @@ IsSyntaxHint text at h = (tokens : List Token) × (fault : Option ℕ) × HasTok
 
 -- ---- the hint where a name is reserved
 
--- a word of a head where a name is to be given
-abbrev pub reserved_advice : Option Shape → Option Shape → Option Advice
-reserved_advice before shape = if gives_name before && is_head_word shape then Some advice.Unnamed else None
+-- a keyword directly follows the word that begins its head, so that the name between them is missing
+abbrev pub is_unnamed : Option Keyword → Keyword → Bool
+is_unnamed (Some word.Scope) word.After = true
+is_unnamed (Some word.Scope) word.At = true
+is_unnamed (Some word.Scope) word.Shield = true
+is_unnamed (Some word.Scope) word.Fail = true
+is_unnamed (Some word.Nursery) word.After = true
+is_unnamed (Some word.Nursery) word.Shield = true
+is_unnamed (Some word.Start) word.Over = true
+is_unnamed _ _ = false
+
+-- given the token before the place and the token there: the name is missing, or it is a keyword
+abbrev pub reserved_name_hint : Option Shape → Option Shape → Option Hint
+reserved_name_hint before shape = keyword_in shape >>= λ k.
+    if is_unnamed (keyword_in before) k then Some (hint.Advice advice.Unnamed) else Some (hint.Keyword k)
 
 abbrev pub IsReservedHint : List ℕ → ℕ → Option Hint → Type 0
 IsReservedHint text at h = (tokens : List Token) × (fault : Option ℕ) × HasTokens text tokens fault
-    × (h ≡ advice_hint (reserved_advice (last_before at None tokens) (shape_at at tokens)))
+    × (h ≡ reserved_name_hint (last_before at None tokens) (shape_at at tokens))
 
 -- ---- the hint where a job is too large
 

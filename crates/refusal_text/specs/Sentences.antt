@@ -52,7 +52,7 @@ sentence_of Syntax byte asked = expected_sentence asked
 sentence_of Depth byte asked = codes "blocks are nested more than 32 deep"
 sentence_of Twice byte asked = codes "this name was given before: jobs, scopes, nurseries and starts need names of their own"
 sentence_of NotEnclosing byte asked = codes "no enclosing scope or nursery has this name"
-sentence_of Reserved byte asked = codes "this name is reserved: no keyword, not `Cancelled`, and `TooSlow` only after `except`"
+sentence_of Reserved byte asked = codes "this name is reserved: a name must not be a keyword or `Cancelled`, and `TooSlow` is allowed only after `except`"
 sentence_of TooLarge byte asked =
     codes "the job has more than 100000 steps, in format 2 more than 1000000, the copies that `over` makes and the passes of `repeat` counted"
 sentence_of NoMemory byte asked = codes "no memory"

@@ -1,7 +1,7 @@
 ghost use Rattle.std.specs.Prelude.{◌≡◌, ◌∷◌, ◌++◌, ◌<◌, ◌≤◌, length, take, map, replicate, codes, decimal, IfOk, OnOk};
 ghost use Rattle.std.specs.List.{before_first};
 ghost use Rattle.std.specs.String.{string_bytes};
-ghost use Rattle.refusal_text.specs.Explaining.{Tells, pointed_message, heading, shown_byte, is_newline, last_of, most_after, hint_of, hint_line, meant_line, place_line, size_line, quoted_name, more_quoted_names, names_line, names_of};
+ghost use Rattle.refusal_text.specs.Explaining.{Tells, pointed_message, heading, shown_byte, is_newline, last_of, most_after, hint_of, hint_line, meant_line, keyword_line, place_line, size_line, quoted_name, more_quoted_names, names_line, names_of};
 ghost use Rattle.job_syntax.specs.Keywords.{spelling_of};
 ghost use Rattle.refusal_text.specs.Scopes.{names_held};
 ghost use Rattle.nursery_app.specs.Places.{line_of, column_of};
@@ -179,6 +179,7 @@ fn push_hint(message: &mut String, job: &str, text: &[u8], hint: Hint) -> Result
     match hint {
         Hint::Advice(advice) => message.push_str(advice.text()),
         Hint::Meant(keyword) => push_meant(message, keyword),
+        Hint::Keyword(keyword) => push_keyword(message, keyword),
         Hint::OpenSince(at) => push_at(
             message,
             "the innermost block that is not closed begins at ",
@@ -261,6 +262,16 @@ fn push_meant(message: &mut String, keyword: Keyword) -> Result<(), AllocError>
     message.push_str("did you mean `")?;
     push_shown(message, keyword.bytes())?;
     message.push_str("`?\n")?;
+    Ok(())
+}
+
+// Appends the line that says that a name is a keyword.
+fn push_keyword(message: &mut String, keyword: Keyword) -> Result<(), AllocError>
+    ensures { OnOk result (string_bytes message.new ≡ string_bytes message.old ++ keyword_line (spelling_of keyword)) }
+{
+    message.push_str("`")?;
+    push_shown(message, keyword.bytes())?;
+    message.push_str("` is a keyword: choose another name\n")?;
     Ok(())
 }
 

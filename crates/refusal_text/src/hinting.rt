@@ -1,7 +1,7 @@
 ghost use Rattle.std.specs.Prelude.{◌≡◌, ◌-◌, None, IfOk, slice_get};
 ghost use Rattle.refusal_text.specs.Expecting.{expected_nonterminal};
 ghost use Rattle.refusal_text.specs.Scanning.{last_before, shape_at};
-ghost use Rattle.refusal_text.specs.Hinting.{IsTokenHint, IsTwiceHint, IsReservedHint, advice_hint, token_advice, call_or_byte_advice, near_hint, nonterminal_hint, is_newer, or_near_hint, nonterminal_advice, unnamed_advice, order_advice, word_advice, keyword_in, is_head_word, is_head, is_named, gives_name, reserved_advice, syntax_hint, twice_hint};
+ghost use Rattle.refusal_text.specs.Hinting.{IsTokenHint, IsTwiceHint, IsReservedHint, advice_hint, token_advice, call_or_byte_advice, near_hint, nonterminal_hint, is_newer, or_near_hint, nonterminal_advice, unnamed_advice, order_advice, word_advice, keyword_in, is_head_word, is_head, is_unnamed, reserved_name_hint, syntax_hint, twice_hint};
 ghost use Rattle.job_tree.specs.declared.format.Format.TheVariants.{Two};
 ghost use Rattle.job_syntax.specs.Nonterminals.{next};
 ghost use Rattle.job_syntax.specs.Syntax.{whole_job};
@@ -23,6 +23,8 @@ pub(crate) enum Hint {
     Advice(Advice),
     /// The word is nearly this keyword, which is allowed there.
     Meant(Keyword),
+    /// The name is this keyword.
+    Keyword(Keyword),
     /// The innermost block that is not closed begins at this place.
     OpenSince(usize),
     /// The name was first given at this place.
@@ -262,26 +264,6 @@ fn is_head(keyword: Keyword) -> bool
     )
 }
 
-// Returns whether a token begins something that has a name: a job, a scope, a nursery or a start.
-fn gives_name(shape: Option<Shape>) -> bool
-    ensures { result ≡ gives_name shape }
-{
-    match keyword_in(shape) {
-        Some(keyword) => is_named(keyword),
-        None => false,
-    }
-}
-
-// Returns whether a name follows a keyword.
-fn is_named(keyword: Keyword) -> bool
-    ensures { result ≡ is_named keyword }
-{
-    matches!(
-        keyword,
-        Keyword::Job | Keyword::Scope | Keyword::Nursery | Keyword::Start
-    )
-}
-
 // Returns the hint for a name that is reserved.
 pub(crate) fn reserved_hint(
     alloc: Global,
@@ -292,17 +274,33 @@ pub(crate) fn reserved_hint(
 {
     let lexed = LexedText::new(alloc, text)?;
     let tokens = lexed.tokens.as_slice();
-    Ok(advice_hint(reserved_advice(last_before(tokens, at), shape_at(tokens, at))))
+    Ok(reserved_name_hint(last_before(tokens, at), shape_at(tokens, at)))
 }
 
-// Returns the hint for a word of a head where a name is to be given.
-fn reserved_advice(before: Option<Shape>, shape: Option<Shape>) -> Option<Advice>
-    ensures { result ≡ reserved_advice before shape }
+// Returns the same for the token at the place and the one before it: that the name is missing, or that it is a keyword.
+fn reserved_name_hint(before: Option<Shape>, shape: Option<Shape>) -> Option<Hint>
+    ensures { result ≡ reserved_name_hint before shape }
 {
-    if gives_name(before) && is_head_word(shape) {
-        return Some(Advice::Unnamed);
+    let keyword = keyword_in(shape)?;
+    if is_unnamed(keyword_in(before), keyword) {
+        return Some(Hint::Advice(Advice::Unnamed));
     }
-    None
+    Some(Hint::Keyword(keyword))
+}
+
+// Returns whether a keyword directly follows the word that begins its head, so that the name between them is missing.
+fn is_unnamed(before: Option<Keyword>, keyword: Keyword) -> bool
+    ensures { result ≡ is_unnamed before keyword }
+{
+    match before {
+        Some(Keyword::Scope) => matches!(
+            keyword,
+            Keyword::After | Keyword::At | Keyword::Shield | Keyword::Fail
+        ),
+        Some(Keyword::Nursery) => matches!(keyword, Keyword::After | Keyword::Shield),
+        Some(Keyword::Start) => matches!(keyword, Keyword::Over),
+        _ => false,
+    }
 }
 
 // Returns where the name at a place was first given.

@@ -28,7 +28,7 @@ pub(crate) fn sentence_of(
             "this name was given before: jobs, scopes, nurseries and starts need names of their own",
         JobKind::NotEnclosing => "no enclosing scope or nursery has this name",
         JobKind::Reserved =>
-            "this name is reserved: no keyword, not `Cancelled`, and `TooSlow` only after `except`",
+            "this name is reserved: a name must not be a keyword or `Cancelled`, and `TooSlow` is allowed only after `except`",
         JobKind::TooLarge =>
             "the job has more than 100000 steps, in format 2 more than 1000000, the copies that `over` makes and the passes of `repeat` counted",
         JobKind::NoMemory => "no memory",

@@ -2,7 +2,7 @@ use Rattle.std.proofs.Common.{◌≡◌, List}
 use Rattle.std.specs.Prelude.{None}
 use Rattle.job_tokens.specs.declared.token.Token.{Token}
 use Rattle.refusal_text.specs.Scanning.{shape_at, last_before}
-use Rattle.refusal_text.specs.Hinting.{advice_hint, reserved_advice}
+use Rattle.refusal_text.specs.Hinting.{reserved_name_hint}
 use Rattle.refusal_text.proofs.Told.{of_tokens, helps_reserved}
 use Rattle.refusal_text.proofs.hinting.reserved_hint.Goals as goal
 
@@ -11,7 +11,6 @@ returns c =
     let text = c.args.text.now in
     let at = c.args.at in
     of_tokens text _ c.as_slice-tokens.result.now c.in_ok-lexed.lexed.fault
-    (λ (ts : List Token). c.advice_hint.result ≡ advice_hint (reserved_advice (last_before at None ts) (shape_at at ts)))
+    (λ (ts : List Token). c.reserved_name_hint.result ≡ reserved_name_hint (last_before at None ts) (shape_at at ts))
     c.in_ok-lexed.ensures.tokens c.as_slice-tokens.ensures.value
-    (helps_reserved at c.as_slice-tokens.result.now _ _ _ _ c.last_before.ensures c.shape_at.ensures c.reserved_advice.ensures
-    c.advice_hint.ensures)
+    (helps_reserved at c.as_slice-tokens.result.now _ _ _ c.last_before.ensures c.shape_at.ensures c.reserved_name_hint.ensures)
