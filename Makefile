@@ -1,5 +1,7 @@
+# make test: all tests, without any proof, in some minutes.
 # make install PREFIX=$HOME/.local: puts the program, its completions for bash, zsh and fish, and its man page in place.
-# The gate builds the program; where it has not run, `rt run` in crates/nursery does, and proves what the program is made of.
+#     The gate builds the program; where it has not run, bench/build.py proves what the program is made of, and builds it.
+# make release-check: tries the must-fail edits that the gate does not try, for some hours.
 
 PREFIX ?= /usr/local
 PROGRAM = crates/nursery/out/nursery
@@ -9,7 +11,14 @@ ZSH = $(ROOT)/share/zsh/site-functions
 FISH = $(ROOT)/share/fish/vendor_completions.d
 MAN = $(ROOT)/share/man/man1
 
-.PHONY: install uninstall
+.PHONY: test release-check install uninstall
+
+test:
+	python3 tests/quick.py
+
+release-check:
+	python3 bench/build.py
+	python3 tests/edits/try.py
 
 install: $(PROGRAM)
 	install -d $(ROOT)/bin $(BASH) $(ZSH) $(FISH) $(MAN)
@@ -23,4 +32,4 @@ uninstall:
 	rm -f $(ROOT)/bin/nursery $(BASH)/nursery $(ZSH)/_nursery $(FISH)/nursery.fish $(MAN)/nursery.1
 
 $(PROGRAM):
-	cd crates/nursery && rt run < stdin
+	python3 bench/build.py

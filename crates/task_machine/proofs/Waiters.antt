@@ -11,21 +11,23 @@ use Rattle.nursery_book.specs.declared.book.NurseryBook.{NurseryBook}
 use Rattle.task_machine.specs.Entered.{EntersNursery}
 use Rattle.task_machine.specs.Started.{StartsAll, StartsChildren}
 use Rattle.task_machine.specs.States.{State}
-use Rattle.task_machine.specs.Waiters.{HadWaiter, SameWaiters, OpenedBy, KeepsRest}
+use Rattle.task_machine.specs.Waiters.{HadNursery, SameWaiters, OpenedBy, KeepsRest}
 use Rattle.task_machine.specs.Waking.{IsInRangeTaskState}
 use Rattle.task_machine.specs.declared.task.Task.{Task}
 use Rattle.task_machine.specs.declared.world.World.{World}
 
--- a nursery that is in the book has its own waiter
-itself : (book : NurseryBook) (id : ℕ) (n : Nursery) → nursery_at book id ≡ Some n → HadWaiter book id n.waiter
-itself book id n at = subst (λ (o : Option Nursery). IsSomeAnd o (λ m. m.waiter ≡ n.waiter)) (sym at) refl
+-- a nursery that is in the book has its own waiter and label, and those that are equal to them
+itself : (book : NurseryBook) (id : ℕ) (n : Nursery) (waiter : ℕ) (label : Label) → nursery_at book id ≡ Some n → n.waiter ≡ waiter →
+    n.label ≡ label → HadNursery book id waiter label
+itself book id n waiter label at w l =
+    subst (λ (o : Option Nursery). IsSomeAnd o (λ m. (m.waiter ≡ waiter) × (m.label ≡ label))) (sym at) (w, l)
 
 pub same_book : (old new : NurseryBook) → new ≡ old → SameWaiters old new
-same_book old new e id n at = itself old id n (ap (λ (b : NurseryBook). nursery_at b id) (sym e) ∙ at)
+same_book old new e id n at = itself old id n n.waiter n.label (ap (λ (b : NurseryBook). nursery_at b id) (sym e) ∙ at) refl refl
 
 -- one nursery changed, was opened or was closed, and the others stay
 updated : (P : ℕ → Nursery → Type 0) (old new : NurseryBook) (key : ℕ) (o : Option Nursery) → Updates old new key o →
-    ((n : Nursery) → o ≡ Some n → P key n) → ((id : ℕ) (n : Nursery) → HadWaiter old id n.waiter → P id n) →
+    ((n : Nursery) → o ≡ Some n → P key n) → ((id : ℕ) (n : Nursery) → HadNursery old id n.waiter n.label → P id n) →
     (id : ℕ) (n : Nursery) → nursery_at new id ≡ Some n → P id n
 updated P old new key o u this others id n at = by_test (id == key) refl
   where
@@ -34,19 +36,22 @@ updated P old new key o u this others id n at = by_test (id == key) refl
         let same : id ≡ key = eqb-true id key e in
         subst (λ (k : ℕ). P k n) (sym same) (this n (sym u.changed ∙ (ap (λ (k : ℕ). nursery_at new k) (sym same) ∙ at)))
     by_test false e =
-        others id n (itself old id n (sym (u.others id (λ same. absurd (let f : false ≡ true = sym e ∙ eq-eqb id key same in cc))) ∙ at))
+        others id n
+        (itself old id n n.waiter n.label
+        (sym (u.others id (λ same. absurd (let f : false ≡ true = sym e ∙ eq-eqb id key same in cc))) ∙ at) refl refl)
 
 pub closed_waiters : (old new : NurseryBook) (key : ℕ) → Updates old new key None → SameWaiters old new
 closed_waiters old new key u =
-    updated (λ id n. HadWaiter old id n.waiter) old new key None u (λ n e. absurd (none-some n e)) (λ id n h. h)
+    updated (λ id n. HadNursery old id n.waiter n.label) old new key None u (λ n e. absurd (none-some n e)) (λ id n h. h)
 
--- a nursery that has more children, or whose body ended, has its old waiter
+-- a nursery that has more children, or whose body ended, has its old waiter and its label
 pub grown_waiters : (old new : NurseryBook) (key : ℕ) (before after : Nursery) → nursery_at old key ≡ Some before →
-    Updates old new key (Some after) → after.waiter ≡ before.waiter → SameWaiters old new
-grown_waiters old new key before after at u same =
-    updated (λ id n. HadWaiter old id n.waiter) old new key (Some after) u
-    (λ n e. subst (λ (w : ℕ). HadWaiter old key w) (sym same ∙ ap (λ (m : Nursery). m.waiter) (same_Some after n e)) (itself old key before at))
-    (λ id n h. h)
+    Updates old new key (Some after) → after.waiter ≡ before.waiter → after.label ≡ before.label → SameWaiters old new
+grown_waiters old new key before after at u waits named =
+    updated (λ id n. HadNursery old id n.waiter n.label) old new key (Some after) u
+    (λ n e.
+    itself old key before n.waiter n.label at (sym waits ∙ ap (λ (m : Nursery). m.waiter) (same_Some after n e))
+    (sym named ∙ ap (λ (m : Nursery). m.label) (same_Some after n e))) (λ id n h. h)
 
 pub ended_waiters : (old new : NurseryBook) (key : ℕ) (exc : Option Exc) → Changes old new key (with_body exc) → SameWaiters old new
 ended_waiters old new key exc h = by_nursery (nursery_at old key) refl h
@@ -54,15 +59,15 @@ ended_waiters old new key exc h = by_nursery (nursery_at old key) refl h
     by_nursery : (o : Option Nursery) → nursery_at old key ≡ o →
         IsSomeAnd o (λ n. Updates old new key (Some (with_body exc n))) → SameWaiters old new
     by_nursery None e u = absurd u
-    by_nursery (Some n) e u = grown_waiters old new key n (with_body exc n) e u refl
+    by_nursery (Some n) e u = grown_waiters old new key n (with_body exc n) e u refl refl
 
 pub started_waiters : (s u : State) (name : List ℕ) (over : Option ℕ) (body : Steps) → StartsChildren s u name over body →
     SameWaiters s.book u.book
 started_waiters s u name over body h = by_over over h.started
   where
     by_over : (o : Option ℕ) → StartsAll s u h.id name o body → SameWaiters s.book u.book
-    by_over None x = grown_waiters s.book u.book h.id x.nursery _ x.was x.book refl
-    by_over (Some k) x = grown_waiters s.book u.book h.id x.nursery _ x.was x.book refl
+    by_over None x = grown_waiters s.book u.book h.id x.nursery _ x.was x.book refl refl
+    by_over (Some k) x = grown_waiters s.book u.book h.id x.nursery _ x.was x.book refl refl
 
 -- where no nursery was opened, none was by another task
 pub opened_none : (me : ℕ) (old new : NurseryBook) → SameWaiters old new → OpenedBy me old new
@@ -73,20 +78,27 @@ opened_still me book = opened_none me book book (same_book book book refl)
 
 pub opened_one : (me : ℕ) (s u : State) (label : Label) (body : Steps) → EntersNursery me s u label body → OpenedBy me s.book u.book
 opened_one me s u label body h =
-    updated (λ id n. (n.waiter ≡ me) ⊎ HadWaiter s.book id n.waiter) s.book u.book h.id _ h.stands
+    updated (λ id n. (n.waiter ≡ me) ⊎ HadNursery s.book id n.waiter n.label) s.book u.book h.id _ h.stands
     (λ n e. inl (sym (ap (λ (m : Nursery). m.waiter) (same_Some _ n e)))) (λ id n w. inr w)
 
 -- one move after another
 pub opened_then : (me : ℕ) (old mid new : NurseryBook) → OpenedBy me old mid → OpenedBy me mid new → OpenedBy me old new
 opened_then me old mid new h k id n at = by_case (k id n at)
   where
-    had : (o : Option Nursery) → nursery_at mid id ≡ o → IsSomeAnd o (λ m. m.waiter ≡ n.waiter) → (n.waiter ≡ me) ⊎ HadWaiter old id n.waiter
-    had None e w = absurd w
-    had (Some m) e w = subst (λ (x : ℕ). (x ≡ me) ⊎ HadWaiter old id x) w (h id m e)
+    before_that : (m : Nursery) → m.waiter ≡ n.waiter → m.label ≡ n.label → (m.waiter ≡ me) ⊎ HadNursery old id m.waiter m.label →
+        (n.waiter ≡ me) ⊎ HadNursery old id n.waiter n.label
+    before_that m w l (inl e) = inl (sym w ∙ e)
+    before_that m w l (inr was) =
+        inr (subst (λ (x : Label). HadNursery old id n.waiter x) l (subst (λ (x : ℕ). HadNursery old id x m.label) w was))
 
-    by_case : (n.waiter ≡ me) ⊎ HadWaiter mid id n.waiter → (n.waiter ≡ me) ⊎ HadWaiter old id n.waiter
+    had : (o : Option Nursery) → nursery_at mid id ≡ o → IsSomeAnd o (λ m. (m.waiter ≡ n.waiter) × (m.label ≡ n.label)) →
+        (n.waiter ≡ me) ⊎ HadNursery old id n.waiter n.label
+    had None e same = absurd same
+    had (Some m) e same = before_that m same.0 same.1 (h id m e)
+
+    by_case : (n.waiter ≡ me) ⊎ HadNursery mid id n.waiter n.label → (n.waiter ≡ me) ⊎ HadNursery old id n.waiter n.label
     by_case (inl e) = inl e
-    by_case (inr w) = had (nursery_at mid id) refl w
+    by_case (inr was) = had (nursery_at mid id) refl was
 
 -- what one move after another leaves as it was
 pub keeps_then : (me : ℕ) (before mid after : Task) (old w new : World) → KeepsRest me before mid old w → KeepsRest me mid after w new →
