@@ -244,6 +244,12 @@ for word in sleep Cancelled TooSlow 1st a-b; do
     wants 2 '' "error: no step can raise \`$word\`: --name takes a letter, then letters, digits and \`_\`, at most 32 in all, and no keyword, \`Cancelled\` or \`TooSlow\`\n" faults raise.job --name "$word"
 done
 
+printf 'trio-job 1\njob cut {\n  nursery both {\n    start hung { scope safe shield { sleep 5; } }\n    start quick { try { forever; } finally { sleep 2; } }\n    start stop { sleep 1; cancel both; }\n  }\n}\n' > cut.job
+stuck_and_cut='4:38  sleep 5  hangs       stuck at 1000000; sleeping forever: hung; cleanup cut: quick\n'
+words='faults cut.job --deny cut'; holds_denied=$("$nursery" $words 2>&1 > /dev/null || true)
+name="nursery $words"
+printf '%s\n' "$holds_denied" > err
+shows err "$(printf "$stuck_and_cut")"
 printf 'trio-job 1\njob calls {\n  nursery all {\n    start user { sleep 2; }\n    start mail { scope limit after 5 { sleep 3; } }\n  }\n}\n' > calls.job
 calls='               as it is    3 done\n4:18  sleep 2  fails       1 raised all[Fault(user@0)]; cancelled: mail\n4:18  sleep 2  fails late  3 raised all[Fault(user@2)]; cancelled: mail\n4:18  sleep 2  hangs       stuck at 1000000; sleeping forever: user\n4:18  sleep 2  cancelled   1 done; cancelled: user, mail\n5:40  sleep 3  fails       1 raised all[Fault(mail@0)]; cancelled: user\n5:40  sleep 3  fails late  3 raised all[Fault(mail@3)]\n5:40  sleep 3  hangs       5 done\n5:40  sleep 3  cancelled   1 done; cancelled: user, mail\n8 faults: 1 stuck, 0 cut a cleanup, 0 lost, 0 not reached\n'
 wants 0 "$calls" '' faults calls.job
@@ -262,6 +268,10 @@ helps races "$both"
 wants 0 '0 hairs: no race\n' '' races find.job log.txt --deny
 wants 0 '2 hairs: no race\n' '' races raise.job --deny --workers 3
 wants 3 'limit 1\n' 'these tasks have not ended:\n  main  sleeping until 2 since 0\n' races raise.job --limit 1
+printf 'trio-job 2\njob untried {\n  nursery ws {\n    start w over 8 { repeat 64 { pace 100; } }\n    start x { sleep 5; cancel ws; }\n  }\n}\n' > untried.job
+untried='                finer    not tried: J11 at 0\n 4:5  start w   later    not tried: J11 at 0\n4:34  pace 100  later    not tried: J11 at 0\n 5:5  start x   later    not tried: J11 at 0\n5:15  sleep 5   earlier  not tried: J11 at 0\n5:15  sleep 5   later    not tried: J11 at 0\n'
+wants 0 "${untried}5 hairs: 0 races, 5 hairs not tried\n" '' races untried.job
+wants 1 "${untried}5 hairs: 0 races, 5 hairs not tried\n" "$untried" races untried.job --deny
 printf 'trio-job 1\njob late { scope s after 100000001 { sleep 1; } }\n' > late.job
 wants 2 '' 'error: a `sleep`, `after` or `at` of more than 100000000 ticks has no finer ticks: use a coarser unit of time\n' races late.job
 cp both.job in

@@ -67,6 +67,32 @@ def first_part(what):
     return what
 
 
+def events_in(story):
+    """The task and the sentence of each line of a story."""
+    return [line.split(maxsplit=1) for line in story.splitlines() if line.startswith("  ")]
+
+
+def cut_in(events):
+    """The tasks that were cancelled in a cleanup, each once."""
+    return list(dict.fromkeys(task for task, what in events if what.startswith("is cancelled during cleanup")))
+
+
+def has_leaf(raised, text):
+    """Whether an exception, as it is printed, is or contains one of this name."""
+    return bool(re.search(rf"(?<![A-Za-z0-9_]){raised}\(", text))
+
+
+def is_handled(raised, events):
+    """Whether a handler handles an exception of this name."""
+    return any(has_leaf(raised, first_part(what.removeprefix("handles "))) for _, what in events if what.startswith("handles "))
+
+
+def refusal_in(report):
+    """The refusal that a report is, as a table names it."""
+    words = report.split()
+    return f"not tried: {words[1]} at {words[4]}"
+
+
 class Runs:
     """The program, with a folder for its files."""
 
@@ -85,26 +111,34 @@ class Runs:
         status, report = self.call("run", text)
         note = "" if reached else "; not reached"
         if status == 2:
-            return "refused", "refused"
+            return refusal_in(report), "refused"
         _, story = self.call("explain", text)
         if status == 3:
-            running = story[story.index(f"limit {self.limit}\n") :].splitlines()[1:]
-            sleeping = [line.split()[0] for line in running if line.split(maxsplit=1)[1].startswith("sleeping forever")]
-            return f"stuck at {self.limit}{note}{names('sleeping forever', sleeping)}", "stuck"
+            told, running = story.split(f"limit {self.limit}\n")
+            sleeping = [line.split()[0] for line in running.splitlines() if line.split(maxsplit=1)[1].startswith("sleeping forever")]
+            events = events_in(told)
+            cut, lost = cut_in(events), bool(raised) and self.is_replaced(raised, events)
+            notes = names("sleeping forever", sleeping) + names("cleanup cut", cut) + ("; fault lost" if lost else "")
+            return f"stuck at {self.limit}{note}{notes}", "stuck" + " cut" * bool(cut) + " lost" * lost
         tasks = [line.split(" ", 4) for line in report.splitlines() if line.startswith("task ")]
         outcome = tasks[0][4]
         cancelled = [task[1] for task in tasks if task[4] == "cancelled"]
-        events = [line.split(maxsplit=1) for line in story.splitlines() if line.startswith("  ")]
-        cut = list(dict.fromkeys(task for task, what in events if what.startswith("is cancelled during cleanup")))
+        events = events_in(story)
+        cut = cut_in(events)
         lost = raised and any(what == f"raises {raised}" for _, what in events) and not self.is_kept(raised, events, outcome)
         notes = names("cancelled", cancelled) + names("cleanup cut", cut) + ("; fault lost" if lost else "")
         return f"{tasks[0][3]} {outcome}{note}{notes}", "cut" * bool(cut) + " lost" * bool(lost)
 
     def is_kept(self, raised, events, outcome):
         """Whether a handler handles an exception of this name, or the root ends with one."""
-        leaf = re.compile(rf"(?<![A-Za-z0-9_]){raised}\(")
-        handled = [first_part(what.removeprefix("handles ")) for _, what in events if what.startswith("handles ")]
-        return any(leaf.search(what) for what in handled) or bool(leaf.search(outcome))
+        return is_handled(raised, events) or has_leaf(raised, outcome)
+
+    def is_replaced(self, raised, events):
+        """Whether an exception of this name is raised and none is handled, and the exception of a cleanup replaces one."""
+        if is_handled(raised, events) or not any(what == f"raises {raised}" for _, what in events):
+            return False
+        pairs = [what.removeprefix("replaces ").split(" with ") for _, what in events if what.startswith("replaces ")]
+        return any(has_leaf(raised, lost) and not has_leaf(raised, fresh) for lost, fresh in pairs)
 
     def raises(self, text, name):
         """Whether an exception of a name is raised by the limit; where the text is refused, nothing is said of that."""
@@ -157,7 +191,7 @@ def laid_out(first, rows):
 def counted(kinds):
     count = lambda word: sum(word in of.split() for of, _ in kinds)
     unreached = sum(not reached and of != "refused" for of, reached in kinds)
-    refused = f", {count('refused')} refused" if count("refused") else ""
+    refused = f", {count('refused')} not tried" if count("refused") else ""
     faults = "fault" if len(kinds) == 1 else "faults"
     return f"{len(kinds)} {faults}: {count('stuck')} stuck, {count('cut')} cut a cleanup, {count('lost')} lost, {unreached} not reached{refused}\n"
 

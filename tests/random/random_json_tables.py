@@ -36,7 +36,7 @@ def names(title, tasks):
 
 def notes(result):
     if result["outcome"] == "stuck":
-        return names("sleeping forever", result["sleeping"])
+        return names("sleeping forever", result["sleeping"]) + names("cleanup cut", result["cut"])
     return names("cancelled", result["cancelled"]) + names("cleanup cut", result["cut"])
 
 
@@ -46,18 +46,22 @@ def ending(result, show):
     return result["outcome"]
 
 
+def not_tried_text(refusal):
+    return f"not tried: J{refusal['number']} at {refusal['at']}"
+
+
 def result_text(result, reached=True):
     if result["outcome"] == "refused":
-        return "refused"
+        return not_tried_text(result["not_tried"])
     missed = "" if reached else "; not reached"
-    if result["outcome"] == "stuck":
-        return f"stuck at {result['limit']}{missed}{notes(result)}"
     lost = "; fault lost" if result["lost"] else ""
+    if result["outcome"] == "stuck":
+        return f"stuck at {result['limit']}{missed}{notes(result)}{lost}"
     return f"{result['end']} {ending(result, exception_text)}{missed}{notes(result)}{lost}"
 
 
-def refused_text(count):
-    return f", {count} refused" if count else ""
+def more_text(count, what):
+    return f", {count} {what}" if count else ""
 
 
 def plural(count, word):
@@ -88,7 +92,7 @@ def faults_table(document):
         rows.append(f"{place(line):>{places}}  {step(line):{steps}}  {line['fault']:{kinds}}  {fate}")
     rows.append(
         f"{plural(counts['faults'], 'fault')}: {counts['stuck']} stuck, {counts['cut']} cut a cleanup, {counts['lost']} lost, "
-        f"{counts['not_reached']} not reached{refused_text(counts['refused'])}"
+        f"{counts['not_reached']} not reached{more_text(counts['not_tried'], 'not tried')}"
     )
     return rows
 
@@ -97,17 +101,22 @@ def span(first, last):
     return str(first) if first == last else f"{first}..{last}"
 
 
+def swept_text(result):
+    """The outcome of a value for which the job does not end, or has no text."""
+    return "refused" if result["outcome"] == "refused" else f"stuck at {result['limit']}{notes(result)}"
+
+
 def group_text(group):
     result = group["result"]
     if result["outcome"] in ("refused", "stuck"):
-        return result_text(result)
+        return swept_text(result)
     return f"{ending(result, sans)}, ends {span(min(group['ends']), max(group['ends']))}{notes(result)}"
 
 
 def shared(result):
     """What is the same of two values that share a line."""
     if result["outcome"] in ("refused", "stuck"):
-        return result_text(result)
+        return swept_text(result)
     return ending(result, sans) + notes(result)
 
 
@@ -127,7 +136,7 @@ def sweep_table(document):
     return [
         f"{'as it is':{width}}  {group_text({'result': first, 'ends': [first.get('end')]})}",
         *(f"{shown:{width}}  {group_text(group)}" for shown, group in zip(ranges, groups)),
-        f"{plural(counts['values'], 'value')}: {counts['stuck']} stuck, {counts['cut']} cut a cleanup{refused_text(counts['refused'])}",
+        f"{plural(counts['values'], 'value')}: {counts['stuck']} stuck, {counts['cut']} cut a cleanup{more_text(counts['refused'], 'refused')}",
     ]
 
 
@@ -140,8 +149,8 @@ def difference_text(difference):
 def race_text(line):
     if line["hair"] == "copies":
         return f"{line['tasks'][0]} and {line['tasks'][1]} meet at {line['tick']}"
-    if line["refused"]:
-        return "refused"
+    if line["not_tried"]:
+        return not_tried_text(line["not_tried"])
     found = line["differences"]
     more = [f"and {len(found) - 3} more"] if len(found) > 3 else []
     return "; ".join([*map(difference_text, found[:3]), *more])
@@ -155,8 +164,8 @@ def races_table(document):
     rows = [
         f"{place(line):>{places}}  {step(line):{steps}}  {line['hair']:{hairs}}  {race_text(line)}" for line in lines
     ]
-    races = f"{counts['races']} races" if counts["races"] else "no race"
-    return [*rows, f"{counts['hairs']} hairs: {races}{refused_text(counts['refused'])}"]
+    races = f"{counts['races']} races" if lines else "no race"
+    return [*rows, f"{counts['hairs']} hairs: {races}{more_text(counts['not_tried'], 'hairs not tried')}"]
 
 
 def lint_table(document, path):

@@ -18,7 +18,7 @@ import tempfile
 from concurrent.futures import ThreadPoolExecutor
 
 from jobs import random_job
-from random_faults import LIMIT, TOKEN, Runs, Wrong
+from random_faults import LIMIT, TOKEN, Runs, Wrong, refusal_in
 
 MOST = 1_000_000_000
 
@@ -66,7 +66,7 @@ class Shown:
     def __init__(self, runs, text, limit):
         runs.limit = str(limit)
         status, report = runs.call("run", text)
-        self.refused, self.stuck, self.tasks = status == 2, status == 3, {}
+        self.refused, self.stuck, self.tasks = refusal_in(report) if status == 2 else "", status == 3, {}
         for line in report.splitlines() if status in (0, 1) else []:
             words = line.split(" ", 4)
             if words[0] == "task":
@@ -82,7 +82,7 @@ class Shown:
 def compared(before, after, root):
     """What a line says, or nothing if both show the same."""
     if before.refused or after.refused:
-        return "refused"
+        return before.refused or after.refused
     if before.stuck or after.stuck:
         old, new = ("stuck" if shown.stuck else shown.tasks[root][0] for shown in (before, after))
         return f"{root}: {old} -> {new}" if before.stuck != after.stuck else ""
@@ -187,9 +187,12 @@ def table(runs, text, limit=LIMIT):
 def laid_out(lines, hairs):
     shown = [line for line in lines if line[3]]
     place, step, hair = (max((len(line[n]) for line in shown), default=0) for n in (0, 1, 2))
-    races, refused = (sum((line[3] == "refused") == no for line in shown) for no in (False, True))
+    untried = [line for line in shown if line[3].startswith("not tried: ")]
+    races = len(shown) - len(untried)
+    not_tried = sum(line[2] != "finer" for line in untried)
     rows = "".join(f"{a:>{place}}  {b:<{step}}  {c:<{hair}}  {d}\n" for a, b, c, d in shown)
-    return rows + f"{hairs} hairs: {f'{races} races' if races else 'no race'}{f', {refused} refused' if refused else ''}\n"
+    found = "no race" if not shown else f"{races} races"
+    return rows + f"{hairs} hairs: {found}{f', {not_tried} hairs not tried' if not_tried else ''}\n"
 
 
 def checked(program, seed):

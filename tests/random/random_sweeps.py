@@ -22,7 +22,9 @@ from random_faults import LIMIT, TOKEN, Runs, Wrong, replaced
 def told(runs, text):
     """The outcome of a text without ticks, and the tick at which its job ends, or None."""
     fate, of = runs.fate(text, None, True)
-    if of in ("refused", "stuck"):
+    if of == "refused":
+        return of, "", None
+    if of.startswith("stuck"):
         return fate, "", None
     outcome, _, notes = fate.partition("; ")
     end, _, outcome = outcome.partition(" ")
@@ -44,7 +46,7 @@ def wanted_of(runs, text, at, size, values):
     for value in values:
         what, notes, end = told(runs, replaced(text, (at, at + size, str(value))))
         counts["stuck"] += what.startswith("stuck at")
-        counts["cut"] += "cleanup cut: " in notes
+        counts["cut"] += "cleanup cut: " in what + notes
         counts["refused"] += what == "refused"
         if not groups or groups[-1][2:4] != [what, notes]:
             groups.append([value, value, what, notes, []])

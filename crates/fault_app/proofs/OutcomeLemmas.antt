@@ -3,15 +3,14 @@ use Rattle.std.proofs.Common.{◌≡◌, ℕ, ◌≤◌, ◌<◌, Bool, true, fa
 use Rattle.std.proofs.lemmas.Bool.Decides.{nat_tests}
 use Rattle.std.specs.Option.{option_map}
 use Rattle.job_tree.specs.Tree.{Tree}
-use Rattle.exc_groups.specs.Exceptions.{Label}
 use Rattle.exc_groups.specs.Held.{exc_of}
 use Rattle.job_meaning.specs.Meaning.{meaning, meaning_end}
 use Rattle.job_meaning.specs.Shown.{Row, meaning_rows}
 use Rattle.job_story.specs.Held.{event_of}
 use Rattle.job_story.specs.Events.{in_order}
 use Rattle.job_story.specs.Limit.{by_limit}
-use Rattle.fault_notes.specs.Notes.{sleeping_in, cut_in, is_raised}
-use Rattle.fault_text.specs.JobOutcomes.{JobOutcome, stuck, ended, cancelled_in, walked_events, loses, job_outcome_by, job_outcome_of, reaches}
+use Rattle.fault_notes.specs.Notes.{cut_in, is_raised}
+use Rattle.fault_text.specs.JobOutcomes.{JobOutcome, stuck_by, ended, cancelled_in, walked_events, loses, job_outcome_by, job_outcome_of, reaches}
 use Rattle.fault_app.specs.declared.summary.Summary.{Summary}
 use Rattle.fault_app.specs.Held.{IsSummary}
 
@@ -22,11 +21,11 @@ gt_test : (m n : ℕ) → n < m → nat_le m n ≡ false
 gt_test m n h = grind (arith, nat_tests)
 
 -- a job that ends after the limit is stuck
-pub stuck_is : (job : Tree) (input : List ℕ) (limit : ℕ) (name : Option (List ℕ)) (s : Summary) (sleeping : List Label) →
-    IsSummary job input s → limit < s.end → sleeping ≡ sleeping_in (by_limit limit (map event_of s.events.items)) →
-    stuck sleeping ≡ job_outcome_of limit name job input
-stuck_is job input limit name s sleeping is late tasks =
-    ap stuck (tasks ∙ ap (λ es. sleeping_in (by_limit limit es)) is.events)
+pub stuck_is : (job : Tree) (input : List ℕ) (limit : ℕ) (name : Option (List ℕ)) (s : Summary) (job_outcome : JobOutcome) →
+    IsSummary job input s → limit < s.end → job_outcome ≡ stuck_by name (by_limit limit (map event_of s.events.items)) →
+    job_outcome ≡ job_outcome_of limit name job input
+stuck_is job input limit name s job_outcome is late same =
+    same ∙ ap (λ es. stuck_by name (by_limit limit es)) is.events
     ∙ ap (λ b. job_outcome_by b limit name (meaning_end job input) (meaning job input).exc (meaning_rows job input) (walked_events job input))
     (sym (gt_test (meaning_end job input) limit (subst (λ n. limit < n) is.end late)))
 

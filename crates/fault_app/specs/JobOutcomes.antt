@@ -15,7 +15,7 @@ use Rattle.fault_text.specs.Table.{Line}
 abbrev pub IsJobOutcome : List ℕ → List ℕ → ℕ → Option (List ℕ) → JobOutcome → Type 0
 IsJobOutcome text input limit name job_outcome =
     ((job : Tree) × Spells text job × (job_outcome ≡ job_outcome_of limit name job input))
-    ⊎ ((fault : JobFault) × IsRefused text fault.kind fault.at × (job_outcome ≡ refused))
+    ⊎ ((fault : JobFault) × IsRefused text fault.kind fault.at × (job_outcome ≡ refused fault))
 
 -- whether the job that a text spells raises an exception with this name by the limit; nothing is said of a text that is refused
 abbrev pub IsReached : List ℕ → List ℕ → ℕ → List ℕ → Bool → Type 0

@@ -3,18 +3,19 @@ ghost use Rattle.job_meaning.specs.declared.limits.TheConstants.{MAX_INPUT};
 ghost use Rattle.job_story.specs.Events.{in_order};
 ghost use Rattle.job_story.specs.Held.{event_of};
 ghost use Rattle.job_story.specs.Limit.{by_limit};
-ghost use Rattle.fault_notes.specs.Notes.{sleeping_in, cut_in, is_raised};
+ghost use Rattle.fault_notes.specs.Notes.{cut_in, is_raised};
 ghost use Rattle.fault_notes.specs.Labels.{labels_in};
+ghost use Rattle.story_causes.specs.Seen.{event_in};
 ghost use Rattle.std.specs.Option.{option_map};
 ghost use Rattle.exc_groups.specs.Held.{exc_of};
 ghost use Rattle.fault_text.specs.JobOutcomes as job_outcomes;
-ghost use Rattle.fault_text.specs.JobOutcomes.{job_outcome_of, loses, reaches};
+ghost use Rattle.fault_text.specs.JobOutcomes.{job_outcome_of, loses, loses_so_far, stuck_by, reaches};
 ghost use Rattle.fault_text.specs.Views.{job_outcome_held};
 ghost use Rattle.fault_app.specs.JobOutcomes.{IsJobOutcome, IsReached};
 
 use crate::summary::{Summary, summary_of};
 use exc_groups::Label;
-use fault_notes::{cut_in_cleanup, is_lost, is_raised, sleeping_forever};
+use fault_notes::{cut_in_cleanup, is_lost, is_lost_so_far, is_raised, sleeping_forever};
 use fault_text::JobOutcome;
 use job_grammar::{Job, JobKind, Name, read_job};
 use job_story::Event;
@@ -44,7 +45,7 @@ pub fn job_outcome_of_text<R: Threads + Sync>(
         }
         Err(fault) => match fault.kind {
             JobKind::NoMemory => Err(AllocError),
-            _ => Ok(JobOutcome::Refused),
+            _ => Ok(JobOutcome::Refused(fault)),
         },
     }
 }
@@ -90,8 +91,7 @@ pub fn outcome_of_job<R: Threads + Sync>(
 {
     let summary = summary_of(rt, alloc, job, input)?;
     if summary.end > limit {
-        let sleeping = sleeping_tasks(alloc, summary.events.as_slice(), limit)?;
-        return Ok(JobOutcome::Stuck { sleeping });
+        return stuck_outcome(alloc, summary.events.as_slice(), limit, name);
     }
     ended_outcome(alloc, summary, name)
 }
@@ -123,8 +123,9 @@ fn ended_outcome(
     ensures { IfOk result (λ job_outcome. job_outcome_held job_outcome ≡ job_outcomes.ended summary.end (option_map exc_of summary.exc) summary.cancelled.items
         (cut_in (in_order (map event_of summary.events.items))) (loses name (map event_of summary.events.items))) }
 {
-    let cut = cut_tasks(alloc, summary.events.as_slice())?;
-    let lost = loses(alloc, summary.events.as_slice(), name)?;
+    let walked = events_until(alloc, summary.events.as_slice(), None)?;
+    let cut = cut_tasks(alloc, walked.as_slice())?;
+    let lost = loses(walked.as_slice(), name);
     let Summary {
         end,
         exc,
@@ -140,34 +141,51 @@ fn ended_outcome(
     })
 }
 
-// Returns the tasks that sleep forever at the limit.
-fn sleeping_tasks(alloc: Global, events: &[Event], limit: u64) -> Result<Vec<Label>, AllocError>
-    ensures { IfOk result (λ tasks. tasks.items ≡ sleeping_in (by_limit limit (map event_of events.now))) }
+// Returns the outcome of a job that does not end by the limit.
+fn stuck_outcome(
+    alloc: Global,
+    events: &[Event],
+    limit: u64,
+    name: Option<Name>,
+) -> Result<JobOutcome, AllocError>
+    ensures { IfOk result (λ job_outcome. job_outcome_held job_outcome ≡ stuck_by name (by_limit limit (map event_of events.now))) }
 {
     let walked = events_until(alloc, events, Some(limit))?;
-    let tasks = sleeping_forever(alloc, walked.as_slice())?;
-    copies(alloc, tasks.as_slice())
+    let asleep = sleeping_forever(alloc, walked.as_slice())?;
+    Ok(JobOutcome::Stuck {
+        sleeping: copies(alloc, asleep.as_slice())?,
+        cut: cut_tasks(alloc, walked.as_slice())?,
+        lost: loses_so_far(walked.as_slice(), name),
+    })
 }
 
-// Returns the tasks that were cancelled in a cleanup.
-fn cut_tasks(alloc: Global, events: &[Event]) -> Result<Vec<Label>, AllocError>
-    ensures { IfOk result (λ tasks. tasks.items ≡ cut_in (in_order (map event_of events.now))) }
+// Returns the tasks that were cancelled in a cleanup, given the events in the order of the walk.
+fn cut_tasks(alloc: Global, walked: &[&Event]) -> Result<Vec<Label>, AllocError>
+    ensures { IfOk result (λ tasks. tasks.items ≡ cut_in (in_order (map event_in walked.now))) }
 {
-    let walked = events_until(alloc, events, None)?;
-    let sorted = in_order(alloc, walked.as_slice())?;
+    let sorted = in_order(alloc, walked)?;
     let tasks = cut_in_cleanup(alloc, sorted.as_slice())?;
     copies(alloc, tasks.as_slice())
 }
 
-// Returns whether the exception that the fault raises is lost, if it raises one.
-fn loses(alloc: Global, events: &[Event], name: Option<Name>) -> Result<bool, AllocError>
-    ensures { IfOk result (λ lost. lost ≡ loses name (map event_of events.now)) }
+// Returns whether the exception that the fault raises is lost in a job that has not ended, if it raises one.
+fn loses_so_far(walked: &[&Event], name: Option<Name>) -> bool
+    ensures { result ≡ loses_so_far name (map event_in walked.now) }
 {
-    let Some(name) = name else {
-        return Ok(false);
-    };
-    let walked = events_until(alloc, events, None)?;
-    Ok(is_lost(walked.as_slice(), name))
+    match name {
+        Some(name) => is_lost_so_far(walked, name),
+        None => false,
+    }
+}
+
+// Returns whether the exception that the fault raises is lost, if it raises one.
+fn loses(walked: &[&Event], name: Option<Name>) -> bool
+    ensures { result ≡ loses name (map event_in walked.now) }
+{
+    match name {
+        Some(name) => is_lost(walked, name),
+        None => false,
+    }
 }
 
 // Returns copies of the labels.

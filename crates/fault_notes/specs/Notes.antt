@@ -2,7 +2,7 @@
 use Rattle.std.specs.Prelude.{ℕ, Bool, true, false, ◌&&◌, ◌||◌, not, Option, Some, None, List, [], ◌∷◌, ◌++◌, if◌then◌else◌}
 use Rattle.std.specs.Str.{bytes_eq}
 use Rattle.exc_groups.specs.Exceptions.{Label, Exc, cancelled, raised, too_slow, group, Excs, no_parts, part}
-use Rattle.job_story.specs.Story.{sleeps, is_cancelled, raises, handles}
+use Rattle.job_story.specs.Story.{sleeps, is_cancelled, raises, handles, replaces}
 use Rattle.job_story.specs.Events.{What, happens, ends, Event}
 use Rattle.job_story.specs.Limit.{is_start, start_if, last_event}
 use Rattle.job_story.specs.Focus.{is_among}
@@ -84,6 +84,16 @@ some_event test (e ∷ es) = test e.what || some_event test es
 abbrev pub is_lost : List ℕ → List Event → Bool
 is_lost name es =
     some_event (raises_it name) es && (not (some_event (handles_it name) es) && not (some_event (escapes name) es))
+
+-- the exception of a cleanup replaces an exception with this name, and is none itself
+abbrev pub replaces_it : List ℕ → What → Bool
+replaces_it name (happens (replaces lost fresh)) = has_leaf name lost && not (has_leaf name fresh)
+replaces_it name _ = false
+
+-- The same for a job that has not ended, by the events until then: an exception that a nursery or a task still holds is not lost.
+abbrev pub is_lost_so_far : List ℕ → List Event → Bool
+is_lost_so_far name es =
+    some_event (raises_it name) es && (not (some_event (handles_it name) es) && some_event (replaces_it name) es)
 
 -- a `raise` step raises an exception with this name
 abbrev pub is_raised : List ℕ → List Event → Bool

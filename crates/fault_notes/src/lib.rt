@@ -12,4 +12,4 @@ mod lost;
 
 pub use cut::cut_in_cleanup;
 pub use lasts::sleeping_forever;
-pub use lost::{is_lost, is_raised};
+pub use lost::{is_lost, is_lost_so_far, is_raised};

@@ -2,7 +2,7 @@ ghost use Rattle.std.specs.Prelude.{◌≡◌, map};
 ghost use Rattle.exc_groups.specs.Held.{exc_of, excs_of};
 ghost use Rattle.job_story.specs.Held.{what_of};
 ghost use Rattle.story_causes.specs.Seen.{event_in};
-ghost use Rattle.fault_notes.specs.Notes.{has_leaf, some_leaf, raises_it, handles_it, escapes, some_event, is_lost, is_raised};
+ghost use Rattle.fault_notes.specs.Notes.{has_leaf, some_leaf, raises_it, handles_it, escapes, replaces_it, some_event, is_lost, is_lost_so_far, is_raised};
 
 use exc_groups::Exc;
 use job_story::{Event, Happening, What};
@@ -16,6 +16,15 @@ pub fn is_lost(events: &[&Event], name: Name) -> bool
     ensures { result ≡ is_lost name (map event_in events.now) }
 {
     is_raised(events, name) && !is_handled(events, name) && !has_escaped(events, name)
+}
+
+/// Returns whether an exception with this name is lost by the events of a job that has not ended: a `raise` step with this name is
+/// among them, no handler handles an exception with this name, and the exception of a cleanup replaced one that contains it, and
+/// does not contain it. An exception that a task or a nursery still holds is not lost.
+pub fn is_lost_so_far(events: &[&Event], name: Name) -> bool
+    ensures { result ≡ is_lost_so_far name (map event_in events.now) }
+{
+    is_raised(events, name) && !is_handled(events, name) && is_replaced(events, name)
 }
 
 /// Returns whether a `raise` step with this name is among these events. An exception that a `need` raises does not count.
@@ -36,6 +45,18 @@ fn is_handled(events: &[&Event], name: Name) -> bool
 {
     'events: for event in events {
         if handles_it(&event.what, name) {
+            return true;
+        }
+    }
+    false
+}
+
+// Returns whether the exception of a cleanup replaces an exception with this name.
+fn is_replaced(events: &[&Event], name: Name) -> bool
+    ensures { result ≡ some_event (replaces_it name) (map event_in events.now) }
+{
+    'events: for event in events {
+        if replaces_it(&event.what, name) {
             return true;
         }
     }
@@ -70,6 +91,18 @@ fn handles_it(what: &What, name: Name) -> bool
 {
     match what {
         What::Happens(Happening::Handles { matched, .. }) => has_leaf(matched, name),
+        _ => false,
+    }
+}
+
+// Returns whether an event is that the exception of a cleanup replaces an exception with this name, and is none itself.
+fn replaces_it(what: &What, name: Name) -> bool
+    ensures { result ≡ replaces_it name (what_of what.now) }
+{
+    match what {
+        What::Happens(Happening::Replaces { lost, fresh }) => {
+            has_leaf(lost, name) && !has_leaf(fresh, name)
+        }
         _ => false,
     }
 }

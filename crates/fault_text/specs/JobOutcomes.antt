@@ -2,20 +2,22 @@
 use Rattle.std.specs.Prelude.{ℕ, zero, suc, Bool, true, false, nat_le, Option, Some, None, List, [], ◌∷◌, ◌++◌, length, codes, decimal}
 use Rattle.exc_groups.specs.Exceptions.{Label, Exc}
 use Rattle.job_tree.specs.Tree.{Tree}
+use Rattle.job_grammar.specs.Kinds.{number_of}
+use Rattle.job_grammar.specs.declared.fault.JobFault.{JobFault}
 use Rattle.job_meaning.specs.Meaning.{root_label, meaning, meaning_end, meaning_table}
 use Rattle.job_meaning.specs.Shown.{Ending, well, by_cancellation, with_exception, Row, meaning_rows}
 use Rattle.job_story.specs.Tell.{story_by}
 use Rattle.job_story.specs.Events.{Event, events_of, in_order}
 use Rattle.job_story.specs.Limit.{by_limit}
 use Rattle.exc_text.specs.Texts.{label_text, end_text}
-use Rattle.fault_notes.specs.Notes.{sleeping_in, cut_in, is_lost, is_raised}
+use Rattle.fault_notes.specs.Notes.{sleeping_in, cut_in, is_lost, is_lost_so_far, is_raised}
 
 -- A text is refused; or the job does not end by the limit, and these tasks sleep forever; or it ended at a tick, with or
--- without an exception, these tasks ended cancelled, these were cancelled in a cleanup, and the exception that the fault raised
--- was lost or not.
+-- without an exception, and these tasks ended cancelled. By then these tasks were cancelled in a cleanup, and the exception that
+-- the fault raised was lost or not.
 pub data JobOutcome : Type 0 where
-  refused : JobOutcome
-  stuck : (sleeping : List Label) → JobOutcome
+  refused : (fault : JobFault) → JobOutcome
+  stuck : (sleeping : List Label) → (cut : List Label) → (lost : Bool) → JobOutcome
   ended : (end : ℕ) → (exc : Option Exc) → (cancelled : List Label) → (cut : List Label) → (lost : Bool) → JobOutcome
 
 -- ---- of a job
@@ -38,10 +40,18 @@ abbrev pub loses : Option (List ℕ) → List Event → Bool
 loses None es = false
 loses (Some name) es = is_lost name es
 
+abbrev pub loses_so_far : Option (List ℕ) → List Event → Bool
+loses_so_far None es = false
+loses_so_far (Some name) es = is_lost_so_far name es
+
+-- the outcome of a job that does not end by a limit, given its events until then
+abbrev pub stuck_by : Option (List ℕ) → List Event → JobOutcome
+stuck_by name es = stuck (sleeping_in es) (cut_in (in_order es)) (loses_so_far name es)
+
 -- The outcome of a job that ends or does not end by a limit, given its records and events, and the name of the exception that
 -- the fault raises, if it raises one.
 abbrev pub job_outcome_by : Bool → ℕ → Option (List ℕ) → ℕ → Option Exc → List Row → List Event → JobOutcome
-job_outcome_by false limit name end exc rows es = stuck (sleeping_in (by_limit limit es))
+job_outcome_by false limit name end exc rows es = stuck_by name (by_limit limit es)
 job_outcome_by true limit name end exc rows es = ended end exc (cancelled_in rows) (cut_in (in_order es)) (loses name es)
 
 abbrev pub job_outcome_of : ℕ → Option (List ℕ) → Tree → List ℕ → JobOutcome
@@ -78,11 +88,16 @@ abbrev pub lost_note : Bool → List ℕ
 lost_note false = []
 lost_note true = codes "; fault lost"
 
+-- a text that is refused was not tried
+abbrev pub not_tried_text : JobFault → List ℕ
+not_tried_text fault = codes "not tried: J" ++ decimal (number_of fault.kind) ++ codes " at " ++ decimal fault.at
+
 -- the outcome of a job up to the limit, and notes; `reached` says whether the fault was reached
 abbrev pub job_outcome_text : ℕ → Bool → JobOutcome → List ℕ
-job_outcome_text limit reached refused = codes "refused"
-job_outcome_text limit reached (stuck sleeping) =
+job_outcome_text limit reached (refused fault) = not_tried_text fault
+job_outcome_text limit reached (stuck sleeping cut lost) =
     codes "stuck at " ++ decimal limit ++ reached_note reached ++ names_note (codes "sleeping forever: ") sleeping
+    ++ names_note (codes "cleanup cut: ") cut ++ lost_note lost
 job_outcome_text limit reached (ended end exc cancelled cut lost) =
     decimal end ++ codes " " ++ end_text exc ++ reached_note reached ++ names_note (codes "cancelled: ") cancelled
     ++ names_note (codes "cleanup cut: ") cut ++ lost_note lost
@@ -90,8 +105,8 @@ job_outcome_text limit reached (ended end exc cancelled cut lost) =
 -- ---- what is counted
 
 abbrev pub is_stuck : JobOutcome → Bool
-is_stuck refused = false
-is_stuck (stuck sleeping) = true
+is_stuck (refused fault) = false
+is_stuck (stuck sleeping cut lost) = true
 is_stuck (ended end exc cancelled cut lost) = false
 
 abbrev pub has_some : List Label → Bool
@@ -99,16 +114,16 @@ has_some [] = false
 has_some (l ∷ ls) = true
 
 abbrev pub has_cut : JobOutcome → Bool
-has_cut refused = false
-has_cut (stuck sleeping) = false
+has_cut (refused fault) = false
+has_cut (stuck sleeping cut lost) = has_some cut
 has_cut (ended end exc cancelled cut lost) = has_some cut
 
 abbrev pub has_lost : JobOutcome → Bool
-has_lost refused = false
-has_lost (stuck sleeping) = false
+has_lost (refused fault) = false
+has_lost (stuck sleeping cut lost) = lost
 has_lost (ended end exc cancelled cut lost) = lost
 
 abbrev pub is_refused : JobOutcome → Bool
-is_refused refused = true
-is_refused (stuck sleeping) = false
+is_refused (refused fault) = true
+is_refused (stuck sleeping cut lost) = false
 is_refused (ended end exc cancelled cut lost) = false

@@ -79,9 +79,10 @@ count test (l ∷ ls) = (if test l then 1 else 0) + count test ls
 abbrev pub faults_text : ℕ → List ℕ
 faults_text n = decimal n ++ (if n == 1 then codes " fault: " else codes " faults: ")
 
-abbrev pub refused_text : ℕ → List ℕ
-refused_text zero = []
-refused_text (suc n) = codes ", " ++ decimal (suc n) ++ codes " refused"
+-- a comma, a number and what it counts, if there are any
+abbrev pub more_text : ℕ → List ℕ → List ℕ
+more_text zero what = []
+more_text (suc n) what = codes ", " ++ decimal (suc n) ++ what
 
 -- a fault is not reached if its text is read and its step is not reached
 abbrev pub is_unreached : Line → Bool
@@ -95,13 +96,14 @@ counts_of ls = record {
   cut = count (λ l. has_cut l.job_outcome) ls;
   lost = count (λ l. has_lost l.job_outcome) ls;
   unreached = count is_unreached ls;
-  refused = count (λ l. is_refused l.job_outcome) ls;
+  not_tried = count (λ l. is_refused l.job_outcome) ls;
 }
 
 abbrev pub counts_text : Counts → List ℕ
 counts_text c =
     faults_text c.faults ++ decimal c.stuck ++ codes " stuck, " ++ decimal c.cut ++ codes " cut a cleanup, "
-    ++ decimal c.lost ++ codes " lost, " ++ decimal c.unreached ++ codes " not reached" ++ refused_text c.refused ++ codes "\n"
+    ++ decimal c.lost ++ codes " lost, " ++ decimal c.unreached ++ codes " not reached" ++ more_text c.not_tried (codes " not tried")
+    ++ codes "\n"
 
 -- the text of all lines
 abbrev pub table_text : ℕ → JobOutcome → List Line → List ℕ
@@ -110,9 +112,18 @@ table_text limit first ls =
 
 -- ---- what is denied
 
--- this outcome of a job is denied
+-- this outcome of a job is of a kind that is denied
+abbrev pub denies_kind : Deny → JobOutcome → Bool
+denies_kind d job_outcome = (d.stuck && is_stuck job_outcome) || ((d.cut && has_cut job_outcome) || (d.lost && has_lost job_outcome))
+
+-- some kind is denied
+abbrev pub denies_some : Deny → Bool
+denies_some d = d.stuck || (d.cut || d.lost)
+
+-- This outcome of a job is denied: it is of a kind that is denied, or, where some kind is, nothing is known of it since the text
+-- was refused.
 abbrev pub denies : Deny → JobOutcome → Bool
-denies d job_outcome = (d.stuck && is_stuck job_outcome) || ((d.cut && has_cut job_outcome) || (d.lost && has_lost job_outcome))
+denies d job_outcome = denies_kind d job_outcome || (denies_some d && is_refused job_outcome)
 
 abbrev pub first_denied : ℕ → Deny → Widths → JobOutcome → List ℕ
 first_denied limit d w job_outcome = if denies d job_outcome then first_text limit w job_outcome else []

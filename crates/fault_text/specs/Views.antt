@@ -8,8 +8,8 @@ use Rattle.fault_text.specs.declared.job_outcome.JobOutcome.TheVariants.{Refused
 use Rattle.fault_text.specs.declared.line.Line.{Line}
 
 abbrev pub job_outcome_held : JobOutcome → told.JobOutcome
-job_outcome_held Refused = told.refused
-job_outcome_held (Stuck sleeping) = told.stuck sleeping.items
+job_outcome_held (Refused fault) = told.refused fault
+job_outcome_held (Stuck sleeping cut lost) = told.stuck sleeping.items cut.items lost
 job_outcome_held (Ended end exc cancelled cut lost) = told.ended end (option_map exc_of exc) cancelled.items cut.items lost
 
 abbrev pub line_held : Line → told_lines.Line

@@ -1,6 +1,6 @@
 ghost use Rattle.std.specs.Prelude.{◌≡◌, ◌++◌, OnOk, decimal, map};
 ghost use Rattle.fault_text.specs.JobOutcomes.{is_stuck, has_cut, has_lost, is_refused};
-ghost use Rattle.fault_text.specs.Table.{count, is_unreached, counts_of, faults_text, refused_text, counts_text};
+ghost use Rattle.fault_text.specs.Table.{count, is_unreached, counts_of, faults_text, more_text, counts_text};
 ghost use Rattle.fault_text.specs.Views.{line_held};
 
 use crate::line::Line;
@@ -20,8 +20,8 @@ pub struct Counts {
     pub lost: usize,
     /// Those that are not reached.
     pub unreached: usize,
-    /// Those whose text is refused.
-    pub refused: usize,
+    /// Those that were not tried, since their text is refused.
+    pub not_tried: usize,
 }
 
 impl Counts {
@@ -35,7 +35,7 @@ impl Counts {
             cut: cut_in(lines),
             lost: lost_in(lines),
             unreached: unreached_in(lines),
-            refused: refused_in(lines),
+            not_tried: refused_in(lines),
         }
     }
 }
@@ -49,7 +49,7 @@ pub(crate) fn push_counts(out: &mut Vec<u8>, counts: Counts) -> Result<(), Alloc
     push_count(out, counts.cut, b" cut a cleanup, ")?;
     push_count(out, counts.lost, b" lost, ")?;
     push_count(out, counts.unreached, b" not reached")?;
-    push_refused(out, counts.refused)?;
+    push_more(out, counts.not_tried, b" not tried")?;
     out.extend_from_slice(b"\n")
 }
 
@@ -119,13 +119,13 @@ fn push_faults(out: &mut Vec<u8>, n: usize) -> Result<(), AllocError>
     }
 }
 
-/// Appends a comma and how many texts were refused, if any were. The only error is that memory was refused.
-pub fn push_refused(out: &mut Vec<u8>, n: usize) -> Result<(), AllocError>
-    ensures { OnOk result (out.new.items ≡ out.old.items ++ refused_text n) }
+/// Appends a comma, a number and what it counts, or nothing if the number is 0. The only error is that memory was refused.
+pub fn push_more(out: &mut Vec<u8>, n: usize, what: &[u8]) -> Result<(), AllocError>
+    ensures { OnOk result (out.new.items ≡ out.old.items ++ more_text n what.now) }
 {
     if n == 0 {
         return Ok(());
     }
     out.extend_from_slice(b", ")?;
-    push_count(out, n, b" refused")
+    push_count(out, n, what)
 }

@@ -3,16 +3,22 @@ ghost use Rattle.fault_text.specs.JobOutcomes.{is_stuck, has_cut, has_lost, is_r
 ghost use Rattle.fault_text.specs.Views.{job_outcome_held};
 
 use exc_groups::{Exc, Label};
+use job_grammar::JobFault;
 
 /// The outcome of a job that runs up to a limit, which is the last tick at which it may end.
 #[derive(Drop)]
 pub enum JobOutcome {
-    /// The text of the job is refused.
-    Refused,
+    /// The text of the job is refused, so that nothing is known of it.
+    Refused(JobFault),
     /// The job does not end by the limit.
     Stuck {
         /// The tasks that sleep forever, in the order of a report.
         sleeping: Vec<Label>,
+        /// The tasks that were cancelled in a cleanup by the limit, in the order of the story, each once.
+        cut: Vec<Label>,
+        /// Whether the exception that the fault raised was lost by the limit: no handler handled an exception with its name, and
+        /// the exception of a cleanup replaced it.
+        lost: bool,
     },
     /// The job ends by the limit.
     Ended {
@@ -37,27 +43,27 @@ impl JobOutcome {
     {
         match self {
             JobOutcome::Stuck { .. } => true,
-            JobOutcome::Refused | JobOutcome::Ended { .. } => false,
+            JobOutcome::Refused(_) | JobOutcome::Ended { .. } => false,
         }
     }
 
-    /// Returns whether the job ends, and a task was cancelled in a cleanup.
+    /// Returns whether a task was cancelled in a cleanup, by the end of the job or by the limit.
     pub fn has_cut(&self) -> bool
         ensures { result ≡ has_cut (job_outcome_held self.now) }
     {
         match self {
-            JobOutcome::Refused | JobOutcome::Stuck { .. } => false,
-            JobOutcome::Ended { cut, .. } => !cut.is_empty(),
+            JobOutcome::Refused(_) => false,
+            JobOutcome::Stuck { cut, .. } | JobOutcome::Ended { cut, .. } => !cut.is_empty(),
         }
     }
 
-    /// Returns whether the job ends, and the exception that the fault raised was lost.
+    /// Returns whether the exception that the fault raised was lost, by the end of the job or by the limit.
     pub fn has_lost(&self) -> bool
         ensures { result ≡ has_lost (job_outcome_held self.now) }
     {
         match self {
-            JobOutcome::Refused | JobOutcome::Stuck { .. } => false,
-            JobOutcome::Ended { lost, .. } => *lost,
+            JobOutcome::Refused(_) => false,
+            JobOutcome::Stuck { lost, .. } | JobOutcome::Ended { lost, .. } => *lost,
         }
     }
 
@@ -66,7 +72,7 @@ impl JobOutcome {
         ensures { result ≡ is_refused (job_outcome_held self.now) }
     {
         match self {
-            JobOutcome::Refused => true,
+            JobOutcome::Refused(_) => true,
             JobOutcome::Stuck { .. } | JobOutcome::Ended { .. } => false,
         }
     }

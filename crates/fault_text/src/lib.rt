@@ -14,10 +14,10 @@ mod lines;
 mod notes;
 mod pieces;
 
-pub use counts::{Counts, push_count, push_refused};
+pub use counts::{Counts, push_count, push_more};
 pub use deny::Deny;
 pub use job_outcome::JobOutcome;
 pub use line::Line;
 pub use lines::{denied_text, table};
-pub use notes::push_names_note;
+pub use notes::{push_names_note, push_not_tried};
 pub use pieces::{push_left, push_right};

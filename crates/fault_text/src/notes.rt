@@ -2,13 +2,14 @@ ghost use Rattle.std.specs.Prelude.{◌≡◌, ◌++◌, Some, OnOk, codes, deci
 ghost use Rattle.std.specs.Option.{option_map};
 ghost use Rattle.exc_groups.specs.Held.{exc_of};
 ghost use Rattle.exc_text.specs.Texts.{end_text};
-ghost use Rattle.fault_text.specs.JobOutcomes.{more_names, names_text, names_note, reached_note, lost_note, job_outcome_text};
+ghost use Rattle.fault_text.specs.JobOutcomes.{more_names, names_text, names_note, reached_note, lost_note, not_tried_text, job_outcome_text};
 ghost use Rattle.fault_text.specs.Views.{job_outcome_held};
 
 use crate::job_outcome::JobOutcome;
 use digits::push_number;
 use exc_groups::{Exc, Label};
 use exc_text::{push_label, push_raised};
+use job_grammar::JobFault;
 use std::alloc::AllocError;
 
 // Appends the outcome of a job up to the limit, and notes. `reached` says whether the fault was reached.
@@ -21,12 +22,18 @@ pub(crate) fn push_job_outcome(
     ensures { OnOk result (out.new.items ≡ out.old.items ++ job_outcome_text limit reached (job_outcome_held job_outcome.now)) }
 {
     match job_outcome {
-        JobOutcome::Refused => out.extend_from_slice(b"refused"),
-        JobOutcome::Stuck { sleeping } => {
+        JobOutcome::Refused(fault) => push_not_tried(out, fault),
+        JobOutcome::Stuck {
+            sleeping,
+            cut,
+            lost,
+        } => {
             out.extend_from_slice(b"stuck at ")?;
             push_number(out, limit)?;
             push_reached(out, reached)?;
-            push_names_note(out, b"sleeping forever: ", sleeping.as_slice())
+            push_names_note(out, b"sleeping forever: ", sleeping.as_slice())?;
+            push_names_note(out, b"cleanup cut: ", cut.as_slice())?;
+            push_lost(out, *lost)
         }
         JobOutcome::Ended {
             end,
@@ -42,6 +49,17 @@ pub(crate) fn push_job_outcome(
             push_lost(out, *lost)
         }
     }
+}
+
+/// Appends that a text was not tried, and the refusal of that text: the number of its kind and its place. The only error is that
+/// memory was refused.
+pub fn push_not_tried(out: &mut Vec<u8>, fault: &JobFault) -> Result<(), AllocError>
+    ensures { OnOk result (out.new.items ≡ out.old.items ++ not_tried_text fault.now) }
+{
+    out.extend_from_slice(b"not tried: J")?;
+    push_number(out, fault.kind.number())?;
+    out.extend_from_slice(b" at ")?;
+    push_number(out, fault.at as u64)
 }
 
 // Appends the tick at which a job ended, and how it ended.

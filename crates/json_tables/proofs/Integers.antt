@@ -18,7 +18,7 @@ use Rattle.json_report.proofs.Integers.{exc_without_float}
 use Rattle.json_tables.specs.Results.{exc_or_null, result_json}
 use Rattle.json_tables.specs.Faults.{fault_line_json, faults_json}
 use Rattle.json_tables.specs.Sweeps.{value_json, sweep_json}
-use Rattle.json_tables.specs.Races.{difference_json, differences_json, race_line_json, races_json}
+use Rattle.json_tables.specs.Races.{difference_json, differences_json, refusal_or_null, race_line_json, races_json}
 use Rattle.json_tables.specs.Lints.{name_or_null, warning_json, lints_json}
 
 -- ---- the outcome of a job
@@ -32,8 +32,8 @@ exc_has_none None = refl
 exc_has_none (Some e) = exc_without_float e
 
 result_has_none : (limit : ℕ) (job_outcome : JobOutcome) → has_float (result_json limit job_outcome) ≡ false
-result_has_none limit refused = refl
-result_has_none limit (stuck sleeping) = rw (labels_have_none sleeping) refl
+result_has_none limit (refused fault) = refl
+result_has_none limit (stuck sleeping cut lost) = rw (labels_have_none sleeping, labels_have_none cut) refl
 result_has_none limit (ended end exc labels cut lost) = rw (labels_have_none labels, labels_have_none cut, exc_has_none exc) refl
 
 -- ---- faults
@@ -70,12 +70,16 @@ tasks_have_none [] = refl
 tasks_have_none (d ∷ ds) = rw (difference_has_none d, tasks_have_none ds) refl
 
 differences_have_none : (found : races.Found) → items_have_float (items_of (differences_json found)) ≡ false
-differences_have_none races.refused = refl
+differences_have_none (races.not_tried fault) = refl
 differences_have_none (races.differs tasks) = tasks_have_none tasks
 
+refusal_has_none : (found : races.Found) → has_float (refusal_or_null found) ≡ false
+refusal_has_none (races.not_tried fault) = refl
+refusal_has_none (races.differs tasks) = refl
+
 race_line_has_none : (l : races.Line) → has_float (race_line_json l) ≡ false
-race_line_has_none (finer found) = rw (differences_have_none found) refl
-race_line_has_none (moved line column moment hair found) = rw (differences_have_none found) refl
+race_line_has_none (finer found) = rw (differences_have_none found, refusal_has_none found) refl
+race_line_has_none (moved line column moment hair found) = rw (differences_have_none found, refusal_has_none found) refl
 race_line_has_none (copies line column name count one other tick) = refl
 
 race_lines_have_none : (ls : List races.Line) → items_have_float (items_of (map race_line_json ls)) ≡ false

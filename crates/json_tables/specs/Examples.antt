@@ -9,7 +9,7 @@ use Rattle.job_edits.specs.declared.site.Moment.TheVariants.{Sleep}
 use Rattle.job_edits.specs.declared.shift.Hair.TheVariants.{Earlier, Later}
 use Rattle.job_lint.specs.declared.warning.Lint.TheVariants.{Unreachable, IdleScope}
 use Rattle.fault_text.specs.JobOutcomes.{refused, stuck, ended}
-use Rattle.fault_text.specs.Examples.{task, line_with}
+use Rattle.fault_text.specs.Examples.{task, too_large, line_with}
 use Rattle.sweep_text.specs.Examples.{value_with as value}
 use Rattle.race_rows.specs.Differences.{otherwise, inside}
 use Rattle.race_text.specs.Examples.{copy}
@@ -26,44 +26,46 @@ pub faults_are_written :
     document (faults_json 50 (ended 3 (Some cancelled) [] [] false)
     (line_with 7 11 (wait.Sleep 3) Fails true
     (ended 4 (Some (group (by_nursery (task (codes "n"))) (part (raised (codes "E") (task (codes "a")) 2) no_parts))) (task (codes "b") ∷ []) (task (codes "c") ∷ []) true)
-    ∷ line_with 9 3 wait.Forever Hangs false (stuck (task (codes "a") ∷ []))
-    ∷ line_with 10 3 (wait.Need (codes "k\\") (codes "Gone")) (Misses (codes "X")) false refused
+    ∷ line_with 9 3 wait.Forever Hangs false (stuck (task (codes "a") ∷ []) (task (codes "b") ∷ []) false)
+    ∷ line_with 10 3 (wait.Need (codes "k\\") (codes "Gone")) (Misses (codes "X")) false (refused too_large)
     ∷ []))
     ≡ codes "{\"as_it_is\":{\"result\":{\"cancelled\":[],\"cut\":[],\"end\":3,\"exception\":{\"cancelled\":true},\"lost\":false,\"outcome\":\"cancelled\"}},"
-    ++ codes "\"counts\":{\"cut\":1,\"faults\":3,\"lost\":1,\"not_reached\":1,\"refused\":1,\"stuck\":1},"
+    ++ codes "\"counts\":{\"cut\":2,\"faults\":3,\"lost\":1,\"not_reached\":1,\"not_tried\":1,\"stuck\":1},"
     ++ codes "\"lines\":[{\"column\":11,\"fault\":\"fails\",\"line\":7,\"reached\":true,"
     ++ codes "\"result\":{\"cancelled\":[\"b\"],\"cut\":[\"c\"],\"end\":4,"
     ++ codes "\"exception\":{\"group\":\"n\",\"parts\":[{\"raised\":\"E\",\"task\":\"a\",\"tick\":2}]},\"lost\":true,\"outcome\":\"raised\"},\"step\":\"sleep 3\"},"
-    ++ codes "{\"column\":3,\"fault\":\"hangs\",\"line\":9,\"reached\":false,\"result\":{\"limit\":50,\"outcome\":\"stuck\",\"sleeping\":[\"a\"]},\"step\":\"forever\"},"
-    ++ codes "{\"column\":3,\"fault\":\"misses\",\"line\":10,\"reached\":false,\"result\":{\"outcome\":\"refused\"},\"step\":\"need \\\"k\\\\\\\\\\\\\\\\\\\" Gone\"}]}\n"
+    ++ codes "{\"column\":3,\"fault\":\"hangs\",\"line\":9,\"reached\":false,\"result\":{\"cut\":[\"b\"],\"limit\":50,\"lost\":false,\"outcome\":\"stuck\",\"sleeping\":[\"a\"]},\"step\":\"forever\"},"
+    ++ codes "{\"column\":3,\"fault\":\"misses\",\"line\":10,\"reached\":false,\"result\":{\"not_tried\":{\"at\":0,\"number\":11},\"outcome\":\"refused\"},\"step\":\"need \\\"k\\\\\\\\\\\\\\\\\\\" Gone\"}]}\n"
 unfolding digits escape_byte
 faults_are_written = refl
 
 -- each value has a line of its own
 pub sweep_is_written :
     document (sweep_json 50 (ended 3 None [] [] false)
-    (value 1 (ended 3 None [] [] false) ∷ value 2 (ended 3 None [] [] false) ∷ value 3 (stuck []) ∷ value 4 refused ∷ []))
+    (value 1 (ended 3 None [] [] false) ∷ value 2 (ended 3 None [] [] false) ∷ value 3 (stuck [] [] false) ∷ value 4 (refused too_large) ∷ []))
     ≡ codes "{\"as_it_is\":{\"result\":{\"cancelled\":[],\"cut\":[],\"end\":3,\"exception\":null,\"lost\":false,\"outcome\":\"done\"}},"
     ++ codes "\"counts\":{\"cut\":0,\"refused\":1,\"stuck\":1,\"values\":4},"
     ++ codes "\"lines\":[{\"result\":{\"cancelled\":[],\"cut\":[],\"end\":3,\"exception\":null,\"lost\":false,\"outcome\":\"done\"},\"value\":1},"
     ++ codes "{\"result\":{\"cancelled\":[],\"cut\":[],\"end\":3,\"exception\":null,\"lost\":false,\"outcome\":\"done\"},\"value\":2},"
-    ++ codes "{\"result\":{\"limit\":50,\"outcome\":\"stuck\",\"sleeping\":[]},\"value\":3},"
-    ++ codes "{\"result\":{\"outcome\":\"refused\"},\"value\":4}]}\n"
+    ++ codes "{\"result\":{\"cut\":[],\"limit\":50,\"lost\":false,\"outcome\":\"stuck\",\"sleeping\":[]},\"value\":3},"
+    ++ codes "{\"result\":{\"not_tried\":{\"at\":0,\"number\":11},\"outcome\":\"refused\"},\"value\":4}]}\n"
 unfolding digits escape_byte
 sweep_is_written = refl
 
--- a hair that changes nothing is left out
+-- a hair that changes nothing is left out, and one with which nothing was compared is not
 pub races_are_written :
-    document (races_json 4
+    document (races_json 5
     (races.finer (races.differs (inside (copy (codes "w") 1) ∷ []))
     ∷ races.moved 4 18 (Sleep (record { from = 0; to = 0; value = 5 })) Earlier
     (races.differs (otherwise (task (codes "a")) (codes "done") (codes "cancelled") ∷ []))
     ∷ races.moved 4 18 (Sleep (record { from = 0; to = 0; value = 5 })) Later (races.differs [])
+    ∷ races.moved 5 3 (Sleep (record { from = 0; to = 0; value = 1 })) Later (races.not_tried too_large)
     ∷ races.copies 2 26 (codes "w") 3 (copy (codes "w") 0) (copy (codes "w") 1) 2
     ∷ []))
-    ≡ codes "{\"counts\":{\"hairs\":4,\"races\":3,\"refused\":0},"
-    ++ codes "\"lines\":[{\"differences\":[{\"entries_differ\":true,\"task\":\"w.1\"}],\"hair\":\"finer\",\"refused\":false},"
-    ++ codes "{\"column\":18,\"differences\":[{\"after\":\"cancelled\",\"before\":\"done\",\"task\":\"a\"}],\"hair\":\"earlier\",\"line\":4,\"refused\":false,\"step\":\"sleep 5\"},"
+    ≡ codes "{\"counts\":{\"hairs\":5,\"not_tried\":1,\"races\":3},"
+    ++ codes "\"lines\":[{\"differences\":[{\"entries_differ\":true,\"task\":\"w.1\"}],\"hair\":\"finer\",\"not_tried\":null},"
+    ++ codes "{\"column\":18,\"differences\":[{\"after\":\"cancelled\",\"before\":\"done\",\"task\":\"a\"}],\"hair\":\"earlier\",\"line\":4,\"not_tried\":null,\"step\":\"sleep 5\"},"
+    ++ codes "{\"column\":3,\"differences\":[],\"hair\":\"later\",\"line\":5,\"not_tried\":{\"at\":0,\"number\":11},\"step\":\"sleep 1\"},"
     ++ codes "{\"column\":26,\"hair\":\"copies\",\"line\":2,\"step\":\"start w over 3\",\"tasks\":[\"w.0\",\"w.1\"],\"tick\":2}]}\n"
 unfolding digits escape_byte
 races_are_written = refl

@@ -18,7 +18,7 @@ fault_line_json limit l =
 abbrev pub fault_counts_json : Counts → Data
 fault_counts_json c =
     object (member (codes "cut") (integer c.cut) (member (codes "faults") (integer c.faults) (member (codes "lost") (integer c.lost)
-    (member (codes "not_reached") (integer c.unreached) (member (codes "refused") (integer c.refused)
+    (member (codes "not_reached") (integer c.unreached) (member (codes "not_tried") (integer c.not_tried)
     (member (codes "stuck") (integer c.stuck) no_members))))))
 
 -- the outcome of the job as it is, the counts, and the outcome with each fault

@@ -103,6 +103,6 @@ fn counts_value(alloc: Global, counts: Counts) -> Result<Value, AllocError>
         "cut": counts.cut,
         "lost": counts.lost,
         "not_reached": counts.unreached,
-        "refused": counts.refused
+        "not_tried": counts.not_tried
     })
 }

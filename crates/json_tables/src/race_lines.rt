@@ -6,19 +6,20 @@ ghost use Rattle.race_text.specs.Lines.{is_shown};
 ghost use Rattle.race_text.specs.Table.{hair_name, lines_that};
 ghost use Rattle.race_text.specs.Views.{found_held, line_held};
 ghost use Rattle.json_report.specs.Values.{document, label_json, list_of};
-ghost use Rattle.json_tables.specs.Races.{difference_json, differences_json, finer_json, moved_json, copies_json, race_line_json, race_counts_json, races_json};
+ghost use Rattle.json_tables.specs.Races.{difference_json, differences_json, refusal_or_null, finer_json, moved_json, copies_json, race_line_json, race_counts_json, races_json};
 
+use crate::results::not_tried_value;
 use exc_groups::Label;
 use job_edits::Hair;
 use json_report::{document, label_value, text_value};
 use race_rows::Difference;
-use race_text::{Found, Line, races_in, refused_in, step_of};
+use race_text::{Found, Line, hairs_not_tried_in, races_in, step_of};
 use serde_json::{Value, json};
 use std::alloc::{AllocError, Global};
 
 /// Returns one JSON document with each line of the table of races that is shown, in their order and with all differences, and
-/// with how many hairs were tried, how many lines are races, and how many texts were refused. The document is compact and ends
-/// with a newline. Returns `AllocError` if memory is refused.
+/// with how many hairs there are, with how many of them nothing was compared, and how many lines are races. The document is compact
+/// and ends with a newline. Returns `AllocError` if memory is refused.
 #[tactic(auto, using(crate::proofs::Integers::races_without_float))]
 pub fn races_json(alloc: Global, hairs: usize, lines: &[Line]) -> Result<Vec<u8>, AllocError>
     ensures { IfOk result (λ bytes. bytes.items ≡ document (races_json hairs (map line_held lines.now))) }
@@ -36,14 +37,14 @@ fn races_value(alloc: Global, hairs: usize, lines: &[Line]) -> Result<Value, All
     json!(in alloc; {"counts": counts, "lines": values})
 }
 
-// Returns how many hairs were tried, how many lines are races, and how many texts were refused.
+// Returns how many hairs there are, with how many of them nothing was compared, and how many lines are races.
 fn counts_value(alloc: Global, hairs: usize, lines: &[Line]) -> Result<Value, AllocError>
     ensures { IfOk result (λ value. view value ≡ race_counts_json hairs (map line_held lines.now)) }
 {
     json!(in alloc; {
         "hairs": hairs,
         "races": races_in(lines),
-        "refused": refused_in(lines)
+        "not_tried": hairs_not_tried_in(lines)
     })
 }
 
@@ -109,7 +110,8 @@ fn finer_value(alloc: Global, found: &Found) -> Result<Value, AllocError>
     ensures { IfOk result (λ value. view value ≡ finer_json (found_held found.now)) }
 {
     let differences = difference_values(alloc, found)?;
-    json!(in alloc; {"hair": "finer", "refused": found.is_refused(), "differences": differences})
+    let not_tried = refusal_value(alloc, found)?;
+    json!(in alloc; {"hair": "finer", "not_tried": not_tried, "differences": differences})
 }
 
 // Returns the line of a place that is moved, with its step.
@@ -125,12 +127,13 @@ fn moved_value(
 {
     let text = text_value(alloc, step)?;
     let differences = difference_values(alloc, found)?;
+    let not_tried = refusal_value(alloc, found)?;
     json!(in alloc; {
         "line": line,
         "column": column,
         "step": text,
         "hair": hair_word(hair),
-        "refused": found.is_refused(),
+        "not_tried": not_tried,
         "differences": differences
     })
 }
@@ -178,12 +181,22 @@ fn hair_word(hair: Hair) -> &'static str
     }
 }
 
+// Returns the refusal of the text with which nothing was compared, as a JSON object, or `null` if the runs were compared.
+fn refusal_value(alloc: Global, found: &Found) -> Result<Value, AllocError>
+    ensures { IfOk result (λ value. view value ≡ refusal_or_null (found_held found.now)) }
+{
+    match found {
+        Found::NotTried(fault) => not_tried_value(alloc, *fault),
+        Found::Differs(_) => Ok(Value::Null),
+    }
+}
+
 // Returns what differs, as JSON objects.
 fn difference_values(alloc: Global, found: &Found) -> Result<Vec<Value>, AllocError>
     ensures { IfOk result (λ values. map view values.items ≡ differences_json (found_held found.now)) }
 {
     match found {
-        Found::Refused => Ok(Vec::new(alloc)),
+        Found::NotTried(_) => Ok(Vec::new(alloc)),
         Found::Differs(tasks) => values_of(alloc, tasks.as_slice()),
     }
 }

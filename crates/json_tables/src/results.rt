@@ -2,12 +2,14 @@ ghost use Rattle.std.specs.Prelude.{◌≡◌, ◌++◌, [], ◌∷◌, Some, If
 ghost use Rattle.std.specs.Option.{option_map};
 ghost use Rattle.serde_json.specs.View.{view};
 ghost use Rattle.exc_groups.specs.Held.{exc_of};
+ghost use Rattle.fault_text.specs.JobOutcomes.{refused};
 ghost use Rattle.fault_text.specs.Views.{job_outcome_held};
 ghost use Rattle.json_report.specs.Values.{label_json};
-ghost use Rattle.json_tables.specs.Results.{end_word, exc_or_null, result_json, first_json};
+ghost use Rattle.json_tables.specs.Results.{end_word, exc_or_null, not_tried_json, result_json, first_json};
 
 use exc_groups::{Exc, Label};
 use fault_text::JobOutcome;
+use job_grammar::JobFault;
 use json_report::{exc_value, label_value};
 use serde_json::{Value, json};
 use std::alloc::{AllocError, Global};
@@ -22,10 +24,21 @@ pub fn result_value(
     ensures { IfOk result (λ value. view value ≡ result_json limit (job_outcome_held job_outcome.now)) }
 {
     match job_outcome {
-        JobOutcome::Refused => json!(in alloc; {"outcome": "refused"}),
-        JobOutcome::Stuck { sleeping } => {
+        JobOutcome::Refused(fault) => refused_value(alloc, *fault),
+        JobOutcome::Stuck {
+            sleeping,
+            cut,
+            lost,
+        } => {
             let tasks = label_values(alloc, sleeping.as_slice())?;
-            json!(in alloc; {"outcome": "stuck", "limit": limit, "sleeping": tasks})
+            let cut_in_cleanup = label_values(alloc, cut.as_slice())?;
+            json!(in alloc; {
+                "outcome": "stuck",
+                "limit": limit,
+                "sleeping": tasks,
+                "cut": cut_in_cleanup,
+                "lost": *lost
+            })
         }
         JobOutcome::Ended {
             end,
@@ -47,6 +60,21 @@ pub fn result_value(
             })
         }
     }
+}
+
+// Returns the outcome of a text that is refused, as a JSON object.
+fn refused_value(alloc: Global, fault: JobFault) -> Result<Value, AllocError>
+    ensures { IfOk result (λ value. view value ≡ result_json 0 (refused fault)) }
+{
+    let not_tried = not_tried_value(alloc, fault)?;
+    json!(in alloc; {"outcome": "refused", "not_tried": not_tried})
+}
+
+// Returns the refusal of a text that was not tried, as a JSON object.
+pub(crate) fn not_tried_value(alloc: Global, fault: JobFault) -> Result<Value, AllocError>
+    ensures { IfOk result (λ value. view value ≡ not_tried_json fault) }
+{
+    json!(in alloc; {"number": fault.kind.number(), "at": fault.at})
 }
 
 // Returns the outcome of the job as it is, as a JSON object.

@@ -18,7 +18,7 @@ const NO_DENY: Deny = Deny {
 };
 
 const FAULTS: &[u8] =
-    b"{\"as_it_is\":{\"result\":{\"cancelled\":[],\"cut\":[],\"end\":0,\"exception\":null,\"lost\":false,\"outcome\":\"done\"}},\"counts\":{\"cut\":0,\"faults\":3,\"lost\":0,\"not_reached\":0,\"refused\":0,\"stuck\":1},\"lines\":[{\"column\":7,\"fault\":\"fails\",\"line\":2,\"reached\":true,\"result\":{\"cancelled\":[],\"cut\":[],\"end\":0,\"exception\":{\"raised\":\"Late\",\"task\":\"m\",\"tick\":0},\"lost\":false,\"outcome\":\"raised\"},\"step\":\"checkpoint\"},{\"column\":7,\"fault\":\"hangs\",\"line\":2,\"reached\":true,\"result\":{\"limit\":100,\"outcome\":\"stuck\",\"sleeping\":[\"m\"]},\"step\":\"checkpoint\"},{\"column\":7,\"fault\":\"cancelled\",\"line\":2,\"reached\":true,\"result\":{\"cancelled\":[],\"cut\":[],\"end\":0,\"exception\":null,\"lost\":false,\"outcome\":\"done\"},\"step\":\"checkpoint\"}]}\n";
+    b"{\"as_it_is\":{\"result\":{\"cancelled\":[],\"cut\":[],\"end\":0,\"exception\":null,\"lost\":false,\"outcome\":\"done\"}},\"counts\":{\"cut\":0,\"faults\":3,\"lost\":0,\"not_reached\":0,\"not_tried\":0,\"stuck\":1},\"lines\":[{\"column\":7,\"fault\":\"fails\",\"line\":2,\"reached\":true,\"result\":{\"cancelled\":[],\"cut\":[],\"end\":0,\"exception\":{\"raised\":\"Late\",\"task\":\"m\",\"tick\":0},\"lost\":false,\"outcome\":\"raised\"},\"step\":\"checkpoint\"},{\"column\":7,\"fault\":\"hangs\",\"line\":2,\"reached\":true,\"result\":{\"cut\":[],\"limit\":100,\"lost\":false,\"outcome\":\"stuck\",\"sleeping\":[\"m\"]},\"step\":\"checkpoint\"},{\"column\":7,\"fault\":\"cancelled\",\"line\":2,\"reached\":true,\"result\":{\"cancelled\":[],\"cut\":[],\"end\":0,\"exception\":null,\"lost\":false,\"outcome\":\"done\"},\"step\":\"checkpoint\"}]}\n";
 
 #[test]
 fn faults_are_a_document(rt: HostRuntime) -> Result<(), Fail> {
@@ -89,7 +89,7 @@ fn a_sweep_is_a_document(rt: HostRuntime) -> Result<(), Fail> {
     Ok(())
 }
 
-const RACES: &[u8] = b"{\"counts\":{\"hairs\":2,\"races\":0,\"refused\":0},\"lines\":[]}\n";
+const RACES: &[u8] = b"{\"counts\":{\"hairs\":2,\"not_tried\":0,\"races\":0},\"lines\":[]}\n";
 
 #[test]
 fn races_are_a_document(rt: HostRuntime) -> Result<(), Fail> {

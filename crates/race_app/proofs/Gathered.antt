@@ -1,6 +1,6 @@
 -- The lines of a text, put together from what is found.
 use Rattle.std.proofs.Common.{◌≡◌, ℕ, List, [], ◌∷◌, ◌++◌, map, inl, inr, refl, sym, ap, subst, ◌∙◌}
-use Rattle.std.specs.Prelude.{nat_le}
+use Rattle.std.specs.Prelude.{Bool, nat_le}
 use Rattle.std.proofs.lemmas.List.{append-nil}
 use Rattle.job_tree.specs.Tree.{Tree}
 use Rattle.job_grammar.specs.declared.fault.JobFault.{JobFault}
@@ -84,36 +84,31 @@ for_job author input first job text changes lines c t spells are =
       all = are.all;
     }
 
-refused_beside : (first : Ran) → told.refused ≡ found_between first refused
-refused_beside refused = refl
-refused_beside (ran a rows) = refl
-
 -- without events, no copies meet
 no_copies : (text : List ℕ) (limit : ℕ) (f : Finer) (starts : List CopiedStart) → copies_lines text limit f [] starts ≡ []
 no_copies text limit f [] = refl
 no_copies text limit f (c ∷ cs) = no_copies text limit f cs
 
-all_of_refused : (author : Author) (first : Ran) (moves : List told.Line) →
-    told.finer told.refused ∷ moves
-    ≡ told.finer (found_between first refused)
+all_of_refused : (author : Author) (fault : JobFault) (moves : List told.Line) →
+    told.finer (told.not_tried fault) ∷ moves
+    ≡ told.finer (told.not_tried fault)
     ∷ (moves ++ copies_lines author.text.now author.limit author.finer [] author.starts.now)
-all_of_refused author first moves =
+all_of_refused author fault moves =
     let none = no_copies author.text.now author.limit author.finer author.starts.now in
-    ap (λ (found : told.Found). told.finer found ∷ moves) (refused_beside first)
-    ∙ ap (λ (ls : List told.Line). told.finer (found_between first refused) ∷ ls)
+    ap (λ (ls : List told.Line). told.finer (told.not_tried fault) ∷ ls)
     (sym (append-nil moves) ∙ ap (λ (ls : List told.Line). moves ++ ls) (sym none))
 
 -- all lines of a text whose text in finer ticks is refused
-pub for_refused : (author : Author) (input : List ℕ) (first : Ran) (fault : JobFault) (text : List ℕ) (changes : List Change) (lines : List told.Line) →
+pub for_refused : (author : Author) (input : List ℕ) (in_time : Bool) (rows : List Row) (fault : JobFault) (text : List ℕ) (changes : List Change) (lines : List told.Line) →
     changes ≡ finer_changes author.finer author.sites.now → text ≡ changed_text author.text.now changes →
-    IsRefused text fault.kind fault.at → AreLinesOfRefused author input lines → AreLinesOf author input first lines
-for_refused author input first fault text changes lines c t is are =
+    IsRefused text fault.kind fault.at → AreLinesOfRefused author input fault lines → AreLinesOf author input (ran in_time rows) lines
+for_refused author input in_time rows fault text changes lines c t is are =
     record {
-      before = refused;
+      before = refused fault;
       events = [];
       before_is =
           inr (fault, subst (λ (x : List ℕ). IsRefused x fault.kind fault.at) (t ∙ ap (changed_text author.text.now) c) is, refl, refl);
       moves = are.moves;
       moves_are = are.moves_are;
-      all = are.all ∙ all_of_refused author first are.moves;
+      all = are.all ∙ all_of_refused author fault are.moves;
     }

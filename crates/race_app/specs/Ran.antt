@@ -13,7 +13,7 @@ use Rattle.race_text.specs.Lines.{Found}
 
 -- the text is refused; or its job ended by the limit or did not, with these records
 pub data Ran : Type 0 where
-  refused : Ran
+  refused : (fault : JobFault) → Ran
   ran : (in_time : Bool) → (rows : List Row) → Ran
 
 abbrev pub ran_of : ℕ → Tree → List ℕ → Ran
@@ -24,16 +24,16 @@ ran_of limit job input = ran (nat_le (meaning_end job input) limit) (meaning_row
 abbrev pub IsRan : List ℕ → List ℕ → ℕ → Ran → List Event → Type 0
 IsRan text input limit r events =
     ((job : Tree) × Spells text job × (r ≡ ran_of limit job input) × (events ≡ walked_events job input))
-    ⊎ ((fault : JobFault) × IsRefused text fault.kind fault.at × (r ≡ refused) × (events ≡ []))
+    ⊎ ((fault : JobFault) × IsRefused text fault.kind fault.at × (r ≡ refused fault) × (events ≡ []))
 
--- what a run shows that another one does not show, apart from ticks
+-- what a run shows that another one does not show, apart from ticks; nothing is compared where a text is refused
 abbrev pub found_between : Ran → Ran → Found
-found_between refused r = told.refused
-found_between (ran a before) refused = told.refused
+found_between (refused fault) r = told.not_tried fault
+found_between (ran a before) (refused fault) = told.not_tried fault
 found_between (ran a before) (ran b after) = told.differs (of_runs a before b after)
 
--- what the job that a text spells shows that a run does not show; or that the text is refused
+-- what the job that a text spells shows that a run does not show; or the refusal of a text, with which nothing is compared
 abbrev pub IsBeside : List ℕ → List ℕ → ℕ → Ran → Found → Type 0
 IsBeside text input limit before found =
     ((job : Tree) × Spells text job × (found ≡ found_between before (ran_of limit job input)))
-    ⊎ ((fault : JobFault) × IsRefused text fault.kind fault.at × (found ≡ told.refused))
+    ⊎ ((fault : JobFault) × IsRefused text fault.kind fault.at × (found ≡ found_between before (refused fault)))

@@ -1,7 +1,8 @@
 -- The runs of the code, and what holds of what the code builds on its way.
-use Rattle.std.specs.Prelude.{◌≡◌, ◌≤◌, ℕ, nat_le, Option, Some, None, List, ◌∷◌, ◌++◌, length, map}
+use Rattle.std.specs.Prelude.{◌≡◌, ◌≤◌, ℕ, nat_le, Result, Ok, Err, List, ◌∷◌, ◌++◌, length, map}
 use Rattle.std.specs.Borrow.{Bor}
 use Rattle.job_tree.specs.Tree.{Tree}
+use Rattle.job_grammar.specs.declared.fault.JobFault.{JobFault}
 use Rattle.job_meaning.specs.declared.limits.TheConstants.{MAX_INPUT}
 use Rattle.task_table.specs.Records.{row_in}
 use Rattle.fault_text.specs.JobOutcomes.{walked_events}
@@ -22,10 +23,10 @@ use Rattle.race_app.specs.declared.moves.Moves.{Moves}
 abbrev pub ran_seen : held.Ran → Ran
 ran_seen r = ran r.in_time (map row_in r.records.now)
 
--- a run that is borrowed, or that the text is refused
-abbrev pub ran_held : Option (Bor held.Ran) → Ran
-ran_held None = refused
-ran_held (Some r) = ran_seen r.now
+-- a run that is borrowed, or the refusal of the text
+abbrev pub ran_held : Result (Bor held.Ran) JobFault → Ran
+ran_held (Ok r) = ran_seen r.now
+ran_held (Err fault) = refused fault
 
 -- a run up to a limit
 abbrev pub ran_by : ℕ → Run → Ran
@@ -63,7 +64,7 @@ pub record AreLinesFor (author : Author) (input : List ℕ) (first : Ran) (job :
       ∷ (moves ++ copies_lines author.text.now author.limit author.finer (walked_events job input) author.starts.now)
 
 -- all lines of a text whose text in finer ticks is refused
-pub record AreLinesOfRefused (author : Author) (input : List ℕ) (lines : List told.Line) : Type 0 where
+pub record AreLinesOfRefused (author : Author) (input : List ℕ) (fault : JobFault) (lines : List told.Line) : Type 0 where
   pub moves : List told.Line
-  pub moves_are : AreAnswers (IsMovedBy author input refused) (shifts_of author.sites.now) moves
-  pub all : lines ≡ told.finer told.refused ∷ moves
+  pub moves_are : AreAnswers (IsMovedBy author input (refused fault)) (shifts_of author.sites.now) moves
+  pub all : lines ≡ told.finer (told.not_tried fault) ∷ moves

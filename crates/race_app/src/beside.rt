@@ -1,10 +1,10 @@
 ghost use Rattle.std.specs.Prelude.{◌≡◌, ◌≤◌, length, IfOk};
 ghost use Rattle.job_meaning.specs.declared.limits.TheConstants.{MAX_INPUT};
 ghost use Rattle.race_text.specs.Views.{found_held};
-ghost use Rattle.race_app.specs.Ran.{ran_of, found_between, IsBeside};
+ghost use Rattle.race_app.specs.Ran.{refused, ran_of, found_between, IsBeside};
 ghost use Rattle.race_app.specs.Views.{ran_by, ran_held, ran_seen};
 
-use job_grammar::{Job, JobKind, read_job};
+use job_grammar::{Job, JobFault, JobKind, read_job};
 use job_runner::{Forward, NoGate, Run, run_to_end};
 use race_rows::{Ran, run_differences};
 use race_text::Found;
@@ -12,11 +12,11 @@ use std::alloc::{AllocError, Global};
 use std::thread::Threads;
 
 // Returns what the job that a text spells shows by a limit that another run does not show. If this text or the text of the
-// other run is refused, the result is that it is refused. The job runs in the calling thread.
+// other run is refused, nothing is compared, and the result is that refusal. The job runs in the calling thread.
 pub(crate) fn found_in_text<R: Threads + Sync>(
     rt: &R,
     alloc: Global,
-    before: Option<&Ran<'_>>,
+    before: Result<&Ran<'_>, JobFault>,
     text: &[u8],
     input: &[u8],
     limit: u64,
@@ -31,7 +31,7 @@ pub(crate) fn found_in_text<R: Threads + Sync>(
         }
         Err(fault) => match fault.kind {
             JobKind::NoMemory => Err(AllocError),
-            _ => Ok(Found::Refused),
+            _ => Ok(not_tried(before, fault)),
         },
     }
 }
@@ -41,7 +41,7 @@ pub(crate) fn found_in_text<R: Threads + Sync>(
 fn found_in_job<R: Threads + Sync>(
     rt: &R,
     alloc: Global,
-    before: Option<&Ran<'_>>,
+    before: Result<&Ran<'_>, JobFault>,
     job: &Job,
     input: &[u8],
     limit: u64,
@@ -49,11 +49,23 @@ fn found_in_job<R: Threads + Sync>(
     requires { length input.now ≤ MAX_INPUT }
     ensures { IfOk result (λ found. found_held found ≡ found_between (ran_held before.entry) (ran_of limit job.now input.now)) }
 {
-    let Some(before) = before else {
-        return Ok(Found::Refused);
-    };
-    let run = run_to_end(rt, alloc, job, input, 1, &mut Forward, &NoGate)?;
-    found_in_run(alloc, before, &run, limit)
+    match before {
+        Ok(before) => {
+            let run = run_to_end(rt, alloc, job, input, 1, &mut Forward, &NoGate)?;
+            found_in_run(alloc, before, &run, limit)
+        }
+        Err(fault) => Ok(Found::NotTried(fault)),
+    }
+}
+
+// Returns that nothing was compared, since a text is refused; or since the text of the other run is.
+fn not_tried(before: Result<&Ran<'_>, JobFault>, fault: JobFault) -> Found
+    ensures { found_held result ≡ found_between (ran_held before.entry) (refused fault) }
+{
+    match before {
+        Ok(_) => Found::NotTried(fault),
+        Err(first) => Found::NotTried(first),
+    }
 }
 
 // Returns what a run shows by a limit that another one does not show.

@@ -16,7 +16,7 @@ use crate::copies::push_copies;
 use crate::moves::Moves;
 use fault_app::summary_of;
 use job_edits::{changed_text, finer_changes, shifts};
-use job_grammar::{Job, JobKind, read_job};
+use job_grammar::{Job, JobFault, JobKind, read_job};
 use job_runner::{Forward, NoGate, Run, run_to_end};
 use nursery_app::Gate;
 use race_rows::Ran;
@@ -55,7 +55,7 @@ pub(crate) fn lines_for<R: Threads + Sync, G: Gate + Sync>(
         }
         Err(fault) => match fault.kind {
             JobKind::NoMemory => Err(AllocError),
-            _ => lines_of_refused(rt, alloc, author, input, workers, gate),
+            _ => lines_of_refused(rt, alloc, author, input, fault, workers, gate),
         },
     }
 }
@@ -66,15 +66,16 @@ fn lines_of_refused<R: Threads + Sync, G: Gate + Sync>(
     alloc: Global,
     author: &Author<'_>,
     input: &[u8],
+    fault: JobFault,
     workers: usize,
     gate: &G,
 ) -> Result<Vec<Line>, AllocError>
     requires input { length input.now ≤ MAX_INPUT }
     requires some_workers { 1 ≤ workers }
-    ensures { IfOk result (λ lines. AreLinesOfRefused author.now input.now (map line_held lines.items)) }
+    ensures { IfOk result (λ lines. AreLinesOfRefused author.now input.now fault (map line_held lines.items)) }
 {
-    let moves = moves_for(rt, alloc, author, input, None, workers, gate)?;
-    after_first(alloc, Found::Refused, moves)
+    let moves = moves_for(rt, alloc, author, input, Err(fault), workers, gate)?;
+    after_first(alloc, Found::NotTried(fault), moves)
 }
 
 // Returns all lines of a text whose text in finer ticks spells this job.
@@ -120,7 +121,7 @@ fn lines_of_run<R: Threads + Sync, G: Gate + Sync>(
         in_time: run.end() <= author.limit,
     };
     let found = found_in_run(alloc, first, run, author.limit)?;
-    let moves = moves_for(rt, alloc, author, input, Some(&before), workers, gate)?;
+    let moves = moves_for(rt, alloc, author, input, Ok(&before), workers, gate)?;
     after_first(alloc, found, moves)
 }
 
@@ -130,7 +131,7 @@ fn moves_for<R: Threads + Sync, G: Gate + Sync>(
     alloc: Global,
     author: &Author<'_>,
     input: &[u8],
-    before: Option<&Ran<'_>>,
+    before: Result<&Ran<'_>, JobFault>,
     workers: usize,
     gate: &G,
 ) -> Result<Vec<Line>, AllocError>

@@ -9,6 +9,7 @@ ghost use Rattle.race_app.specs.Views.{IsMovedOf, ran_held};
 use crate::author::Author;
 use crate::beside::found_in_text;
 use job_edits::{Shift, changed_text, shifted_changes};
+use job_grammar::JobFault;
 use nursery_app::{column_of, line_of};
 use race_rows::Ran;
 use race_text::{Found, Line};
@@ -23,8 +24,8 @@ pub(crate) struct Moves<'a> {
     pub author: Author<'a>,
     /// The input.
     pub input: &'a [u8],
-    /// The run of the text in finer ticks, or `None` if that text is refused.
-    pub before: Option<&'a Ran<'a>>,
+    /// The run of the text in finer ticks, or the refusal of that text.
+    pub before: Result<&'a Ran<'a>, JobFault>,
 }
 
 impl Work for Moves<'_> {

@@ -2,11 +2,13 @@
 use Rattle.std.specs.Prelude.{◌≡◌, ℕ, List, [], ◌∷◌, ◌++◌, codes, refl}
 use Rattle.std.specs.Fmt.{digits}
 use Rattle.exc_groups.specs.Exceptions.{Label}
+use Rattle.job_grammar.specs.declared.fault.JobFault.{JobFault}
+use Rattle.job_grammar.specs.declared.fault.JobKind.TheVariants.{TooLarge}
 use Rattle.job_edits.specs.declared.site.Moment.{Moment}
 use Rattle.job_edits.specs.declared.site.Moment.TheVariants.{Sleep, After, Start}
 use Rattle.job_edits.specs.declared.shift.Hair.TheVariants.{Earlier, Later}
 use Rattle.race_rows.specs.Differences.{otherwise, inside}
-use Rattle.race_text.specs.Lines.{finer, moved, copies, refused, differs}
+use Rattle.race_text.specs.Lines.{finer, moved, copies, not_tried, differs}
 use Rattle.race_text.specs.Table.{table_text}
 
 abbrev pub task : List ℕ → Label
@@ -51,13 +53,27 @@ pub none_is_told : table_text 8 (finer (differs []) ∷ []) ≡ codes "8 hairs: 
 unfolding digits
 none_is_told = refl
 
--- at most three tasks, and a text that is refused is no race
+-- the refusal of a text with too many steps
+abbrev pub too_large : JobFault
+too_large = record { at = 0; kind = TooLarge }
+
+-- at most three tasks, and a hair with which nothing was compared
 pub many_are_told :
-    table_text 1
+    table_text 2
     (finer (differs (inside (task (codes "a")) ∷ inside (task (codes "b")) ∷ inside (task (codes "c")) ∷ inside (task (codes "d")) ∷ inside (task (codes "e")) ∷ []))
-    ∷ moved 2 3 (sleep 0 1) Later refused ∷ [])
+    ∷ moved 2 3 (sleep 0 1) Earlier (differs [])
+    ∷ moved 2 3 (sleep 0 1) Later (not_tried too_large) ∷ [])
     ≡ codes "              finer  a: other lines or scopes; b: other lines or scopes; c: other lines or scopes; and 2 more\n"
-    ++ codes "2:3  sleep 1  later  refused\n"
-    ++ codes "1 hairs: 1 races, 1 refused\n"
+    ++ codes "2:3  sleep 1  later  not tried: J11 at 0\n"
+    ++ codes "2 hairs: 1 races, 1 hairs not tried\n"
 unfolding digits
 many_are_told = refl
+
+-- where nothing was compared, it is not said that there is no race
+pub nothing_is_told :
+    table_text 1 (finer (not_tried too_large) ∷ moved 2 3 (sleep 0 1) Later (not_tried too_large) ∷ [])
+    ≡ codes "              finer  not tried: J11 at 0\n"
+    ++ codes "2:3  sleep 1  later  not tried: J11 at 0\n"
+    ++ codes "1 hairs: 0 races, 1 hairs not tried\n"
+unfolding digits
+nothing_is_told = refl

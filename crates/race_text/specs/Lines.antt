@@ -1,14 +1,16 @@
 -- What the lines of the table say of a job with one of its places moved by a hair.
 use Rattle.std.specs.Prelude.{ℕ, zero, suc, Bool, true, false, List, [], ◌∷◌, ◌++◌, length, codes, decimal}
 use Rattle.exc_groups.specs.Exceptions.{Label}
+use Rattle.job_grammar.specs.declared.fault.JobFault.{JobFault}
 use Rattle.exc_text.specs.Texts.{label_text}
 use Rattle.job_edits.specs.declared.site.Moment.{Moment}
 use Rattle.job_edits.specs.declared.shift.Hair.{Hair}
 use Rattle.race_rows.specs.Differences.{Difference, otherwise, inside}
+use Rattle.fault_text.specs.JobOutcomes.{not_tried_text}
 
--- the differences between two runs; or the changed text is refused
+-- the differences between two runs; or one of the two texts is refused, so that nothing was compared
 pub data Found : Type 0 where
-  refused : Found
+  not_tried : (fault : JobFault) → Found
   differs : (tasks : List Difference) → Found
 
 -- A line: the job in finer ticks compared with the job as it is; one place moved by a hair, compared with the job in finer ticks;
@@ -22,18 +24,18 @@ pub data Line : Type 0 where
 -- ---- which lines are shown
 
 abbrev pub is_some_found : Found → Bool
-is_some_found refused = true
+is_some_found (not_tried fault) = true
 is_some_found (differs []) = false
 is_some_found (differs (d ∷ ds)) = true
 
--- a line is shown if something differs, a text is refused, or copies meet
+-- a line is shown if something differs, nothing was compared, or copies meet
 abbrev pub is_shown : Line → Bool
 is_shown (finer found) = is_some_found found
 is_shown (moved line column moment hair found) = is_some_found found
 is_shown (copies line column name count one other tick) = true
 
 abbrev pub is_race_found : Found → Bool
-is_race_found refused = false
+is_race_found (not_tried fault) = false
 is_race_found (differs []) = false
 is_race_found (differs (d ∷ ds)) = true
 
@@ -43,14 +45,21 @@ is_race (finer found) = is_race_found found
 is_race (moved line column moment hair found) = is_race_found found
 is_race (copies line column name count one other tick) = true
 
-abbrev pub is_refused_found : Found → Bool
-is_refused_found refused = true
-is_refused_found (differs tasks) = false
+abbrev pub is_not_tried_found : Found → Bool
+is_not_tried_found (not_tried fault) = true
+is_not_tried_found (differs tasks) = false
 
-abbrev pub is_refused : Line → Bool
-is_refused (finer found) = is_refused_found found
-is_refused (moved line column moment hair found) = is_refused_found found
-is_refused (copies line column name count one other tick) = false
+-- nothing was compared
+abbrev pub is_not_tried : Line → Bool
+is_not_tried (finer found) = is_not_tried_found found
+is_not_tried (moved line column moment hair found) = is_not_tried_found found
+is_not_tried (copies line column name count one other tick) = false
+
+-- a hair with which nothing was compared
+abbrev pub is_hair_not_tried : Line → Bool
+is_hair_not_tried (finer found) = false
+is_hair_not_tried (moved line column moment hair found) = is_not_tried_found found
+is_hair_not_tried (copies line column name count one other tick) = false
 
 -- ---- what a line says
 
@@ -70,5 +79,5 @@ differences_text [] = []
 differences_text (d ∷ ds) = difference_text d ++ more_differences 2 ds
 
 abbrev pub found_text : Found → List ℕ
-found_text refused = codes "refused"
+found_text (not_tried fault) = not_tried_text fault
 found_text (differs tasks) = differences_text tasks

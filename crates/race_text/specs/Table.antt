@@ -1,12 +1,12 @@
 -- The table of the places of a job where a hair changes the outcome.
-use Rattle.std.specs.Prelude.{ℕ, ◌==◌, Bool, max, if◌then◌else◌, List, [], ◌∷◌, ◌++◌, length, codes, decimal}
+use Rattle.std.specs.Prelude.{ℕ, ◌==◌, Bool, ◌&&◌, max, if◌then◌else◌, List, [], ◌∷◌, ◌++◌, length, codes, decimal}
 use Rattle.exc_text.specs.Texts.{label_text}
 use Rattle.job_edits.specs.declared.shift.Hair.{Hair}
 use Rattle.job_edits.specs.declared.shift.Hair.TheVariants.{Earlier, Later}
 use Rattle.job_edits.specs.Sites.{moment_text}
-use Rattle.fault_text.specs.Table.{left_text, right_text, refused_text}
+use Rattle.fault_text.specs.Table.{left_text, right_text, more_text}
 use Rattle.race_text.specs.declared.columns.Widths.{Widths}
-use Rattle.race_text.specs.Lines.{Line, finer, moved, copies, is_shown, is_race, is_refused, found_text}
+use Rattle.race_text.specs.Lines.{Line, finer, moved, copies, is_shown, is_race, is_not_tried, is_hair_not_tried, found_text}
 
 -- ---- columns
 
@@ -61,18 +61,20 @@ abbrev pub lines_that : (Line → Bool) → List Line → List Line
 lines_that test [] = []
 lines_that test (l ∷ ls) = if test l then l ∷ lines_that test ls else lines_that test ls
 
-abbrev pub races_text : ℕ → List ℕ
-races_text n = if n == 0 then codes "no race" else decimal n ++ codes " races"
+-- There is no race where everything was compared and nothing differs.
+abbrev pub races_text : ℕ → ℕ → List ℕ
+races_text races untried = if races == 0 && untried == 0 then codes "no race" else decimal races ++ codes " races"
 
--- how many hairs were tried, and how many lines are races
+-- how many hairs there are, how many lines are races, and with how many hairs nothing was compared
 abbrev pub counts_text : ℕ → List Line → List ℕ
 counts_text hairs ls =
-    decimal hairs ++ codes " hairs: " ++ races_text (length (lines_that is_race ls)) ++ refused_text (length (lines_that is_refused ls)) ++ codes "\n"
+    decimal hairs ++ codes " hairs: " ++ races_text (length (lines_that is_race ls)) (length (lines_that is_not_tried ls))
+    ++ more_text (length (lines_that is_hair_not_tried ls)) (codes " hairs not tried") ++ codes "\n"
 
 -- the lines that are shown, in columns as wide as their longest text, and the counts
 abbrev pub table_text : ℕ → List Line → List ℕ
 table_text hairs ls = lines_text (widths_of (lines_that is_shown ls)) (lines_that is_shown ls) ++ counts_text hairs ls
 
--- the lines of it that are races, as they are in the table
+-- What may be a race: the lines of the table, which are races, or say that nothing was compared.
 abbrev pub denied_text : List Line → List ℕ
-denied_text ls = lines_text (widths_of (lines_that is_shown ls)) (lines_that is_race (lines_that is_shown ls))
+denied_text ls = lines_text (widths_of (lines_that is_shown ls)) (lines_that is_shown ls)

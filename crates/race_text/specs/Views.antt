@@ -3,12 +3,12 @@ use Rattle.std.specs.Prelude.{map}
 use Rattle.race_rows.specs.Views.{difference_held}
 use Rattle.race_text.specs.Lines as told
 use Rattle.race_text.specs.declared.line.Found.{Found}
-use Rattle.race_text.specs.declared.line.Found.TheVariants.{Refused, Differs}
+use Rattle.race_text.specs.declared.line.Found.TheVariants.{NotTried, Differs}
 use Rattle.race_text.specs.declared.line.Line.{Line}
 use Rattle.race_text.specs.declared.line.Line.TheVariants.{Finer, Moved, Copies}
 
 abbrev pub found_held : Found → told.Found
-found_held Refused = told.refused
+found_held (NotTried fault) = told.not_tried fault
 found_held (Differs tasks) = told.differs (map difference_held tasks.items)
 
 abbrev pub line_held : Line → told.Line

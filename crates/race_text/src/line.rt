@@ -1,17 +1,18 @@
 ghost use Rattle.std.specs.Prelude.{◌≡◌};
-ghost use Rattle.race_text.specs.Lines.{is_some_found, is_shown, is_race_found, is_race, is_refused_found, is_refused};
+ghost use Rattle.race_text.specs.Lines.{is_some_found, is_shown, is_race_found, is_race, is_not_tried_found, is_not_tried, is_hair_not_tried};
 ghost use Rattle.race_text.specs.Views.{found_held, line_held};
 
 use exc_groups::Label;
 use job_edits::{Hair, Moment};
+use job_grammar::JobFault;
 use job_tree::Name;
 use race_rows::Difference;
 
 /// The result of running a changed job text, compared with another one.
 #[derive(Drop)]
 pub enum Found {
-    /// The changed text is refused.
-    Refused,
+    /// One of the two texts is refused, so that nothing was compared.
+    NotTried(JobFault),
     /// The tasks that differ; none if the outcome is the same apart from ticks.
     Differs(Vec<Difference>),
 }
@@ -22,7 +23,7 @@ impl Found {
         ensures { result ≡ is_some_found (found_held self.now) }
     {
         match self {
-            Found::Refused => true,
+            Found::NotTried(_) => true,
             Found::Differs(tasks) => !tasks.is_empty(),
         }
     }
@@ -32,16 +33,16 @@ impl Found {
         ensures { result ≡ is_race_found (found_held self.now) }
     {
         match self {
-            Found::Refused => false,
+            Found::NotTried(_) => false,
             Found::Differs(tasks) => !tasks.is_empty(),
         }
     }
 
-    /// Returns whether the text is refused.
-    pub fn is_refused(&self) -> bool
-        ensures { result ≡ is_refused_found (found_held self.now) }
+    // Returns whether nothing was compared.
+    fn is_not_tried(&self) -> bool
+        ensures { result ≡ is_not_tried_found (found_held self.now) }
     {
-        matches!(self, Found::Refused)
+        matches!(self, Found::NotTried(_))
     }
 }
 
@@ -84,7 +85,7 @@ pub enum Line {
 }
 
 impl Line {
-    /// Returns whether the line is shown: something differs, a text is refused, or copies meet.
+    /// Returns whether the line is shown: something differs, nothing was compared, or copies meet.
     pub fn is_shown(&self) -> bool
         ensures { result ≡ is_shown (line_held self.now) }
     {
@@ -104,13 +105,23 @@ impl Line {
         }
     }
 
-    // Returns whether the line's text is refused.
-    pub(crate) fn is_refused(&self) -> bool
-        ensures { result ≡ is_refused (line_held self.now) }
+    // Returns whether nothing was compared.
+    pub(crate) fn is_not_tried(&self) -> bool
+        ensures { result ≡ is_not_tried (line_held self.now) }
     {
         match self {
-            Line::Finer(found) | Line::Moved { found, .. } => found.is_refused(),
+            Line::Finer(found) | Line::Moved { found, .. } => found.is_not_tried(),
             Line::Copies { .. } => false,
+        }
+    }
+
+    // Returns whether the line is a hair with which nothing was compared.
+    pub(crate) fn is_hair_not_tried(&self) -> bool
+        ensures { result ≡ is_hair_not_tried (line_held self.now) }
+    {
+        match self {
+            Line::Moved { found, .. } => found.is_not_tried(),
+            Line::Finer(_) | Line::Copies { .. } => false,
         }
     }
 }

@@ -1,16 +1,16 @@
 ghost use Rattle.std.specs.Prelude.{◌≡◌, ◌++◌, IfOk, OnOk, length, map};
-ghost use Rattle.race_text.specs.Lines.{is_shown, is_race, is_refused};
+ghost use Rattle.race_text.specs.Lines.{is_shown, is_race, is_not_tried, is_hair_not_tried};
 ghost use Rattle.race_text.specs.Table.{lines_that, widths_of, line_text, lines_text, races_text, counts_text, table_text, denied_text};
 ghost use Rattle.race_text.specs.Views.{line_held};
 
 use crate::columns::{Widths, hair_of, place_of, step_of};
 use crate::line::Line;
 use crate::told::push_told;
-use fault_text::{push_count, push_left, push_refused, push_right};
+use fault_text::{push_count, push_left, push_more, push_right};
 use std::alloc::{AllocError, Global};
 
-/// Returns the text of the table: each line that is shown, in their order, and how many hairs were tried and how many lines are
-/// races. The only error is that memory was refused.
+/// Returns the text of the table: each line that is shown, in their order, how many hairs there are, how many lines are races, and
+/// with how many hairs nothing was compared. The only error is that memory was refused.
 pub fn race_table(alloc: Global, hairs: usize, lines: &[Line]) -> Result<Vec<u8>, AllocError>
     ensures { IfOk result (λ text. text.items ≡ table_text hairs (map line_held lines.now)) }
 {
@@ -25,15 +25,15 @@ pub fn race_table(alloc: Global, hairs: usize, lines: &[Line]) -> Result<Vec<u8>
     Ok(out)
 }
 
-/// Returns those lines of the table that are races, as they are in the text of `race_table`. The only error is that memory was
-/// refused.
+/// Returns the lines of the table as they are in the text of `race_table`, without the counts: each is a race, or says that nothing
+/// was compared, so that there may be one. The text is empty if there are none. The only error is that memory was refused.
 pub fn race_denied(alloc: Global, lines: &[Line]) -> Result<Vec<u8>, AllocError>
     ensures { IfOk result (λ text. text.items ≡ denied_text (map line_held lines.now)) }
 {
     let widths = widths_of(alloc, lines)?;
     let mut out = Vec::new(alloc);
     'lines: for line in lines {
-        if line.is_race() {
+        if line.is_shown() {
             push_line(alloc, &mut out, widths, line)?;
         }
     }
@@ -80,13 +80,13 @@ fn push_line(
     out.extend_from_slice(b"\n")
 }
 
-// Appends how many hairs were tried, how many lines are races, and how many texts were refused, if any were.
+// Appends how many hairs there are, how many lines are races, and with how many hairs nothing was compared, if there are any.
 fn push_counts(out: &mut Vec<u8>, hairs: usize, lines: &[Line]) -> Result<(), AllocError>
     ensures { OnOk result (out.new.items ≡ out.old.items ++ counts_text hairs (map line_held lines.now)) }
 {
     push_count(out, hairs, b" hairs: ")?;
-    push_races(out, races_in(lines))?;
-    push_refused(out, refused_in(lines))?;
+    push_races(out, races_in(lines), not_tried_in(lines))?;
+    push_more(out, hairs_not_tried_in(lines), b" hairs not tried")?;
     out.extend_from_slice(b"\n")
 }
 
@@ -97,20 +97,27 @@ pub fn races_in(lines: &[Line]) -> usize
     lines.iter().filter(|line| line.is_race()).count()
 }
 
-/// Returns how many texts are refused.
-pub fn refused_in(lines: &[Line]) -> usize
-    ensures { result ≡ length (lines_that is_refused (map line_held lines.now)) }
+// Returns in how many lines nothing was compared.
+fn not_tried_in(lines: &[Line]) -> usize
+    ensures { result ≡ length (lines_that is_not_tried (map line_held lines.now)) }
 {
-    lines.iter().filter(|line| line.is_refused()).count()
+    lines.iter().filter(|line| line.is_not_tried()).count()
 }
 
-// Appends how many lines are races.
-fn push_races(out: &mut Vec<u8>, n: usize) -> Result<(), AllocError>
-    ensures { OnOk result (out.new.items ≡ out.old.items ++ races_text n) }
+/// Returns with how many hairs nothing was compared.
+pub fn hairs_not_tried_in(lines: &[Line]) -> usize
+    ensures { result ≡ length (lines_that is_hair_not_tried (map line_held lines.now)) }
 {
-    if n == 0 {
+    lines.iter().filter(|line| line.is_hair_not_tried()).count()
+}
+
+// Appends how many lines are races, given in how many nothing was compared.
+fn push_races(out: &mut Vec<u8>, races: usize, untried: usize) -> Result<(), AllocError>
+    ensures { OnOk result (out.new.items ≡ out.old.items ++ races_text races untried) }
+{
+    if races == 0 && untried == 0 {
         out.extend_from_slice(b"no race")
     } else {
-        push_count(out, n, b" races")
+        push_count(out, races, b" races")
     }
 }

@@ -7,7 +7,7 @@ ghost use Rattle.race_text.specs.Views.{found_held, line_held};
 use crate::line::{Found, Line};
 use digits::push_number;
 use exc_text::push_label;
-use fault_text::push_count;
+use fault_text::{push_count, push_not_tried};
 use race_rows::Difference;
 use std::alloc::AllocError;
 
@@ -40,7 +40,7 @@ fn push_found(out: &mut Vec<u8>, found: &Found) -> Result<(), AllocError>
     ensures { OnOk result (out.new.items ≡ out.old.items ++ found_text (found_held found.now)) }
 {
     match found {
-        Found::Refused => out.extend_from_slice(b"refused"),
+        Found::NotTried(fault) => push_not_tried(out, fault),
         Found::Differs(tasks) => push_differences(out, tasks.as_slice()),
     }
 }

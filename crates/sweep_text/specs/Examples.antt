@@ -1,6 +1,8 @@
 -- Worked sweeps, by computing.
 use Rattle.std.specs.Prelude.{◌≡◌, ℕ, false, Some, None, List, [], ◌∷◌, ◌++◌, codes, refl}
 use Rattle.std.specs.Fmt.{digits}
+use Rattle.job_grammar.specs.declared.fault.JobFault.{JobFault}
+use Rattle.job_grammar.specs.declared.fault.JobKind.TheVariants.{Number}
 use Rattle.exc_groups.specs.Exceptions.{Label, by_nursery, by_handler, cancelled, raised, too_slow, group, no_parts, part}
 use Rattle.fault_text.specs.JobOutcomes.{JobOutcome, refused, stuck, ended}
 use Rattle.sweep_text.specs.Groups.{Value}
@@ -8,6 +10,10 @@ use Rattle.sweep_text.specs.Sweeps.{sweep_text}
 
 abbrev pub task : List ℕ → Label
 task name = record { name = name; indices = [] }
+
+-- the refusal of a text with a number that is out of its range
+abbrev pub out_of_range : JobFault
+out_of_range = record { at = 40; kind = Number }
 
 -- the outcome of a job for a value
 abbrev pub value_with : ℕ → JobOutcome → Value
@@ -31,9 +37,9 @@ cleanup_values =
     ∷ value_with 4 (cut_at 7)
     ∷ value_with 5 (cut_at 9)
     ∷ value_with 6 (ended 9 None [] [] false)
-    ∷ value_with 7 (stuck (task (codes "journal") ∷ []))
-    ∷ value_with 8 (stuck (task (codes "journal") ∷ []))
-    ∷ value_with 9 refused
+    ∷ value_with 7 (stuck (task (codes "journal") ∷ []) [] false)
+    ∷ value_with 8 (stuck (task (codes "journal") ∷ []) (task (codes "cache") ∷ []) false)
+    ∷ value_with 9 (refused out_of_range)
     ∷ value_with 10 (cut_at 8)
     ∷ []
 
@@ -43,10 +49,11 @@ pub cleanup_is_told :
     ++ codes "1..2      raised writers[Fault(journal)], ends 4..5\n"
     ++ codes "3..5      done, ends 7..9; cleanup cut: cache\n"
     ++ codes "6         done, ends 9\n"
-    ++ codes "7..8      stuck at 1000000; sleeping forever: journal\n"
+    ++ codes "7         stuck at 1000000; sleeping forever: journal\n"
+    ++ codes "8         stuck at 1000000; sleeping forever: journal; cleanup cut: cache\n"
     ++ codes "9         refused\n"
     ++ codes "10        done, ends 8; cleanup cut: cache\n"
-    ++ codes "10 values: 2 stuck, 4 cut a cleanup, 1 refused\n"
+    ++ codes "10 values: 2 stuck, 5 cut a cleanup, 1 refused\n"
 unfolding digits
 cleanup_is_told = refl
 
@@ -67,7 +74,7 @@ late_is_told = refl
 
 -- one value
 pub one_is_told :
-    sweep_text 50 refused (value_with 7 (stuck []) ∷ [])
+    sweep_text 50 (refused out_of_range) (value_with 7 (stuck [] [] false) ∷ [])
     ≡ codes "as it is  refused\n"
     ++ codes "7         stuck at 50\n"
     ++ codes "1 value: 1 stuck, 0 cut a cleanup\n"

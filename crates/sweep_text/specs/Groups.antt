@@ -29,13 +29,13 @@ end_sans (Some cancelled) = codes "cancelled"
 end_sans (Some e) = codes "raised " ++ sans_text e
 
 abbrev pub head_text : ℕ → JobOutcome → List ℕ
-head_text limit refused = codes "refused"
-head_text limit (stuck sleeping) = codes "stuck at " ++ decimal limit
+head_text limit (refused fault) = codes "refused"
+head_text limit (stuck sleeping cut lost) = codes "stuck at " ++ decimal limit
 head_text limit (ended end exc labels cut lost) = end_sans exc
 
 abbrev pub notes_text : JobOutcome → List ℕ
-notes_text refused = []
-notes_text (stuck sleeping) = names_note (codes "sleeping forever: ") sleeping
+notes_text (refused fault) = []
+notes_text (stuck sleeping cut lost) = names_note (codes "sleeping forever: ") sleeping ++ names_note (codes "cleanup cut: ") cut
 notes_text (ended end exc labels cut lost) = names_note (codes "cancelled: ") labels ++ names_note (codes "cleanup cut: ") cut
 
 -- ---- groups
@@ -54,8 +54,8 @@ pub record Group : Type 0 where
   pub ends : Option Ends
 
 abbrev pub ends_of : JobOutcome → Option Ends
-ends_of refused = None
-ends_of (stuck sleeping) = None
+ends_of (refused fault) = None
+ends_of (stuck sleeping cut lost) = None
 ends_of (ended end exc labels cut lost) = Some (record { least = end; greatest = end })
 
 abbrev pub with_ends : Option Ends → Option Ends → Option Ends

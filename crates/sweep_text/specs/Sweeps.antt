@@ -1,7 +1,7 @@
 -- The text of a sweep: the outcome of a job for each value of a number.
 use Rattle.std.specs.Prelude.{ℕ, ◌+◌, ◌==◌, Bool, max, if◌then◌else◌, Option, Some, None, List, [], ◌∷◌, ◌++◌, length, codes, decimal}
 use Rattle.fault_text.specs.JobOutcomes.{JobOutcome, is_stuck, has_cut, is_refused}
-use Rattle.fault_text.specs.Table.{left_text, refused_text}
+use Rattle.fault_text.specs.Table.{left_text, more_text}
 use Rattle.sweep_text.specs.Groups.{Ends, Group, Value, group_of_one, groups_of}
 
 -- ---- lines
@@ -44,7 +44,7 @@ values_text n = decimal n ++ (if n == 1 then codes " value: " else codes " value
 abbrev pub counts_text : List Value → List ℕ
 counts_text vs =
     values_text (length vs) ++ decimal (count is_stuck vs) ++ codes " stuck, "
-    ++ decimal (count has_cut vs) ++ codes " cut a cleanup" ++ refused_text (count is_refused vs) ++ codes "\n"
+    ++ decimal (count has_cut vs) ++ codes " cut a cleanup" ++ more_text (count is_refused vs) (codes " refused") ++ codes "\n"
 
 -- ---- the text
 

@@ -4,7 +4,7 @@ ghost use Rattle.sweep_text.specs.Sweeps.{count, values_text, counts_text};
 ghost use Rattle.sweep_text.specs.Views.{value_held};
 
 use crate::value::Value;
-use fault_text::{push_count, push_refused};
+use fault_text::{push_count, push_more};
 use std::alloc::AllocError;
 
 // Appends how many values there are of each kind.
@@ -14,7 +14,7 @@ pub(crate) fn push_counts(out: &mut Vec<u8>, values: &[Value]) -> Result<(), All
     push_values(out, values.len())?;
     push_count(out, stuck_in(values), b" stuck, ")?;
     push_count(out, cut_in(values), b" cut a cleanup")?;
-    push_refused(out, refused_in(values))?;
+    push_more(out, refused_in(values), b" refused")?;
     out.extend_from_slice(b"\n")
 }
 

@@ -70,7 +70,7 @@ fn ends_of(job_outcome: &JobOutcome) -> Option<Ends>
     ensures { option_map ends_held result ≡ ends_of (job_outcome_held job_outcome.now) }
 {
     match job_outcome {
-        JobOutcome::Refused | JobOutcome::Stuck { .. } => None,
+        JobOutcome::Refused(_) | JobOutcome::Stuck { .. } => None,
         JobOutcome::Ended { end, .. } => Some(Ends {
             least: *end,
             greatest: *end,

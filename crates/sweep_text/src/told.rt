@@ -19,7 +19,7 @@ pub(crate) fn push_head(
     ensures { OnOk result (out.new.items ≡ out.old.items ++ head_text limit (job_outcome_held job_outcome.now)) }
 {
     match job_outcome {
-        JobOutcome::Refused => out.extend_from_slice(b"refused"),
+        JobOutcome::Refused(_) => out.extend_from_slice(b"refused"),
         JobOutcome::Stuck { .. } => {
             out.extend_from_slice(b"stuck at ")?;
             push_number(out, limit)
@@ -56,9 +56,11 @@ pub(crate) fn push_notes(out: &mut Vec<u8>, job_outcome: &JobOutcome) -> Result<
     ensures { OnOk result (out.new.items ≡ out.old.items ++ notes_text (job_outcome_held job_outcome.now)) }
 {
     match job_outcome {
-        JobOutcome::Refused => Ok(()),
-        JobOutcome::Stuck { sleeping } => {
-            push_names_note(out, b"sleeping forever: ", sleeping.as_slice())
+        JobOutcome::Refused(_) => Ok(()),
+        JobOutcome::Stuck { sleeping, cut, .. } => {
+            push_names_note(out, b"sleeping forever: ", sleeping.as_slice())?;
+            push_names_note(out, b"cleanup cut: ", cut.as_slice())?;
+            Ok(())
         }
         JobOutcome::Ended { cancelled, cut, .. } => {
             push_names_note(out, b"cancelled: ", cancelled.as_slice())?;

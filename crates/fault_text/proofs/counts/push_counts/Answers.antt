@@ -8,5 +8,5 @@ returns c =
     let cut = with_count _ _ _ _ _ _ _ stuck refl c.in_ok-push_count-2.ensures in
     let lost = with_count _ _ _ _ _ _ _ cut refl c.in_ok-push_count-3.ensures in
     let unreached = with_count _ _ _ _ _ _ _ lost refl c.in_ok-push_count-4.ensures in
-    let refused = two _ _ _ _ _ unreached c.in_ok-push_refused.ensures in
-    last c.extend_from_slice.result _ _ _ _ _ refused (extended c.extend_from_slice.result _ _ _ c.extend_from_slice.ensures.items)
+    let not_tried = two _ _ _ _ _ unreached c.in_ok-push_more.ensures in
+    last c.extend_from_slice.result _ _ _ _ _ not_tried (extended c.extend_from_slice.result _ _ _ c.extend_from_slice.ensures.items)

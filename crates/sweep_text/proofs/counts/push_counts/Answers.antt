@@ -1,6 +1,6 @@
-use Rattle.std.proofs.Common.{◌++◌, ap, sym, ◌∙◌}
+use Rattle.std.proofs.Common.{◌++◌, codes, ap, sym, ◌∙◌}
 use Rattle.std.proofs.lemmas.List.{length-map}
-use Rattle.fault_text.specs.Table.{refused_text}
+use Rattle.fault_text.specs.Table.{more_text}
 use Rattle.fault_text.proofs.Joined.{extended, two, with_count, last}
 use Rattle.sweep_text.specs.Sweeps.{values_text}
 use Rattle.sweep_text.specs.Views.{value_held}
@@ -12,5 +12,5 @@ returns c =
     let stuck = with_count _ _ _ _ _ _ _ values c.stuck_in.ensures c.in_ok-push_count.ensures in
     let cut = with_count _ _ _ _ _ _ _ stuck c.cut_in.ensures c.in_ok-push_count-2.ensures in
     let refused = two _ _ _ _ _ cut
-    (c.in_ok-push_refused.ensures ∙ ap (λ n. c.push_count-2.new.out.items ++ refused_text n) c.refused_in.ensures) in
+    (c.in_ok-push_more.ensures ∙ ap (λ n. c.push_count-2.new.out.items ++ more_text n (codes " refused")) c.refused_in.ensures) in
     last c.extend_from_slice.result _ _ _ _ _ refused (extended c.extend_from_slice.result _ _ _ c.extend_from_slice.ensures.items)
