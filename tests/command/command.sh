@@ -190,7 +190,7 @@ holds 0 out '#compdef nursery'
 words='completions fish'
 holds 0 out 'complete -c nursery'
 words='man'
-holds 0 out '.TH NURSERY 1'
+holds 0 out '.TH NURSERY 1 "" "nursery 0.1.0"'
 words='completions tcsh'
 holds 2 err 'bash, zsh, fish'
 

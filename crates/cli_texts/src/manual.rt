@@ -1,9 +1,11 @@
 use clap::Command;
-use nursery_cli::{command_line, help_text};
+use nursery_cli::{VERSION, command_line, help_text};
 use std::alloc::{AllocError, Global};
 
-const FRONT: &str = ".\\\" Made by `nursery man`.
-.TH NURSERY 1
+const HEAD: &str = ".\\\" Made by `nursery man`.
+.TH NURSERY 1 \"\" \"nursery ";
+
+const FRONT: &str = "\"
 .SH NAME
 nursery \\- says what each task of a design does when a sibling fails or a deadline passes
 .SH SYNOPSIS
@@ -16,11 +18,13 @@ const BACK: &str = ".SH SEE ALSO
 The folder docs/ of the repository: the job language, its formats and its meaning.
 ";
 
-/// Returns the man page as text for troff: a section for each command, with its help. The only error is that memory
-/// was refused.
+/// Returns the man page as text for troff: the program's version, and a section for each command, with its help. The only error is
+/// that memory was refused.
 pub fn man_page(alloc: Global) -> Result<String, AllocError> {
     let command = command_line(alloc)?;
-    let mut out = String::from_str(alloc, FRONT)?;
+    let mut out = String::from_str(alloc, HEAD)?;
+    out.push_str(VERSION)?;
+    out.push_str(FRONT)?;
     push_section(alloc, &mut out, "")?;
     for inner in command.get_subcommands() {
         push_section(alloc, &mut out, inner.get_name())?;

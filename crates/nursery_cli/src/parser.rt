@@ -23,8 +23,8 @@ pub(crate) const DEFAULT_FAULT: &str = "Fault";
 const ABOUT: &str =
     "Runs a job of nurseries and cancel scopes over an input, and reports what each task did";
 
-// The program's version, as `--version` prints it.
-const VERSION: &str = "0.1.0";
+/// The program's version, as `--version` prints it.
+pub const VERSION: &str = "0.1.0";
 
 /// Returns the parser of the words after the program's name: each command with its description, its options and its help. The
 /// only error is that memory was refused.
