@@ -19,6 +19,7 @@ ROOT = os.path.join(os.path.dirname(os.path.abspath(__file__)), "..")
 PAGES = [
     ["tests/pages/cookbook.py"],
     ["tests/pages/layers.py"],
+    ["tests/pages/columns.py"],
     ["tests/pages/clauses.py"],
     ["tests/edits/try.py", "--read"],
 ]

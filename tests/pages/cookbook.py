@@ -1,5 +1,6 @@
 #!/usr/bin/env python3
-"""Compares the jobs, reports, charts, faults, races and sweeps that docs/COOKBOOK.md and README.md show with examples/, tests/faults/ and tests/limits/.
+"""Compares the jobs, reports, charts, faults, races and sweeps that docs/COOKBOOK.md, docs/MANUAL.md and README.md show
+with examples/, tests/faults/ and tests/limits/.
 
     python3 tests/pages/cookbook.py
 
@@ -7,8 +8,8 @@ It wants Python 3.10 or later, and no program: tests/pages/examples.sh compares 
 example, as (`examples/NAME.feed`), the next two indented blocks are its job, without the first line and the input, and its report; where
 it names a feed as (`tests/faults/NAME.feed`), they are its job and what becomes of it with each fault; and where it names a chart, races or a sweep as
 (`examples/NAME.chart`), the next indented block is that.
-In the cookbook a block of lines of its story may follow, and stands for each example; there is no other block, and a job has the feed's own
-layout. In README other blocks stand too, and a job may have its line ends elsewhere.
+In the cookbook a block of lines of its story may follow, and stands for each example; there is no other block. In README the job has its first
+line, so that it can be pasted, and a block that begins with a tick is lines of the story. In README and the manual other blocks stand too.
 """
 
 import os
@@ -69,12 +70,14 @@ def compare_page(page, text, is_cookbook):
                 shown.append(name)
         elif wanted:
             name, what, right = wanted.pop(0)
-            same_words = what == "job" and not is_cookbook and piece.split() == right.split()
-            if piece != right and not same_words:
+            is_whole = what == "job" and not is_cookbook and piece.partition("\n")[0] + "\n" in FIRST_LINES
+            if (piece.partition("\n")[2] if is_whole else piece) != right:
                 raise Wrong(f"{page} shows another {what} of {name} than is stored:\n{piece}")
         elif is_cookbook:
             if shown[-1:] != untold[-1:] or not are_told(untold.pop(), piece):
                 raise Wrong(f"{page} shows a block of no example and no story:\n{piece}")
+        elif shown and piece.startswith("tick ") and not are_told(shown[-1], piece):
+            raise Wrong(f"{page} shows lines that are not in the story of {shown[-1]}:\n{piece}")
     if wanted:
         raise Wrong(f"{page} does not show the {wanted[0][1]} of {wanted[0][0]}")
     if untold:
@@ -84,12 +87,12 @@ def compare_page(page, text, is_cookbook):
 
 def main():
     try:
-        for path, is_cookbook in [(("docs", "COOKBOOK.md"), True), (("README.md",), False)]:
+        for path, is_cookbook in [(("docs", "COOKBOOK.md"), True), (("docs", "MANUAL.md"), False), (("README.md",), False)]:
             page = "/".join(path)
             shown = compare_page(page, content_of(*path), is_cookbook)
             if is_cookbook and not shown:
                 raise Wrong(f"{page} shows no example")
-            print(f"cookbook.py: {page} shows as they are stored: {', '.join(shown)}")
+            print(f"cookbook.py: {page} shows as they are stored: {', '.join(shown) or 'its charts, races and sweeps'}")
     except (Wrong, OSError) as wrong:
         print(f"cookbook.py: {wrong}", file=sys.stderr)
         return 1

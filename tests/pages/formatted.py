@@ -1,5 +1,5 @@
 #!/usr/bin/env python3
-"""The jobs of examples/ and those that README.md and docs/COOKBOOK.md show are formatted, as `nursery fmt` formats them.
+"""The jobs of examples/ and those that README.md, docs/MANUAL.md and docs/COOKBOOK.md show are formatted, as `nursery fmt` formats them.
 
     python3 tests/pages/formatted.py crates/nursery/out/nursery
 """
@@ -11,7 +11,7 @@ import sys
 
 from cookbook import ROOT, content_of, pieces_of
 
-PAGES = ["README.md", "docs/COOKBOOK.md"]
+PAGES = ["README.md", "docs/MANUAL.md", "docs/COOKBOOK.md"]
 
 
 def jobs_of_examples():
@@ -21,11 +21,13 @@ def jobs_of_examples():
 
 
 def jobs_of_pages():
-    """The blocks that are jobs. A page leaves out a job's first line, which does not change the layout."""
+    """The blocks that are jobs. A page may leave out a job's first line, which does not change the layout."""
     for page in PAGES:
         for is_block, piece in pieces_of(content_of(page)):
             if is_block and piece.startswith("job ") and "{" in piece.partition("\n")[0]:
                 yield page, "trio-job 2\n" + piece
+            elif is_block and piece.startswith("trio-job "):
+                yield page, piece
 
 
 def main():
