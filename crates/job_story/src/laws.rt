@@ -1,6 +1,7 @@
 //! The laws of stories. The functions do nothing: their contracts are the laws.
 
 ghost use Rattle.job_story.specs.Laws.{FromsGiveTheTable, StoriesAreTrue, TellingIsFollowing};
+ghost use Rattle.job_story.specs.LawsOfCauses.{CancellationsAreSeen, CausesAreShown, ConcernedTasksAreClosed, SleepersWake};
 
 /// A law, which does nothing at run time. The story of a job by a table is the log of following that table, with more said of each
 /// step. So the story by a settled table is true: its starts, ends, outcomes and entries are the records of the job's meaning, and its
@@ -14,4 +15,31 @@ pub fn law_story()
 /// them, make the table of the meaning. So the story by that table is the story of the meaning.
 pub fn law_froms_of_meaning()
     ensures { FromsGiveTheTable }
+{}
+
+/// A law, which does nothing at run time. Where a story says by which scope or nursery a task is cancelled, that scope or nursery
+/// encloses the task, no shield hides it from the task, and it is the innermost that is cancelled from the task's effective deadline
+/// on. A task that slept is cancelled in that tick, and a task at a checkpoint in that tick or later.
+pub fn law_blame()
+    ensures { CancellationsAreSeen }
+{}
+
+/// A law, which does nothing at run time. After a task fell asleep until a tick, the next thing in the story that it does is in that
+/// tick, or is its cancellation, at most in that tick. A story says only of such a task that it was cancelled while it slept.
+pub fn law_waking()
+    ensures { SleepersWake }
+{}
+
+/// A law, which does nothing at run time. A cause that a story names for a cancellation is shown by its events. A deadline is the one
+/// with which a task entered the scope or nursery, and is exactly the tick from which that is cancelled. Any other cause is an event of
+/// the named task in the named tick, which is the one before the cancellation: its `cancel`, or its end with an exception, which has a
+/// leaf that is not `Cancelled` where the task failed, and none where it was cancelled.
+pub fn law_causes()
+    ensures { CausesAreShown }
+{}
+
+/// A law, which does nothing at run time. The tasks that concern a task are closed: it is one of them, and for each cancellation of one
+/// of them the task that caused it is one of them too.
+pub fn law_focus()
+    ensures { ConcernedTasksAreClosed }
 {}

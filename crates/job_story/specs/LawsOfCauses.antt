@@ -1,0 +1,33 @@
+-- The laws about the causes that stories name. They are the contracts of functions that do nothing.
+use Rattle.std.specs.Prelude.{◌≡◌, ℕ, true, Some, None, List, []}
+use Rattle.job_tree.specs.Tree.{Tree}
+use Rattle.exc_groups.specs.Exceptions.{Label}
+use Rattle.job_meaning.specs.Log.{Table}
+use Rattle.job_story.specs.Tell.{story_by}
+use Rattle.job_story.specs.Events.{Event}
+use Rattle.job_story.specs.Causes.{Cause, cause_of}
+use Rattle.job_story.specs.Focus.{is_among, concerned_tasks}
+use Rattle.job_story.specs.Blame.{AllBlamed}
+use Rattle.job_story.specs.Waking.{AllWoken}
+use Rattle.job_story.specs.Shown.{IsShown}
+use Rattle.job_story.specs.Closed.{IsClosed}
+
+-- Where a story says by which scope or nursery a task is cancelled, that one encloses the task, no shield hides it, and it is the
+-- innermost that is cancelled from the effective deadline of the task on.
+abbrev pub CancellationsAreSeen : Type 0
+CancellationsAreSeen = (table : Table) (job : Tree) (input : List ℕ) → AllBlamed table [] (story_by table job input)
+
+-- A task that falls asleep until a tick goes on in that tick, or is cancelled by then. Nothing follows the root task, so any tick
+-- serves as that in which the whole story ends.
+abbrev pub SleepersWake : Type 0
+SleepersWake = (table : Table) (job : Tree) (input : List ℕ) (end : ℕ) → AllWoken None end (story_by table job input)
+
+-- The cause of a cancellation that a story names is in its events: the deadline, or an event of the tick before.
+abbrev pub CausesAreShown : Type 0
+CausesAreShown = (table : Table) (all : List Event) (l : Label) (c : Cause) → cause_of table all l ≡ Some c → IsShown table all l c
+
+-- The tasks that concern a task are that task, and every task that caused a cancellation of one of them.
+abbrev pub ConcernedTasksAreClosed : Type 0
+ConcernedTasksAreClosed =
+    (table : Table) (all : List Event) (l : Label) →
+    (is_among l (concerned_tasks table all l) ≡ true) × IsClosed table all (concerned_tasks table all l)
