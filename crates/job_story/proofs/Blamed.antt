@@ -1,7 +1,7 @@
 -- The scope or nursery that a story names for a cancellation is the one that the task sees.
 use Rattle.std.proofs.Common.{◌≡◌, ℕ, true≢false, Bool, true, false, Option, Some, None, [], ◌∷◌, refl, ap, sym, ◌∙◌, subst, ◌⊎◌, inl, inr, arith}
 use Rattle.std.proofs.lemmas.Bool.Decides.{nat_tests}
-use Rattle.std.specs.Prelude.{◌==◌, nat_lt, if◌then◌else◌}
+use Rattle.std.specs.Prelude.{nat_lt, if◌then◌else◌}
 use Rattle.exc_groups.specs.Exceptions.{Label}
 use Rattle.cancel_scopes.specs.Sight.{Tick, earlier, sight}
 use Rattle.job_meaning.specs.Log.{Table}
@@ -23,14 +23,14 @@ pub is_from_at : (f : Tick) (t : ℕ) → is_from f t ≡ true → f ≡ Some t
 is_from_at None t h = absurd (true≢false (sym h))
 is_from_at (Some f) t h = ap (λ (x : ℕ). Some x) (grind (arith, nat_tests))
 
+pub is_from_itself : (t : ℕ) → is_from (Some t) t ≡ true
+is_from_itself t = grind (arith, nat_tests)
+
 is_from_other : (f : Tick) (t : ℕ) → is_from f t ≡ false → f ≡ Some t → ⊥
-is_from_other f t h e = true≢false (sym (itself t) ∙ (ap (λ (x : Tick). is_from x t) (sym e) ∙ h))
-  where
-    itself : (n : ℕ) → (n == n) ≡ true
-    itself n = grind (arith, nat_tests)
+is_from_other f t h e = true≢false (sym (is_from_itself t) ∙ (ap (λ (x : Tick). is_from x t) (sym e) ∙ h))
 
 -- the earlier of two is one of them
-earlier_is : (a b : Tick) (t : ℕ) → earlier a b ≡ Some t → (a ≡ Some t) ⊎ (b ≡ Some t)
+pub earlier_is : (a b : Tick) (t : ℕ) → earlier a b ≡ Some t → (a ≡ Some t) ⊎ (b ≡ Some t)
 earlier_is None b t e = inr e
 earlier_is (Some x) None t e = inl e
 earlier_is (Some x) (Some y) t e = by_test (nat_lt y x) e

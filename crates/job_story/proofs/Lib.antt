@@ -5,3 +5,5 @@ pub mod Blamed
 pub mod Woken
 pub mod Found
 pub mod Closing
+pub mod Members
+pub mod Caused

@@ -1,15 +1,18 @@
 -- The laws about the causes that stories name. They are the contracts of functions that do nothing.
 use Rattle.std.specs.Prelude.{◌≡◌, ℕ, true, Some, None, List, []}
 use Rattle.job_tree.specs.Tree.{Tree}
+use Rattle.job_tree.specs.Names.{GivesNamesOnce}
 use Rattle.exc_groups.specs.Exceptions.{Label}
 use Rattle.job_meaning.specs.Log.{Table}
+use Rattle.job_meaning.specs.Follow.{IsSettled}
 use Rattle.job_story.specs.Tell.{story_by}
 use Rattle.job_story.specs.Events.{Event}
 use Rattle.job_story.specs.Causes.{Cause, cause_of}
+use Rattle.job_story.specs.Sentences.{job_events}
 use Rattle.job_story.specs.Focus.{is_among, concerned_tasks}
 use Rattle.job_story.specs.Blame.{AllBlamed}
 use Rattle.job_story.specs.Waking.{AllWoken}
-use Rattle.job_story.specs.Shown.{IsShown}
+use Rattle.job_story.specs.Shown.{IsIn, IsShown, HasACause}
 use Rattle.job_story.specs.Closed.{IsClosed}
 
 -- Where a story says by which scope or nursery a task is cancelled, that one encloses the task, no shield hides it, and it is the
@@ -31,3 +34,10 @@ abbrev pub ConcernedTasksAreClosed : Type 0
 ConcernedTasksAreClosed =
     (table : Table) (all : List Event) (l : Label) →
     (is_among l (concerned_tasks table all l) ≡ true) × IsClosed table all (concerned_tasks table all l)
+
+-- By a settled table, where names are given once, each cancellation of a job's story names a scope or nursery, and that one has a cause
+-- among the events of the story.
+abbrev pub CancellationsHaveCauses : Type 0
+CancellationsHaveCauses =
+    (table : Table) (job : Tree) (input : List ℕ) → GivesNamesOnce job → IsSettled table job input →
+    (e : Event) → IsIn e (job_events table job input) → HasACause table (job_events table job input) e.what
