@@ -10,6 +10,7 @@ use Rattle.exc_groups.specs.Split.{Wanted, named, keep, drop}
 use Rattle.cancel_scopes.specs.Sight.{Tick, sight}
 use Rattle.job_meaning.specs.Log.{Table}
 use Rattle.job_meaning.specs.Walk.{far, Stack, Kind, home_of, latest, label_here, label_over, stack_inside, here_in, in_pass}
+use Rattle.job_meaning.proofs.Late.{latest_ends}
 use Rattle.job_story.specs.Story.{Happening, enters, sleeps, is_cancelled, finds, misses, raises, cancels, handles, cleans, replaces, waits, leaves, Story, no_more, happened, started, then_story, Tale}
 use Rattle.job_story.specs.Tell.{Scene, told_at, story_of_one, tale_if, then_tale, failed_at, seer, asleep_for, tell_slept, tell_sleep, tell_lines, tell_need, tell_raise, tell_cancel, tell_block, tell_wait, tell_gathered, tell_child, tell_each, tell_passes, handled_if, handled_exc, tell_handled, replacement, tell_cleaned, at_place, tell, tell_step, tell_handler, tell_cleanup}
 use Rattle.job_story.specs.Waking.{until_tick}
@@ -45,7 +46,7 @@ pub record IsKept (k : Table) (P : Stack → ℕ → ℕ → Story → Type 0) :
   pub nothing : (st : Stack) (t : ℕ) → P st t t no_more
   pub joined : (st : Stack) (t u v : ℕ) (a b : Story) → P st t u a → P st u v b → P st t v (then_story a b)
   pub plain : (st : Stack) (t : ℕ) (what : Happening) → IsPlain what → P st t t (story_of_one t what)
-  pub waited : (st : Stack) (t u : ℕ) (label : Label) (exc : Option Exc) → P st t u (story_of_one t (waits label exc))
+  pub waited : (st : Stack) (t u : ℕ) (label : Label) (exc : Option Exc) → t ≤ u → P st t u (story_of_one t (waits label exc))
   pub slept : (st : Stack) (t n : ℕ) (until : Tick) → until_tick until ≡ t + suc n → P st t (t + suc n) (story_of_one t (sleeps until))
   pub seen : (st : Stack) (t from : ℕ) (c : Bool) → sight st ≡ Some from → from ≤ t →
       P st t t (story_of_one t (is_cancelled (seer st from) None c))
@@ -149,7 +150,7 @@ module _ (k : Table) (P : Stack → ℕ → ℕ → Story → Type 0) (kept : Is
   unfolding tell_wait tell_gathered
   kept_gathered st t label a h =
       kept.joined st t a.end (latest a.end a.members) a.story (story_of_one a.end (waits label a.exc)) h
-      (kept.waited st a.end (latest a.end a.members) label a.exc)
+      (kept.waited st a.end (latest a.end a.members) label a.exc (latest_ends a.end a.members))
 
   kept_child : (label : Label) (st : Stack) (scene : Scene) (t : ℕ) (a : Tale) → Keeps st t a →
       Keeps st t (tell_child label (home_of st) scene t a)

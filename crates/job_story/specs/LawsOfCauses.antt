@@ -1,5 +1,5 @@
 -- The laws about the causes that stories name. They are the contracts of functions that do nothing.
-use Rattle.std.specs.Prelude.{◌≡◌, ℕ, true, Some, None, List, []}
+use Rattle.std.specs.Prelude.{◌≡◌, ℕ, true, Some, List, []}
 use Rattle.job_tree.specs.Tree.{Tree}
 use Rattle.job_tree.specs.Names.{GivesNamesOnce}
 use Rattle.exc_groups.specs.Exceptions.{Label}
@@ -11,7 +11,7 @@ use Rattle.job_story.specs.Causes.{Cause, cause_of}
 use Rattle.job_story.specs.Sentences.{job_events}
 use Rattle.job_story.specs.Focus.{is_among, concerned_tasks}
 use Rattle.job_story.specs.Blame.{AllBlamed}
-use Rattle.job_story.specs.Waking.{AllWoken}
+use Rattle.job_story.specs.Waking.{awake, AllInTime}
 use Rattle.job_story.specs.Shown.{IsIn, IsShown, HasACause}
 use Rattle.job_story.specs.Closed.{IsClosed}
 
@@ -20,10 +20,10 @@ use Rattle.job_story.specs.Closed.{IsClosed}
 abbrev pub CancellationsAreSeen : Type 0
 CancellationsAreSeen = (table : Table) (job : Tree) (input : List ℕ) → AllBlamed table [] (story_by table job input)
 
--- A task that falls asleep until a tick goes on in that tick, or is cancelled by then. Nothing follows the root task, so any tick
--- serves as that in which the whole story ends.
-abbrev pub SleepersWake : Type 0
-SleepersWake = (table : Table) (job : Tree) (input : List ℕ) (end : ℕ) → AllWoken None end (story_by table job input)
+-- The time of a task passes only while it sleeps or waits for a nursery. So a task that falls asleep until a tick goes on in that tick,
+-- or is cancelled by then. The root task is started in tick 0, and nothing follows it.
+abbrev pub TimePassesAsleep : Type 0
+TimePassesAsleep = (table : Table) (job : Tree) (input : List ℕ) → AllInTime (awake 0) 0 (story_by table job input)
 
 -- The cause of a cancellation that a story names is in its events: the deadline, or an event of the tick before.
 abbrev pub CausesAreShown : Type 0

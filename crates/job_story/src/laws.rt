@@ -1,7 +1,7 @@
 //! The laws of stories. The functions do nothing: their contracts are the laws.
 
 ghost use Rattle.job_story.specs.Laws.{FromsGiveTheTable, StoriesAreTrue, TellingIsFollowing};
-ghost use Rattle.job_story.specs.LawsOfCauses.{CancellationsAreSeen, CancellationsHaveCauses, CausesAreShown, ConcernedTasksAreClosed, SleepersWake};
+ghost use Rattle.job_story.specs.LawsOfCauses.{CancellationsAreSeen, CancellationsHaveCauses, CausesAreShown, ConcernedTasksAreClosed, TimePassesAsleep};
 
 /// A law, which does nothing at run time. The story of a job by a table is the log of following that table, with more said of each
 /// step. So the story by a settled table is true: its starts, ends, outcomes and entries are the records of the job's meaning, and its
@@ -24,10 +24,11 @@ pub fn law_blame()
     ensures { CancellationsAreSeen }
 {}
 
-/// A law, which does nothing at run time. After a task fell asleep until a tick, the next thing in the story that it does is in that
-/// tick, or is its cancellation, at most in that tick. A story says only of such a task that it was cancelled while it slept.
+/// A law, which does nothing at run time. In a story the time of a task passes only while it sleeps or waits for a nursery. The next
+/// thing that it does after it fell asleep until a tick is in that tick, or is its cancellation, at most in that tick. A story says only
+/// of such a task that it was cancelled while it slept, and since when.
 pub fn law_waking()
-    ensures { SleepersWake }
+    ensures { TimePassesAsleep }
 {}
 
 /// A law, which does nothing at run time. A cause that a story names for a cancellation is shown by its events. A deadline is the one
