@@ -6,11 +6,11 @@ use Rattle.exc_groups.specs.Exceptions.{Label}
 use Rattle.cancel_scopes.specs.Sight.{Tick, earlier, sight}
 use Rattle.job_meaning.specs.Log.{Table}
 use Rattle.job_meaning.specs.Walk.{Stack}
-use Rattle.job_story.specs.Story.{Happening, finds, misses, raises, cancels, handles, cleans, replaces, leaves, Story, happened, then_story}
+use Rattle.job_story.specs.Story.{Happening, finds, misses, raises, handles, cleans, replaces, Story, happened, then_story}
 use Rattle.job_story.specs.Tell.{is_from, seer, story_of_one, root_scene, tale_by}
 use Rattle.job_story.specs.Blame.{IsInnermost, IsRaisedAt, IsBlamed, AllBlamed}
 use Rattle.job_story.specs.LawsOfCauses.{CancellationsAreSeen}
-use Rattle.job_story.proofs.Telling.{then_assoc, then_no_more, IsPlain, IsKept, kept_tell}
+use Rattle.job_story.proofs.Telling.{then_assoc, then_no_more, IsPlain, left_in, IsKept, kept_tell}
 
 -- each level is cancelled as the table says
 abbrev pub IsOf : Table → Stack → Type 0
@@ -81,7 +81,6 @@ leads_plain : (table : Table) (st : Stack) (t : ℕ) (what : Happening) → IsPl
 leads_plain table st t (finds lines) plain of rest h = (tt, h)
 leads_plain table st t (misses name) plain of rest h = (tt, h)
 leads_plain table st t (raises name) plain of rest h = (tt, h)
-leads_plain table st t (cancels label) plain of rest h = (tt, h)
 leads_plain table st t (handles matched left) plain of rest h = (tt, h)
 leads_plain table st t (cleans exc) plain of rest h = (tt, h)
 leads_plain table st t (replaces lost fresh) plain of rest h = (tt, h)
@@ -93,12 +92,13 @@ leads table =
       nothing = λ st t of rest h. h;
       joined = λ st t u v a b f g of rest h. subst (AllBlamed table st) (sym (then_assoc a b rest)) (f of (then_story b rest) (g of rest h));
       plain = leads_plain table;
-      waited = λ st t u label exc le of rest h. (tt, h);
+      waited = λ st t u label exc le home of rest h. (tt, h);
+      signed = λ st t name of rest h. (tt, h);
       slept = λ st t n until e of rest h. (tt, h);
       seen = λ st t from c e le of rest h. (blamed table st t from None of e le, h);
       cut = λ st t from until c e lt le of rest h. (tt, (blamed table st from from (Some t) of e (lt, refl), h));
-      blocked = λ st t u kind label d shield inside caught outside a f of rest h.
-          (tt, subst (AllBlamed table _) (sym (then_assoc a _ rest)) (f (refl, of) (happened u (leaves kind label inside caught outside) rest) (tt, h)));
+      blocked = λ st t u kind label d shield inside a f of rest h.
+          (tt, subst (AllBlamed table _) (sym (then_assoc a _ rest)) (f (refl, of) (happened u (left_in table st u kind label shield inside) rest) (tt, h)));
       child = λ st t u label part exc a f of rest h.
           (subst (AllBlamed table st) (then_no_more a) (f of _ tt), h);
     }

@@ -7,3 +7,4 @@ pub mod Found
 pub mod Closing
 pub mod Members
 pub mod Caused
+pub mod Nested

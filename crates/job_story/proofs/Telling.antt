@@ -7,9 +7,9 @@ use Rattle.buffer_parts.specs.Lines.{Range, Span}
 use Rattle.buffer_parts.specs.Cuts.{cut_of}
 use Rattle.exc_groups.specs.Exceptions.{Label, Exc, cancelled}
 use Rattle.exc_groups.specs.Split.{Wanted, named, keep, drop}
-use Rattle.cancel_scopes.specs.Sight.{Tick, sight}
+use Rattle.cancel_scopes.specs.Sight.{Tick, sight, catches}
 use Rattle.job_meaning.specs.Log.{Table}
-use Rattle.job_meaning.specs.Walk.{far, Stack, Kind, home_of, latest, label_here, label_over, stack_inside, here_in, in_pass}
+use Rattle.job_meaning.specs.Walk.{far, Stack, Kind, home_of, label_on, left_with, exc_after, latest, label_here, label_over, stack_inside, here_in, in_pass}
 use Rattle.job_meaning.proofs.Late.{latest_ends}
 use Rattle.job_story.specs.Story.{Happening, enters, sleeps, is_cancelled, finds, misses, raises, cancels, handles, cleans, replaces, waits, leaves, Story, no_more, happened, started, then_story, Tale}
 use Rattle.job_story.specs.Tell.{Scene, told_at, story_of_one, tale_if, then_tale, failed_at, seer, asleep_for, tell_slept, tell_sleep, tell_lines, tell_need, tell_raise, tell_cancel, tell_block, tell_wait, tell_gathered, tell_child, tell_each, tell_passes, handled_if, handled_exc, tell_handled, replacement, tell_cleaned, at_place, tell, tell_step, tell_handler, tell_cleanup}
@@ -34,11 +34,16 @@ abbrev pub IsPlain : Happening → Type 0
 IsPlain (finds lines) = Unit {0}
 IsPlain (misses name) = Unit {0}
 IsPlain (raises name) = Unit {0}
-IsPlain (cancels label) = Unit {0}
 IsPlain (handles matched left) = Unit {0}
 IsPlain (cleans exc) = Unit {0}
 IsPlain (replaces lost fresh) = Unit {0}
 IsPlain _ = ⊥
+
+-- how a block is left
+abbrev pub left_in : Table → Stack → ℕ → Kind → Label → Bool → Option Exc → Happening
+left_in k st u kind label shield inside =
+    let left = left_with (catches (k label) shield st u) inside in
+    leaves kind label inside left.caught (exc_after kind label u left)
 
 -- A claim on the stories that are told inside the scopes and nurseries of a stack, from a tick to a tick: it holds of each part that a
 -- walk tells, and where it holds of two stories it holds of one after the other.
@@ -46,15 +51,17 @@ pub record IsKept (k : Table) (P : Stack → ℕ → ℕ → Story → Type 0) :
   pub nothing : (st : Stack) (t : ℕ) → P st t t no_more
   pub joined : (st : Stack) (t u v : ℕ) (a b : Story) → P st t u a → P st u v b → P st t v (then_story a b)
   pub plain : (st : Stack) (t : ℕ) (what : Happening) → IsPlain what → P st t t (story_of_one t what)
-  pub waited : (st : Stack) (t u : ℕ) (label : Label) (exc : Option Exc) → t ≤ u → P st t u (story_of_one t (waits label exc))
+  pub waited : (st : Stack) (t u : ℕ) (label : Label) (exc : Option Exc) → t ≤ u → home_of st ≡ Some label →
+      P st t u (story_of_one t (waits label exc))
+  pub signed : (st : Stack) (t : ℕ) (name : List ℕ) → P st t t (story_of_one t (cancels (label_on name st)))
   pub slept : (st : Stack) (t n : ℕ) (until : Tick) → until_tick until ≡ t + suc n → P st t (t + suc n) (story_of_one t (sleeps until))
   pub seen : (st : Stack) (t from : ℕ) (c : Bool) → sight st ≡ Some from → from ≤ t →
       P st t t (story_of_one t (is_cancelled (seer st from) None c))
   pub cut : (st : Stack) (t from : ℕ) (until : Tick) (c : Bool) → sight st ≡ Some from → t < from → from ≤ until_tick until →
       P st t from (happened t (sleeps until) (story_of_one from (is_cancelled (seer st from) (Some t) c)))
-  pub blocked : (st : Stack) (t u : ℕ) (kind : Kind) (label : Label) (d : Tick) (shield : Bool) (inside : Option Exc) (caught : Bool)
-      (outside : Option Exc) (a : Story) → P (stack_inside label shield (k label) st) t u a →
-      P st t u (happened t (enters kind label d shield) (then_story a (story_of_one u (leaves kind label inside caught outside))))
+  pub blocked : (st : Stack) (t u : ℕ) (kind : Kind) (label : Label) (d : Tick) (shield : Bool) (inside : Option Exc) (a : Story) →
+      P (stack_inside label shield (k label) st) t u a →
+      P st t u (happened t (enters kind label d shield) (then_story a (story_of_one u (left_in k st u kind label shield inside))))
   pub child : (st : Stack) (t u : ℕ) (label : Label) (part : Range) (exc : Option Exc) (a : Story) → P st t u a →
       P st t t (started label (home_of st) part t u exc a no_more)
 
@@ -132,9 +139,9 @@ module _ (k : Table) (P : Stack → ℕ → ℕ → Story → Type 0) (kept : Is
   unfolding tell_raise
   kept_raise st name label t = kept.plain st t (raises name) tt
 
-  kept_cancel : (st : Stack) (label : Option Label) (t : ℕ) → Keeps st t (tell_cancel label t)
+  kept_cancel : (st : Stack) (name : List ℕ) (t : ℕ) → Keeps st t (tell_cancel (label_on name st) t)
   unfolding tell_cancel
-  kept_cancel st label t = kept.plain st t (cancels label) tt
+  kept_cancel st name t = kept.signed st t name
 
   -- ---- blocks
 
@@ -144,13 +151,13 @@ module _ (k : Table) (P : Stack → ℕ → ℕ → Story → Type 0) (kept : Is
   unfolding tell_block
   kept_block kind label t d shield st inside h =
       let a = inside (k label) in
-      kept.blocked st t a.end kind label d shield a.exc _ _ a.story (h (k label) refl)
+      kept.blocked st t a.end kind label d shield a.exc a.story (h (k label) refl)
 
-  kept_gathered : (st : Stack) (t : ℕ) (label : Label) (a : Tale) → Keeps st t a → Keeps st t (tell_gathered label (tell_wait label a))
+  kept_gathered : (st : Stack) (t : ℕ) (label : Label) (a : Tale) → home_of st ≡ Some label → Keeps st t a → Keeps st t (tell_gathered label (tell_wait label a))
   unfolding tell_wait tell_gathered
-  kept_gathered st t label a h =
+  kept_gathered st t label a home h =
       kept.joined st t a.end (latest a.end a.members) a.story (story_of_one a.end (waits label a.exc)) h
-      (kept.waited st a.end (latest a.end a.members) label a.exc (latest_ends a.end a.members))
+      (kept.waited st a.end (latest a.end a.members) label a.exc (latest_ends a.end a.members) home)
 
   kept_child : (label : Label) (st : Stack) (scene : Scene) (t : ℕ) (a : Tale) → Keeps st t a →
       Keeps st t (tell_child label (home_of st) scene t a)
@@ -235,13 +242,13 @@ module _ (k : Table) (P : Stack → ℕ → ℕ → Story → Type 0) (kept : Is
     kept_step longest scene st t = kept_lines st _ t
     kept_step (need text name) scene st t = kept_need st _ name scene.here.task t
     kept_step (raise name) scene st t = kept_raise st name scene.here.task t
-    kept_step (cancel name) scene st t = kept_cancel st _ t
+    kept_step (cancel name) scene st t = kept_cancel st name t
     kept_step (scope name d shield fail body) scene st t =
         kept_block _ (label_here name scene.here) t _ shield st _
         (λ f e. kept_tell body scene (stack_inside (label_here name scene.here) shield f st) t)
     kept_step (nursery name d shield body) scene st t =
         kept_block _ (label_here name scene.here) t _ shield st _
-        (λ f e. kept_gathered (stack_inside (label_here name scene.here) shield f st) t (label_here name scene.here) _
+        (λ f e. kept_gathered (stack_inside (label_here name scene.here) shield f st) t (label_here name scene.here) _ refl
         (kept_tell body scene (stack_inside (label_here name scene.here) shield f st) t))
     kept_step (start name None body) scene st t =
         let inner = at_place (here_in (label_here name scene.here) scene.here.part scene.here) scene in

@@ -11,6 +11,7 @@ use Rattle.job_story.specs.Causes.{Cause, cause_of}
 use Rattle.job_story.specs.Sentences.{job_events}
 use Rattle.job_story.specs.Focus.{is_among, concerned_tasks}
 use Rattle.job_story.specs.Blame.{AllBlamed}
+use Rattle.job_story.specs.Nesting.{AllNested}
 use Rattle.job_story.specs.Waking.{awake, AllInTime}
 use Rattle.job_story.specs.Shown.{IsIn, IsShown, HasACause}
 use Rattle.job_story.specs.Closed.{IsClosed}
@@ -19,6 +20,11 @@ use Rattle.job_story.specs.Closed.{IsClosed}
 -- innermost that is cancelled from the effective deadline of the task on.
 abbrev pub CancellationsAreSeen : Type 0
 CancellationsAreSeen = (table : Table) (job : Tree) (input : List ℕ) → AllBlamed table [] (story_by table job input)
+
+-- The scopes and nurseries of a story are nested, and are left as the language says. So the stack by which `AllBlamed` reads a
+-- cancellation is that of the scopes and nurseries that enclose the task.
+abbrev pub BlocksAreNested : Type 0
+BlocksAreNested = (table : Table) (job : Tree) (input : List ℕ) → AllNested table [] [] (story_by table job input)
 
 -- The time of a task passes only while it sleeps or waits for a nursery. So a task that falls asleep until a tick goes on in that tick,
 -- or is cancelled by then. The root task is started in tick 0, and nothing follows it.

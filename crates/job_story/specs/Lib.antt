@@ -10,6 +10,7 @@ pub mod Froms
 pub mod Laws
 pub mod Blame
 pub mod Waking
+pub mod Nesting
 pub mod Shown
 pub mod Closed
 pub mod LawsOfCauses

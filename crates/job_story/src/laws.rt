@@ -1,7 +1,7 @@
 //! The laws of stories. The functions do nothing: their contracts are the laws.
 
 ghost use Rattle.job_story.specs.Laws.{FromsGiveTheTable, StoriesAreTrue, TellingIsFollowing};
-ghost use Rattle.job_story.specs.LawsOfCauses.{CancellationsAreSeen, CancellationsHaveCauses, CausesAreShown, ConcernedTasksAreClosed, TimePassesAsleep};
+ghost use Rattle.job_story.specs.LawsOfCauses.{BlocksAreNested, CancellationsAreSeen, CancellationsHaveCauses, CausesAreShown, ConcernedTasksAreClosed, TimePassesAsleep};
 
 /// A law, which does nothing at run time. The story of a job by a table is the log of following that table, with more said of each
 /// step. So the story by a settled table is true: its starts, ends, outcomes and entries are the records of the job's meaning, and its
@@ -22,6 +22,14 @@ pub fn law_froms_of_meaning()
 /// on. A task that slept is cancelled in that tick, and a task at a checkpoint in that tick or later.
 pub fn law_blame()
     ensures { CancellationsAreSeen }
+{}
+
+/// A law, which does nothing at run time. The scopes and nurseries of a story are nested: a task leaves, and waits for, the innermost
+/// that is open, has left all that it entered when it ends, and starts tasks in the innermost. A `cancel` step cancels the innermost of
+/// its name. One that is left catches if it is cancelled by then, and is shielded or no cancellation is seen outside of it; the story says
+/// so, and which exception propagates.
+pub fn law_nesting()
+    ensures { BlocksAreNested }
 {}
 
 /// A law, which does nothing at run time. In a story the time of a task passes only while it sleeps or waits for a nursery. The next
