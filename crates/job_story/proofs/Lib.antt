@@ -1,2 +1,10 @@
 pub mod Erasing
 pub mod Tables
+pub mod Telling
+pub mod Blamed
+pub mod Woken
+pub mod Found
+pub mod Closing
+pub mod Members
+pub mod Caused
+pub mod Nested

@@ -8,6 +8,12 @@ pub mod Focus
 pub mod Held
 pub mod Froms
 pub mod Laws
+pub mod Blame
+pub mod Waking
+pub mod Nesting
+pub mod Shown
+pub mod Closed
+pub mod LawsOfCauses
 pub mod Examples
 pub mod ExamplesCleanups
 pub mod ExamplesCauses

@@ -1,6 +1,7 @@
 //! The laws of stories. The functions do nothing: their contracts are the laws.
 
 ghost use Rattle.job_story.specs.Laws.{FromsGiveTheTable, StoriesAreTrue, TellingIsFollowing};
+ghost use Rattle.job_story.specs.LawsOfCauses.{BlocksAreNested, CancellationsAreSeen, CancellationsHaveCauses, CausesAreShown, ConcernedTasksAreClosed, TimePassesAsleep};
 
 /// A law, which does nothing at run time. The story of a job by a table is the log of following that table, with more said of each
 /// step. So the story by a settled table is true: its starts, ends, outcomes and entries are the records of the job's meaning, and its
@@ -14,4 +15,42 @@ pub fn law_story()
 /// them, make the table of the meaning. So the story by that table is the story of the meaning.
 pub fn law_froms_of_meaning()
     ensures { FromsGiveTheTable }
+{}
+
+/// A law, which does nothing at run time. Where a story says by which scope or nursery a task is cancelled, that scope or nursery
+/// encloses the task, no shield hides it from the task, and it is the innermost that is cancelled from the task's effective deadline
+/// on. A task that slept is cancelled in that tick, and a task at a checkpoint in that tick or later.
+pub fn law_blame()
+    ensures { CancellationsAreSeen }
+{}
+
+/// A law, which does nothing at run time. The scopes and nurseries of a story are nested: a task leaves, and waits for, the innermost
+/// that is open, has left all that it entered when it ends, and starts tasks in the innermost. A `cancel` step cancels the innermost of
+/// its name. One that is left catches if it is cancelled by then, and is shielded or no cancellation is seen outside of it; the story says
+/// so, and which exception propagates.
+pub fn law_nesting()
+    ensures { BlocksAreNested }
+{}
+
+/// A law, which does nothing at run time. In a story the time of a task passes only while it sleeps or waits for a nursery. The next
+/// thing that it does after it fell asleep until a tick is in that tick, or is its cancellation, at most in that tick. A story says only
+/// of such a task that it was cancelled while it slept, and since when.
+pub fn law_waking()
+    ensures { TimePassesAsleep }
+{}
+
+/// A law, which does nothing at run time. A cause that a story names for a cancellation is shown by its events. A deadline is the one
+/// with which a task entered the scope or nursery, and is exactly the tick from which that is cancelled. Any other cause is an event of
+/// the named task in the named tick, which is the one before the cancellation: its `cancel`, or its end with an exception, which has a
+/// leaf that is not `Cancelled` where the task failed, and none where it was cancelled.
+/// By a settled table, where names are given once, every cancellation in the story of a job names a scope or nursery that has a cause.
+pub fn law_causes()
+    ensures shown { CausesAreShown }
+    ensures complete { CancellationsHaveCauses }
+{}
+
+/// A law, which does nothing at run time. The tasks that concern a task are closed: it is one of them, and for each cancellation of one
+/// of them the task that caused it is one of them too.
+pub fn law_focus()
+    ensures { ConcernedTasksAreClosed }
 {}

@@ -14,4 +14,6 @@ mod laws;
 pub use block_exits::Kind;
 pub use event::{Event, Happening, Range, Span, What};
 pub use froms::Froms;
-pub use laws::{law_froms_of_meaning, law_story};
+pub use laws::{
+    law_blame, law_causes, law_focus, law_froms_of_meaning, law_nesting, law_story, law_waking,
+};

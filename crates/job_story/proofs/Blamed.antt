@@ -1,0 +1,112 @@
+-- The scope or nursery that a story names for a cancellation is the one that the task sees.
+use Rattle.std.proofs.Common.{◌≡◌, ℕ, true≢false, Bool, true, false, Option, Some, None, [], ◌∷◌, refl, ap, sym, ◌∙◌, subst, ◌⊎◌, inl, inr, arith}
+use Rattle.std.proofs.lemmas.Bool.Decides.{nat_tests}
+use Rattle.std.specs.Prelude.{nat_lt, if◌then◌else◌}
+use Rattle.exc_groups.specs.Exceptions.{Label}
+use Rattle.cancel_scopes.specs.Sight.{Tick, earlier, sight}
+use Rattle.job_meaning.specs.Log.{Table}
+use Rattle.job_meaning.specs.Walk.{Stack}
+use Rattle.job_story.specs.Story.{Happening, finds, misses, raises, handles, cleans, replaces, Story, happened, then_story}
+use Rattle.job_story.specs.Tell.{is_from, seer, story_of_one, root_scene, tale_by}
+use Rattle.job_story.specs.Blame.{IsInnermost, IsRaisedAt, IsBlamed, AllBlamed}
+use Rattle.job_story.specs.LawsOfCauses.{CancellationsAreSeen}
+use Rattle.job_story.proofs.Telling.{then_assoc, then_no_more, IsPlain, left_in, IsKept, kept_tell}
+
+-- each level is cancelled as the table says
+abbrev pub IsOf : Table → Stack → Type 0
+IsOf table [] = Unit {0}
+IsOf table (l ∷ ls) = (l.from ≡ table l.label) × IsOf table ls
+
+-- ---- the level that determines the effective deadline
+
+pub is_from_at : (f : Tick) (t : ℕ) → is_from f t ≡ true → f ≡ Some t
+is_from_at None t h = absurd (true≢false (sym h))
+is_from_at (Some f) t h = ap (λ (x : ℕ). Some x) (grind (arith, nat_tests))
+
+pub is_from_itself : (t : ℕ) → is_from (Some t) t ≡ true
+is_from_itself t = grind (arith, nat_tests)
+
+is_from_other : (f : Tick) (t : ℕ) → is_from f t ≡ false → f ≡ Some t → ⊥
+is_from_other f t h e = true≢false (sym (is_from_itself t) ∙ (ap (λ (x : Tick). is_from x t) (sym e) ∙ h))
+
+-- the earlier of two is one of them
+pub earlier_is : (a b : Tick) (t : ℕ) → earlier a b ≡ Some t → (a ≡ Some t) ⊎ (b ≡ Some t)
+earlier_is None b t e = inr e
+earlier_is (Some x) None t e = inl e
+earlier_is (Some x) (Some y) t e = by_test (nat_lt y x) e
+  where
+    by_test : (b : Bool) → Some (if b then y else x) ≡ Some t → (Some x ≡ Some t) ⊎ (Some y ≡ Some t)
+    by_test true k = inr k
+    by_test false k = inl k
+
+-- what the walk names: the label, and what is known of it
+abbrev Named : Table → Stack → ℕ → Option Label → Type 0
+Named table st from o = (l : Label) × (o ≡ Some l) × (table l ≡ Some from) × IsInnermost l from st
+
+seer_is : (table : Table) (st : Stack) (from : ℕ) → IsOf table st → sight st ≡ Some from → Named table st from (seer st from)
+seer_is table [] from of e = absurd (cc)
+seer_is table (l ∷ ls) from of e = by_from (is_from l.from from) refl (seer_is table ls from of.1)
+  where
+    outside : (s : Bool) → l.shield ≡ s → is_from l.from from ≡ false → (if s then l.from else earlier l.from (sight ls)) ≡ Some from →
+        (sight ls ≡ Some from → Named table ls from (seer ls from)) → Named table (l ∷ ls) from (if s then None else seer ls from)
+    outside true shielded not_this is others = absurd (is_from_other l.from from not_this is)
+    outside false shielded not_this is others =
+        let next = others (beyond (earlier_is l.from (sight ls) from is)) in
+        (next.0, next.1, next.2, inr (shielded, is_from_other l.from from not_this, next.3))
+      where
+        beyond : (l.from ≡ Some from) ⊎ (sight ls ≡ Some from) → sight ls ≡ Some from
+        beyond (inl this) = absurd (is_from_other l.from from not_this this)
+        beyond (inr other) = other
+
+    by_from : (b : Bool) → is_from l.from from ≡ b → (sight ls ≡ Some from → Named table ls from (seer ls from)) →
+        Named table (l ∷ ls) from (if b then Some l.label else (if l.shield then None else seer ls from))
+    by_from true this others =
+        let at = is_from_at l.from from this in
+        (l.label, refl, sym of.0 ∙ at, inl (refl, at))
+    by_from false not_this others = outside l.shield refl not_this e others
+
+blamed : (table : Table) (st : Stack) (t from : ℕ) (since : Tick) → IsOf table st → sight st ≡ Some from → IsRaisedAt from t since →
+    IsBlamed table st t (seer st from) since
+blamed table st t from since of e when =
+    let named = seer_is table st from of e in
+    record { label = named.0; from = from; named = named.1; told = named.2; seen = e; innermost = named.3; raised = when }
+
+-- ---- the stories of a walk
+
+-- a story whose cancellations name what they should, before any rest whose cancellations do
+abbrev Leads : Table → Stack → ℕ → ℕ → Story → Type 0
+Leads table st t u a = IsOf table st → (rest : Story) → AllBlamed table st rest → AllBlamed table st (then_story a rest)
+
+leads_plain : (table : Table) (st : Stack) (t : ℕ) (what : Happening) → IsPlain what → Leads table st t t (story_of_one t what)
+leads_plain table st t (finds lines) plain of rest h = (tt, h)
+leads_plain table st t (misses name) plain of rest h = (tt, h)
+leads_plain table st t (raises name) plain of rest h = (tt, h)
+leads_plain table st t (handles matched left) plain of rest h = (tt, h)
+leads_plain table st t (cleans exc) plain of rest h = (tt, h)
+leads_plain table st t (replaces lost fresh) plain of rest h = (tt, h)
+leads_plain table st t _ plain of rest h = absurd plain
+
+leads : (table : Table) → IsKept table (Leads table)
+leads table =
+    record {
+      nothing = λ st t of rest h. h;
+      joined = λ st t u v a b f g of rest h. subst (AllBlamed table st) (sym (then_assoc a b rest)) (f of (then_story b rest) (g of rest h));
+      plain = leads_plain table;
+      waited = λ st t u label exc le home of rest h. (tt, h);
+      signed = λ st t name of rest h. (tt, h);
+      slept = λ st t n until e of rest h. (tt, h);
+      seen = λ st t from c e le of rest h. (blamed table st t from None of e le, h);
+      cut = λ st t from until c e lt le of rest h. (tt, (blamed table st from from (Some t) of e (lt, refl), h));
+      blocked = λ st t u kind label d shield inside a f of rest h.
+          (tt, subst (AllBlamed table _) (sym (then_assoc a _ rest)) (f (refl, of) (happened u (left_in table st u kind label shield inside) rest) (tt, h)));
+      child = λ st t u label part exc a f of rest h.
+          (subst (AllBlamed table st) (then_no_more a) (f of _ tt), h);
+    }
+
+pub cancellations_are_seen : CancellationsAreSeen
+unfolding tale_by
+cancellations_are_seen table job input = (
+  subst (AllBlamed table []) (then_no_more (tale_by table job input).story)
+      (kept_tell table (Leads table) (leads table) job.steps (root_scene job input) [] 0 tt _ tt),
+  tt,
+)

@@ -1,0 +1,9 @@
+use Rattle.job_story.proofs.Found.{causes_are_shown}
+use Rattle.job_story.proofs.Caused.{cancellations_have_causes}
+use Rattle.job_story.proofs.laws.law_causes.Goals as goal
+
+pub returns-clause-shown : goal.returns-clause-shown
+returns-clause-shown c = causes_are_shown
+
+pub returns-clause-complete : goal.returns-clause-complete
+returns-clause-complete c = cancellations_have_causes

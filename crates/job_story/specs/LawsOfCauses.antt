@@ -1,0 +1,49 @@
+-- The laws about the causes that stories name. They are the contracts of functions that do nothing.
+use Rattle.std.specs.Prelude.{◌≡◌, ℕ, true, Some, List, []}
+use Rattle.job_tree.specs.Tree.{Tree}
+use Rattle.job_tree.specs.Names.{GivesNamesOnce}
+use Rattle.exc_groups.specs.Exceptions.{Label}
+use Rattle.job_meaning.specs.Log.{Table}
+use Rattle.job_meaning.specs.Follow.{IsSettled}
+use Rattle.job_story.specs.Tell.{story_by}
+use Rattle.job_story.specs.Events.{Event}
+use Rattle.job_story.specs.Causes.{Cause, cause_of}
+use Rattle.job_story.specs.Sentences.{job_events}
+use Rattle.job_story.specs.Focus.{is_among, concerned_tasks}
+use Rattle.job_story.specs.Blame.{AllBlamed}
+use Rattle.job_story.specs.Nesting.{AllNested}
+use Rattle.job_story.specs.Waking.{awake, AllInTime}
+use Rattle.job_story.specs.Shown.{IsIn, IsShown, HasACause}
+use Rattle.job_story.specs.Closed.{IsClosed}
+
+-- Where a story says by which scope or nursery a task is cancelled, that one encloses the task, no shield hides it, and it is the
+-- innermost that is cancelled from the effective deadline of the task on.
+abbrev pub CancellationsAreSeen : Type 0
+CancellationsAreSeen = (table : Table) (job : Tree) (input : List ℕ) → AllBlamed table [] (story_by table job input)
+
+-- The scopes and nurseries of a story are nested, and are left as the language says. So the stack by which `AllBlamed` reads a
+-- cancellation is that of the scopes and nurseries that enclose the task.
+abbrev pub BlocksAreNested : Type 0
+BlocksAreNested = (table : Table) (job : Tree) (input : List ℕ) → AllNested table [] [] (story_by table job input)
+
+-- The time of a task passes only while it sleeps or waits for a nursery. So a task that falls asleep until a tick goes on in that tick,
+-- or is cancelled by then. The root task is started in tick 0, and nothing follows it.
+abbrev pub TimePassesAsleep : Type 0
+TimePassesAsleep = (table : Table) (job : Tree) (input : List ℕ) → AllInTime (awake 0) 0 (story_by table job input)
+
+-- The cause of a cancellation that a story names is in its events: the deadline, or an event of the tick before.
+abbrev pub CausesAreShown : Type 0
+CausesAreShown = (table : Table) (all : List Event) (l : Label) (c : Cause) → cause_of table all l ≡ Some c → IsShown table all l c
+
+-- The tasks that concern a task are that task, and every task that caused a cancellation of one of them.
+abbrev pub ConcernedTasksAreClosed : Type 0
+ConcernedTasksAreClosed =
+    (table : Table) (all : List Event) (l : Label) →
+    (is_among l (concerned_tasks table all l) ≡ true) × IsClosed table all (concerned_tasks table all l)
+
+-- By a settled table, where names are given once, each cancellation of a job's story names a scope or nursery, and that one has a cause
+-- among the events of the story.
+abbrev pub CancellationsHaveCauses : Type 0
+CancellationsHaveCauses =
+    (table : Table) (job : Tree) (input : List ℕ) → GivesNamesOnce job → IsSettled table job input →
+    (e : Event) → IsIn e (job_events table job input) → HasACause table (job_events table job input) e.what
