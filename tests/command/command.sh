@@ -272,8 +272,12 @@ printf 'trio-job 2\njob untried {\n  nursery ws {\n    start w over 8 { repeat 6
 untried='                finer    not tried: J11 at 0\n 4:5  start w   later    not tried: J11 at 0\n4:34  pace 100  later    not tried: J11 at 0\n 5:5  start x   later    not tried: J11 at 0\n5:15  sleep 5   earlier  not tried: J11 at 0\n5:15  sleep 5   later    not tried: J11 at 0\n'
 wants 0 "${untried}5 hairs: 0 races, 5 hairs not tried\n" '' races untried.job
 wants 1 "${untried}5 hairs: 0 races, 5 hairs not tried\n" "$untried" races untried.job --deny
-printf 'trio-job 1\njob late { scope s after 100000001 { sleep 1; } }\n' > late.job
-wants 2 '' 'error: a `sleep`, `after` or `at` of more than 100000000 ticks has no finer ticks: use a coarser unit of time\n' races late.job
+printf 'trio-job 1\njob round { sleep 1000000; }\n' > round.job
+wants 0 '2 hairs: no race\n' '' races round.job --limit 2000000 --deny
+printf 'trio-job 2\njob long {\n  nursery n {\n    start f { forever; }\n    repeat 1000 { repeat 2 { sleep 1000000; } }\n    cancel n;\n  }\n}\n' > long.job
+wants 0 '3 hairs: no race\n' '' races long.job --limit 4294967295 --deny
+printf 'trio-job 1\njob late { scope s after 100000000 { sleep 1; } }\n' > late.job
+wants 2 '' 'error: a `sleep`, `after` or `at` of more than 99999999 ticks has no finer ticks: use a coarser unit of time\n' races late.job
 cp both.job in
 wants 1 "$both" "$hairs" races - --deny
 : > in

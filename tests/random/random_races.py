@@ -21,6 +21,7 @@ from jobs import random_job
 from random_faults import LIMIT, TOKEN, Runs, Wrong, refusal_in
 
 MOST = 1_000_000_000
+FOREVER = 1_099_511_627_776
 
 
 def places_of(tokens):
@@ -163,7 +164,7 @@ def table(runs, text, limit=LIMIT):
         return f"limit {limit}\n"
     places = list(places_of(tokens))
     most = max((int(p[3][0]) for p in places if p[1] == "number"), default=0)
-    factor = next(f for f in (1000, 100, 10) if most * f <= MOST)
+    factor = next(f for f in (1000, 100, 10) if most * f + f // 10 <= MOST and limit * f < FOREVER)
     hair, end = factor // 10, limit * factor
     base = Shown(runs, finer(text, places, factor), end)
     lines = [("", "", "finer", compared(first, base, root))]

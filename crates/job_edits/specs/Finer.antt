@@ -1,5 +1,5 @@
 -- A job text in finer ticks, and with one site moved by a hair.
-use Rattle.std.specs.Prelude.{ℕ, ◌+◌, ◌-◌, ◌*◌, ◌==◌, max, nat_le, if◌then◌else◌, List, [], ◌∷◌, ◌++◌, Option, Some, None}
+use Rattle.std.specs.Prelude.{ℕ, ◌+◌, ◌-◌, ◌*◌, ◌==◌, Bool, ◌&&◌, max, nat_le, nat_lt, if◌then◌else◌, List, [], ◌∷◌, ◌++◌, Option, Some, None}
 use Rattle.std.specs.Io.Iter.{u64_saturate}
 use Rattle.job_edits.specs.declared.change.Piece.TheVariants as piece
 use Rattle.job_edits.specs.declared.change.Change.{Change}
@@ -29,17 +29,31 @@ abbrev pub most_ticks : List Site → ℕ
 most_ticks [] = 0
 most_ticks (s ∷ ss) = max (ticks_of s.moment) (most_ticks ss)
 
--- the greatest of 1000, 100 and 10 by which a number of ticks may be multiplied, and a tenth of it
-abbrev pub finer_by : ℕ → Option Finer
-finer_by most =
-    if nat_le (most * 1000) 1000000000 then Some (record { factor = 1000; hair = 100 })
-    else if nat_le (most * 100) 1000000000 then Some (record { factor = 100; hair = 10 })
-    else if nat_le (most * 10) 1000000000 then Some (record { factor = 10; hair = 1 })
+-- A number of ticks may be multiplied by a factor, and be a hair more then; and the limit, multiplied by it, is before the tick to
+-- which `forever` sleeps, so that `forever` ends by the limit in neither text.
+abbrev pub fits : ℕ → ℕ → Finer → Bool
+fits most limit f = nat_le (most * f.factor + f.hair) 1000000000 && nat_lt (limit * f.factor) 1099511627776
+
+abbrev pub by_thousand : Finer
+by_thousand = record { factor = 1000; hair = 100 }
+
+abbrev pub by_hundred : Finer
+by_hundred = record { factor = 100; hair = 10 }
+
+abbrev pub by_ten : Finer
+by_ten = record { factor = 10; hair = 1 }
+
+-- the greatest of 1000, 100 and 10 that fits, and a tenth of it, which is a hair
+abbrev pub finer_by : ℕ → ℕ → Option Finer
+finer_by most limit =
+    if fits most limit by_thousand then Some by_thousand
+    else if fits most limit by_hundred then Some by_hundred
+    else if fits most limit by_ten then Some by_ten
     else None
 
--- the same for a text: by its maximum number of ticks
-abbrev pub finer_for : List Site → Option Finer
-finer_for sites = finer_by (most_ticks sites)
+-- the same for a text and a limit: by the text's maximum number of ticks
+abbrev pub finer_for : ℕ → List Site → Option Finer
+finer_for limit sites = finer_by (most_ticks sites) limit
 
 -- ---- finer ticks
 

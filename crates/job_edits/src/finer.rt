@@ -1,5 +1,5 @@
 ghost use Rattle.std.specs.Prelude.{◌≡◌};
-ghost use Rattle.job_edits.specs.Finer.{finer_by, finer_for, most_ticks, ticks_of, ticks_by};
+ghost use Rattle.job_edits.specs.Finer.{fits, by_thousand, by_hundred, by_ten, finer_by, finer_for, most_ticks, ticks_of, ticks_by};
 
 use crate::number::Number;
 use crate::site::{Moment, Site};
@@ -14,13 +14,14 @@ pub struct Finer {
 }
 
 impl Finer {
-    /// Returns how much finer the ticks of a text with these sites may be. The factor is the first of 1000, 100 and 10 for
-    /// which no number of ticks exceeds 1,000,000,000; the hair is a tenth of it. Returns `None` if a number of ticks would
-    /// exceed that even with the factor 10.
-    pub fn of(sites: &[Site]) -> Option<Finer>
-        ensures { result ≡ finer_for sites.now }
+    /// Returns how much finer the ticks of a text with these sites may be, if its job is compared up to a limit, in original ticks.
+    /// The factor is the first of 1000, 100 and 10 for which no number of ticks exceeds 1,000,000,000 if it is a hair more, and
+    /// for which the limit is before the tick to which `forever` sleeps, in finer ticks too; the hair is a tenth of the factor.
+    /// Returns `None` if the factor 10 is too large.
+    pub fn of(sites: &[Site], limit: u64) -> Option<Finer>
+        ensures { result ≡ finer_for limit sites.now }
     {
-        by_most(most_ticks(sites))
+        by_most(most_ticks(sites), limit)
     }
 
     // Returns a number of original ticks in finer ticks.
@@ -32,24 +33,49 @@ impl Finer {
 }
 
 // Returns how much finer the ticks may be if `most` is the maximum number of ticks.
-fn by_most(most: u64) -> Option<Finer>
-    ensures { result ≡ finer_by most }
+fn by_most(most: u64, limit: u64) -> Option<Finer>
+    ensures { result ≡ finer_by most limit }
 {
-    match most {
-        0..=1_000_000 => Some(Finer {
+    if fits_thousand(most, limit) {
+        return Some(Finer {
             factor: 1_000,
             hair: 100,
-        }),
-        1_000_001..=10_000_000 => Some(Finer {
+        });
+    }
+    if fits_hundred(most, limit) {
+        return Some(Finer {
             factor: 100,
             hair: 10,
-        }),
-        10_000_001..=100_000_000 => Some(Finer {
+        });
+    }
+    if fits_ten(most, limit) {
+        return Some(Finer {
             factor: 10,
             hair: 1,
-        }),
-        _ => None,
+        });
     }
+    None
+}
+
+// Returns whether ticks may be a thousand times finer.
+fn fits_thousand(most: u64, limit: u64) -> bool
+    ensures { result ≡ fits most limit by_thousand }
+{
+    most <= 999_999 && limit <= 1_099_511_627
+}
+
+// Returns whether ticks may be a hundred times finer.
+fn fits_hundred(most: u64, limit: u64) -> bool
+    ensures { result ≡ fits most limit by_hundred }
+{
+    most <= 9_999_999 && limit <= 10_995_116_277
+}
+
+// Returns whether ticks may be ten times finer.
+fn fits_ten(most: u64, limit: u64) -> bool
+    ensures { result ≡ fits most limit by_ten }
+{
+    most <= 99_999_999 && limit <= 109_951_162_777
 }
 
 // Returns the maximum number of ticks at these sites.

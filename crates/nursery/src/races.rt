@@ -18,7 +18,7 @@ use table_app::{Form, RacesVerdict, races};
 
 // What is printed if a number of ticks is too large to be made finer.
 const NO_FINER_TICKS: &str =
-    "error: a `sleep`, `after` or `at` of more than 100000000 ticks has no finer ticks: use a coarser unit of time\n";
+    "error: a `sleep`, `after` or `at` of more than 99999999 ticks has no finer ticks: use a coarser unit of time\n";
 
 // Writes the places of a job file, run over an input file or over no input, where a hair changes the outcome, and returns the
 // status. Progress is shown if standard error is a terminal.

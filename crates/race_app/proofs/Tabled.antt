@@ -10,7 +10,7 @@ use Rattle.job_meaning.specs.Meaning.{meaning_end}
 use Rattle.job_meaning.specs.Shown.{Row, meaning_rows}
 use Rattle.job_edits.specs.Sites.{sites_in}
 use Rattle.job_edits.specs.Copied.{copied_in}
-use Rattle.job_edits.specs.Finer.{finer_for, most_ticks, shifts_of}
+use Rattle.job_edits.specs.Finer.{fits, by_thousand, by_hundred, by_ten, finer_for, most_ticks, shifts_of}
 use Rattle.job_edits.specs.declared.site.Site.{Site}
 use Rattle.job_edits.specs.declared.copied.CopiedStart.{CopiedStart}
 use Rattle.job_edits.specs.declared.finer.Finer.{Finer}
@@ -47,7 +47,7 @@ is_late text input limit job spells late =
 pub are_lines : (text input : List ℕ) (limit l : ℕ) (job : Tree) (tokens : List Token) (f : Finer)
     (sites : List Site) (starts : List CopiedStart) (first : Ran) (lines : List told.Line) (hairs : ℕ) →
     Spells text job → meaning_end job input ≤ limit → HasTokens text tokens None → sites ≡ sites_in tokens → starts ≡ copied_in tokens →
-    Some f ≡ finer_for sites → l ≡ u64_saturate (limit * f.factor) → first ≡ ran_of limit job input →
+    Some f ≡ finer_for limit sites → l ≡ u64_saturate (limit * f.factor) → first ≡ ran_of limit job input →
     AreLines text input l f sites starts first lines → hairs ≡ length (shifts_of sites) → AreRaceLines text input limit hairs lines
 are_lines text input limit l job tokens f sites starts first lines hairs spells soon has s c finer at same are h =
     let by_limit = subst (λ (n : ℕ). AreLines text input n f sites starts first lines) at are in
@@ -61,7 +61,7 @@ are_lines text input limit l job tokens f sites starts first lines hairs spells 
       tokens = tokens;
       tokens_are = has;
       f = f;
-      finer_is = ap finer_for (sym s) ∙ sym finer;
+      finer_is = ap (finer_for limit) (sym s) ∙ sym finer;
       lines_are =
           subst (λ (r : Ran). AreLines text input (u64_saturate (limit * f.factor)) f (sites_in tokens) (copied_in tokens) r lines) same by_starts;
       hairs_are = h ∙ ap (λ (ss : List Site). length (shifts_of ss)) s;
@@ -69,7 +69,7 @@ are_lines text input limit l job tokens f sites starts first lines hairs spells 
 
 -- a text whose numbers of ticks cannot be made finer
 pub has_no_finer : (text input : List ℕ) (limit : ℕ) (job : Tree) (tokens : List Token) (sites : List Site) →
-    Spells text job → meaning_end job input ≤ limit → HasTokens text tokens None → sites ≡ sites_in tokens → None ≡ finer_for sites →
+    Spells text job → meaning_end job input ≤ limit → HasTokens text tokens None → sites ≡ sites_in tokens → None ≡ finer_for limit sites →
     HasNoFiner text input limit
 has_no_finer text input limit job tokens sites spells soon has s none =
     record {
@@ -78,7 +78,7 @@ has_no_finer text input limit job tokens sites spells soon has s none =
       in_time = soon;
       tokens = tokens;
       tokens_are = has;
-      none = ap finer_for (sym s) ∙ sym none;
+      none = ap (finer_for limit) (sym s) ∙ sym none;
     }
 
 abbrev factor_or : Option Finer → ℕ
@@ -87,9 +87,9 @@ factor_or (Some f) = f.factor
 
 some_factor : (a b c : Bool) (f : Finer) →
     Some f
-    ≡ (if a then Some (record { factor = 1000; hair = 100 })
-    else if b then Some (record { factor = 100; hair = 10 })
-    else if c then Some (record { factor = 10; hair = 1 })
+    ≡ (if a then Some by_thousand
+    else if b then Some by_hundred
+    else if c then Some by_ten
     else None) → 0 < f.factor
 some_factor true b c f is = let ticks : f.factor ≡ 1000 = ap factor_or is in omega arith
 some_factor false true c f is = let ticks : f.factor ≡ 100 = ap factor_or is in omega arith
@@ -97,7 +97,6 @@ some_factor false false true f is = let ticks : f.factor ≡ 10 = ap factor_or i
 some_factor false false false f is = let ticks : f.factor ≡ 1 = ap factor_or is in omega arith
 
 -- an original tick is at least one finer tick
-pub some_ticks : (sites : List Site) (f : Finer) → Some f ≡ finer_for sites → 0 < f.factor
-some_ticks sites f is =
-    let most = most_ticks sites in
-    some_factor (nat_le (most * 1000) 1000000000) (nat_le (most * 100) 1000000000) (nat_le (most * 10) 1000000000) f is
+pub some_ticks : (limit : ℕ) (sites : List Site) (f : Finer) → Some f ≡ finer_for limit sites → 0 < f.factor
+some_ticks limit sites f is =
+    let most = most_ticks sites in some_factor (fits most limit by_thousand) (fits most limit by_hundred) (fits most limit by_ten) f is

@@ -24,7 +24,7 @@ pub record AreRaceLines (text input : List ℕ) (limit : ℕ) (hairs : ℕ) (lin
   pub tokens : List Token
   pub tokens_are : HasTokens text tokens None
   pub f : Finer
-  pub finer_is : finer_for (sites_in tokens) ≡ Some f
+  pub finer_is : finer_for limit (sites_in tokens) ≡ Some f
   pub lines_are :
       AreLines text input (u64_saturate (limit * f.factor)) f (sites_in tokens) (copied_in tokens) (ran_of limit job input) lines
   pub hairs_are : hairs ≡ length (shifts_of (sites_in tokens))
@@ -42,7 +42,7 @@ pub record HasNoFiner (text input : List ℕ) (limit : ℕ) : Type 0 where
   pub in_time : meaning_end job input ≤ limit
   pub tokens : List Token
   pub tokens_are : HasTokens text tokens None
-  pub none : finer_for (sites_in tokens) ≡ None
+  pub none : finer_for limit (sites_in tokens) ≡ None
 
 -- ---- the values of the code
 

@@ -31,7 +31,7 @@ pub enum RaceAnswer {
     Lines(RaceLines),
     /// The job does not end by the limit, so there is no outcome that could depend on a hair.
     Limit,
-    /// Some `sleep`, `after` or `at` of the job text has more than 100,000,000 ticks, which cannot be made finer.
+    /// Some `sleep`, `after` or `at` of the job text has more than 99,999,999 ticks, which cannot be made finer.
     NoFinerTicks,
 }
 
@@ -82,7 +82,7 @@ fn answer_for_job<R: Threads + Sync, G: Gate + Sync>(
     }
     let tokens = spelled_tokens(alloc, job_text, job)?;
     let sites = sites(alloc, tokens.as_slice())?;
-    let Some(finer) = Finer::of(sites.as_slice()) else {
+    let Some(finer) = Finer::of(sites.as_slice(), limit) else {
         return Ok(RaceAnswer::NoFinerTicks);
     };
     let starts = copied_starts(alloc, tokens.as_slice())?;

@@ -25,7 +25,8 @@ returns g c =
     c.in_ok-tokens.ensures
     (c.as_slice-4.ensures.value ∙ c.in_ok-sites.ensures ∙ ap sites_in c.as_slice.ensures.value)
     (c.as_slice-5.ensures.value ∙ c.in_ok-starts.ensures ∙ ap copied_in c.as_slice-3.ensures.value)
-    (c.in-Some.ensures ∙ ap finer_for (c.as_slice-2.ensures.value ∙ sym c.as_slice-4.ensures.value))
+    (c.in-Some.ensures ∙ ap (λ n. finer_for n c.as_slice-2.result.now) c.limit-limit.ensures.value
+    ∙ ap (finer_for limit) (c.as_slice-2.ensures.value ∙ sym c.as_slice-4.ensures.value))
     (c.saturating_mul.ensures ∙ ap (λ n. u64_saturate (n * c.in-Some.finer.factor)) c.limit-limit.ensures.value)
     (ran_in_time job input limit rows c.in_ok-run.ensures.records soon) c.in_ok-lines.ensures
     c.in_ok-hairs.ensures
