@@ -23,9 +23,15 @@ import sys
 from functions import ROOT, blanked, crate_names, functions_of, functions_of_file, texts_of
 
 WIDTH = 120
-# Edits that make a law false and change a definition which only says what the law states: each with the reason.
+# Edits that make a law false by changing a definition that the law is about: each with the reason.
 OF_A_LAW = {
     "interleavings/a_task_that_ended_stays_in_its_nursery.edit": "`IsHoused` is what the law `TasksAreHoused` states of each task",
+    "job_story/a_body_that_failed_is_no_cause.edit": "a story would name no cause, against `CancellationsHaveCauses`",
+    "job_story/a_cause_of_any_tick.edit": "a story would name a cause of another tick, against `CausesAreShown`",
+    "job_story/a_paced_sleep_is_due_too_soon.edit": "a story would name the wrong end of a sleep, against `TimePassesAsleep`",
+    "job_story/all_of_it_propagates.edit": "a story would let pass what was caught, against `BlocksAreNested`",
+    "job_story/one_round_of_causers.edit": "the causer of a causer would be left out, against `ConcernedTasksAreClosed`",
+    "job_story/the_innermost_scope_is_blamed.edit": "a story would name the wrong scope, against `CancellationsAreSeen`",
 }
 CALL = re.compile(r"(\.\s*)?(?:(\w+)(?:::<[^<>]*>)?::)?\b([a-z_]\w*)(?=\s*(?:::<[^;{}]*?>)?\()")
 VALUE = re.compile(r"(?<=[(,])\s*()(?:(\w+)::)?([a-z_]\w*)\s*(?=[,)])")
