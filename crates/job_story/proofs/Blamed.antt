@@ -40,10 +40,10 @@ earlier_is (Some x) (Some y) t e = by_test (nat_lt y x) e
     by_test false k = inl k
 
 -- what the walk names: the label, and what is known of it
-abbrev Named : Table → Stack → ℕ → Option Label → Type 0
+abbrev pub Named : Table → Stack → ℕ → Option Label → Type 0
 Named table st from o = (l : Label) × (o ≡ Some l) × (table l ≡ Some from) × IsInnermost l from st
 
-seer_is : (table : Table) (st : Stack) (from : ℕ) → IsOf table st → sight st ≡ Some from → Named table st from (seer st from)
+pub seer_is : (table : Table) (st : Stack) (from : ℕ) → IsOf table st → sight st ≡ Some from → Named table st from (seer st from)
 seer_is table [] from of e = absurd (cc)
 seer_is table (l ∷ ls) from of e = by_from (is_from l.from from) refl (seer_is table ls from of.1)
   where

@@ -325,7 +325,7 @@ entering_second l (happens (enters kind label d shield)) other h = by_test (same
     by_test false = h
 entering_second l _ other h = h
 
-entering_found : (l : Label) (es : List Event) (x : Event) (kind : Kind) (d : Tick) (shield : Bool) → IsIn x es →
+pub entering_found : (l : Label) (es : List Event) (x : Event) (kind : Kind) (d : Tick) (shield : Bool) → IsIn x es →
     happens (enters kind l d shield) ≡ x.what → is_some (entering_of l es) ≡ true
 entering_found l [] x kind d shield i is = absurd i
 entering_found l (y ∷ ys) x kind d shield (inl same) is =
@@ -354,76 +354,82 @@ by_due (Some x) l from es h f =
 
 -- ---- the story of a job
 
-module _ (table : Table) (job : Tree) (input : List ℕ) (once : GivesNamesOnce job) (settled : IsSettled table job input) where
-  abbrev own_log : Log
+module _ (table : Table) (job : Tree) (input : List ℕ) where
+  abbrev pub own_log : Log
   own_log = erased_log (tale_by table job input).story
 
-  abbrev walked : List Event
+  abbrev pub walked : List Event
   walked = events_of (root_label job.name) (story_by table job input)
 
-  log_is : own_log ≡ (follow table job input).log
-  log_is = ap (λ (r : Result). r.log) (telling_is_following table job input)
+  module _ (once : GivesNamesOnce job) (settled : IsSettled table job input) where
+    log_is : own_log ≡ (follow table job input).log
+    log_is = ap (λ (r : Result). r.log) (telling_is_following table job input)
 
-  own_once : GivesOnce own_log
-  unfolding follow
-  own_once = subst GivesOnce (sym log_is) (job_gives_once (by_table table) job input once)
+    own_once : GivesOnce own_log
+    unfolding follow
+    own_once = subst GivesOnce (sym log_is) (job_gives_once (by_table table) job input once)
 
-  -- the events of the root are its start, those of its own story, and its end
-  from_own : (x : Event) → IsIn x (events_of (root_label job.name) (tale_by table job input).story) → IsIn x walked
-  from_own x i = inr (append_left x (events_of (root_label job.name) (tale_by table job input).story) _ i)
+    -- the events of the root are its start, those of its own story, and its end
+    from_own : (x : Event) → IsIn x (events_of (root_label job.name) (tale_by table job input).story) → IsIn x walked
+    from_own x i = inr (append_left x (events_of (root_label job.name) (tale_by table job input).story) _ i)
 
-  root_entered : (l : Label) (d : Tick) (t : ℕ) (who : Label) (kind : Kind) (shield : Bool) →
-      IsIn (event t who (happens (enters kind l d shield))) walked → EnteredIn l d own_log
-  root_entered l d t who kind shield (inl e) = absurd (no_start (enters kind l d shield) _ _ (ap (λ (x : Event). x.what) e))
-  root_entered l d t who kind shield (inr i) = by_part (in_append _ (events_of (root_label job.name) (tale_by table job input).story) _ i)
-    where
-      by_part : IsIn (event t who (happens (enters kind l d shield))) (events_of (root_label job.name) (tale_by table job input).story)
-          ⊎ IsIn (event t who (happens (enters kind l d shield)))
-          (event (tale_by table job input).end (root_label job.name) (ends None (tale_by table job input).exc) ∷ []) → EnteredIn l d own_log
-      by_part (inl j) = event_entered (root_label job.name) (tale_by table job input).story l d t who kind shield j
-      by_part (inr (inl e)) = absurd (no_end (enters kind l d shield) _ _ (ap (λ (x : Event). x.what) e))
-      by_part (inr (inr j)) = absurd j
+    root_entered : (l : Label) (d : Tick) (t : ℕ) (who : Label) (kind : Kind) (shield : Bool) →
+        IsIn (event t who (happens (enters kind l d shield))) walked → EnteredIn l d own_log
+    root_entered l d t who kind shield (inl e) = absurd (no_start (enters kind l d shield) _ _ (ap (λ (x : Event). x.what) e))
+    root_entered l d t who kind shield (inr i) = by_part (in_append _ (events_of (root_label job.name) (tale_by table job input).story) _ i)
+      where
+        by_part : IsIn (event t who (happens (enters kind l d shield))) (events_of (root_label job.name) (tale_by table job input).story)
+            ⊎ IsIn (event t who (happens (enters kind l d shield)))
+            (event (tale_by table job input).end (root_label job.name) (ends None (tale_by table job input).exc) ∷ []) → EnteredIn l d own_log
+        by_part (inl j) = event_entered (root_label job.name) (tale_by table job input).story l d t who kind shield j
+        by_part (inr (inl e)) = absurd (no_end (enters kind l d shield) _ _ (ap (λ (x : Event). x.what) e))
+        by_part (inr (inr j)) = absurd j
 
-  -- a label has one deadline in the log and in the events
-  one_deadline : (l : Label) (d : Tick) (x : Entering) → deadline_of l own_log ≡ Some d → entering_of l (job_events table job input) ≡ Some x →
-      x.deadline ≡ d
-  one_deadline l d x is found =
-      let e = entering_is l (job_events table job input) x found in
-      some_is x.deadline d
-      (sym (entered_deadline l x.deadline own_log own_once (root_entered l x.deadline e.tick e.task e.kind e.shield (from_order _ walked e.entered)))
-      ∙ is)
+    -- some events of the story: those that are read
+    module _ (es : List Event) (within : (x : Event) → IsIn x es → IsIn x walked) where
+      -- a label has one deadline in the log and in the events
+      one_deadline : (l : Label) (d : Tick) (x : Entering) → deadline_of l own_log ≡ Some d → entering_of l es ≡ Some x → x.deadline ≡ d
+      one_deadline l d x is found =
+          let e = entering_is l es x found in
+          some_is x.deadline d
+          (sym (entered_deadline l x.deadline own_log own_once
+          (root_entered l x.deadline e.tick e.task e.kind e.shield (within _ e.entered)))
+          ∙ is)
 
-  cause_there : (l : Label) (from : ℕ) → table l ≡ Some from → is_some (cause_of table (job_events table job input) l) ≡ true
-  cause_there l from told =
-      ap (λ (f : Tick). is_some (cause_from f l (job_events table job input))) told
-      ∙ by_deadline_of (deadline_of l own_log) refl
-      (ap (λ (log : Log). entered_from (deadline_of l log) (least_sign l log)) log_is ∙ (sym (settled l) ∙ told))
-    where
-      due : deadline_of l own_log ≡ Some (Some from) → is_some (cause_by_entering (entering_of l (job_events table job input)) l from (job_events table job input)) ≡ true
-      due is =
-          let e = deadline_event (root_label job.name) (tale_by table job input).story l (Some from) is in
-          by_due (entering_of l (job_events table job input)) l from (job_events table job input)
-          (entering_found l (job_events table job input) _ e.kind (Some from) e.shield (to_order _ walked (from_own _ e.entered)) refl)
-          (λ x found. one_deadline l (Some from) x is found)
+      -- A label that is cancelled has a cause in these events, if they have all of the tick before, and the entering of the label if that has
+      -- a deadline which cancels it.
+      pub cause_among : (l : Label) (from : ℕ) → table l ≡ Some from → ((x : Event) → IsIn x walked → x.tick + 1 ≡ from → IsIn x es) →
+          (deadline_of l own_log ≡ Some (Some from) → is_some (entering_of l es) ≡ true) → is_some (cause_of table es l) ≡ true
+      cause_among l from told before enters_it =
+          ap (λ (f : Tick). is_some (cause_from f l es)) told
+          ∙ by_deadline_of (deadline_of l own_log) refl
+          (ap (λ (log : Log). entered_from (deadline_of l log) (least_sign l log)) log_is ∙ (sym (settled l) ∙ told))
+        where
+          signed : (s : Tick) → least_sign l own_log ≡ s → next s ≡ Some from → is_some (cause_by_entering (entering_of l es) l from es) ≡ true
+          signed None is h = absurd (cc)
+          signed (Some u) is h =
+              let e = sign_event (root_label job.name) (tale_by table job input).story l u is in
+              let at : e.0.tick + 1 ≡ from = ap (λ (n : ℕ). n + 1) e.2 ∙ some_is (u + 1) from h in
+              by_sign (entering_of l es) l from es (signed_found l from es e.0 e.3 (before e.0 (from_own e.0 e.1) at) at e.4)
 
-      signed : (s : Tick) → least_sign l own_log ≡ s → next s ≡ Some from →
-          is_some (cause_by_entering (entering_of l (job_events table job input)) l from (job_events table job input)) ≡ true
-      signed None is h = absurd (cc)
-      signed (Some u) is h =
-          let e = sign_event (root_label job.name) (tale_by table job input).story l u is in
-          by_sign (entering_of l (job_events table job input)) l from (job_events table job input)
-          (signed_found l from (job_events table job input) e.0 e.3 (to_order e.0 walked (from_own e.0 e.1))
-          (ap (λ (n : ℕ). n + 1) e.2 ∙ some_is (u + 1) from h) e.4)
+          by_either : (d : Tick) → deadline_of l own_log ≡ Some d → (d ≡ Some from) ⊎ (next (least_sign l own_log) ≡ Some from) →
+              is_some (cause_by_entering (entering_of l es) l from es) ≡ true
+          by_either d is (inl e) =
+              let due : deadline_of l own_log ≡ Some (Some from) = is ∙ ap (λ (y : Tick). Some y) e in
+              by_due (entering_of l es) l from es (enters_it due) (λ x found. one_deadline l (Some from) x due found)
+          by_either d is (inr e) = signed (least_sign l own_log) refl e
 
-      by_either : (d : Tick) → deadline_of l own_log ≡ Some d → (d ≡ Some from) ⊎ (next (least_sign l own_log) ≡ Some from) →
-          is_some (cause_by_entering (entering_of l (job_events table job input)) l from (job_events table job input)) ≡ true
-      by_either d is (inl e) = due (is ∙ ap (λ (y : Tick). Some y) e)
-      by_either d is (inr e) = signed (least_sign l own_log) refl e
+          by_deadline_of : (o : Option Tick) → deadline_of l own_log ≡ o → entered_from o (least_sign l own_log) ≡ Some from →
+              is_some (cause_by_entering (entering_of l es) l from es) ≡ true
+          by_deadline_of None is h = absurd (cc)
+          by_deadline_of (Some d) is h = by_either d is (earlier_is d (next (least_sign l own_log)) from h)
 
-      by_deadline_of : (o : Option Tick) → deadline_of l own_log ≡ o → entered_from o (least_sign l own_log) ≡ Some from →
-          is_some (cause_by_entering (entering_of l (job_events table job input)) l from (job_events table job input)) ≡ true
-      by_deadline_of None is h = absurd (cc)
-      by_deadline_of (Some d) is h = by_either d is (earlier_is d (next (least_sign l own_log)) from h)
+    cause_there : (l : Label) (from : ℕ) → table l ≡ Some from → is_some (cause_of table (job_events table job input) l) ≡ true
+    cause_there l from told =
+        cause_among (job_events table job input) (λ x i. from_order x walked i) l from told (λ x i at. to_order x walked i)
+        (λ is.
+        let e = deadline_event (root_label job.name) (tale_by table job input).story l (Some from) is in
+        entering_found l (job_events table job input) _ e.kind (Some from) e.shield (to_order _ walked (from_own _ e.entered)) refl)
 
 -- ---- the cancellations of a story
 

@@ -8,3 +8,4 @@ pub mod Closing
 pub mod Members
 pub mod Caused
 pub mod Nested
+pub mod Limited

@@ -6,9 +6,10 @@ use Rattle.exc_groups.specs.Exceptions.{Label}
 use Rattle.job_meaning.specs.Log.{Table}
 use Rattle.job_meaning.specs.Follow.{IsSettled}
 use Rattle.job_story.specs.Tell.{story_by}
-use Rattle.job_story.specs.Events.{Event}
+use Rattle.job_story.specs.Events.{Event, in_order}
 use Rattle.job_story.specs.Causes.{Cause, cause_of}
 use Rattle.job_story.specs.Sentences.{job_events}
+use Rattle.job_story.specs.Limit.{walked_to}
 use Rattle.job_story.specs.Focus.{is_among, concerned_tasks}
 use Rattle.job_story.specs.Blame.{AllBlamed}
 use Rattle.job_story.specs.Nesting.{AllNested}
@@ -47,3 +48,9 @@ abbrev pub CancellationsHaveCauses : Type 0
 CancellationsHaveCauses =
     (table : Table) (job : Tree) (input : List ℕ) → GivesNamesOnce job → IsSettled table job input →
     (e : Event) → IsIn e (job_events table job input) → HasACause table (job_events table job input) e.what
+
+-- The same holds of the story up to a limit, whose causes are read in the events up to it.
+abbrev pub CancellationsHaveCausesByLimit : Type 0
+CancellationsHaveCausesByLimit =
+    (table : Table) (limit : ℕ) (job : Tree) (input : List ℕ) → GivesNamesOnce job → IsSettled table job input →
+    (e : Event) → IsIn e (walked_to table limit job input) → HasACause table (in_order (walked_to table limit job input)) e.what

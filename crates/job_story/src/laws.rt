@@ -1,7 +1,7 @@
 //! The laws of stories. The functions do nothing: their contracts are the laws.
 
 ghost use Rattle.job_story.specs.Laws.{FromsGiveTheTable, StoriesAreTrue, TellingIsFollowing};
-ghost use Rattle.job_story.specs.LawsOfCauses.{BlocksAreNested, CancellationsAreSeen, CancellationsHaveCauses, CausesAreShown, ConcernedTasksAreClosed, TimePassesAsleep};
+ghost use Rattle.job_story.specs.LawsOfCauses.{BlocksAreNested, CancellationsAreSeen, CancellationsHaveCauses, CancellationsHaveCausesByLimit, CausesAreShown, ConcernedTasksAreClosed, TimePassesAsleep};
 
 /// A law, which does nothing at run time. The story of a job by a table is the log of following that table, with more said of each
 /// step. So the story by a settled table is true: its starts, ends, outcomes and entries are the records of the job's meaning, and its
@@ -41,12 +41,15 @@ pub fn law_waking()
 
 /// A law, which does nothing at run time. A cause that a story names for a cancellation is shown by its events. A deadline is the one
 /// with which a task entered the scope or nursery, and is exactly the tick from which that is cancelled. Any other cause is an event of
-/// the named task in the named tick, which is the one before the cancellation: its `cancel`, or its end with an exception, which has a
-/// leaf that is not `Cancelled` where the task failed, and none where it was cancelled.
-/// By a settled table, where names are given once, every cancellation in the story of a job names a scope or nursery that has a cause.
+/// the named task in the named tick, which is the one before the cancellation: its `cancel`, or the end of the task or of its body of the
+/// nursery with an exception, which has a leaf that is not `Cancelled` where the story says that it failed, and none where it says that
+/// it was cancelled.
+/// By a settled table, where names are given once, every cancellation in the story of a job names a scope or nursery that has a cause,
+/// also in the story up to a limit, where it is among the events up to the limit.
 pub fn law_causes()
     ensures shown { CausesAreShown }
     ensures complete { CancellationsHaveCauses }
+    ensures limited { CancellationsHaveCausesByLimit }
 {}
 
 /// A law, which does nothing at run time. The tasks that concern a task are closed: it is one of them, and for each cancellation of one

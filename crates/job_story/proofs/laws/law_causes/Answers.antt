@@ -1,5 +1,6 @@
 use Rattle.job_story.proofs.Found.{causes_are_shown}
 use Rattle.job_story.proofs.Caused.{cancellations_have_causes}
+use Rattle.job_story.proofs.Limited.{cancellations_have_causes_by_limit}
 use Rattle.job_story.proofs.laws.law_causes.Goals as goal
 
 pub returns-clause-shown : goal.returns-clause-shown
@@ -7,3 +8,6 @@ returns-clause-shown c = causes_are_shown
 
 pub returns-clause-complete : goal.returns-clause-complete
 returns-clause-complete c = cancellations_have_causes
+
+pub returns-clause-limited : goal.returns-clause-limited
+returns-clause-limited c = cancellations_have_causes_by_limit

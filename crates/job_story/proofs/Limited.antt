@@ -1,0 +1,263 @@
+-- Every cancellation of a job's story up to a limit, by a settled table, has a cause in the events up to the limit.
+use Rattle.std.proofs.Common.{◌≡◌, ℕ, ◌≤◌, true≢false, Bool, true, false, Some, None, List, [], ◌∷◌, ◌++◌, refl, ap, sym, ◌∙◌, subst, ◌⊎◌, inl, inr, arith}
+use Rattle.std.proofs.lemmas.Bool.Decides.{nat_tests}
+use Rattle.std.specs.Prelude.{is_some, nat_le, if◌then◌else◌}
+use Rattle.job_tree.specs.Tree.{Tree}
+use Rattle.exc_groups.specs.Exceptions.{Label}
+use Rattle.cancel_scopes.specs.Sight.{Tick, sight}
+use Rattle.job_meaning.specs.Log.{Table}
+use Rattle.job_meaning.specs.Walk.{Stack, Kind, stack_inside}
+use Rattle.job_meaning.specs.Meaning.{root_label}
+use Rattle.job_meaning.proofs.Distinct.{OnStack}
+use Rattle.job_story.specs.Story.{Happening, enters, sleeps, is_cancelled, finds, misses, raises, handles, cleans, replaces, Story, no_more, happened, started, then_story}
+use Rattle.job_story.specs.Tell.{story_of_one, seer, root_scene, tale_by, story_by}
+use Rattle.job_story.specs.Events.{What, starts, happens, ends, Event, event, events_of, in_order}
+use Rattle.job_story.specs.Causes.{cause_of}
+use Rattle.job_story.specs.Limit.{by_limit, walked_to}
+use Rattle.job_story.specs.Blame.{IsInnermost}
+use Rattle.job_story.specs.Shown.{IsIn, HasACause}
+use Rattle.job_story.specs.LawsOfCauses.{CancellationsHaveCausesByLimit}
+use Rattle.job_story.proofs.Telling.{IsPlain, left_in, IsKept, kept_tell}
+use Rattle.job_story.proofs.Blamed.{IsOf, seer_is}
+use Rattle.job_story.proofs.Members.{in_append, append_left, append_right, from_order, to_order}
+use Rattle.job_story.proofs.Caused.{walked, entering_found, cause_among}
+
+-- ---- the events up to a limit
+
+in_limit : (limit : ℕ) (x : Event) (es : List Event) → IsIn x es → x.tick ≤ limit → IsIn x (by_limit limit es)
+in_limit limit x [] i le = i
+in_limit limit x (e ∷ es) (inl same) le =
+    by_test (nat_le e.tick limit) (is_true e.tick (subst (λ (y : Event). y.tick ≤ limit) same le))
+  where
+    is_true : (t : ℕ) → t ≤ limit → nat_le t limit ≡ true
+    is_true t h = grind (arith, nat_tests)
+
+    by_test : (b : Bool) → b ≡ true → IsIn x (if b then e ∷ by_limit limit es else by_limit limit es)
+    by_test true h = inl same
+    by_test false h = absurd (true≢false (sym h))
+in_limit limit x (e ∷ es) (inr i) le = by_test (nat_le e.tick limit) (in_limit limit x es i le)
+  where
+    by_test : (b : Bool) → IsIn x (by_limit limit es) → IsIn x (if b then e ∷ by_limit limit es else by_limit limit es)
+    by_test true j = inr j
+    by_test false j = j
+
+limit_in : (limit : ℕ) (x : Event) (es : List Event) → IsIn x (by_limit limit es) → IsIn x es × (x.tick ≤ limit)
+limit_in limit x [] i = absurd i
+limit_in limit x (e ∷ es) i = by_test (nat_le e.tick limit) refl i (limit_in limit x es)
+  where
+    is_le : (t : ℕ) → nat_le t limit ≡ true → t ≤ limit
+    is_le t h = grind (arith, nat_tests)
+
+    by_test : (b : Bool) → nat_le e.tick limit ≡ b → IsIn x (if b then e ∷ by_limit limit es else by_limit limit es) →
+        (IsIn x (by_limit limit es) → IsIn x es × (x.tick ≤ limit)) → IsIn x (e ∷ es) × (x.tick ≤ limit)
+    by_test true le (inl same) f = (inl same, subst (λ (y : Event). y.tick ≤ limit) (sym same) (is_le e.tick le))
+    by_test true le (inr j) f = let h = f j in (inr h.0, h.1)
+    by_test false le j f = let h = f j in (inr h.0, h.1)
+
+-- ---- a label that cancels a task was entered before
+
+events_then : (me : Label) (a b : Story) → events_of me (then_story a b) ≡ events_of me a ++ events_of me b
+events_then me no_more b = refl
+events_then me (happened t what rest) b = ap (λ (es : List Event). event t me (happens what) ∷ es) (events_then me rest b)
+events_then me (started l home part s u exc own rest) b =
+    ap (λ (es : List Event). event s l (starts home part) ∷ (events_of l own ++ event u l (ends home exc) ∷ es)) (events_then me rest b)
+    ∙ ap (λ (es : List Event). event s l (starts home part) ∷ es)
+    (sym (assoc (events_of l own) (event u l (ends home exc) ∷ events_of me rest) (events_of me b)))
+  where
+    assoc : (xs ys zs : List Event) → (xs ++ ys) ++ zs ≡ xs ++ (ys ++ zs)
+    assoc [] ys zs = refl
+    assoc (x ∷ xs) ys zs = ap (λ (es : List Event). x ∷ es) (assoc xs ys zs)
+
+record BeganBy (l : Label) (t : ℕ) (all : List Event) : Type 0 where
+  tick : ℕ
+  task : Label
+  kind : Kind
+  deadline : Tick
+  shield : Bool
+  by : tick ≤ t
+  entered : IsIn (event tick task (happens (enters kind l deadline shield))) all
+
+later : (l : Label) (t u : ℕ) (all : List Event) → t ≤ u → BeganBy l t all → BeganBy l u all
+later l t u all le h =
+    let first : h.tick ≤ t = h.by in
+    record {
+      tick = h.tick;
+      task = h.task;
+      kind = h.kind;
+      deadline = h.deadline;
+      shield = h.shield;
+      by = omega arith;
+      entered = h.entered;
+    }
+
+on_stack : (l : Label) (from : ℕ) (st : Stack) → IsInnermost l from st → OnStack l st
+on_stack l from [] h = h
+on_stack l from (k ∷ ks) (inl h) = inl h.0
+on_stack l from (k ∷ ks) (inr h) = inr (on_stack l from ks h.2)
+
+-- a cancellation in tick t names a label that is cancelled from then on or before, and was entered by then
+abbrev IsCovered : Table → List Event → ℕ → What → Type 0
+IsCovered table all t (happens (is_cancelled by since in_cleanup)) =
+    (l : Label) × (by ≡ Some l) × (from : ℕ) × (table l ≡ Some from) × (from ≤ t) × BeganBy l t all
+IsCovered table all t _ = Unit {0}
+
+abbrev AllCovered : Table → List Event → List Event → Type 0
+AllCovered table all es = (x : Event) → IsIn x es → IsCovered table all x.tick x.what
+
+one_covered : (table : Table) (all : List Event) (t : ℕ) (who : Label) (w : What) → IsCovered table all t w →
+    (x : Event) → x ≡ event t who w → IsCovered table all x.tick x.what
+one_covered table all t who w h x e = subst (λ (y : Event). IsCovered table all y.tick y.what) (sym e) h
+
+both_covered : (table : Table) (all es fs : List Event) → AllCovered table all es → AllCovered table all fs → AllCovered table all (es ++ fs)
+both_covered table all es fs h k x i = by_part (in_append x es fs i)
+  where
+    by_part : IsIn x es ⊎ IsIn x fs → IsCovered table all x.tick x.what
+    by_part (inl j) = h x j
+    by_part (inr j) = k x j
+
+-- one more event
+more_covered : (table : Table) (all : List Event) (t : ℕ) (who : Label) (w : What) (es : List Event) → IsCovered table all t w →
+    AllCovered table all es → AllCovered table all (event t who w ∷ es)
+more_covered table all t who w es h k x (inl e) = one_covered table all t who w h x e
+more_covered table all t who w es h k x (inr i) = k x i
+
+abbrev Known : Stack → ℕ → List Event → Type 0
+Known st t all = (l : Label) → OnStack l st → BeganBy l t all
+
+abbrev Covers : Table → Stack → ℕ → ℕ → Story → Type 0
+Covers table st t u a =
+    (all : List Event) (me : Label) → IsOf table st → Known st t all → ((x : Event) → IsIn x (events_of me a) → IsIn x all) →
+    (t ≤ u) × AllCovered table all (events_of me a)
+
+seen_covered : (table : Table) (all : List Event) (st : Stack) (t u from : ℕ) (since : Tick) (c : Bool) → IsOf table st → Known st t all →
+    t ≤ u → sight st ≡ Some from → from ≤ u → IsCovered table all u (happens (is_cancelled (seer st from) since c))
+seen_covered table all st t u from since c of known le e at =
+    let named = seer_is table st from of e in
+    (named.0, named.1, from, named.2, at, later named.0 t u all le (known named.0 (on_stack named.0 from st named.3)))
+
+none_covered : (table : Table) (all : List Event) → AllCovered table all []
+none_covered table all x i = absurd i
+
+covers_joined : (table : Table) (st : Stack) (t u v : ℕ) (a b : Story) → Covers table st t u a → Covers table st u v b →
+    Covers table st t v (then_story a b)
+covers_joined table st t u v a b f g all me of known within =
+    let le : t ≤ u = first.0 in
+    let le₂ : u ≤ v = second.0 in (
+      omega arith,
+      subst (AllCovered table all) (sym (events_then me a b))
+          (both_covered table all (events_of me a) (events_of me b) first.1 second.1),
+    )
+  where
+    within_both : (x : Event) → IsIn x (events_of me a ++ events_of me b) → IsIn x all
+    within_both x i = within x (subst (λ (es : List Event). IsIn x es) (sym (events_then me a b)) i)
+
+    first : (t ≤ u) × AllCovered table all (events_of me a)
+    first = f all me of known (λ x i. within_both x (append_left x (events_of me a) (events_of me b) i))
+
+    second : (u ≤ v) × AllCovered table all (events_of me b)
+    second = g all me of (λ l i. later l t u all first.0 (known l i)) (λ x i. within_both x (append_right x (events_of me a) (events_of me b) i))
+
+covers_plain : (table : Table) (st : Stack) (t : ℕ) (what : Happening) → IsPlain what → Covers table st t t (story_of_one t what)
+covers_plain table st t (finds lines) plain all me of known within = (omega arith, more_covered table all t me _ [] tt (none_covered table all))
+covers_plain table st t (misses name) plain all me of known within = (omega arith, more_covered table all t me _ [] tt (none_covered table all))
+covers_plain table st t (raises name) plain all me of known within = (omega arith, more_covered table all t me _ [] tt (none_covered table all))
+covers_plain table st t (handles matched left) plain all me of known within = (omega arith, more_covered table all t me _ [] tt (none_covered table all))
+covers_plain table st t (cleans exc) plain all me of known within = (omega arith, more_covered table all t me _ [] tt (none_covered table all))
+covers_plain table st t (replaces lost fresh) plain all me of known within = (omega arith, more_covered table all t me _ [] tt (none_covered table all))
+covers_plain table st t _ plain all me of known within = absurd plain
+
+covers_blocked : (table : Table) (st : Stack) (t u : ℕ) (kind : Kind) (label : Label) (d : Tick) (shield : Bool) (left : Happening)
+    (a : Story) → ((all : List Event) → IsCovered table all u (happens left)) → Covers table (stack_inside label shield (table label) st) t u a →
+    Covers table st t u (happened t (enters kind label d shield) (then_story a (story_of_one u left)))
+covers_blocked table st t u kind label d shield left a plain f all me of known within = (
+  inner.0,
+  more_covered table all t me (happens (enters kind label d shield)) (events_of me (then_story a (story_of_one u left))) tt
+      (subst (AllCovered table all) (sym (events_then me a (story_of_one u left)))
+      (both_covered table all (events_of me a) (event u me (happens left) ∷ []) inner.1
+      (more_covered table all u me (happens left) [] (plain all) (none_covered table all)))),
+)
+  where
+    inside : (l : Label) → OnStack l (stack_inside label shield (table label) st) → BeganBy l t all
+    inside l (inl e) =
+        subst (λ (m : Label). BeganBy m t all) (sym e)
+        (record { tick = t; task = me; kind = kind; deadline = d; shield = shield; by = omega arith; entered = within _ (inl refl) })
+    inside l (inr i) = known l i
+
+    inner : (t ≤ u) × AllCovered table all (events_of me a)
+    inner =
+        f all me (refl, of) inside
+        (λ x i. within x (inr (subst (λ (es : List Event). IsIn x es) (sym (events_then me a (story_of_one u left)))
+        (append_left x (events_of me a) (event u me (happens left) ∷ []) i))))
+
+covers : (table : Table) → IsKept table (Covers table)
+covers table =
+    record {
+      nothing = λ st t all me of known within. (omega arith, none_covered table all);
+      joined = covers_joined table;
+      plain = covers_plain table;
+      waited = λ st t u label exc le home all me of known within. (le, more_covered table all t me _ [] tt (none_covered table all));
+      signed = λ st t name all me of known within. (omega arith, more_covered table all t me _ [] tt (none_covered table all));
+      slept = λ st t n until e all me of known within. (omega arith, more_covered table all t me _ [] tt (none_covered table all));
+      seen = λ st t from c e le all me of known within. (
+        omega arith,
+        more_covered table all t me (happens (is_cancelled (seer st from) None c)) [] (seen_covered table all st t t from None c of known (omega arith) e le)
+            (none_covered table all),
+      );
+      cut = λ st t from until c e lt le all me of known within. (
+        omega arith,
+        more_covered table all t me (happens (sleeps until))
+            (event from me (happens (is_cancelled (seer st from) (Some t) c)) ∷ []) tt
+            (more_covered table all from me (happens (is_cancelled (seer st from) (Some t) c)) []
+            (seen_covered table all st t from from (Some t) c of known (omega arith) e (omega arith)) (none_covered table all)),
+      );
+      blocked = λ st t u kind label d shield inside a f.
+          covers_blocked table st t u kind label d shield (left_in table st u kind label shield inside) a (λ all. tt) f;
+      child = λ st t u label part exc a f all me of known within. (
+        omega arith,
+        more_covered table all t label _ _ tt
+            (both_covered table all (events_of label a) _
+            ((f all label of known (λ x i. within x (inr (append_left x (events_of label a) _ i)))).1)
+            (more_covered table all u label _ [] tt (none_covered table all))),
+      );
+    }
+
+-- ---- the story of a job
+
+module _ (table : Table) (job : Tree) (input : List ℕ) where
+  all_covered : AllCovered table (walked table job input) (walked table job input)
+  unfolding tale_by
+  all_covered =
+      let a = tale_by table job input in
+      let own = events_of (root_label job.name) a.story in
+      let inner = kept_tell table (Covers table) (covers table) job.steps (root_scene job input) [] 0 (walked table job input)
+      (root_label job.name) tt (λ l i. absurd i) (λ x i. inr (append_left x own _ i)) in
+      more_covered table (walked table job input) 0 (root_label job.name) _ _ tt
+      (both_covered table (walked table job input) own _ inner.1
+      (more_covered table (walked table job input) a.end (root_label job.name) _ [] tt (none_covered table (walked table job input))))
+
+pub cancellations_have_causes_by_limit : CancellationsHaveCausesByLimit
+cancellations_have_causes_by_limit table limit job input once settled e i =
+    by_what e.what (limited e i).1 (all_covered table job input e (limited e i).0)
+  where
+    limited : (x : Event) → IsIn x (walked_to table limit job input) → IsIn x (events_of (root_label job.name) (story_by table job input)) × (x.tick ≤ limit)
+    limited x j = limit_in limit x (events_of (root_label job.name) (story_by table job input)) j
+
+    to_limit : (x : Event) → IsIn x (events_of (root_label job.name) (story_by table job input)) → x.tick ≤ limit →
+        IsIn x (in_order (walked_to table limit job input))
+    to_limit x j le =
+        to_order x (walked_to table limit job input) (in_limit limit x (events_of (root_label job.name) (story_by table job input)) j le)
+
+    there : (l : Label) (from : ℕ) → table l ≡ Some from → from ≤ e.tick → e.tick ≤ limit →
+        BeganBy l e.tick (events_of (root_label job.name) (story_by table job input)) →
+        is_some (cause_of table (in_order (walked_to table limit job input)) l) ≡ true
+    there l from told le most began =
+        cause_among table job input once settled (in_order (walked_to table limit job input))
+        (λ x j. (limited x (from_order x (walked_to table limit job input) j)).0) l from told (λ x j at. to_limit x j (omega arith))
+        (λ is. let first : began.tick ≤ e.tick = began.by in
+        entering_found l (in_order (walked_to table limit job input)) _ began.kind began.deadline began.shield
+        (to_limit _ began.entered (omega arith)) refl)
+
+    by_what : (w : What) → e.tick ≤ limit → IsCovered table (events_of (root_label job.name) (story_by table job input)) e.tick w →
+        HasACause table (in_order (walked_to table limit job input)) w
+    by_what (happens (is_cancelled by since in_cleanup)) most h = (h.0, h.1, there h.0 h.2 h.3 h.4 most h.5)
+    by_what _ most h = tt
