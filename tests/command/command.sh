@@ -134,11 +134,29 @@ holds 1 err '-:2:11: not formatted from here on'
 cp raise.job mine.job
 chmod 640 mine.job
 ln -s mine.job link.job
-mkdir mine.job.nursery-new
-wants 4 '' "cannot write the job file\\n$PWD/mine.job.nursery-new: is a directory\\n" fmt mine.job --write
-cmp -s raise.job mine.job || fail 'the job file is not as it was'
-rmdir mine.job.nursery-new
+# What lies at the name of the new file is left alone: the next free name is taken, and after 100 the command refuses.
+echo theirs > theirs
+ln -s theirs mine.job.nursery-new
+ln theirs mine.job.nursery-new-1
+mkfifo mine.job.nursery-new-2
+mkdir mine.job.nursery-new-3
 wants 0 '' '' fmt link.job --write
+[ "$(cat theirs)" = theirs ] && [ -L mine.job.nursery-new ] && [ -p mine.job.nursery-new-2 ] || fail 'a file at the name of the new file was touched'
+[ ! -e mine.job.nursery-new-4 ] || fail 'a file was left beside the job file'
+cp raise.job full.job
+: > full.job.nursery-new
+for number in $(seq 1 99); do : > "full.job.nursery-new-$number"; done
+wants 4 '' "cannot write the job file\\n$PWD/full.job.nursery-new-99: already there, as 99 files with lower numbers are\\n" fmt full.job --write
+cmp -s raise.job full.job || fail 'the job file is not as it was'
+rm -r mine.job.nursery-new* full.job.nursery-new*
+cp raise.job kept.job
+chmod a-w kept.job
+wants 4 '' "cannot write the job file\\n$PWD/kept.job: permission denied\\n" fmt kept.job --write
+cmp -s raise.job kept.job || fail 'a file without write permission was replaced'
+mkfifo pipe.job
+cat raise.job > pipe.job &
+wants 4 '' "cannot write the job file\\n$PWD/pipe.job: not a regular file\\n" fmt pipe.job --write
+[ -p pipe.job ] || fail 'a FIFO was replaced'
 printf "$formatted" | cmp -s - mine.job || fail 'the job file is not formatted'
 [ -L link.job ] || fail 'the link was replaced'
 [ "$(stat -c %a mine.job)" = 640 ] || fail 'the job file has other permissions'

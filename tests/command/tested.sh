@@ -116,14 +116,23 @@ wants 4 '0 passed, 0 failed, 1 not tested\n' 'other.feed: no feed in this folder
 printf 'old\n' > jobs/wait.report
 chmod a-w jobs jobs/wait.report
 if [ "$(id -u)" != 0 ]; then
-    wants 4 '0 passed, 0 failed, 1 not tested\n' "jobs/wait.report: cannot be written\\n$PWD/jobs/wait.report.nursery-new: permission denied\\n" jobs/wait.feed --accept
+    wants 4 '0 passed, 0 failed, 1 not tested\n' "jobs/wait.report: cannot be written\\n$PWD/jobs/wait.report: permission denied\\n" jobs/wait.feed --accept
     printf 'old\n' | cmp - jobs/wait.report
 fi
 chmod u+w jobs jobs/wait.report
-mkdir jobs/wait.report.nursery-new
-wants 4 '0 passed, 0 failed, 1 not tested\n' "jobs/wait.report: cannot be written\\n$PWD/jobs/wait.report.nursery-new: is a directory\\n" jobs/wait.feed --accept
-printf 'old\n' | cmp - jobs/wait.report
-rmdir jobs/wait.report.nursery-new
+mkfifo fifo
+mv jobs/wait.report old
+ln -s ../fifo jobs/wait.report
+printf 'old\n' > fifo &
+wants 4 '0 passed, 0 failed, 1 not tested\n' "jobs/wait.report: cannot be written\\n$PWD/fifo: not a regular file\\n" jobs/wait.feed --accept
+rm jobs/wait.report
+mv old jobs/wait.report
+echo theirs > theirs
+ln -s ../theirs jobs/wait.report.nursery-new
+wants 0 'jobs/wait.report: accepted\n0 passed, 1 accepted, 0 failed\n' '' jobs/wait.feed --accept
+[ "$(cat theirs)" = theirs ]
+rm jobs/wait.report.nursery-new
+printf 'old\n' > jobs/wait.report
 mv jobs/wait.report kept
 ln -s ../kept jobs/wait.report
 wants 0 'jobs/wait.report: accepted\n0 passed, 1 accepted, 0 failed\n' '' jobs/wait.feed --accept

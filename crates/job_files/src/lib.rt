@@ -11,4 +11,4 @@ mod replacing;
 
 pub use naming::shown_name;
 pub use reasons::{read_reason, reason_line};
-pub use replacing::{ReplaceFault, replace};
+pub use replacing::{ReplaceFault, Target};

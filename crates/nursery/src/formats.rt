@@ -5,7 +5,7 @@ use crate::answers::tell_refusal;
 use crate::sources::read_job_text;
 use crate::stop::Stop;
 use format_app::{FormatCheck, FormatFault, FormatVerdict, check_format, format, format_text};
-use job_files::{ReplaceFault, replace, shown_name};
+use job_files::{ReplaceFault, Target, shown_name};
 use nursery_app::WriteOut;
 use nursery_cli::FormatMode;
 use refusal_text::pointed_message;
@@ -22,11 +22,20 @@ pub(crate) fn format_job_file<R: Files + Input + Print + Eprint + AllocGlobal>(
     job: &str,
     mode: FormatMode,
 ) -> Result<u8, Stop> {
-    let text = read_job_text(rt, job)?;
     match mode {
-        FormatMode::Print => print_formatted(rt, job, text.as_slice()),
-        FormatMode::Check => compare(rt, job, text.as_slice()),
-        FormatMode::Write => write_formatted(rt, job, text.as_slice()),
+        FormatMode::Print => {
+            let text = read_job_text(rt, job)?;
+            print_formatted(rt, job, text.as_slice())
+        }
+        FormatMode::Check => {
+            let text = read_job_text(rt, job)?;
+            compare(rt, job, text.as_slice())
+        }
+        FormatMode::Write => {
+            let target = Target::of(rt, job);
+            let text = read_job_text(rt, job)?;
+            write_formatted(rt, job, target, text.as_slice())
+        }
     }
 }
 
@@ -66,16 +75,17 @@ fn compare<R: Eprint + AllocGlobal>(rt: &R, job: &str, text: &[u8]) -> Result<u8
 }
 
 // Replaces a job file that differs from its formatted text by that text, and returns the status. A text that is refused, or whose
-// formatted text is too long, stays as it is.
+// formatted text is too long, stays as it is. The target is the file as it was before it was read.
 fn write_formatted<R: Files + Eprint + AllocGlobal>(
     rt: &R,
     job: &str,
+    target: Result<Target, ReplaceFault>,
     text: &[u8],
 ) -> Result<u8, Stop> {
     match format_text(rt.alloc(), text) {
         Ok(formatted) => {
             if formatted.as_slice() != text {
-                replace_job_file(rt, job, formatted.as_slice())?;
+                replace_job_file(rt, target, formatted.as_slice())?;
             }
             Ok(0)
         }
@@ -91,9 +101,17 @@ fn write_formatted<R: Files + Eprint + AllocGlobal>(
     }
 }
 
-// Replaces the bytes of a job file.
-fn replace_job_file<R: Files + AllocGlobal>(rt: &R, job: &str, bytes: &[u8]) -> Result<(), Stop> {
-    match replace(rt, job, bytes) {
+// Replaces the bytes of a job file, if it may be replaced.
+fn replace_job_file<R: Files + AllocGlobal>(
+    rt: &R,
+    target: Result<Target, ReplaceFault>,
+    bytes: &[u8],
+) -> Result<(), Stop> {
+    let replaced = match target {
+        Ok(target) => target.replace(rt, bytes),
+        Err(fault) => Err(fault),
+    };
+    match replaced {
         Ok(()) => Ok(()),
         Err(ReplaceFault::System { reason }) => Err(Stop::JobFileKept { reason }),
         Err(ReplaceFault::NoMemory) => Err(Stop::NoMemory),
