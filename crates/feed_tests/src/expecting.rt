@@ -1,45 +1,55 @@
-ghost use Rattle.std.specs.Prelude.{◌≤◌, length};
+ghost use Rattle.std.specs.Prelude.{◌≡◌, ◌==◌, ◌≤◌, length, cond, IfOk};
+ghost use Rattle.feed_tests.specs.declared.tally.Outcome.TheVariants.{Passed, Failed};
 ghost use Rattle.job_meaning.specs.declared.limits.TheConstants.{MAX_INPUT};
 
 use crate::kept::{Unread, name_beside, read_kept, shown_line};
+use crate::showing::show;
 use crate::stop::TestStop;
-use crate::tally::Tally;
-use crate::testing::{Feed, complain, show_lines};
+use crate::tally::Outcome;
+use crate::testing::{Feed, complain};
 use expect_text::{ExpectLine, read_expectation};
 use std::alloc::{AllocError, Global};
 use std::rt::Files;
 use std::thread::Threads;
 use test_app::{Met, Output, meets, output_of};
 
-// Tests a feed by the expectations that are kept beside it, and returns whether there are any.
+// Tests a feed by the expectations that are kept beside it, and returns what that came to, or `None` if there are none.
 pub(crate) fn test_expectations<R: Files + Print + Eprint + Threads + Sync + AllocGlobal>(
     rt: &R,
     feed: &Feed<'_>,
-    tally: &mut Tally,
-) -> Result<bool, TestStop>
+) -> Result<Option<Outcome>, TestStop>
     requires { length feed.now.input.now ≤ MAX_INPUT }
 {
     let name = name_beside(rt.alloc(), feed.stem, "expect")?;
     let bytes = match read_kept(rt, name.as_str()) {
         Ok(bytes) => bytes,
-        Err(Unread::Missing) => return Ok(false),
+        Err(Unread::Missing) => return Ok(None),
         Err(Unread::NoMemory) => return Err(TestStop::NoMemory),
         Err(Unread::Fault(line)) => {
-            complain(rt, tally, line.as_str());
-            return Ok(true);
+            complain(rt, line.as_str());
+            return Ok(Some(Outcome::Fault));
         }
     };
     let told = report_and_story(rt, feed)?;
     let lines = unmet_lines(rt, feed, name.as_str(), &told, bytes.as_slice())?;
+    Ok(Some(report_unmet(rt, name.as_str(), lines.as_str())?))
+}
+
+// Writes that all is as expected, or the lines about what is not, and returns which.
+fn report_unmet<R: Print + AllocGlobal>(
+    rt: &R,
+    name: &str,
+    lines: &str,
+) -> Result<Outcome, TestStop>
+    ensures { IfOk result (λ outcome. outcome ≡ cond (length lines.now == 0) Passed Failed) }
+{
     if lines.is_empty() {
-        tally.count_passed();
         let line = format!(in rt.alloc(); "{name}: passed\n")?;
-        show_lines(rt, line.as_str())?;
-    } else {
-        tally.count_failed();
-        show_lines(rt, lines.as_str())?;
+        show(rt, line.as_bytes())?;
+        return Ok(Outcome::Passed);
     }
-    Ok(true)
+    show(rt, lines.as_bytes())?;
+    Ok(Outcome::Failed)
 }
 
 // The texts in which patterns are looked for.

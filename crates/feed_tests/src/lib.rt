@@ -5,12 +5,17 @@
 //! (`tests/command`).
 #![tactic(auto)]
 
+mod comparing;
 mod expecting;
 mod feeds;
 mod kept;
+mod laws;
+mod showing;
 mod stop;
 mod tally;
 mod testing;
 
+pub use laws::law_status;
 pub use stop::TestStop;
+pub use tally::Outcome;
 pub use testing::test_paths;

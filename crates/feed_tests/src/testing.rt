@@ -1,16 +1,19 @@
-ghost use Rattle.std.specs.Prelude.{◌≤◌, length};
+ghost use Rattle.std.specs.Prelude.{◌≡◌, ◌≤◌, length, IfOk};
 ghost use Rattle.job_meaning.specs.declared.limits.TheConstants.{MAX_INPUT};
+ghost use Rattle.feed_tests.specs.declared.tally.Tally.{Tally};
+ghost use Rattle.feed_tests.specs.Comparing.{IsKept};
+ghost use Rattle.feed_tests.specs.Tallies.{tally_status};
 
+use crate::comparing::{keep, test_output};
 use crate::expecting::test_expectations;
 use crate::feeds::find_feeds;
-use crate::kept::{Unread, name_beside, read_kept, shown_line};
+use crate::kept::{Unread, name_beside, read_kept};
+use crate::showing::show;
 use crate::stop::TestStop;
-use crate::tally::Tally;
-use expect_text::{Difference, first_difference};
-use job_files::{ReplaceFault, reason_line, replace};
-use nursery_app::{MAX_INPUT, Settings, WriteOut, send, split_feed};
-use std::alloc::{AllocError, Global};
-use std::io::{self, ErrorKind};
+use crate::tally::{Outcome, Tally};
+use job_files::reason_line;
+use nursery_app::{MAX_INPUT, Settings, split_feed};
+use std::io::ErrorKind;
 use std::rt::Files;
 use std::thread::Threads;
 use test_app::{Output, output_of};
@@ -20,8 +23,8 @@ use test_app::{Output, output_of};
 /// something cannot be read or written, or a feed has nothing to compare with, that is a line on standard error, and the others
 /// are still tested.
 ///
-/// The status is 1 if something differs or is not as expected, 4 if something could not be tested, and otherwise 0. The tests
-/// stop with an error if memory was refused or standard output did not take all bytes.
+/// The status is 1 if something differs or is not as expected, 4 if nothing does and something could not be tested, and otherwise
+/// 0. The tests stop with an error if memory was refused or standard output did not take all bytes.
 pub fn test_paths<R>(
     rt: &R,
     paths: &[String],
@@ -30,11 +33,19 @@ pub fn test_paths<R>(
 ) -> Result<u8, TestStop>
 where
     R: Files + Print + Eprint + Threads + Sync + AllocGlobal + Clone + Drop,
+    ensures { IfOk result (λ status. (tally : Tally) × (status ≡ tally_status tally)) }
 {
     let mut tally = Tally::new();
     'paths: for path in paths {
         test_path(rt, path.as_str(), accept, settings, &mut tally)?;
     }
+    report_counts(rt, tally)
+}
+
+// Writes the line with the counts, and returns the exit status.
+fn report_counts<R: Print + AllocGlobal>(rt: &R, tally: Tally) -> Result<u8, TestStop>
+    ensures { IfOk result (λ status. status ≡ tally_status tally) }
+{
     let line = tally.line(rt.alloc())?;
     show(rt, line.as_bytes())?;
     Ok(tally.status())
@@ -52,33 +63,35 @@ where
     R: Files + Print + Eprint + Threads + Sync + AllocGlobal + Clone + Drop,
 {
     let found = find_feeds(rt, path)?;
-    complain_of(rt, tally, found.faults.as_slice());
-    'feeds: for name in found.feeds.as_slice() {
+    complain_of(rt, found.faults.as_slice(), tally);
+    test_feeds(rt, found.feeds.as_slice(), accept, settings, tally)
+}
+
+// Tests some feeds.
+fn test_feeds<R: Files + Print + Eprint + Threads + Sync + AllocGlobal>(
+    rt: &R,
+    names: &[String],
+    accept: bool,
+    settings: Settings,
+    tally: &mut Tally,
+) -> Result<(), TestStop> {
+    'feeds: for name in names {
         test_feed(rt, name.as_str(), accept, settings, tally)?;
     }
     Ok(())
 }
 
-// Prints to standard error for each of some paths why it is not tested.
-fn complain_of<R: Eprint>(rt: &R, tally: &mut Tally, lines: &[String]) {
+// Prints to standard error for each of some paths why it is not tested, and counts it.
+fn complain_of<R: Eprint>(rt: &R, lines: &[String], tally: &mut Tally) {
     'lines: for line in lines {
-        complain(rt, tally, line.as_str());
+        complain(rt, line.as_str());
+        tally.count(Outcome::Fault);
     }
 }
 
 // Prints to standard error why something is not tested.
-pub(crate) fn complain<R: Eprint>(rt: &R, tally: &mut Tally, line: &str) {
-    tally.count_fault();
+pub(crate) fn complain<R: Eprint>(rt: &R, line: &str) {
     let _ = rt.eprint(line);
-}
-
-// Writes bytes to standard output.
-fn show<R: Print>(rt: &R, bytes: &[u8]) -> Result<(), TestStop> {
-    let mut out = WriteOut::new(io::writer(rt));
-    if send(bytes, &mut out).is_err() {
-        return Err(TestStop::Write);
-    }
-    Ok(())
 }
 
 /// A feed that is tested.
@@ -108,19 +121,22 @@ fn test_feed<R: Files + Print + Eprint + Threads + Sync + AllocGlobal>(
         Ok(bytes) => bytes,
         Err(Unread::NoMemory) => return Err(TestStop::NoMemory),
         Err(Unread::Fault(line)) => {
-            complain(rt, tally, line.as_str());
+            complain(rt, line.as_str());
+            tally.count(Outcome::Fault);
             return Ok(());
         }
         Err(Unread::Missing) => {
             let line = reason_line(rt.alloc(), name, ErrorKind::NotFound);
-            complain(rt, tally, line.as_str());
+            complain(rt, line.as_str());
+            tally.count(Outcome::Fault);
             return Ok(());
         }
     };
     let (text, input) = split_feed(bytes.as_slice());
     if input.len() > MAX_INPUT {
         let line = format!(in rt.alloc(); "{name}: its input is too long\n")?;
-        complain(rt, tally, line.as_str());
+        complain(rt, line.as_str());
+        tally.count(Outcome::Fault);
         return Ok(());
     }
     let stem = name.strip_suffix(".feed").unwrap_or(name);
@@ -142,136 +158,50 @@ fn test_parts<R: Files + Print + Eprint + Threads + Sync + AllocGlobal>(
 ) -> Result<(), TestStop>
     requires { length feed.now.input.now ≤ MAX_INPUT }
 {
-    let mut tested = false;
-    'outputs: for kind in Output::all() {
-        if test_output(rt, feed, kind, tally)? {
-            tested = true;
-        }
-    }
-    if test_expectations(rt, feed, tally)? {
-        tested = true;
-    }
-    if tested {
+    let has_output = test_outputs(rt, feed, tally)?;
+    let expected = test_expectations(rt, feed)?;
+    if tally.count_any(expected) || has_output {
         return Ok(());
     }
-    if feed.accept {
-        let now = output_of(
-            rt,
-            rt.alloc(),
-            feed.text,
-            feed.input,
-            feed.settings,
-            Output::Report,
-        )?;
-        let name = name_beside(rt.alloc(), feed.stem, "report")?;
-        return keep(rt, tally, name.as_str(), now.as_slice());
-    }
-    let stem = feed.stem;
-    let line = format!(in rt.alloc();
-        "{stem}.feed: nothing is kept beside it: no .report, .story, .chart, .faults, .races or .expect (`--accept` keeps a report)\n"
-    )?;
-    complain(rt, tally, line.as_str());
+    let outcome = test_nothing(rt, feed)?;
+    tally.count(outcome);
     Ok(())
 }
 
-// Compares an output of a feed with the file that is kept of it, and returns whether there is one.
-fn test_output<R: Files + Print + Eprint + Threads + Sync + AllocGlobal>(
+// Tests a feed by each output that is kept beside it, and returns whether there is one.
+fn test_outputs<R: Files + Print + Eprint + Threads + Sync + AllocGlobal>(
     rt: &R,
     feed: &Feed<'_>,
-    kind: Output,
     tally: &mut Tally,
 ) -> Result<bool, TestStop>
     requires { length feed.now.input.now ≤ MAX_INPUT }
 {
-    let name = name_beside(rt.alloc(), feed.stem, kind.extension())?;
-    let kept = match read_kept(rt, name.as_str()) {
-        Ok(kept) => kept,
-        Err(Unread::Missing) => return Ok(false),
-        Err(Unread::NoMemory) => return Err(TestStop::NoMemory),
-        Err(Unread::Fault(line)) => {
-            complain(rt, tally, line.as_str());
-            return Ok(true);
-        }
-    };
-    let now = output_of(rt, rt.alloc(), feed.text, feed.input, feed.settings, kind)?;
-    compare(
-        rt,
-        feed.accept,
-        name.as_str(),
-        kept.as_slice(),
-        now.as_slice(),
-        tally,
+    let mut has_output = false;
+    'outputs: for kind in Output::all() {
+        let outcome = test_output(rt, feed, kind)?;
+        has_output |= tally.count_any(outcome);
+    }
+    Ok(has_output)
+}
+
+// Keeps the report of a feed with nothing beside it if new outputs are kept, or prints to standard error that nothing is kept.
+fn test_nothing<R: Files + Print + Eprint + Threads + Sync + AllocGlobal>(
+    rt: &R,
+    feed: &Feed<'_>,
+) -> Result<Outcome, TestStop>
+    requires { length feed.now.input.now ≤ MAX_INPUT }
+    ensures { IfOk result IsKept }
+{
+    let (alloc, stem) = (rt.alloc(), feed.stem);
+    if feed.accept {
+        let (text, input, settings) = (feed.text, feed.input, feed.settings);
+        let now = output_of(rt, alloc, text, input, settings, Output::Report)?;
+        let name = name_beside(alloc, stem, "report")?;
+        return keep(rt, name.as_str(), now.as_slice());
+    }
+    let line = format!(in alloc;
+        "{stem}.feed: nothing is kept beside it: no .report, .story, .chart, .faults, .races or .expect (`--accept` keeps a report)\n"
     )?;
-    Ok(true)
-}
-
-// Prints that an output is as it was kept, or where it differs, or keeps it.
-fn compare<R: Files + Print + Eprint + AllocGlobal>(
-    rt: &R,
-    accept: bool,
-    name: &str,
-    kept: &[u8],
-    now: &[u8],
-    tally: &mut Tally,
-) -> Result<(), TestStop> {
-    match first_difference(kept, now) {
-        None => {
-            tally.count_passed();
-            let line = format!(in rt.alloc(); "{name}: passed\n")?;
-            show(rt, line.as_bytes())
-        }
-        Some(_) if accept => keep(rt, tally, name, now),
-        Some(difference) => {
-            tally.count_failed();
-            let lines = difference_lines(rt.alloc(), name, &difference)?;
-            show(rt, lines.as_bytes())
-        }
-    }
-}
-
-// Returns the lines that show where an output differs from the one that was kept.
-fn difference_lines(
-    alloc: Global,
-    name: &str,
-    difference: &Difference<'_>,
-) -> Result<String, AllocError> {
-    let line = difference.line;
-    let kept = side(alloc, difference.kept)?;
-    let now = side(alloc, difference.written)?;
-    format!(in alloc; "{name}: failed: line {line} differs\n  kept: {kept}\n  now:  {now}\n")
-}
-
-// Returns a line as it is shown, or that there is none.
-fn side(alloc: Global, line: Option<&[u8]>) -> Result<String, AllocError> {
-    match line {
-        Some(line) => shown_line(alloc, line),
-        None => String::from_str(alloc, "(no such line)"),
-    }
-}
-
-// Keeps an output, or prints to standard error why it cannot be kept.
-fn keep<R: Files + Print + Eprint + AllocGlobal>(
-    rt: &R,
-    tally: &mut Tally,
-    name: &str,
-    bytes: &[u8],
-) -> Result<(), TestStop> {
-    match replace(rt, name, bytes) {
-        Ok(()) => {
-            tally.count_accepted();
-            let line = format!(in rt.alloc(); "{name}: accepted\n")?;
-            show(rt, line.as_bytes())
-        }
-        Err(ReplaceFault::NoMemory) => Err(TestStop::NoMemory),
-        Err(ReplaceFault::System { reason }) => {
-            let line = format!(in rt.alloc(); "{name}: cannot be written\n{reason}")?;
-            complain(rt, tally, line.as_str());
-            Ok(())
-        }
-    }
-}
-
-// Writes the lines about a file of expectations.
-pub(crate) fn show_lines<R: Print>(rt: &R, lines: &str) -> Result<(), TestStop> {
-    show(rt, lines.as_bytes())
+    complain(rt, line.as_str());
+    Ok(Outcome::Fault)
 }

@@ -1,1 +1,3 @@
-pub mod Spans
+mod CutLemmas
+mod DenyLemmas
+mod Spans

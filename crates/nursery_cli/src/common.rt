@@ -1,4 +1,12 @@
+ghost use Rattle.std.specs.Prelude.{◌≡◌, IfOk, codes};
+ghost use Rattle.std.specs.Option.{option_map};
+ghost use Rattle.std.specs.String.{string_bytes};
+ghost use Rattle.clap.specs.Words.{first_value, found_of};
+ghost use Rattle.nursery_cli.specs.Named.{are_both_standard, chosen, number_or, spelled_settings};
+ghost use Rattle.nursery_cli.specs.Reads.{Reads};
+
 use crate::command::CommandFault;
+use crate::cutting::long_number;
 use crate::parser::DEFAULT_LIMIT;
 use clap::ArgMatches;
 use job_runner::Settings;
@@ -18,20 +26,52 @@ pub(crate) fn settings_of(
     job: &str,
     input: Option<&str>,
     matches: &ArgMatches<'_>,
-) -> Result<Settings, CommandFault> {
-    if job == "-" && input == Some("-") {
+) -> Result<Settings, CommandFault>
+    ensures { Reads (λ settings. settings) (spelled_settings job.now (option_map (λ word. word.now) input.entry)
+        (first_value (found_of matches.now) (codes "workers")) (first_value (found_of matches.now) (codes "limit"))) result }
+{
+    if are_both_standard(job, input) {
         return Err(refusal(alloc, BOTH_STANDARD));
     }
-    let workers = matches.get_one::<usize>("workers").unwrap_or(1);
-    let limit = matches.get_one::<u64>("limit").unwrap_or(DEFAULT_LIMIT);
-    match Settings::new(workers, limit) {
+    let workers = number_or(matches.get_str("workers"), 1);
+    let limit = number_or(matches.get_str("limit"), DEFAULT_LIMIT as usize);
+    match chosen(workers, limit as u64) {
         Some(settings) => Ok(settings),
         None => Err(refusal(alloc, OUT_OF_RANGE)),
     }
 }
 
+// Returns whether the job and the input are both standard input.
+fn are_both_standard(job: &str, input: Option<&str>) -> bool
+    ensures { result ≡ are_both_standard job.now (option_map (λ word. word.now) input.entry) }
+{
+    match input {
+        Some(input) => job == "-" && input == "-",
+        None => false,
+    }
+}
+
+// Returns the number that a word spells, or another one if there is no word or it spells none.
+fn number_or(word: Option<&str>, other: usize) -> usize
+    ensures { result ≡ number_or other (option_map (λ given. given.now) word.entry) }
+{
+    match word {
+        Some(word) => long_number(word).unwrap_or(other),
+        None => other,
+    }
+}
+
+// Returns the settings of these numbers, if both are in their ranges.
+fn chosen(workers: usize, limit: u64) -> Option<Settings>
+    ensures { result ≡ chosen workers limit }
+{
+    Settings::new(workers, limit)
+}
+
 // Returns an owned copy of a word, if there is one.
-pub(crate) fn owned_copy(alloc: Global, word: Option<&str>) -> Result<Option<String>, AllocError> {
+pub(crate) fn owned_copy(alloc: Global, word: Option<&str>) -> Result<Option<String>, AllocError>
+    ensures { IfOk result (λ copy. option_map string_bytes copy ≡ option_map (λ given. given.now) word.entry) }
+{
     match word {
         Some(word) => Ok(Some(String::from_str(alloc, word)?)),
         None => Ok(None),

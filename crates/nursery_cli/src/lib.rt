@@ -8,6 +8,8 @@
 mod arguments;
 mod command;
 mod common;
+mod cutting;
+mod denying;
 mod examples;
 mod options;
 mod parser;

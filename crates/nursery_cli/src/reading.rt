@@ -1,16 +1,18 @@
 ghost use Rattle.std.specs.Prelude.{◌≡◌, [], Ok, IfOk, IfSome, IsTrue, codes};
+ghost use Rattle.std.specs.Option.{option_map};
 ghost use Rattle.std.specs.Str.{bytes_eq};
 ghost use Rattle.nursery_cli.specs.declared.command.Command.TheVariants.{Feed};
+ghost use Rattle.nursery_cli.specs.Named.{order_named, shell_named};
 ghost use Rattle.nursery_cli.specs.Words.{IsFit, IsAsked, IsWidth, may_be_raised};
 
 use crate::arguments::{ChartArgs, ExplainArgs, FaultsArgs, Order, RacesArgs, RunArgs, SweepArgs};
 use crate::command::{Command, CommandFault, FormatMode, Shell};
 use crate::common::{OUT_OF_RANGE, owned_copy, refusal, settings_of};
+use crate::denying::denied_kinds;
 use crate::parser::{DEFAULT_FAULT, LEAST_WIDTH, MAX_WIDTH, command_line};
 use crate::sweeping::{target_of, values_of};
 use clap::ArgMatches;
 use clap::error::ErrorKind;
-use fault_text::Deny;
 use job_runner::Settings;
 use job_syntax::Keyword;
 use job_tree::Name;
@@ -345,8 +347,10 @@ fn fmt_command(alloc: Global, job: &str, matches: &ArgMatches<'_>) -> Result<Com
     })
 }
 
-// Returns the shell with a name that the parser accepted.
-fn shell_named(name: Option<&str>) -> Shell {
+// Returns the shell with a name that the parser accepted, and Bash if there is no name.
+fn shell_named(name: Option<&str>) -> Shell
+    ensures { result ≡ shell_named (option_map (λ word. word.now) name.entry) }
+{
     match name {
         Some("zsh") => Shell::Zsh,
         Some("fish") => Shell::Fish,
@@ -402,34 +406,10 @@ fn refused_name(alloc: Global, word: &str) -> CommandFault {
     }
 }
 
-// Returns the kinds that are denied, given their names with commas between them.
-fn denied_kinds(alloc: Global, names: &str) -> Result<Deny, CommandFault> {
-    let mut deny = Deny {
-        stuck: false,
-        cut: false,
-        lost: false,
-    };
-    if names.is_empty() {
-        return Ok(deny);
-    }
-    'names: for name in names.split(',') {
-        match name {
-            "stuck" => deny.stuck = true,
-            "cut" => deny.cut = true,
-            "lost" => deny.lost = true,
-            _ => {
-                let text = format!(in alloc;
-                    "error: `{name}` cannot be denied: --deny takes `stuck`, `cut` and `lost`, with commas between them\n"
-                )?;
-                return Err(CommandFault::Refused { text });
-            }
-        }
-    }
-    Ok(deny)
-}
-
 // Returns the order with this name, or forward if there is no name.
-fn order_named(name: Option<&str>) -> Order {
+fn order_named(name: Option<&str>) -> Order
+    ensures { result ≡ order_named (option_map (λ word. word.now) name.entry) }
+{
     match name {
         Some("reverse") => Order::Reverse,
         Some("turn") => Order::Turn,

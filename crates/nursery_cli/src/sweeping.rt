@@ -1,9 +1,13 @@
 ghost use Rattle.std.specs.Prelude.{◌≡◌, ◌<◌, ◌≤◌, ◌-◌, ◌/◌, IfOk};
+ghost use Rattle.std.specs.Option.{option_map};
+ghost use Rattle.nursery_cli.specs.Reads.{Reads};
+ghost use Rattle.nursery_cli.specs.Spelled.{named_target, placed_target, spelled_span, spelled_target, spelled_values};
 ghost use Rattle.nursery_cli.specs.Values.{values_from, values_in};
 ghost use Rattle.nursery_cli.specs.Words.{AreValues};
 
 use crate::command::CommandFault;
 use crate::common::refusal;
+use crate::cutting::{cut_at, long_number, short_number};
 use job_edits::Target;
 use job_tree::Name;
 use std::alloc::{AllocError, Global};
@@ -16,7 +20,10 @@ pub(crate) fn target_of(
     alloc: Global,
     of: Option<&str>,
     at: Option<&str>,
-) -> Result<Target, CommandFault> {
+) -> Result<Target, CommandFault>
+    ensures { Reads (λ target. target) (spelled_target (option_map (λ word. word.now) of.entry) (option_map (λ word. word.now) at.entry))
+        result }
+{
     match (of, at) {
         (Some(word), _) => named_target(alloc, word),
         (None, Some(place)) => placed_target(alloc, place),
@@ -28,7 +35,9 @@ pub(crate) fn target_of(
 }
 
 // Returns the deadline of the scope or nursery with this name as a target.
-fn named_target(alloc: Global, word: &str) -> Result<Target, CommandFault> {
+fn named_target(alloc: Global, word: &str) -> Result<Target, CommandFault>
+    ensures { Reads (λ target. target) (named_target word.now) result }
+{
     if let Some(name) = Name::new(word.as_bytes()) {
         return Ok(Target::DeadlineOf(name));
     }
@@ -39,14 +48,29 @@ fn named_target(alloc: Global, word: &str) -> Result<Target, CommandFault> {
 }
 
 // Returns the number at a place, such as `4:18`, as a target.
-fn placed_target(alloc: Global, place: &str) -> Result<Target, CommandFault> {
-    if let Some((line, column)) = place.split_once(':') {
-        if let (Ok(line), Ok(column)) = (line.parse::<usize>(), column.parse::<usize>()) {
-            return Ok(Target::At { line, column });
+fn placed_target(alloc: Global, place: &str) -> Result<Target, CommandFault>
+    ensures { Reads (λ target. target) (placed_target place.now) result }
+{
+    match target_at(place) {
+        Some(target) => Ok(target),
+        None => {
+            let text = format!(in alloc;
+                "error: `{place}` is no place: --at takes LINE:COL, as 4:18\n"
+            )?;
+            Err(CommandFault::Refused { text })
         }
     }
-    let text = format!(in alloc; "error: `{place}` is no place: --at takes LINE:COL, as 4:18\n")?;
-    Err(CommandFault::Refused { text })
+}
+
+// Returns the number at the place that a text spells, as a target.
+fn target_at(place: &str) -> Option<Target>
+    ensures { result ≡ placed_target place.now }
+{
+    let (line, column) = cut_at(place, ":")?;
+    Some(Target::At {
+        line: long_number(line)?,
+        column: long_number(column)?,
+    })
 }
 
 // A first and a last value, and the step from one to the next.
@@ -60,7 +84,8 @@ struct Span {
 // Returns the values of a text such as `1..60` or `1..60:5`: at least one and at most 100,000. The error refuses
 // any other text, or is that memory was refused.
 pub(crate) fn values_of(alloc: Global, text: &str) -> Result<Vec<u64>, CommandFault>
-    ensures { IfOk result (λ values. AreValues values.items) }
+    ensures fit { IfOk result (λ values. AreValues values.items) }
+    ensures spelled { Reads (λ values. values.items) (spelled_values text.now) result }
 {
     let Some(span) = span_of(text) else {
         return Err(refused_span(alloc, text));
@@ -87,15 +112,17 @@ fn values_in(alloc: Global, span: Span) -> Result<Vec<u64>, AllocError>
 }
 
 // Returns the numbers of a span such as `1..60` or `1..60:5`. The step is 1 if none is given.
-fn span_of(text: &str) -> Option<Span> {
-    let (first, rest) = text.split_once("..")?;
-    let (last, step) = match rest.split_once(':') {
-        Some((last, step)) => (last, step.parse::<u32>().ok()?),
+fn span_of(text: &str) -> Option<Span>
+    ensures { result ≡ spelled_span text.now }
+{
+    let (first, rest) = cut_at(text, "..")?;
+    let (last, step) = match cut_at(rest, ":") {
+        Some((last, step)) => (last, short_number(step)?),
         None => (rest, 1),
     };
     Some(Span {
-        first: first.parse::<u32>().ok()?,
-        last: last.parse::<u32>().ok()?,
+        first: short_number(first)?,
+        last: short_number(last)?,
         step,
     })
 }

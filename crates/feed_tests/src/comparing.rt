@@ -1,0 +1,129 @@
+ghost use Rattle.std.specs.Prelude.{◌≡◌, ◌≤◌, List, ℕ, length, not, IfOk};
+ghost use Rattle.std.specs.Option.{is_some};
+ghost use Rattle.std.specs.Str.{bytes_eq};
+ghost use Rattle.job_meaning.specs.declared.limits.TheConstants.{MAX_INPUT};
+ghost use Rattle.test_app.specs.Outputs.{IsOutput};
+ghost use Rattle.feed_tests.specs.Comparing.{Compares, IsKept};
+
+use crate::kept::{Unread, name_beside, read_kept, shown_line};
+use crate::showing::show;
+use crate::stop::TestStop;
+use crate::tally::Outcome;
+use crate::testing::{Feed, complain};
+use expect_text::{Difference, first_difference, law_no_difference};
+use job_files::{ReplaceFault, replace};
+use std::alloc::{AllocError, Global};
+use std::rt::Files;
+use std::thread::Threads;
+use test_app::{Output, output_of};
+
+// Compares an output of a feed with the file that is kept of it, and returns what that came to, or `None` if there is none.
+pub(crate) fn test_output<R: Files + Print + Eprint + Threads + Sync + AllocGlobal>(
+    rt: &R,
+    feed: &Feed<'_>,
+    kind: Output,
+) -> Result<Option<Outcome>, TestStop>
+    requires { length feed.now.input.now ≤ MAX_INPUT }
+{
+    let name = name_beside(rt.alloc(), feed.stem, kind.extension())?;
+    let kept = match read_kept(rt, name.as_str()) {
+        Ok(kept) => kept,
+        Err(Unread::Missing) => return Ok(None),
+        Err(Unread::NoMemory) => return Err(TestStop::NoMemory),
+        Err(Unread::Fault(line)) => {
+            complain(rt, line.as_str());
+            return Ok(Some(Outcome::Fault));
+        }
+    };
+    Ok(Some(test_kept(rt, feed, kind, name.as_str(), kept.as_slice())?))
+}
+
+// Compares an output of a feed with the bytes that are kept of it, and returns what that came to.
+fn test_kept<R: Files + Print + Eprint + Threads + Sync + AllocGlobal>(
+    rt: &R,
+    feed: &Feed<'_>,
+    kind: Output,
+    name: &str,
+    kept: &[u8],
+) -> Result<Outcome, TestStop>
+    requires { length feed.now.input.now ≤ MAX_INPUT }
+    ensures { IfOk result (λ outcome. (now : List ℕ) × IsOutput feed.now.text.now feed.now.input.now feed.now.settings.limit kind now
+        × Compares feed.now.accept kept.now now outcome) }
+{
+    let now = output_of(rt, rt.alloc(), feed.text, feed.input, feed.settings, kind)?;
+    compare(rt, feed.accept, name, kept, now.as_slice())
+}
+
+// Prints that an output is as it was kept, or where it differs, or keeps it.
+fn compare<R: Files + Print + Eprint + AllocGlobal>(
+    rt: &R,
+    accept: bool,
+    name: &str,
+    kept: &[u8],
+    now: &[u8],
+) -> Result<Outcome, TestStop>
+    ensures { IfOk result (Compares accept kept.now now.now) }
+{
+    let Some(difference) = difference_of(kept, now) else {
+        let line = format!(in rt.alloc(); "{name}: passed\n")?;
+        show(rt, line.as_bytes())?;
+        return Ok(Outcome::Passed);
+    };
+    if accept {
+        return keep(rt, name, now);
+    }
+    let lines = difference_lines(rt.alloc(), name, &difference)?;
+    show(rt, lines.as_bytes())?;
+    Ok(Outcome::Failed)
+}
+
+// Returns the first line at which an output differs from the one that was kept, or `None` if the two are the same.
+fn difference_of<'a>(kept: &'a [u8], now: &'a [u8]) -> Option<Difference<'a>>
+    ensures { is_some result ≡ not (bytes_eq kept.now now.now) }
+{
+    law_no_difference();
+    first_difference(kept, now)
+}
+
+// Returns the lines that show where an output differs from the one that was kept.
+fn difference_lines(
+    alloc: Global,
+    name: &str,
+    difference: &Difference<'_>,
+) -> Result<String, AllocError> {
+    let line = difference.line;
+    let kept = side(alloc, difference.kept)?;
+    let now = side(alloc, difference.written)?;
+    format!(in alloc; "{name}: failed: line {line} differs\n  kept: {kept}\n  now:  {now}\n")
+}
+
+// Returns a line as it is shown, or that there is none.
+fn side(alloc: Global, line: Option<&[u8]>) -> Result<String, AllocError> {
+    match line {
+        Some(line) => shown_line(alloc, line),
+        None => String::from_str(alloc, "(no such line)"),
+    }
+}
+
+// Keeps an output, or prints to standard error why it cannot be kept.
+pub(crate) fn keep<R: Files + Print + Eprint + AllocGlobal>(
+    rt: &R,
+    name: &str,
+    bytes: &[u8],
+) -> Result<Outcome, TestStop>
+    ensures { IfOk result IsKept }
+{
+    match replace(rt, name, bytes) {
+        Ok(()) => {
+            let line = format!(in rt.alloc(); "{name}: accepted\n")?;
+            show(rt, line.as_bytes())?;
+            Ok(Outcome::Accepted)
+        }
+        Err(ReplaceFault::NoMemory) => Err(TestStop::NoMemory),
+        Err(ReplaceFault::System { reason }) => {
+            let line = format!(in rt.alloc(); "{name}: cannot be written\n{reason}")?;
+            complain(rt, line.as_str());
+            Ok(Outcome::Fault)
+        }
+    }
+}
