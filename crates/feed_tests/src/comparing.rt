@@ -11,7 +11,7 @@ use crate::stop::TestStop;
 use crate::tally::Outcome;
 use crate::testing::{Feed, complain};
 use expect_text::{Difference, first_difference, law_no_difference};
-use job_files::{ReplaceFault, replace};
+use job_files::{ReplaceFault, Target, shown_name};
 use std::alloc::{AllocError, Global};
 use std::rt::Files;
 use std::thread::Threads;
@@ -26,6 +26,7 @@ pub(crate) fn test_output<R: Files + Print + Eprint + Threads + Sync + AllocGlob
     requires { length feed.now.input.now ≤ MAX_INPUT }
 {
     let name = name_beside(rt.alloc(), feed.stem, kind.extension())?;
+    let target = Target::of(rt, name.as_str());
     let kept = match read_kept(rt, name.as_str()) {
         Ok(kept) => kept,
         Err(Unread::Missing) => return Ok(None),
@@ -35,15 +36,18 @@ pub(crate) fn test_output<R: Files + Print + Eprint + Threads + Sync + AllocGlob
             return Ok(Some(Outcome::Fault));
         }
     };
-    Ok(Some(test_kept(rt, feed, kind, name.as_str(), kept.as_slice())?))
+    let outcome = test_kept(rt, feed, kind, name.as_str(), target, kept.as_slice())?;
+    Ok(Some(outcome))
 }
 
-// Compares an output of a feed with the bytes that are kept of it, and returns what that came to.
+// Compares an output of a feed with the bytes that are kept of it, and returns what that came to. The target is the file with these
+// bytes, as it was before it was read.
 fn test_kept<R: Files + Print + Eprint + Threads + Sync + AllocGlobal>(
     rt: &R,
     feed: &Feed<'_>,
     kind: Output,
     name: &str,
+    target: Result<Target, ReplaceFault>,
     kept: &[u8],
 ) -> Result<Outcome, TestStop>
     requires { length feed.now.input.now ≤ MAX_INPUT }
@@ -51,7 +55,7 @@ fn test_kept<R: Files + Print + Eprint + Threads + Sync + AllocGlobal>(
         × Compares feed.now.accept kept.now now outcome) }
 {
     let now = output_of(rt, rt.alloc(), feed.text, feed.input, feed.settings, kind)?;
-    compare(rt, feed.accept, name, kept, now.as_slice())
+    compare(rt, feed.accept, name, target, kept, now.as_slice())
 }
 
 // Prints that an output is as it was kept, or where it differs, or keeps it.
@@ -59,18 +63,20 @@ fn compare<R: Files + Print + Eprint + AllocGlobal>(
     rt: &R,
     accept: bool,
     name: &str,
+    target: Result<Target, ReplaceFault>,
     kept: &[u8],
     now: &[u8],
 ) -> Result<Outcome, TestStop>
     ensures { IfOk result (Compares accept kept.now now.now) }
 {
     let Some(difference) = difference_of(kept, now) else {
-        let line = format!(in rt.alloc(); "{name}: passed\n")?;
+        let shown = shown_name(rt.alloc(), name)?;
+        let line = format!(in rt.alloc(); "{shown}: passed\n")?;
         show(rt, line.as_bytes())?;
         return Ok(Outcome::Passed);
     };
     if accept {
-        return keep(rt, name, now);
+        return keep(rt, name, target, now);
     }
     let lines = difference_lines(rt.alloc(), name, &difference)?;
     show(rt, lines.as_bytes())?;
@@ -94,7 +100,8 @@ fn difference_lines(
     let line = difference.line;
     let kept = side(alloc, difference.kept)?;
     let now = side(alloc, difference.written)?;
-    format!(in alloc; "{name}: failed: line {line} differs\n  kept: {kept}\n  now:  {now}\n")
+    let shown = shown_name(alloc, name)?;
+    format!(in alloc; "{shown}: failed: line {line} differs\n  kept: {kept}\n  now:  {now}\n")
 }
 
 // Returns a line as it is shown, or that there is none.
@@ -105,23 +112,29 @@ fn side(alloc: Global, line: Option<&[u8]>) -> Result<String, AllocError> {
     }
 }
 
-// Keeps an output, or prints to standard error why it cannot be kept.
+// Keeps an output in a file that may be replaced, or prints to standard error why it cannot be kept.
 pub(crate) fn keep<R: Files + Print + Eprint + AllocGlobal>(
     rt: &R,
     name: &str,
+    target: Result<Target, ReplaceFault>,
     bytes: &[u8],
 ) -> Result<Outcome, TestStop>
     ensures { IfOk result IsKept }
 {
-    match replace(rt, name, bytes) {
+    let shown = shown_name(rt.alloc(), name)?;
+    let replaced = match target {
+        Ok(target) => target.replace(rt, bytes),
+        Err(fault) => Err(fault),
+    };
+    match replaced {
         Ok(()) => {
-            let line = format!(in rt.alloc(); "{name}: accepted\n")?;
+            let line = format!(in rt.alloc(); "{shown}: accepted\n")?;
             show(rt, line.as_bytes())?;
             Ok(Outcome::Accepted)
         }
         Err(ReplaceFault::NoMemory) => Err(TestStop::NoMemory),
         Err(ReplaceFault::System { reason }) => {
-            let line = format!(in rt.alloc(); "{name}: cannot be written\n{reason}")?;
+            let line = format!(in rt.alloc(); "{shown}: cannot be written\n{reason}")?;
             complain(rt, line.as_str());
             Ok(Outcome::Fault)
         }

@@ -8,6 +8,7 @@ use crate::stop::TestStop;
 use crate::tally::Outcome;
 use crate::testing::{Feed, complain};
 use expect_text::{ExpectLine, read_expectation};
+use job_files::shown_name;
 use std::alloc::{AllocError, Global};
 use std::rt::Files;
 use std::thread::Threads;
@@ -31,8 +32,9 @@ pub(crate) fn test_expectations<R: Files + Print + Eprint + Threads + Sync + All
         }
     };
     let told = report_and_story(rt, feed)?;
-    let lines = unmet_lines(rt, feed, name.as_str(), &told, bytes.as_slice())?;
-    Ok(Some(report_unmet(rt, name.as_str(), lines.as_str())?))
+    let shown = shown_name(rt.alloc(), name.as_str())?;
+    let lines = unmet_lines(rt, feed, shown.as_str(), &told, bytes.as_slice())?;
+    Ok(Some(report_unmet(rt, shown.as_str(), lines.as_str())?))
 }
 
 // Writes that all is as expected, or the lines about what is not, and returns which.

@@ -1,4 +1,4 @@
-use job_files::reason_line;
+use job_files::{reason_line, shown_name};
 use std::alloc::{AllocError, Global};
 use std::rt::Files;
 use std::{fs, io};
@@ -37,7 +37,8 @@ pub(crate) fn find_feeds<R: Files + AllocGlobal + Clone + Drop>(
 
 // Returns the line for a file that is no feed.
 fn not_a_feed_line(alloc: Global, path: &str) -> Result<String, AllocError> {
-    format!(in alloc; "{path}: not a feed: its name does not end with `.feed`\n")
+    let shown = shown_name(alloc, path)?;
+    format!(in alloc; "{shown}: not a feed: its name does not end with `.feed`\n")
 }
 
 // Finds the feeds of a folder and of its folders.
@@ -61,7 +62,8 @@ fn search_folder<R: Files + AllocGlobal + Clone + Drop>(
         }
     }
     if found.feeds.is_empty() && found.faults.is_empty() {
-        let line = format!(in alloc; "{folder}: no feed in this folder\n")?;
+        let shown = shown_name(alloc, folder)?;
+        let line = format!(in alloc; "{shown}: no feed in this folder\n")?;
         push(&mut found.faults, line)?;
     }
     found.feeds.sort_unstable();

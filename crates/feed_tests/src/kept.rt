@@ -1,4 +1,4 @@
-use job_files::{read_reason, reason_line};
+use job_files::{read_reason, reason_line, shown_name};
 use nursery_app::{ReadFault, read_whole};
 use std::alloc::{AllocError, Global};
 use std::fs;
@@ -43,7 +43,8 @@ pub(crate) fn read_kept<R: Files + AllocGlobal>(rt: &R, name: &str) -> Result<Ve
 
 // Returns the line for a file with too many bytes.
 fn too_long_line(alloc: Global, name: &str) -> Result<String, AllocError> {
-    format!(in alloc; "{name}: more than {MAX_KEPT} bytes\n")
+    let shown = shown_name(alloc, name)?;
+    format!(in alloc; "{shown}: more than {MAX_KEPT} bytes\n")
 }
 
 // Returns the name of the file with this extension beside a feed, given the feed's name without its own

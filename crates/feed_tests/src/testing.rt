@@ -11,7 +11,7 @@ use crate::kept::{Unread, name_beside, read_kept};
 use crate::showing::show;
 use crate::stop::TestStop;
 use crate::tally::{Outcome, Tally};
-use job_files::reason_line;
+use job_files::{Target, reason_line, shown_name};
 use nursery_app::{MAX_INPUT, Settings, split_feed};
 use std::io::ErrorKind;
 use std::rt::Files;
@@ -134,7 +134,8 @@ fn test_feed<R: Files + Print + Eprint + Threads + Sync + AllocGlobal>(
     };
     let (text, input) = split_feed(bytes.as_slice());
     if input.len() > MAX_INPUT {
-        let line = format!(in rt.alloc(); "{name}: its input is too long\n")?;
+        let shown = shown_name(rt.alloc(), name)?;
+        let line = format!(in rt.alloc(); "{shown}: its input is too long\n")?;
         complain(rt, line.as_str());
         tally.count(Outcome::Fault);
         return Ok(());
@@ -197,10 +198,12 @@ fn test_nothing<R: Files + Print + Eprint + Threads + Sync + AllocGlobal>(
         let (text, input, settings) = (feed.text, feed.input, feed.settings);
         let now = output_of(rt, alloc, text, input, settings, Output::Report)?;
         let name = name_beside(alloc, stem, "report")?;
-        return keep(rt, name.as_str(), now.as_slice());
+        let target = Target::of(rt, name.as_str());
+        return keep(rt, name.as_str(), target, now.as_slice());
     }
+    let shown = shown_name(alloc, stem)?;
     let line = format!(in alloc;
-        "{stem}.feed: nothing is kept beside it: no .report, .story, .chart, .faults, .races or .expect (`--accept` keeps a report)\n"
+        "{shown}.feed: nothing is kept beside it: no .report, .story, .chart, .faults, .races or .expect (`--accept` keeps a report)\n"
     )?;
     complain(rt, line.as_str());
     Ok(Outcome::Fault)
