@@ -40,6 +40,13 @@ wants 0 'jobs/inner/find.report: passed\njobs/wait.report: passed\n2 passed, 0 f
 wants 0 'jobs/inner/find.report: passed\njobs/wait.report: passed\n2 passed, 0 failed\n' '' jobs --workers 3
 wants 0 'jobs/wait.report: passed\njobs/inner/find.report: passed\n2 passed, 0 failed\n' '' jobs/wait.feed jobs/inner
 
+# A name cannot forge a line, or reach the terminal with an escape.
+weird=$(printf 'x\n9 passed, 0 failed\033[1m')
+cp jobs/wait.feed "$weird.feed"
+cp jobs/wait.report "$weird.report"
+wants 0 '"x\\n9 passed, 0 failed\\u{1b}[1m.report": passed\n1 passed, 0 failed\n' '' "$weird.feed"
+rm "$weird.feed" "$weird.report"
+
 # Each kind of file.
 touch jobs/wait.story jobs/wait.chart jobs/wait.faults jobs/wait.races
 wants 0 'jobs/wait.report: passed\njobs/wait.story: accepted\njobs/wait.chart: accepted\njobs/wait.faults: accepted\njobs/wait.races: accepted\n1 passed, 4 accepted, 0 failed\n' '' \
