@@ -1,2 +1,7 @@
 pub mod Names
+pub mod Uses
+pub mod Pieces
+pub mod Lines
+pub mod Statements
+pub mod Blocks
 pub mod Program

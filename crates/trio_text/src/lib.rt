@@ -8,10 +8,14 @@
 mod helpers;
 mod laws;
 mod names;
+mod nested;
 mod pieces;
 mod place;
+mod scopes;
+mod statements;
 mod steps;
 mod taken;
+mod tasks;
 mod texts;
 mod words;
 mod writing;
