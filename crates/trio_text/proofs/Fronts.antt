@@ -1,5 +1,5 @@
 -- The first of several steps, and the others.
-use Rattle.std.proofs.Common.{◌≡◌, ℕ, ◌+◌, ◌≤◌, ◌==◌, List, [], ◌∷◌, ◌++◌, Bool, true, false, length, refl, sym, ap, subst, ◌∙◌, arith, fold}
+use Rattle.std.proofs.Common.{◌≡◌, ℕ, ◌+◌, ◌≤◌, ◌==◌, List, [], ◌∷◌, true, false, length, refl, sym, ap, subst, ◌∙◌, arith, fold}
 use Rattle.std.proofs.lemmas.List.Sums.{fold-append}
 use Rattle.job_tree.specs.Names.{names_of, names_in}
 use Rattle.job_tree.specs.Blocks.{step_of, steps_of}

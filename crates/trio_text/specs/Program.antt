@@ -28,18 +28,18 @@ abbrev pub classes : Known → List (List ℕ) → List ℕ
 classes known names = flat_map (class_lines known) names
 
 -- the imports, for these helpers
-unfoldable pub with_imports : Uses → List ℕ → List ℕ
-with_imports uses before = with_used uses.handling IMPORT_FOR_HANDLING.now (before ++ FIRST_IMPORTS.now) ++ LAST_IMPORTS.now
+unfoldable pub imports : Uses → List ℕ
+imports uses = with_used uses.handling IMPORT_FOR_HANDLING.now FIRST_IMPORTS.now ++ LAST_IMPORTS.now
 
 -- whether a step reports lines
 abbrev pub shows : Uses → Bool
 shows uses = ((uses.find || uses.head) || uses.longest) || uses.need
 
 -- these helpers
-unfoldable pub with_helpers : Uses → List ℕ → List ℕ
-with_helpers uses before = with_used (shows uses) SHOW_LINES.now (with_used (uses.pace || shows uses) LINES_OF.now
+unfoldable pub helpers : Uses → List ℕ
+helpers uses = with_used (shows uses) SHOW_LINES.now (with_used (uses.pace || shows uses) LINES_OF.now
     (with_used uses.over OVER.now (with_used uses.need NEED.now (with_used uses.longest LONGEST.now (with_used uses.head HEAD.now
-    (with_used uses.find FIND.now (with_used uses.pace PACE.now (with_used uses.handling HANDLING.now before))))))))
+    (with_used uses.find FIND.now (with_used uses.pace PACE.now (with_used uses.handling HANDLING.now []))))))))
 
 -- the lines that begin the function of the root task
 unfoldable pub with_root : List ℕ → List ℕ → List ℕ
@@ -61,5 +61,4 @@ pub record IsProgram (job : Tree) (text : List ℕ) : Type 0 where
   pub uses : Uses
   pub functions : List ℕ
   pub tasks : WritesRoot job uses [] functions
-  pub parts : text ≡ with_helpers uses
-      (with_imports uses (header job.name) ++ classes (known_of job) (classes_of job) ++ functions) ++ footer job.name
+  pub parts : text ≡ header job.name ++ imports uses ++ classes (known_of job) (classes_of job) ++ functions ++ helpers uses ++ footer job.name

@@ -1,6 +1,6 @@
-ghost use Rattle.std.specs.Prelude.{◌≡◌, ◌++◌, OnOk};
+ghost use Rattle.std.specs.Prelude.{◌≡◌, ◌++◌, IfOk, OnOk};
 ghost use Rattle.trio_text.specs.Uses.{known_in};
-ghost use Rattle.trio_text.specs.Program.{class_lines, classes, shows, with_helpers, with_imports};
+ghost use Rattle.trio_text.specs.Program.{class_lines, classes, helpers, imports};
 
 use crate::names::push_class;
 use crate::pieces::push_if;
@@ -10,16 +10,18 @@ use crate::texts::{
 };
 use crate::words::{Uses, Words};
 use job_tree::Name;
-use std::alloc::AllocError;
+use std::alloc::{AllocError, Global};
 
-// Appends the imports of the program.
-#[tactic(auto, unfolding(crate::specs::Program::with_imports))]
-pub(crate) fn push_imports(out: &mut Vec<u8>, uses: Uses) -> Result<(), AllocError>
-    ensures { OnOk result (out.new.items ≡ with_imports uses out.old.items) }
+// Returns the imports of the program.
+#[tactic(auto, unfolding(crate::specs::Program::imports))]
+pub(crate) fn imports_of(alloc: Global, uses: Uses) -> Result<Vec<u8>, AllocError>
+    ensures { IfOk result (λ text. text.items ≡ imports uses) }
 {
-    out.extend_from_slice(FIRST_IMPORTS)?;
-    push_if(out, uses.handling, IMPORT_FOR_HANDLING)?;
-    out.extend_from_slice(LAST_IMPORTS)
+    let mut text = Vec::new(alloc);
+    text.extend_from_slice(FIRST_IMPORTS)?;
+    push_if(&mut text, uses.handling, IMPORT_FOR_HANDLING)?;
+    text.extend_from_slice(LAST_IMPORTS)?;
+    Ok(text)
 }
 
 // Appends a class for each exception.
@@ -43,18 +45,20 @@ fn push_class_lines(out: &mut Vec<u8>, words: &Words, name: Name) -> Result<(), 
     Ok(())
 }
 
-// Appends the helpers that the steps use: for what the job language has and Trio does not have.
-#[tactic(auto, unfolding(crate::specs::Program::with_helpers))]
-pub(crate) fn push_helpers(out: &mut Vec<u8>, uses: Uses) -> Result<(), AllocError>
-    ensures { OnOk result (out.new.items ≡ with_helpers uses out.old.items) }
+// Returns the helpers that the steps use: for what the job language has and Trio does not have.
+#[tactic(auto, unfolding(crate::specs::Program::helpers))]
+pub(crate) fn helpers_of(alloc: Global, uses: Uses) -> Result<Vec<u8>, AllocError>
+    ensures { IfOk result (λ text. text.items ≡ helpers uses) }
 {
-    push_if(out, uses.handling, HANDLING)?;
-    push_if(out, uses.pace, PACE)?;
-    push_if(out, uses.find, FIND)?;
-    push_if(out, uses.head, HEAD)?;
-    push_if(out, uses.longest, LONGEST)?;
-    push_if(out, uses.need, NEED)?;
-    push_if(out, uses.over, OVER)?;
-    push_if(out, uses.pace || uses.shows(), LINES_OF)?;
-    push_if(out, uses.shows(), SHOW_LINES)
+    let mut text = Vec::new(alloc);
+    push_if(&mut text, uses.handling, HANDLING)?;
+    push_if(&mut text, uses.pace, PACE)?;
+    push_if(&mut text, uses.find, FIND)?;
+    push_if(&mut text, uses.head, HEAD)?;
+    push_if(&mut text, uses.longest, LONGEST)?;
+    push_if(&mut text, uses.need, NEED)?;
+    push_if(&mut text, uses.over, OVER)?;
+    push_if(&mut text, uses.pace || uses.shows(), LINES_OF)?;
+    push_if(&mut text, uses.shows(), SHOW_LINES)?;
+    Ok(text)
 }

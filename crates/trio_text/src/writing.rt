@@ -6,7 +6,7 @@ ghost use Rattle.trio_text.specs.Pieces.{Adds, Then};
 ghost use Rattle.trio_text.specs.Program.{IsProgram, footer, header, with_root, with_start_time};
 ghost use Rattle.trio_text.specs.Uses.{known_in};
 
-use crate::helpers::{push_classes, push_helpers, push_imports};
+use crate::helpers::{helpers_of, imports_of, push_classes};
 use crate::names::push_name;
 use crate::pieces::push_line;
 use crate::place::Place;
@@ -26,14 +26,15 @@ pub fn program(alloc: Global, job: &Job) -> Result<Vec<u8>, AllocError>
     ensures { IfOk result (λ text. IsProgram job.now text.items) }
 {
     let words = Words::of(alloc, job)?;
+    let imports = imports_of(alloc, words.uses())?;
     let functions = functions_of(alloc, &words, job)?;
+    let helpers = helpers_of(alloc, words.uses())?;
+    let footer = footer_of(alloc, job)?;
     let mut text = header_of(alloc, job)?;
-    let uses = words.uses();
-    push_imports(&mut text, uses)?;
+    text.extend_from_slice(imports.as_slice())?;
     push_classes(&mut text, &words)?;
     text.extend_from_slice(functions.as_slice())?;
-    push_helpers(&mut text, uses)?;
-    let footer = footer_of(alloc, job)?;
+    text.extend_from_slice(helpers.as_slice())?;
     text.extend_from_slice(footer.as_slice())?;
     Ok(text)
 }

@@ -1,4 +1,4 @@
-use Rattle.std.proofs.Common.{◌++◌, append_assoc, add-one, sym, codes}
+use Rattle.std.proofs.Common.{append_assoc, add-one, sym, codes}
 use Rattle.std.proofs.lemmas.List.{append-nil}
 use Rattle.trio_text.specs.Lines.{margin}
 use Rattle.trio_text.proofs.pieces.begin.Goals as goal

@@ -1,8 +1,8 @@
-use Rattle.std.proofs.Common.{refl, subst, List, []}
+use Rattle.std.proofs.Common.{[], refl, subst}
 use Rattle.trio_text.specs.Uses.{Known}
 use Rattle.trio_text.specs.Pieces.{Adds, Then}
 use Rattle.trio_text.specs.Blocks.{OrPass, Writes}
-use Rattle.trio_text.specs.Program.{IsProgram, with_start_time, with_root}
+use Rattle.trio_text.specs.Program.{with_start_time, with_root}
 use Rattle.trio_text.proofs.writing.program.Goals as goal
 
 pub returns : goal.returns
@@ -17,17 +17,22 @@ returns c =
       functions = functions;
       tasks = subst P c.in_ok-words.ensures.known c.in_ok-functions.ensures;
       parts = rw (
+        c.in_ok-extend_from_slice-4.ensures.items,
+        c.as_slice-4.ensures.value,
+        c.in_ok-footer.ensures,
+        c.in_ok-extend_from_slice-3.ensures.items,
+        c.as_slice-3.ensures.value,
+        c.in_ok-helpers.ensures,
         c.in_ok-extend_from_slice-2.ensures.items,
         c.as_slice-2.ensures.value,
-        c.in_ok-footer.ensures,
-        c.in_ok-push_helpers.ensures,
-        c.in_ok-extend_from_slice.ensures.items,
-        c.as_slice.ensures.value,
         c.in_ok-push_classes.ensures,
         c.in_ok-words.ensures.known,
         c.in_ok-words.ensures.raised,
-        c.in_ok-push_imports.ensures,
+        c.in_ok-extend_from_slice.ensures.items,
+        c.as_slice.ensures.value,
+        c.in_ok-imports.ensures,
+        c.uses.ensures,
+        c.uses-2.ensures,
         c.in_ok-text.ensures,
-        c.uses-uses.ensures,
       ) refl;
     }
