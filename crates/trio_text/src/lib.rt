@@ -20,5 +20,5 @@ mod texts;
 mod words;
 mod writing;
 
-pub use laws::{law_classes_differ, law_names_differ, law_names_free};
+pub use laws::{law_classes_differ, law_functions, law_names_differ, law_names_free};
 pub use writing::program;
