@@ -9,6 +9,7 @@ use Rattle.job_tree.specs.declared.deadline.Deadline.TheVariants.{Never, After, 
 use Rattle.job_tree.specs.Tree.{Step, sleep, checkpoint, forever, pace, find, head, longest, need, raise, cancel, scope, nursery, start, repeat, attempt, Steps, stop, step, Handled, unhandled, except, Cleaned, uncleaned, finally, Tree}
 use Rattle.trio_text.specs.Names.{name_text}
 use Rattle.trio_text.specs.Uses.{Known, among, known_of, classes_of}
+use Rattle.trio_text.specs.Needs.{uses_of}
 use Rattle.trio_text.specs.Tasks.{tasks_of, tasks_in, handled_tasks, cleaned_tasks, function_head, HasFunction, HasFunctions}
 use Rattle.trio_text.specs.Lines.{margin, deeper, with_line, with_gap, with_used, with_nested_block, with_nested_call}
 use Rattle.trio_text.specs.Statements.{class_of, handled_class, with_call, with_text, with_find, with_need, with_cancel, with_statement, with_plain, is_plain, scope_kind, plain_scope, with_timed_scope, with_scope_call, with_setting, with_scope, with_opened, with_deadline_from, with_deadline, with_nursery, with_task, with_start, with_starts, with_repeat, with_handling}
@@ -428,16 +429,17 @@ pub program_functions : (job : Tree) (text : List ℕ) → IsProgram job text �
 program_functions job text is =
     let names = job.name ∷ tasks_of job.steps in
     let start = is.tasks.middle in
+    let is_timed = (uses_of job.steps).start in
     let P : List ℕ → Type 0 = λ x. Grows (job.name ∷ []) [] x in
     let root = subst P (sym is.tasks.starts)
-    (grows_then (job.name ∷ []) [] (with_root job.name []) (with_start_time is.uses.start (with_root job.name []))
-    (grows_root job.name []) (longer_start_time is.uses.start (with_root job.name []))) in
+    (grows_then (job.name ∷ []) [] (with_root job.name []) (with_start_time is_timed (with_root job.name []))
+    (grows_root job.name []) (longer_start_time is_timed (with_root job.name []))) in
     let rest = or_pass job.steps (Writes (known_of job) job.name job.steps) (writes_grow (known_of job) job.name job.steps) 1
     start is.functions is.tasks.ends in
     let all = in_turn (job.name ∷ []) (tasks_of job.steps) [] start is.functions root rest in
     let Q : List ℕ → Type 0 = λ x. HasFunctions names x in
     let inner = subst Q (sym all.is) all.has in
-    let front = (header job.name ++ imports is.uses) ++ classes (known_of job) (classes_of job) in
+    let front = (header job.name ++ imports (uses_of job.steps)) ++ classes (known_of job) (classes_of job) in
     subst Q (sym is.parts)
-    (all_earlier names ((front ++ is.functions) ++ helpers is.uses) (footer job.name)
-    (all_earlier names (front ++ is.functions) (helpers is.uses) (all_later names front is.functions inner)))
+    (all_earlier names ((front ++ is.functions) ++ helpers (uses_of job.steps)) (footer job.name)
+    (all_earlier names (front ++ is.functions) (helpers (uses_of job.steps)) (all_later names front is.functions inner)))

@@ -1,5 +1,6 @@
 pub mod Names
 pub mod Uses
+pub mod Needs
 pub mod Pieces
 pub mod Lines
 pub mod Statements

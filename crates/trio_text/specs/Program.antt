@@ -8,7 +8,8 @@ use Rattle.trio_text.specs.Pieces.{Adds, Then}
 use Rattle.trio_text.specs.Lines.{with_line, with_used}
 use Rattle.trio_text.specs.Statements.{class_of}
 use Rattle.trio_text.specs.Blocks.{OrPass, Writes}
-use Rattle.trio_text.specs.declared.words.Uses.{Uses}
+use Rattle.trio_text.specs.Needs.{shows, uses_of}
+use Rattle.trio_text.specs.declared.uses.Uses.{Uses}
 use Rattle.trio_text.specs.declared.texts.TheConstants.{HEADER, HARNESS, FIRST_IMPORTS, IMPORT_FOR_HANDLING, LAST_IMPORTS, HANDLING, PACE, FIND, HEAD, LONGEST, NEED, OVER, LINES_OF, SHOW_LINES}
 
 -- the first lines: the name of the job, and how to run the program
@@ -31,10 +32,6 @@ classes known names = flat_map (class_lines known) names
 unfoldable pub imports : Uses → List ℕ
 imports uses = with_used uses.handling IMPORT_FOR_HANDLING.now FIRST_IMPORTS.now ++ LAST_IMPORTS.now
 
--- whether a step reports lines
-abbrev pub shows : Uses → Bool
-shows uses = ((uses.find || uses.head) || uses.longest) || uses.need
-
 -- these helpers
 unfoldable pub helpers : Uses → List ℕ
 helpers uses = with_used (shows uses) SHOW_LINES.now (with_used (uses.pace || shows uses) LINES_OF.now
@@ -50,15 +47,15 @@ abbrev pub with_start_time : Bool → List ℕ → List ℕ
 with_start_time true before = with_line 1 (codes "start = trio.current_time()") before
 with_start_time false before = before
 
--- the function of the root task, with those of the other tasks in it
-abbrev pub WritesRoot : Tree → Uses → List ℕ → List ℕ → Type 0
-WritesRoot job uses = Then (Adds (λ before. with_start_time uses.start (with_root job.name before)))
-    (OrPass job.steps (Writes (known_of job) job.name job.steps) 1)
+-- the function of the root task, with those of the other tasks in it; `is_timed` says whether it notes when the job starts
+abbrev pub WritesRoot : Known → Bool → Tree → List ℕ → List ℕ → Type 0
+WritesRoot known is_timed job =
+    Then (Adds (λ before. with_start_time is_timed (with_root job.name before))) (OrPass job.steps (Writes known job.name job.steps) 1)
 
 -- The text is a program of the job: the first lines, the imports, a class for each exception, the functions of the tasks, the helpers
--- and the last lines. Which helpers there are is left open.
+-- that the steps need, and the last lines.
 pub record IsProgram (job : Tree) (text : List ℕ) : Type 0 where
-  pub uses : Uses
   pub functions : List ℕ
-  pub tasks : WritesRoot job uses [] functions
-  pub parts : text ≡ header job.name ++ imports uses ++ classes (known_of job) (classes_of job) ++ functions ++ helpers uses ++ footer job.name
+  pub tasks : WritesRoot (known_of job) (uses_of job.steps).start job [] functions
+  pub parts : text ≡ header job.name ++ imports (uses_of job.steps) ++ classes (known_of job) (classes_of job) ++ functions
+      ++ helpers (uses_of job.steps) ++ footer job.name

@@ -8,7 +8,8 @@ use crate::texts::{
     FIND, FIRST_IMPORTS, HANDLING, HEAD, IMPORT_FOR_HANDLING, LAST_IMPORTS, LINES_OF, LONGEST,
     NEED, OVER, PACE, SHOW_LINES,
 };
-use crate::words::{Uses, Words};
+use crate::uses::Uses;
+use crate::words::Words;
 use job_tree::Name;
 use std::alloc::{AllocError, Global};
 

@@ -17,6 +17,7 @@ mod steps;
 mod taken;
 mod tasks;
 mod texts;
+mod uses;
 mod words;
 mod writing;
 

@@ -1,9 +1,7 @@
 ghost use Rattle.std.specs.Prelude.{◌≡◌, ◌++◌, [], IfOk, OnOk, codes};
 ghost use Rattle.job_tree.specs.Blocks.{steps_of};
-ghost use Rattle.trio_text.specs.Blocks.{OrPass, Writes};
-ghost use Rattle.trio_text.specs.Lines.{with_line};
-ghost use Rattle.trio_text.specs.Pieces.{Adds, Then};
-ghost use Rattle.trio_text.specs.Program.{IsProgram, footer, header, with_root, with_start_time};
+ghost use Rattle.trio_text.specs.Needs.{uses_of};
+ghost use Rattle.trio_text.specs.Program.{IsProgram, WritesRoot, footer, header, with_root, with_start_time};
 ghost use Rattle.trio_text.specs.Uses.{known_in};
 
 use crate::helpers::{helpers_of, imports_of, push_classes};
@@ -12,6 +10,7 @@ use crate::pieces::push_line;
 use crate::place::Place;
 use crate::steps::push_steps;
 use crate::texts::{HARNESS, HEADER};
+use crate::uses::{Uses, uses_of};
 use crate::words::Words;
 use job_grammar::Job;
 use job_tree::Name;
@@ -26,9 +25,10 @@ pub fn program(alloc: Global, job: &Job) -> Result<Vec<u8>, AllocError>
     ensures { IfOk result (λ text. IsProgram job.now text.items) }
 {
     let words = Words::of(alloc, job)?;
-    let imports = imports_of(alloc, words.uses())?;
-    let functions = functions_of(alloc, &words, job)?;
-    let helpers = helpers_of(alloc, words.uses())?;
+    let uses = job_uses(job);
+    let imports = imports_of(alloc, uses)?;
+    let functions = functions_of(alloc, &words, uses.start, job)?;
+    let helpers = helpers_of(alloc, uses)?;
     let footer = footer_of(alloc, job)?;
     let mut text = header_of(alloc, job)?;
     text.extend_from_slice(imports.as_slice())?;
@@ -37,6 +37,13 @@ pub fn program(alloc: Global, job: &Job) -> Result<Vec<u8>, AllocError>
     text.extend_from_slice(helpers.as_slice())?;
     text.extend_from_slice(footer.as_slice())?;
     Ok(text)
+}
+
+// Returns the helpers that the steps of a job need.
+fn job_uses(job: &Job) -> Uses
+    ensures { result ≡ uses_of job.now.steps }
+{
+    uses_of(job.steps())
 }
 
 // Returns the first lines, which name the job and say how to run the program.
@@ -63,13 +70,17 @@ fn footer_of(alloc: Global, job: &Job) -> Result<Vec<u8>, AllocError>
 }
 
 // Returns the function of the root task, with those of the other tasks inside it.
-fn functions_of(alloc: Global, words: &Words, job: &Job) -> Result<Vec<u8>, AllocError>
-    ensures { IfOk result (λ text. Then (Adds (λ before. with_start_time words.now.uses.start (with_root job.now.name before)))
-        (OrPass job.now.steps (Writes (known_in words.now) job.now.name job.now.steps) 1) [] text.items) }
+fn functions_of(
+    alloc: Global,
+    words: &Words,
+    is_timed: bool,
+    job: &Job,
+) -> Result<Vec<u8>, AllocError>
+    ensures { IfOk result (λ text. WritesRoot (known_in words.now) is_timed job.now [] text.items) }
 {
     let mut text = Vec::new(alloc);
     push_root(&mut text, job.name())?;
-    push_start_time(&mut text, words.uses().start)?;
+    push_start_time(&mut text, is_timed)?;
     push_steps(&mut text, words, &Place::root(job.name()), job.steps())?;
     Ok(text)
 }

@@ -1,21 +1,18 @@
 use Rattle.std.proofs.Common.{[], refl, subst}
-use Rattle.trio_text.specs.Uses.{Known}
-use Rattle.trio_text.specs.Pieces.{Adds, Then}
-use Rattle.trio_text.specs.Blocks.{OrPass, Writes}
-use Rattle.trio_text.specs.Program.{with_start_time, with_root}
+use Rattle.trio_text.specs.Uses.{Known, known_of}
+use Rattle.trio_text.specs.declared.uses.Uses.{Uses}
+use Rattle.trio_text.specs.Program.{WritesRoot}
 use Rattle.trio_text.proofs.writing.program.Goals as goal
 
 pub returns : goal.returns
 returns c =
-    let words = c.in_ok-words.words in
     let job = c.args.job.now in
     let functions = c.in_ok-functions.functions.items in
-    let P : Known → Type 0 = λ known. Then (Adds (λ before. with_start_time words.uses.start (with_root job.name before)))
-    (OrPass job.steps (Writes known job.name job.steps) 1) [] functions in
+    let P : Known → Type 0 = λ known. WritesRoot known c.job_uses-uses.result.start job [] functions in
+    let Q : Uses → Type 0 = λ uses. WritesRoot (known_of job) uses.start job [] functions in
     record {
-      uses = words.uses;
       functions = functions;
-      tasks = subst P c.in_ok-words.ensures.known c.in_ok-functions.ensures;
+      tasks = subst Q c.job_uses-uses.ensures (subst P c.in_ok-words.ensures.known c.in_ok-functions.ensures);
       parts = rw (
         c.in_ok-extend_from_slice-4.ensures.items,
         c.as_slice-4.ensures.value,
@@ -31,8 +28,7 @@ returns c =
         c.in_ok-extend_from_slice.ensures.items,
         c.as_slice.ensures.value,
         c.in_ok-imports.ensures,
-        c.uses.ensures,
-        c.uses-2.ensures,
         c.in_ok-text.ensures,
+        c.job_uses-uses.ensures,
       ) refl;
     }
