@@ -83,8 +83,7 @@ fn push_step(out: &mut Vec<u8>, words: &Words, place: &Place, step: &Step) -> Re
             body,
         } => {
             push_scope(out, place.level, *name, *deadline, *shield, *fail)?;
-            push_block(out, words, &place.inside(1), body)?;
-            Ok(())
+            push_block(out, words, &place.inside(1), body)
         }
         Step::Nursery {
             name,
@@ -93,32 +92,23 @@ fn push_step(out: &mut Vec<u8>, words: &Words, place: &Place, step: &Step) -> Re
             body,
         } => {
             push_nursery(out, place.level, *name, *deadline, *shield)?;
-            push_block(out, words, &place.in_nursery(*name), body)?;
-            Ok(())
+            push_block(out, words, &place.in_nursery(*name), body)
         }
         Step::Start { name, over, body } => {
             push_task(out, place.level, *name, *over)?;
             push_block(out, words, &place.in_function(), body)?;
-            push_starts(out, place.level, place.nursery, *name, *over)?;
-            Ok(())
+            push_starts(out, place.level, place.nursery, *name, *over)
         }
         Step::Repeat { count, body } => {
             push_repeat(out, place.level, *count)?;
-            push_block(out, words, &place.inside(1), body)?;
-            Ok(())
+            push_block(out, words, &place.inside(1), body)
         }
         Step::Try {
             body,
             handler,
             cleanup,
-        } => {
-            push_try(out, words, place, body, handler, cleanup)?;
-            Ok(())
-        }
-        _ => {
-            push_plain(out, words, place.level, step)?;
-            Ok(())
-        }
+        } => push_try(out, words, place, body, handler, cleanup),
+        _ => push_plain(out, words, place.level, step),
     }
 }
 
