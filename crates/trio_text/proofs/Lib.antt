@@ -1,1 +1,4 @@
+pub mod Fronts
+pub mod Growing
 pub mod Naming
+pub mod Needing

@@ -1,6 +1,6 @@
 -- Different names have different texts, and none of these is a word that the program uses for something else.
 use Rattle.std.proofs.Common.{◌≡◌, ℕ, List, ◌++◌, ◌-◌, [], ◌∷◌, Bool, true, false, length, refl, sym, ap, ◌∙◌, inl, inr, arith}
-use Rattle.std.specs.Prelude.{◌≢◌, codes, nat_eq, not, if◌then◌else◌}
+use Rattle.std.specs.Prelude.{◌≢◌, codes, nat_eq, not, ◌&&◌, if◌then◌else◌}
 use Rattle.std.specs.List.{list_any, list_all, ends_with}
 use Rattle.std.specs.Str.{bytes_eq}
 use Rattle.std.proofs.lemmas.Bool.{and_parts, cases_Bool}
@@ -8,6 +8,8 @@ use Rattle.std.proofs.lemmas.Slice.Eq.{bytes_eq-Decides}
 use Rattle.std.proofs.lemmas.List.{length-append, append_cancel_right}
 use Rattle.std.proofs.Math.Seq.{drop-append_seam}
 use Rattle.trio_text.specs.Names.{is_taken, is_free, name_text, class_text}
+use Rattle.trio_text.specs.Uses.{Known, among}
+use Rattle.trio_text.specs.Statements.{class_of}
 use Rattle.job_tree.specs.Words.{starts_word}
 use Rattle.trio_text.specs.declared.taken.TheConstants.{TAKEN}
 
@@ -94,3 +96,17 @@ classes_differ is_given exception name letter given = λ same.
     let free = and_parts (is_free exception) (not is_given) in
     let f : false ≡ true = apart _ (is_free name) is_given exception name (λ is. free_unmarked exception (free is).0)
     (λ is. not_so is_given (free is).1) letter given same in cc
+
+-- Names that begin with a letter get `_` before them, or not. If the results are equal, the names are equal.
+same_exception : (stays remains : Bool) (a b : List ℕ) → starts_word a ≡ true → starts_word b ≡ true →
+    (if stays then a else codes "_" ++ a) ≡ (if remains then b else codes "_" ++ b) → a ≡ b
+same_exception true true a b letter other same = same
+same_exception false false a b letter other same = cc
+same_exception true false a b letter other same = let f : false ≡ true = sym (ap starts_word same) ∙ letter in cc
+same_exception false true a b letter other same = let f : false ≡ true = ap starts_word same ∙ other in cc
+
+pub exceptions_differ : (known : Known) (one other : List ℕ) → starts_word one ≡ true → starts_word other ≡ true →
+    class_of known one ≡ class_of known other → one ≡ other
+unfolding class_of class_text
+exceptions_differ known one other letter also same =
+    same_exception (is_free one && not (among known.given one)) (is_free other && not (among known.given other)) one other letter also same

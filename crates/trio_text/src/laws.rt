@@ -1,8 +1,13 @@
-//! The laws of names. The functions do nothing: their contracts are the laws.
+//! The laws of names and functions. The functions here do nothing: their contracts are the laws.
 
-ghost use Rattle.std.specs.Prelude.{◌≡◌, ◌≢◌, ℕ, Bool, List, false, true};
+ghost use Rattle.std.specs.Prelude.{◌≡◌, ◌≢◌, ◌∷◌, ℕ, Bool, List, false, true};
+ghost use Rattle.job_tree.specs.Tree.{Tree};
 ghost use Rattle.job_tree.specs.Words.{starts_word};
 ghost use Rattle.trio_text.specs.Names.{class_text, is_taken, name_text};
+ghost use Rattle.trio_text.specs.Program.{IsProgram};
+ghost use Rattle.trio_text.specs.Statements.{class_of};
+ghost use Rattle.trio_text.specs.Tasks.{HasFunctions, tasks_of};
+ghost use Rattle.trio_text.specs.Uses.{Known};
 
 /// A law: tasks, scopes and nurseries with different names in the job have different names in its program. The function does
 /// nothing when it is called.
@@ -21,4 +26,17 @@ pub fn law_names_free()
 pub fn law_classes_differ()
     ensures { (is_given : Bool) → (exception name : List ℕ) → starts_word name ≡ true → (exception ≡ name → is_given ≡ true)
         → class_text is_given exception ≢ name_text name }
+{}
+
+/// A law: exceptions with different names in the job have different classes in its program; names begin with a letter. The
+/// function does nothing when it is called.
+pub fn law_exceptions_differ()
+    ensures { (known : Known) → (first second : List ℕ) → starts_word first ≡ true → starts_word second ≡ true
+        → class_of known first ≡ class_of known second → first ≡ second }
+{}
+
+/// A law: a program of a job has a function for the root task and for each task that is started. The function does nothing when
+/// it is called.
+pub fn law_functions()
+    ensures { (job : Tree) (text : List ℕ) → IsProgram job text → HasFunctions (job.name ∷ tasks_of job.steps) text }
 {}

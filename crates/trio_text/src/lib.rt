@@ -1,20 +1,28 @@
 //! Prints a job as a Python program on plain Trio, as a start for real code.
 //!
-//! The program begins with the lines that say what it is and how to run it, and ends with the lines that run it. Names that
-//! differ in the job differ in the program, and are none of its other names (`laws.rt`). That the program means what the job
-//! means is tested, not proved (`tests/random/trio_export.py`). The crate uses `job_grammar` for the job.
+//! The contract of `program` says what the whole text is: the lines of each step, in order, in the functions of the tasks, and
+//! what comes before and after them. Names that differ in the job differ in the program, and are none of its other names
+//! (`laws.rt`). That these lines mean what the steps mean is tested, not proved (`tests/random/trio_export.py`). The crate uses
+//! `job_grammar` for the job.
 #![tactic(auto)]
 
 mod helpers;
 mod laws;
 mod names;
+mod nested;
 mod pieces;
 mod place;
+mod scopes;
+mod statements;
 mod steps;
 mod taken;
+mod tasks;
 mod texts;
+mod uses;
 mod words;
 mod writing;
 
-pub use laws::{law_classes_differ, law_names_differ, law_names_free};
+pub use laws::{
+    law_classes_differ, law_exceptions_differ, law_functions, law_names_differ, law_names_free,
+};
 pub use writing::program;

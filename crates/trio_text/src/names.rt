@@ -4,6 +4,8 @@ ghost use Rattle.std.specs.Prelude.{◌≡◌, ◌++◌, OnOk};
 ghost use Rattle.std.specs.List.{list_any};
 ghost use Rattle.std.specs.Str.{bytes_eq};
 ghost use Rattle.trio_text.specs.Names.{class_text, is_free, is_taken, name_text};
+ghost use Rattle.trio_text.specs.Statements.{class_of, handled_class};
+ghost use Rattle.trio_text.specs.Uses.{is_too_slow, known_in};
 
 use crate::taken::TAKEN;
 use crate::words::Words;
@@ -24,7 +26,10 @@ pub(crate) fn push_name(out: &mut Vec<u8>, name: Name) -> Result<(), AllocError>
 }
 
 // Appends the class of an exception: the name in the job, with `_` before it if that is another name of the program.
-pub(crate) fn push_class(out: &mut Vec<u8>, words: &Words, name: Name) -> Result<(), AllocError> {
+#[tactic(auto, unfolding(crate::specs::Statements::class_of))]
+pub(crate) fn push_class(out: &mut Vec<u8>, words: &Words, name: Name) -> Result<(), AllocError>
+    ensures { OnOk result (out.new.items ≡ out.old.items ++ class_of (known_in words.now) name) }
+{
     push_class_text(out, words.gives(name), name)
 }
 
@@ -40,7 +45,10 @@ fn push_class_text(out: &mut Vec<u8>, is_given: bool, name: Name) -> Result<(), 
 }
 
 // Appends the class of the exceptions that a handler handles. For `TooSlow` it is Trio's own class.
-pub(crate) fn push_handled(out: &mut Vec<u8>, words: &Words, name: Name) -> Result<(), AllocError> {
+#[tactic(auto, unfolding(crate::specs::Statements::handled_class))]
+pub(crate) fn push_handled(out: &mut Vec<u8>, words: &Words, name: Name) -> Result<(), AllocError>
+    ensures { OnOk result (out.new.items ≡ out.old.items ++ handled_class (known_in words.now) name) }
+{
     if is_too_slow(name) {
         return out.extend_from_slice(b"trio.TooSlowError");
     }
@@ -48,7 +56,10 @@ pub(crate) fn push_handled(out: &mut Vec<u8>, words: &Words, name: Name) -> Resu
 }
 
 // Returns whether it is the name of the exception that a scope with `fail` raises.
-pub(crate) fn is_too_slow(name: Name) -> bool {
+#[tactic(auto, unfolding(crate::specs::Uses::is_too_slow))]
+pub(crate) fn is_too_slow(name: Name) -> bool
+    ensures { result ≡ is_too_slow name }
+{
     name.bytes() == b"TooSlow".as_slice()
 }
 

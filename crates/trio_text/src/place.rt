@@ -1,3 +1,6 @@
+ghost use Rattle.std.specs.Prelude.{◌≡◌};
+ghost use Rattle.trio_text.specs.Lines.{deeper};
+
 use job_tree::Name;
 
 // The maximum number of blocks that may enclose a block in one function of the program. Python allows 20, and a `try` with all
@@ -23,7 +26,10 @@ pub(crate) struct Place {
 
 impl Place {
     // Returns the place of the root task's block. It is in no nursery, so no `start` is directly in it.
-    pub(crate) fn root(job: Name) -> Place {
+    pub(crate) fn root(job: Name) -> Place
+        ensures level { result.level ≡ 1 }
+        ensures nursery { result.nursery ≡ job }
+    {
         Place {
             level: 1,
             blocks: 0,
@@ -33,9 +39,12 @@ impl Place {
     }
 
     // Returns the place of a block inside this one that has the given number of enclosing blocks more.
-    pub(crate) fn inside(&self, blocks: usize) -> Place {
+    pub(crate) fn inside(&self, blocks: usize) -> Place
+        ensures level { result.level ≡ deeper self.now.level }
+        ensures nursery { result.nursery ≡ self.now.nursery }
+    {
         Place {
-            level: self.level.saturating_add(1),
+            level: deeper(self.level),
             blocks: self.blocks.saturating_add(blocks),
             cleanups: self.cleanups,
             nursery: self.nursery,
@@ -43,9 +52,12 @@ impl Place {
     }
 
     // Returns the place of the block of a nursery inside this one.
-    pub(crate) fn in_nursery(&self, nursery: Name) -> Place {
+    pub(crate) fn in_nursery(&self, nursery: Name) -> Place
+        ensures level { result.level ≡ deeper self.now.level }
+        ensures nursery { result.nursery ≡ nursery }
+    {
         Place {
-            level: self.level.saturating_add(1),
+            level: deeper(self.level),
             blocks: self.blocks.saturating_add(1),
             cleanups: self.cleanups,
             nursery,
@@ -53,9 +65,12 @@ impl Place {
     }
 
     // Returns the place of the block of a function inside this one.
-    pub(crate) fn in_function(&self) -> Place {
+    pub(crate) fn in_function(&self) -> Place
+        ensures level { result.level ≡ deeper self.now.level }
+        ensures nursery { result.nursery ≡ self.now.nursery }
+    {
         Place {
-            level: self.level.saturating_add(1),
+            level: deeper(self.level),
             blocks: 0,
             cleanups: self.cleanups,
             nursery: self.nursery,
@@ -63,9 +78,12 @@ impl Place {
     }
 
     // Returns the place of the block of a cleanup inside this one.
-    pub(crate) fn in_cleanup(&self) -> Place {
+    pub(crate) fn in_cleanup(&self) -> Place
+        ensures level { result.level ≡ deeper self.now.level }
+        ensures nursery { result.nursery ≡ self.now.nursery }
+    {
         Place {
-            level: self.level.saturating_add(1),
+            level: deeper(self.level),
             blocks: self.blocks.saturating_add(1),
             cleanups: self.cleanups.saturating_add(1),
             nursery: self.nursery,
@@ -81,4 +99,12 @@ impl Place {
     pub(crate) fn is_deep_in_cleanups(&self) -> bool {
         self.cleanups >= MAX_CLEANUPS
     }
+}
+
+// Returns the level of what is inside a level.
+#[tactic(auto, unfolding(crate::specs::Lines::deeper))]
+pub(crate) fn deeper(level: usize) -> usize
+    ensures { result ≡ deeper level }
+{
+    level.saturating_add(1)
 }

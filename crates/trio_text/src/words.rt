@@ -1,46 +1,47 @@
+ghost use Rattle.std.specs.Prelude.{◌≡◌, ◌∷◌, [], IfOk, OnOk, fold};
+ghost use Rattle.job_tree.specs.Blocks.{cleaned_of, handled_of, step_of, steps_of};
+ghost use Rattle.job_tree.specs.Names.{cleaned_names, handled_names};
+ghost use Rattle.trio_text.specs.Uses.{
+  Notes,
+  NotesStep,
+  NotesSteps,
+  among,
+  class_needed,
+  classes_of,
+  cleaned_exceptions,
+  cleaned_nurseries,
+  handled_exceptions,
+  handled_nurseries,
+  known_in,
+  known_of,
+  noted,
+  plain_exceptions,
+};
+
 use crate::names::is_too_slow;
 use indexmap::IndexSet;
 use job_grammar::Job;
-use job_tree::{Body, Deadline, Handler, Name, Step};
+use job_tree::{Body, Handler, Name, Step};
 use std::alloc::{AllocError, Global};
 
-// The helpers that the program uses.
-#[derive(Clone, Copy)]
-pub(crate) struct Uses {
-    pub handling: bool,
-    pub pace: bool,
-    pub find: bool,
-    pub head: bool,
-    pub longest: bool,
-    pub need: bool,
-    pub over: bool,
-    pub start: bool,
-}
-
-impl Uses {
-    // Returns whether a step reports lines.
-    pub(crate) fn shows(&self) -> bool {
-        self.find || self.head || self.longest || self.need
-    }
-}
-
-// What the whole program needs to know about the steps of a job.
+// The names that the steps of a job use.
 #[derive(Drop)]
 pub(crate) struct Words {
     given: IndexSet<Name>,
     nurseries: IndexSet<Name>,
     raised: IndexSet<Name>,
-    uses: Uses,
 }
 
 impl Words {
-    // Collects this from a job.
-    pub(crate) fn of(alloc: Global, job: &Job) -> Result<Words, AllocError> {
+    // Collects them from a job.
+    pub(crate) fn of(alloc: Global, job: &Job) -> Result<Words, AllocError>
+        ensures known { IfOk result (λ words. known_in words ≡ known_of job.now) }
+        ensures raised { IfOk result (λ words. words.raised.keys ≡ classes_of job.now) }
+    {
         let mut words = Words {
             given: IndexSet::new(alloc),
             nurseries: IndexSet::new(alloc),
             raised: IndexSet::new(alloc),
-            uses: no_uses(),
         };
         words.note_given(job.name())?;
         note_steps(&mut words, job.steps())?;
@@ -48,74 +49,60 @@ impl Words {
     }
 
     // Returns whether a task, scope or nursery has this name.
-    pub(crate) fn gives(&self, name: Name) -> bool {
+    pub(crate) fn gives(&self, name: Name) -> bool
+        ensures { result ≡ among self.now.given.keys name }
+    {
         self.given.contains(&name)
     }
 
     // Returns whether a nursery has this name.
-    pub(crate) fn is_nursery(&self, name: Name) -> bool {
+    pub(crate) fn is_nursery(&self, name: Name) -> bool
+        ensures { result ≡ among self.now.nurseries.keys name }
+    {
         self.nurseries.contains(&name)
     }
 
     // Returns the names of the exceptions that are raised or handled, each once, in the order of the steps, without
     // `TooSlow`.
-    pub(crate) fn raised_names(&self) -> &[Name] {
+    pub(crate) fn raised_names(&self) -> &[Name]
+        ensures { result.now ≡ self.now.raised.keys }
+    {
         self.raised.as_slice()
     }
 
-    // Returns the helpers that the steps need.
-    pub(crate) fn uses(&self) -> Uses {
-        self.uses
-    }
-
     // Records the name of a task, scope or nursery.
-    fn note_given(&mut self, name: Name) -> Result<(), AllocError> {
+    fn note_given(&mut self, name: Name) -> Result<(), AllocError>
+        ensures { OnOk result (Notes (name ∷ []) [] [] self.old self.new) }
+    {
         self.given.insert(name)?;
         Ok(())
     }
 
     // Records the name of an exception.
-    fn note_raised(&mut self, name: Name) -> Result<(), AllocError> {
+    fn note_raised(&mut self, name: Name) -> Result<(), AllocError>
+        ensures { OnOk result (Notes [] [] (class_needed name) self.old self.new) }
+    {
         if !is_too_slow(name) {
             self.raised.insert(name)?;
         }
         Ok(())
     }
 
-    // Records the name and the deadline of a scope.
-    fn note_scope(&mut self, name: Name, deadline: Deadline) -> Result<(), AllocError> {
+    // Records the name of a nursery.
+    fn note_nursery(&mut self, name: Name) -> Result<(), AllocError>
+        ensures { OnOk result (Notes (name ∷ []) (name ∷ []) [] self.old self.new) }
+    {
+        self.nurseries.insert(name)?;
         self.note_given(name)?;
-        if let Deadline::At(_) = deadline {
-            self.uses.start = true;
-        }
         Ok(())
     }
 
-    // Records the name and the deadline of a nursery.
-    fn note_nursery(&mut self, name: Name, deadline: Deadline) -> Result<(), AllocError> {
-        self.nurseries.insert(name)?;
-        self.note_scope(name, deadline)
-    }
-
-    // Records the name of a task, and whether it has copies.
-    fn note_task(&mut self, name: Name, over: Option<u64>) -> Result<(), AllocError> {
-        if over.is_some() {
-            self.uses.over = true;
-        }
-        self.note_given(name)
-    }
-
-    // Records what a step without a block needs.
-    fn note_plain(&mut self, step: &Step) -> Result<(), AllocError> {
+    // Records the exception that a step without a block raises.
+    fn note_plain(&mut self, step: &Step) -> Result<(), AllocError>
+        ensures { OnOk result (Notes [] [] (plain_exceptions (step_of step.now)) self.old self.new) }
+    {
         match step {
-            Step::Pace(_) => self.uses.pace = true,
-            Step::Find(_) => self.uses.find = true,
-            Step::Head(_) => self.uses.head = true,
-            Step::Longest => self.uses.longest = true,
-            Step::Need { name, .. } => {
-                self.uses.need = true;
-                self.note_raised(*name)?;
-            }
+            Step::Need { name, .. } => self.note_raised(*name)?,
             Step::Raise(name) => self.note_raised(*name)?,
             _ => {}
         }
@@ -123,55 +110,43 @@ impl Words {
     }
 }
 
-// No helpers.
-fn no_uses() -> Uses {
-    Uses {
-        handling: false,
-        pace: false,
-        find: false,
-        head: false,
-        longest: false,
-        need: false,
-        over: false,
-        start: false,
-    }
-}
-
-// Records what the steps of a block need.
+// Records the names that the steps of a block use.
 #[cycle(noting)]
-fn note_steps(words: &mut Words, steps: &[Step]) -> Result<(), AllocError> {
-    'steps: for step in steps {
-        note_step(words, step)?;
+fn note_steps(words: &mut Words, steps: &[Step]) -> Result<(), AllocError>
+    ensures { OnOk result (NotesSteps (steps_of steps.now) words.old words.new) }
+{
+    let mut rest = steps;
+    'steps: while let Some((first, others)) = rest.split_first() {
+        note_step(words, first)?;
+        rest = others;
     }
     Ok(())
 }
 
 #[cycle(noting)]
-fn note_step(words: &mut Words, step: &Step) -> Result<(), AllocError> {
+fn note_step(words: &mut Words, step: &Step) -> Result<(), AllocError>
+    ensures { OnOk result (NotesStep (step_of step.now) words.old words.new) }
+{
     match step {
-        Step::Scope {
-            name,
-            deadline,
-            body,
-            ..
-        } => {
-            words.note_scope(*name, *deadline)?;
-            note_steps(words, body.as_slice())
+        Step::Scope { name, body, .. } => {
+            words.note_given(*name)?;
+            note_steps(words, body.as_slice())?;
+            Ok(())
         }
-        Step::Nursery {
-            name,
-            deadline,
-            body,
-            ..
-        } => {
-            words.note_nursery(*name, *deadline)?;
-            note_steps(words, body.as_slice())
+        Step::Nursery { name, body, .. } => {
+            words.note_nursery(*name)?;
+            note_steps(words, body.as_slice())?;
+            Ok(())
         }
-        Step::Start { name, over, body } => {
-            words.note_task(*name, *over)?;
-            note_steps(words, body.as_slice())
+        Step::Start { name, body, .. } => {
+            words.note_given(*name)?;
+            note_steps(words, body.as_slice())?;
+            Ok(())
         }
-        Step::Repeat { body, .. } => note_steps(words, body.as_slice()),
+        Step::Repeat { body, .. } => {
+            note_steps(words, body.as_slice())?;
+            Ok(())
+        }
         Step::Try {
             body,
             handler,
@@ -179,26 +154,37 @@ fn note_step(words: &mut Words, step: &Step) -> Result<(), AllocError> {
         } => {
             note_steps(words, body.as_slice())?;
             note_handler(words, handler)?;
-            note_cleanup(words, cleanup)
+            note_cleanup(words, cleanup)?;
+            Ok(())
         }
-        _ => words.note_plain(step),
+        _ => {
+            words.note_plain(step)?;
+            Ok(())
+        }
     }
 }
 
 #[cycle(noting)]
-fn note_handler(words: &mut Words, handler: &Option<Handler>) -> Result<(), AllocError> {
+fn note_handler(words: &mut Words, handler: &Option<Handler>) -> Result<(), AllocError>
+    ensures { OnOk result (Notes (handled_names (handled_of handler.now)) (handled_nurseries (handled_of handler.now))
+        (handled_exceptions (handled_of handler.now)) words.old words.new) }
+{
     let Some(handler) = handler else {
         return Ok(());
     };
-    words.uses.handling = true;
     words.note_raised(handler.name)?;
-    note_steps(words, handler.body.as_slice())
+    note_steps(words, handler.body.as_slice())?;
+    Ok(())
 }
 
 #[cycle(noting)]
-fn note_cleanup(words: &mut Words, cleanup: &Option<Body>) -> Result<(), AllocError> {
+fn note_cleanup(words: &mut Words, cleanup: &Option<Body>) -> Result<(), AllocError>
+    ensures { OnOk result (Notes (cleaned_names (cleaned_of cleanup.now)) (cleaned_nurseries (cleaned_of cleanup.now))
+        (cleaned_exceptions (cleaned_of cleanup.now)) words.old words.new) }
+{
     let Some(cleanup) = cleanup else {
         return Ok(());
     };
-    note_steps(words, cleanup.as_slice())
+    note_steps(words, cleanup.as_slice())?;
+    Ok(())
 }

@@ -1,14 +1,19 @@
-ghost use Rattle.std.specs.Prelude.{◌≡◌, ◌-◌, ◌++◌, IfOk, codes, drop, length, take};
-ghost use Rattle.trio_text.specs.Program.{header, footer};
+ghost use Rattle.std.specs.Prelude.{◌≡◌, ◌++◌, [], IfOk, OnOk, codes};
+ghost use Rattle.job_tree.specs.Blocks.{steps_of};
+ghost use Rattle.trio_text.specs.Needs.{uses_of};
+ghost use Rattle.trio_text.specs.Program.{IsProgram, WritesRoot, footer, header, with_root, with_start_time};
+ghost use Rattle.trio_text.specs.Uses.{known_in};
 
-use crate::helpers::{push_classes, push_helpers, push_imports};
+use crate::helpers::{helpers_of, imports_of, push_classes};
 use crate::names::push_name;
 use crate::pieces::push_line;
 use crate::place::Place;
 use crate::steps::push_steps;
 use crate::texts::{HARNESS, HEADER};
+use crate::uses::{Uses, uses_of};
 use crate::words::Words;
 use job_grammar::Job;
+use job_tree::Name;
 use std::alloc::{AllocError, Global};
 
 /// Returns the job as a Python program on plain Trio (Python 3.8 or newer, Trio 0.22 or newer; with Trio 0.22 the end of a
@@ -17,15 +22,28 @@ use std::alloc::{AllocError, Global};
 /// for what the job language has and Trio does not have, and the lines that run the job and report how each task ended. The
 /// only error is that memory was refused.
 pub fn program(alloc: Global, job: &Job) -> Result<Vec<u8>, AllocError>
-    ensures begins { IfOk result (λ text. take (length (header job.now.name)) text.items ≡ header job.now.name) }
-    ensures ends { IfOk result (λ text. drop (length text.items - length (footer job.now.name)) text.items ≡ footer job.now.name) }
+    ensures { IfOk result (λ text. IsProgram job.now text.items) }
 {
-    let design = design_of(alloc, job)?;
+    let words = Words::of(alloc, job)?;
+    let uses = job_uses(job);
+    let imports = imports_of(alloc, uses)?;
+    let functions = functions_of(alloc, &words, uses.start, job)?;
+    let helpers = helpers_of(alloc, uses)?;
     let footer = footer_of(alloc, job)?;
     let mut text = header_of(alloc, job)?;
-    text.extend_from_slice(design.as_slice())?;
+    text.extend_from_slice(imports.as_slice())?;
+    push_classes(&mut text, &words)?;
+    text.extend_from_slice(functions.as_slice())?;
+    text.extend_from_slice(helpers.as_slice())?;
     text.extend_from_slice(footer.as_slice())?;
     Ok(text)
+}
+
+// Returns the helpers that the steps of a job need.
+fn job_uses(job: &Job) -> Uses
+    ensures { result ≡ uses_of job.now.steps }
+{
+    uses_of(job.steps())
 }
 
 // Returns the first lines, which name the job and say how to run the program.
@@ -40,17 +58,6 @@ fn header_of(alloc: Global, job: &Job) -> Result<Vec<u8>, AllocError>
     Ok(text)
 }
 
-// Returns everything between the first lines and the last lines.
-fn design_of(alloc: Global, job: &Job) -> Result<Vec<u8>, AllocError> {
-    let words = Words::of(alloc, job)?;
-    let mut text = Vec::new(alloc);
-    push_imports(&mut text, &words)?;
-    push_classes(&mut text, &words)?;
-    push_root(&mut text, &words, job)?;
-    push_helpers(&mut text, &words)?;
-    Ok(text)
-}
-
 // Returns the last lines, which run the function of the root task and print how each task ended.
 fn footer_of(alloc: Global, job: &Job) -> Result<Vec<u8>, AllocError>
     ensures { IfOk result (λ text. text.items ≡ footer job.now.name) }
@@ -62,13 +69,38 @@ fn footer_of(alloc: Global, job: &Job) -> Result<Vec<u8>, AllocError>
     Ok(text)
 }
 
-// Appends the function of the root task.
-fn push_root(out: &mut Vec<u8>, words: &Words, job: &Job) -> Result<(), AllocError> {
+// Returns the function of the root task, with those of the other tasks inside it.
+fn functions_of(
+    alloc: Global,
+    words: &Words,
+    is_timed: bool,
+    job: &Job,
+) -> Result<Vec<u8>, AllocError>
+    ensures { IfOk result (λ text. WritesRoot (known_in words.now) is_timed job.now [] text.items) }
+{
+    let mut text = Vec::new(alloc);
+    push_root(&mut text, job.name())?;
+    push_start_time(&mut text, is_timed)?;
+    push_steps(&mut text, words, &Place::root(job.name()), job.steps())?;
+    Ok(text)
+}
+
+// Appends the lines that begin the function of the root task.
+#[tactic(auto, unfolding(crate::specs::Program::with_root))]
+fn push_root(out: &mut Vec<u8>, name: Name) -> Result<(), AllocError>
+    ensures { OnOk result (out.new.items ≡ with_root name out.old.items) }
+{
     out.extend_from_slice(b"\n\nasync def ")?;
-    push_name(out, job.name())?;
-    out.extend_from_slice(b"(part):\n")?;
-    if words.uses().start {
+    push_name(out, name)?;
+    out.extend_from_slice(b"(part):\n")
+}
+
+// Appends the line that notes when the job starts, if a deadline needs it.
+fn push_start_time(out: &mut Vec<u8>, is_used: bool) -> Result<(), AllocError>
+    ensures { OnOk result (out.new.items ≡ with_start_time is_used out.old.items) }
+{
+    if is_used {
         push_line(out, 1, b"start = trio.current_time()")?;
     }
-    push_steps(out, words, &Place::root(job.name()), job.steps())
+    Ok(())
 }

@@ -1,0 +1,34 @@
+use Rattle.std.proofs.Common.{[], refl, subst}
+use Rattle.trio_text.specs.Uses.{Known, known_of}
+use Rattle.trio_text.specs.declared.uses.Uses.{Uses}
+use Rattle.trio_text.specs.Program.{WritesRoot}
+use Rattle.trio_text.proofs.writing.program.Goals as goal
+
+pub returns : goal.returns
+returns c =
+    let job = c.args.job.now in
+    let functions = c.in_ok-functions.functions.items in
+    let P : Known → Type 0 = λ known. WritesRoot known c.job_uses-uses.result.start job [] functions in
+    let Q : Uses → Type 0 = λ uses. WritesRoot (known_of job) uses.start job [] functions in
+    record {
+      functions = functions;
+      tasks = subst Q c.job_uses-uses.ensures (subst P c.in_ok-words.ensures.known c.in_ok-functions.ensures);
+      parts = rw (
+        c.in_ok-extend_from_slice-4.ensures.items,
+        c.as_slice-4.ensures.value,
+        c.in_ok-footer.ensures,
+        c.in_ok-extend_from_slice-3.ensures.items,
+        c.as_slice-3.ensures.value,
+        c.in_ok-helpers.ensures,
+        c.in_ok-extend_from_slice-2.ensures.items,
+        c.as_slice-2.ensures.value,
+        c.in_ok-push_classes.ensures,
+        c.in_ok-words.ensures.known,
+        c.in_ok-words.ensures.raised,
+        c.in_ok-extend_from_slice.ensures.items,
+        c.as_slice.ensures.value,
+        c.in_ok-imports.ensures,
+        c.in_ok-text.ensures,
+        c.job_uses-uses.ensures,
+      ) refl;
+    }
