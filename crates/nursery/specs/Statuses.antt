@@ -1,5 +1,5 @@
 -- The exit status of the program.
-use Rattle.std.specs.Prelude.{◌≡◌, ◌⊎◌, ℕ, Bool, Option, List, [], ◌∷◌}
+use Rattle.std.specs.Prelude.{◌≡◌, ◌⊎◌, ℕ, Bool, true, false, Option, List, [], ◌∷◌}
 use Rattle.nursery_app.specs.declared.verdict.Verdict.{Verdict}
 use Rattle.nursery_app.specs.declared.verdict.CheckVerdict.{CheckVerdict}
 use Rattle.nursery_app.specs.declared.verdict.ServeFault.{ServeFault}
@@ -26,6 +26,7 @@ use Rattle.json_app.specs.Explaining as told
 use Rattle.fault_text.specs.declared.deny.Deny.{Deny}
 use Rattle.job_edits.specs.declared.number.Target.{Target}
 use Rattle.table_app.specs.declared.form.Form.{Form as TableForm}
+use Rattle.table_app.specs.declared.form.Form.TheVariants as forms
 use Rattle.table_app.specs.declared.verdict.FaultsVerdict.{FaultsVerdict}
 use Rattle.table_app.specs.declared.verdict.RacesVerdict.{RacesVerdict}
 use Rattle.table_app.specs.declared.verdict.SweepVerdict.{SweepVerdict}
@@ -87,6 +88,19 @@ abbrev pub TellsRaces : TableForm → List ℕ → List ℕ → ℕ → Bool →
 TellsRaces form text input limit deny status =
     (verdict : RacesVerdict) × (bytes : List ℕ) × races.IsVerdict form text input limit deny verdict bytes
     × (status ≡ races_status_of verdict)
+
+-- a table is a JSON document if that is asked for, and otherwise a text
+abbrev pub table_form : Bool → TableForm
+table_form true = forms.Json
+table_form false = forms.Text
+
+-- the same of `faults`, for the job text and the input that were read
+abbrev pub TellsReadFaults : TableForm → ℕ → List ℕ → Deny → ℕ → Type 0
+TellsReadFaults form limit name deny status = (text : List ℕ) × (input : List ℕ) × TellsFaults form text input limit name deny status
+
+-- and of `races`
+abbrev pub TellsReadRaces : TableForm → ℕ → Bool → ℕ → Type 0
+TellsReadRaces form limit deny status = (text : List ℕ) × (input : List ℕ) × TellsRaces form text input limit deny status
 
 -- the status is that of the verdict on the job for each value of a number
 abbrev pub TellsSweep : TableForm → List ℕ → List ℕ → ℕ → Target → List ℕ → ℕ → Type 0

@@ -1,7 +1,7 @@
-ghost use Rattle.std.specs.Prelude.{◌≤◌, length, IfOk};
+ghost use Rattle.std.specs.Prelude.{◌≡◌, ◌≤◌, length, IfOk};
 ghost use Rattle.std.specs.Option.{option_copied};
 ghost use Rattle.job_meaning.specs.declared.limits.TheConstants.{MAX_INPUT};
-ghost use Rattle.nursery.specs.Statuses.{TellsJson, TellsJsonStory};
+ghost use Rattle.nursery.specs.Statuses.{TellsJson, TellsJsonStory, table_form};
 
 use crate::answers::{bytes_of, conclude_run, conclude_story};
 use crate::stop::Stop;
@@ -12,7 +12,9 @@ use std::thread::Threads;
 use table_app::Form;
 
 // Returns the form in which a table is written: a JSON document if that is asked for, and otherwise a text.
-pub(crate) fn table_form(json: bool) -> Form {
+pub(crate) fn table_form(json: bool) -> Form
+    ensures { result ≡ table_form json }
+{
     if json { Form::Json } else { Form::Text }
 }
 

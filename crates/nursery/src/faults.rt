@@ -1,7 +1,7 @@
 ghost use Rattle.std.specs.Prelude.{◌≡◌, ◌≤◌, length, IfOk};
 ghost use Rattle.job_meaning.specs.declared.limits.TheConstants.{MAX_INPUT};
 ghost use Rattle.table_app.specs.Statuses.{faults_status_of};
-ghost use Rattle.nursery.specs.Statuses.{TellsFaults};
+ghost use Rattle.nursery.specs.Statuses.{TellsFaults, TellsReadFaults, table_form};
 
 use crate::answers::{read_both, tell_refusal, word_of};
 use crate::documents::table_form;
@@ -21,7 +21,9 @@ pub(crate) fn faults_job<R: Files + Input + Print + Eprint + Clock + Threads + S
     rt: &R,
     args: &FaultsArgs,
     at_terminal: bool,
-) -> Result<u8, Stop> {
+) -> Result<u8, Stop>
+    ensures { IfOk result (TellsReadFaults (table_form args.now.json) args.now.settings.limit args.now.name args.now.deny) }
+{
     let given = read_both(rt, args.job.as_str(), word_of(&args.input))?;
     let progress = Progress::new(rt, at_terminal);
     let (text, input) = (given.text.as_slice(), given.input.as_slice());

@@ -4,12 +4,11 @@ ghost use Rattle.nursery.specs.Statuses.{TellsLints, TellsJsonLints};
 use crate::answers::tell_refusal;
 use crate::sources::read_job_text;
 use crate::stop::Stop;
+use crate::warnings::send_warnings;
 use job_files::shown_name;
 use job_grammar::{JobFault, JobKind};
-use job_lint::{Warning, lints, sentence};
+use job_lint::{Warning, lints};
 use nursery_app::{WriteOut, refusal, send};
-use refusal_text::pointed_message;
-use std::alloc::{AllocError, Global};
 use std::io;
 use std::rt::Files;
 use table_app::{LintsVerdict, lints_json};
@@ -88,43 +87,9 @@ fn show_warnings<R: Print + AllocGlobal>(
     text: &[u8],
     warnings: &[Warning],
 ) -> Result<(), Stop> {
-    let Ok(lines) = lines_of(rt.alloc(), job, text, warnings) else {
+    let Ok(name) = shown_name(rt.alloc(), job) else {
         return Err(Stop::NoMemory);
     };
     let mut out = WriteOut::new(io::writer(rt));
-    if send(lines.as_bytes(), &mut out).is_err() {
-        return Err(Stop::Write);
-    }
-    Ok(())
-}
-
-// Returns the text of warnings: for each its place and its sentence, the line of the job text, and a caret under the place.
-fn lines_of(
-    alloc: Global,
-    job: &str,
-    text: &[u8],
-    warnings: &[Warning],
-) -> Result<String, AllocError> {
-    let name = shown_name(alloc, job)?;
-    let mut lines = String::new(alloc);
-    for warning in warnings {
-        push_warning(alloc, &mut lines, name.as_str(), text, warning)?;
-    }
-    Ok(lines)
-}
-
-// Appends the text of a warning. Its sentence is ASCII.
-fn push_warning(
-    alloc: Global,
-    lines: &mut String,
-    name: &str,
-    text: &[u8],
-    warning: &Warning,
-) -> Result<(), AllocError> {
-    let said = sentence(alloc, warning)?;
-    if let Ok(said) = str::from_utf8(said.as_slice()) {
-        let message = pointed_message(alloc, name, text, warning.at, said)?;
-        lines.push_str(message.as_str())?;
-    }
-    Ok(())
+    send_warnings(rt.alloc(), name.as_str(), text, warnings, &mut out)
 }

@@ -19,6 +19,7 @@ mod sources;
 mod stop;
 mod sweep;
 mod texts;
+mod warnings;
 
 use crate::answers::{check_job, explain_job, run_feed, run_job, show_help, upgrade_job};
 use crate::charts::chart_job;

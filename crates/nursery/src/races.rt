@@ -1,7 +1,7 @@
 ghost use Rattle.std.specs.Prelude.{◌≡◌, ◌≤◌, length, IfOk};
 ghost use Rattle.job_meaning.specs.declared.limits.TheConstants.{MAX_INPUT};
 ghost use Rattle.table_app.specs.Statuses.{races_status_of};
-ghost use Rattle.nursery.specs.Statuses.{TellsRaces};
+ghost use Rattle.nursery.specs.Statuses.{TellsRaces, TellsReadRaces, table_form};
 
 use crate::answers::{read_both, tell_refusal, tell_running, word_of};
 use crate::documents::table_form;
@@ -26,7 +26,9 @@ pub(crate) fn races_job<R: Files + Input + Print + Eprint + Clock + Threads + Sy
     rt: &R,
     args: &RacesArgs,
     at_terminal: bool,
-) -> Result<u8, Stop> {
+) -> Result<u8, Stop>
+    ensures { IfOk result (TellsReadRaces (table_form args.now.json) args.now.settings.limit args.now.deny) }
+{
     let given = read_both(rt, args.job.as_str(), word_of(&args.input))?;
     let progress = Progress::new(rt, at_terminal);
     let (text, input) = (given.text.as_slice(), given.input.as_slice());
