@@ -23,7 +23,7 @@ import sys
 from functions import ROOT, blanked, crate_names, functions_of, functions_of_file, texts_of
 
 WIDTH = 120
-# Edits that make a law false by changing a definition that the law is about: each with the reason.
+# Edits that make a law false by changing a definition that the law is about: each with the reason, which names the law's statement.
 OF_A_LAW = {
     "interleavings/a_task_that_ended_stays_in_its_nursery.edit": "`IsHoused` is what the law `TasksAreHoused` states of each task",
     "job_story/a_body_that_failed_is_no_cause.edit": "a story would name no cause, against `CancellationsHaveCauses`",
@@ -149,7 +149,7 @@ def changes_of(crate, functions):
         defined = [name for name in here if isinstance(name, str)]
         if edit.name not in OF_A_LAW and not all(states_a_law(name, specs, laws) for name in defined):
             sys.exit(f"clauses.py: {edit.name} changes a definition of specs/ that is not what a law states")
-        changes |= here
+        changes |= here | set(re.findall(r"`(\w+)`", OF_A_LAW.get(edit.name, "")))
     return changes
 
 
