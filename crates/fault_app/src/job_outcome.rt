@@ -123,15 +123,15 @@ fn ended_outcome(
     ensures { IfOk result (λ job_outcome. job_outcome_held job_outcome ≡ job_outcomes.ended summary.end (option_map exc_of summary.exc) summary.cancelled.items
         (cut_in (in_order (map event_of summary.events.items))) (loses name (map event_of summary.events.items))) }
 {
-    let walked = events_until(alloc, summary.events.as_slice(), None)?;
-    let cut = cut_tasks(alloc, walked.as_slice())?;
-    let lost = loses(walked.as_slice(), name);
     let Summary {
         end,
         exc,
         cancelled,
-        ..
+        events,
     } = summary;
+    let walked = events_until(alloc, events.as_slice(), None)?;
+    let cut = cut_tasks(alloc, walked.as_slice())?;
+    let lost = loses(walked.as_slice(), name);
     Ok(JobOutcome::Ended {
         end,
         exc,
