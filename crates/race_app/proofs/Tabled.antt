@@ -68,17 +68,17 @@ are_lines text input limit l job tokens f sites starts first lines hairs spells 
     }
 
 -- a text whose numbers of ticks cannot be made finer
-pub has_no_finer : (text input : List ℕ) (limit : ℕ) (job : Tree) (tokens : List Token) (sites : List Site) →
-    Spells text job → meaning_end job input ≤ limit → HasTokens text tokens None → sites ≡ sites_in tokens → None ≡ finer_for limit sites →
-    HasNoFiner text input limit
-has_no_finer text input limit job tokens sites spells soon has s none =
+pub has_no_finer : (text input : List ℕ) (limit l : ℕ) (job : Tree) (tokens : List Token) (sites : List Site) →
+    Spells text job → meaning_end job input ≤ limit → HasTokens text tokens None → l ≡ limit → sites ≡ sites_in tokens →
+    None ≡ finer_for l sites → HasNoFiner text input limit
+has_no_finer text input limit l job tokens sites spells soon has at s none =
     record {
       job = job;
       spells = spells;
       in_time = soon;
       tokens = tokens;
       tokens_are = has;
-      none = ap (finer_for limit) (sym s) ∙ sym none;
+      none = ap (λ (n : ℕ). finer_for n (sites_in tokens)) (sym at) ∙ ap (finer_for l) (sym s) ∙ sym none;
     }
 
 abbrev factor_or : Option Finer → ℕ
