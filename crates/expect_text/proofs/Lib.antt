@@ -1,3 +1,3 @@
 pub mod PartsLemmas
 pub mod Same
-pub mod RowLemmas
+pub mod PieceLemmas

@@ -1,7 +1,7 @@
 pub mod Lines
 pub mod Differences
 pub mod Patterns
-pub mod Rows
+pub mod Pieces
 pub mod Expectations
 pub mod Views
 pub mod Examples

@@ -1,5 +1,5 @@
 -- The parts of a text between separators: its lines, between newlines.
-use Rattle.std.specs.Prelude.{ℕ, ◌==◌, Bool, true, false, Option, Some, None, List, [], ◌∷◌}
+use Rattle.std.specs.Prelude.{◌≢◌, ℕ, ◌<◌, ◌==◌, Bool, true, false, Option, Some, None, List, [], ◌∷◌, length, slice_index}
 
 -- a byte before some parts: a separator has an empty part before it, and any other byte begins the first part
 abbrev pub before_parts : (is_separator : Bool) → ℕ → List (List ℕ) → List (List ℕ)
@@ -28,3 +28,7 @@ ended_lines = parts_from [] 10
 abbrev pub lines_left : Option (List ℕ) → List (List ℕ)
 lines_left None = []
 lines_left (Some rest) = lines_of rest
+
+-- no byte of a text is this one
+abbrev pub Lacks : (byte : ℕ) → List ℕ → Type 0
+Lacks byte text = (k : ℕ) → k < length text → slice_index text k ≢ byte

@@ -2,9 +2,9 @@
 //!
 //! The layer promises three things. `first_difference` finds the first line at which a text differs from the one that was kept,
 //! and returns `None` only if the two are the same. `first_match` finds the first line of a text that matches a pattern, in which
-//! `*` matches any bytes and blanks count as `specs/Patterns.antt` says; it takes time in the product of the lengths of a line
-//! and the pattern. `read_expectation` reads a line of a `.expect` file, as `specs/Expectations.antt` defines it. It uses only
-//! `fault_text`, for the kinds that `faults` can deny.
+//! `*` matches any bytes and blanks count as `specs/Patterns.antt` says, in time linear in the text and, for each line, in the
+//! pattern. `read_expectation` reads a line of a `.expect` file, as `specs/Expectations.antt` defines it. It uses `memchr` for
+//! searches, and `fault_text` for the kinds that `faults` can deny.
 #![tactic(auto)]
 
 mod differences;
@@ -12,7 +12,7 @@ mod expectations;
 mod laws;
 mod matching;
 mod parts;
-mod rows;
+mod pieces;
 mod squeezing;
 mod words;
 

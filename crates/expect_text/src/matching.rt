@@ -3,13 +3,14 @@ ghost use Rattle.expect_text.specs.Lines.{ended_lines};
 ghost use Rattle.expect_text.specs.Patterns.{first_from, first_match, matches, squeezed_text};
 
 use crate::parts::split_once;
-use crate::rows::matches;
+use crate::pieces::matches;
 use crate::squeezing::squeezed_text;
 use std::alloc::{AllocError, Global};
 
 /// Returns the number, from 1, of the first line of a text that matches a pattern, or `None` if no line does. `*` in the pattern
 /// matches any bytes. Blanks at the start and the end of a line and of the pattern do not count, and each other run of blanks
-/// counts as one space. A newline at the end of the text begins no line. Returns `AllocError` if memory is refused.
+/// counts as one space. A newline at the end of the text begins no line. This takes time in the length of the text, and for each
+/// line in that of the pattern. Returns `AllocError` if memory is refused.
 pub fn first_match(alloc: Global, pattern: &[u8], text: &[u8]) -> Result<Option<usize>, AllocError>
     ensures { IfOk result (λ found. found ≡ first_match pattern.now text.now) }
 {
@@ -51,5 +52,5 @@ fn matches_line(alloc: Global, wanted: &[u8], line: &[u8]) -> Result<bool, Alloc
     ensures { IfOk result (λ met. met ≡ matches wanted.now (squeezed_text line.now)) }
 {
     let bytes = squeezed_text(alloc, line)?;
-    matches(alloc, wanted, bytes.as_slice())
+    Ok(matches(wanted, bytes.as_slice()))
 }
