@@ -1,3 +1,6 @@
 pub mod Parts
 pub mod Integers
 pub mod Words
+pub mod PieceLemmas
+pub mod QuotedLemmas
+pub mod LineLemmas

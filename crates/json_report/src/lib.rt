@@ -7,11 +7,14 @@
 
 mod exc;
 mod laws;
+mod pieces;
+mod quoted;
 mod rows;
 mod text;
 mod whole;
 
 pub use exc::exc_value;
 pub use laws::law_labels;
+pub use pieces::{push_comma, push_first_member, push_key, push_member, push_value};
 pub use text::{document, label_value, text_value};
 pub use whole::report_json;

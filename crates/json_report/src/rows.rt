@@ -1,63 +1,112 @@
-ghost use Rattle.std.specs.Prelude.{◌≡◌, ◌++◌, [], ◌∷◌, IfOk, map, take, length, codes};
+ghost use Rattle.std.specs.Prelude.{◌≡◌, ◌++◌, OnOk, IfOk, map, codes, true};
+ghost use Rattle.serde_json.specs.Data.{Members, member};
 ghost use Rattle.serde_json.specs.View.{view};
+ghost use Rattle.serde_json.specs.Written.{compact_text, members_text};
 ghost use Rattle.buffer_parts.specs.Part.{span_of, line_text};
-ghost use Rattle.job_meaning.specs.Shown.{line_shown};
+ghost use Rattle.job_meaning.specs.Shown.{line_shown, scope_shown, nursery_shown};
 ghost use Rattle.task_machine.specs.Noted.{entry_of};
 ghost use Rattle.task_table.specs.Records.{ending_in, row_in};
-ghost use Rattle.json_report.specs.Values.{entry_json, exception_json, outcome_json, row_json, word};
+ghost use Rattle.json_report.specs.Values.{entry_json, exception_json, list_of, outcome_json, row_json, word};
 
 use crate::exc::exc_value;
-use crate::text::{label_value, text_value};
+use crate::pieces::{push_comma, push_first_member, push_key, push_member, push_value};
+use crate::quoted::push_quoted;
+use crate::text::label_value;
 use buffer_parts::Line;
-use exc_groups::Exc;
+use digits::push_number;
+use exc_groups::{Exc, Label};
 use job_runner::{Entry, Outcome, Record};
 use serde_json::{Value, json};
 use std::alloc::{AllocError, Global};
 
-// Returns an entry as a JSON object.
-fn entry_value(alloc: Global, entry: &Entry<'_>) -> Result<Value, AllocError>
-    ensures { IfOk result (λ value. view value ≡ entry_json (entry_of entry.now)) }
+// Appends an entry as a JSON object.
+fn push_entry(alloc: Global, out: &mut Vec<u8>, entry: &Entry<'_>) -> Result<(), AllocError>
+    ensures { OnOk result (out.new.items ≡ out.old.items ++ compact_text (entry_json (entry_of entry.now))) }
 {
     match entry {
-        Entry::Line(line) => line_value(alloc, *line),
+        Entry::Line(line) => push_line(out, *line),
         Entry::Scope {
             label,
             tick,
             caught,
-        } => {
-            let scope = label_value(alloc, label)?;
-            json!(in alloc; {"scope": scope, "exit": *tick, "caught": *caught})
-        }
+        } => push_scope(alloc, out, label, *tick, *caught),
         Entry::Nursery {
             label,
             tick,
             caught,
-        } => {
-            let nursery = label_value(alloc, label)?;
-            json!(in alloc; {"nursery": nursery, "exit": *tick, "caught": *caught})
-        }
+        } => push_nursery(alloc, out, label, *tick, *caught),
     }
 }
 
-// Returns a line of the input as a JSON object.
-fn line_value(alloc: Global, line: Line<'_>) -> Result<Value, AllocError>
-    ensures { IfOk result (λ value. view value
-        ≡ entry_json (line_shown (span_of line.entry).at (line_text line.entry))) }
+// Appends a line of the input as a JSON object. A report may have millions of them, so no value is made of it.
+fn push_line(out: &mut Vec<u8>, line: Line<'_>) -> Result<(), AllocError>
+    ensures { OnOk result (out.new.items ≡ out.old.items ++ compact_text (entry_json (line_shown (span_of line.entry).at (line_text line.entry)))) }
 {
-    let text = text_value(alloc, line.text())?;
-    json!(in alloc; {"line": {"at": line.at() as u64, "length": line.text().len() as u64, "text": text}})
+    out.extend_from_slice(b"{\"line\":{\"at\":")?;
+    push_number(out, line.at() as u64)?;
+    out.extend_from_slice(b",\"length\":")?;
+    push_number(out, line.text().len() as u64)?;
+    out.extend_from_slice(b",\"text\":")?;
+    push_quoted(out, line.text())?;
+    out.extend_from_slice(b"}}")?;
+    Ok(())
 }
 
-// Returns the entries of a task.
-fn entry_values(alloc: Global, entries: &[Entry<'_>]) -> Result<Vec<Value>, AllocError>
-    ensures { IfOk result (λ values. map view values.items ≡ map entry_json (map entry_of entries.now)) }
+// Returns a scope that was left as a JSON object.
+fn scope_value(alloc: Global, label: &Label, tick: u64, caught: bool) -> Result<Value, AllocError>
+    ensures { IfOk result (λ value. view value ≡ entry_json (scope_shown label.now tick caught)) }
 {
-    let mut values = Vec::new(alloc);
-    'entries: for entry in entries {
-        let value = entry_value(alloc, entry)?;
-        values.push(value)?;
+    let scope = label_value(alloc, label)?;
+    json!(in alloc; {"scope": scope, "exit": tick, "caught": caught})
+}
+
+// Appends a scope that was left as a JSON object.
+fn push_scope(
+    alloc: Global,
+    out: &mut Vec<u8>,
+    label: &Label,
+    tick: u64,
+    caught: bool,
+) -> Result<(), AllocError>
+    ensures { OnOk result (out.new.items ≡ out.old.items ++ compact_text (entry_json (scope_shown label.now tick caught))) }
+{
+    let value = scope_value(alloc, label, tick, caught)?;
+    push_value(alloc, out, &value)
+}
+
+// Returns a nursery that was left as a JSON object.
+fn nursery_value(alloc: Global, label: &Label, tick: u64, caught: bool) -> Result<Value, AllocError>
+    ensures { IfOk result (λ value. view value ≡ entry_json (nursery_shown label.now tick caught)) }
+{
+    let nursery = label_value(alloc, label)?;
+    json!(in alloc; {"nursery": nursery, "exit": tick, "caught": caught})
+}
+
+// Appends a nursery that was left as a JSON object.
+fn push_nursery(
+    alloc: Global,
+    out: &mut Vec<u8>,
+    label: &Label,
+    tick: u64,
+    caught: bool,
+) -> Result<(), AllocError>
+    ensures { OnOk result (out.new.items ≡ out.old.items ++ compact_text (entry_json (nursery_shown label.now tick caught))) }
+{
+    let value = nursery_value(alloc, label, tick, caught)?;
+    push_value(alloc, out, &value)
+}
+
+// Appends the entries of a task as a JSON array.
+fn push_entries(alloc: Global, out: &mut Vec<u8>, entries: &[Entry<'_>]) -> Result<(), AllocError>
+    ensures { OnOk result (out.new.items ≡ out.old.items ++ compact_text (list_of (map entry_json (map entry_of entries.now)))) }
+{
+    out.push(b'[')?;
+    'entries: for (i, entry) in entries.iter().enumerate() {
+        push_comma(out, i)?;
+        push_entry(alloc, out, entry)?;
     }
-    Ok(values)
+    out.push(b']')?;
+    Ok(())
 }
 
 // Returns how a task ended, in a word.
@@ -82,31 +131,77 @@ fn exception_value(alloc: Global, outcome: &Outcome) -> Result<Value, AllocError
     }
 }
 
-// Returns a record as a JSON object.
-fn row_value(alloc: Global, row: &Record<'_>) -> Result<Value, AllocError>
-    ensures { IfOk result (λ value. view value ≡ row_json (row_in row.now)) }
+// Appends a record as a JSON object.
+fn push_row(alloc: Global, out: &mut Vec<u8>, row: &Record<'_>) -> Result<(), AllocError>
+    ensures { OnOk result (out.new.items ≡ out.old.items ++ compact_text (row_json (row_in row.now))) }
 {
-    let task = label_value(alloc, &row.label)?;
-    let exception = exception_value(alloc, &row.outcome)?;
-    let entries = entry_values(alloc, row.entries.as_slice())?;
-    json!(in alloc; {
-        "task": task,
-        "start": row.from_tick,
-        "end": row.to_tick,
-        "outcome": outcome_word(&row.outcome),
-        "exception": exception,
-        "entries": entries
-    })
+    push_first_member(alloc, out, "end", &Value::from(row.to_tick))?;
+    push_entries_member(alloc, out, row.entries.as_slice())?;
+    push_exception(alloc, out, &row.outcome)?;
+    push_outcome(alloc, out, &row.outcome)?;
+    push_member(alloc, out, "start", &Value::from(row.from_tick))?;
+    push_member(alloc, out, "task", &label_value(alloc, &row.label)?)?;
+    out.push(b'}')?;
+    Ok(())
 }
 
-// Returns the records of a run.
-pub(crate) fn row_values(alloc: Global, rows: &[Record<'_>]) -> Result<Vec<Value>, AllocError>
-    ensures { IfOk result (λ values. map view values.items ≡ map row_json (map row_in rows.now)) }
+// Appends the member `entries`.
+fn push_entries_member(
+    alloc: Global,
+    out: &mut Vec<u8>,
+    entries: &[Entry<'_>],
+) -> Result<(), AllocError>
+    ensures { OnOk result ((later : Members) → out.new.items ++ members_text true later
+        ≡ out.old.items ++ members_text true (member (codes "entries") (list_of (map entry_json (map entry_of entries.now))) later)) }
 {
-    let mut values = Vec::new(alloc);
-    'rows: for row in rows {
-        let value = row_value(alloc, row)?;
-        values.push(value)?;
+    out.push(b',')?;
+    push_key(alloc, out, "entries")?;
+    push_entries(alloc, out, entries)?;
+    Ok(())
+}
+
+// Appends the member `exception`.
+fn push_exception(alloc: Global, out: &mut Vec<u8>, outcome: &Outcome) -> Result<(), AllocError>
+    ensures { OnOk result ((later : Members) → out.new.items ++ members_text true later
+        ≡ out.old.items ++ members_text true (member (codes "exception") (exception_json (ending_in outcome.now)) later)) }
+{
+    let exception = exception_value(alloc, outcome)?;
+    push_member(alloc, out, "exception", &exception)
+}
+
+// Appends the member `outcome`.
+fn push_outcome(alloc: Global, out: &mut Vec<u8>, outcome: &Outcome) -> Result<(), AllocError>
+    ensures { OnOk result ((later : Members) → out.new.items ++ members_text true later
+        ≡ out.old.items ++ members_text true (member (codes "outcome") (outcome_json (ending_in outcome.now)) later)) }
+{
+    let word = Value::try_from_str(alloc, outcome_word(outcome))?;
+    push_member(alloc, out, "outcome", &word)
+}
+
+// Appends the records of a run as a JSON array.
+fn push_rows(alloc: Global, out: &mut Vec<u8>, rows: &[Record<'_>]) -> Result<(), AllocError>
+    ensures { OnOk result (out.new.items ≡ out.old.items ++ compact_text (list_of (map row_json (map row_in rows.now)))) }
+{
+    out.push(b'[')?;
+    'rows: for (i, row) in rows.iter().enumerate() {
+        push_comma(out, i)?;
+        push_row(alloc, out, row)?;
     }
-    Ok(values)
+    out.push(b']')?;
+    Ok(())
+}
+
+// Appends the member `tasks`.
+pub(crate) fn push_tasks(
+    alloc: Global,
+    out: &mut Vec<u8>,
+    rows: &[Record<'_>],
+) -> Result<(), AllocError>
+    ensures { OnOk result ((later : Members) → out.new.items ++ members_text true later
+        ≡ out.old.items ++ members_text true (member (codes "tasks") (list_of (map row_json (map row_in rows.now))) later)) }
+{
+    out.push(b',')?;
+    push_key(alloc, out, "tasks")?;
+    push_rows(alloc, out, rows)?;
+    Ok(())
 }

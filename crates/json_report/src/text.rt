@@ -1,4 +1,4 @@
-ghost use Rattle.std.specs.Prelude.{◌≡◌, ◌++◌, ◌<◌, [], ◌∷◌, IfOk, OnOk, codes, decimal, string_bytes, IsTrue, take, false};
+ghost use Rattle.std.specs.Prelude.{◌≡◌, ◌++◌, ◌<◌, IfOk, OnOk, string_bytes, IsTrue, false};
 ghost use Rattle.std.specs.List.{flat_map};
 ghost use Rattle.serde_json.specs.View.{view};
 ghost use Rattle.serde_json.specs.Written.{has_float};
@@ -87,7 +87,7 @@ fn push_byte(out: &mut String, b: u8) -> Result<(), AllocError>
 }
 
 // Returns whether a byte is shown as it is.
-fn is_plain_byte(b: u8) -> bool
+pub(crate) fn is_plain_byte(b: u8) -> bool
     ensures value { result ≡ stands_for_itself b }
     ensures ascii { IsTrue result → b < 128 }
 {

@@ -1,30 +1,25 @@
-ghost use Rattle.std.specs.Prelude.{◌≡◌, IfOk, map};
-ghost use Rattle.serde_json.specs.View.{view};
+ghost use Rattle.std.specs.Prelude.{◌≡◌, IfOk};
 ghost use Rattle.job_runner.specs.Runs.{name_of, rows_of};
 ghost use Rattle.json_report.specs.Values.{document, report_json};
 
-use crate::rows::row_values;
-use crate::text::{document, text_value};
+use crate::pieces::{push_first_member, push_member};
+use crate::rows::push_tasks;
+use crate::text::text_value;
 use job_runner::Run;
-use serde_json::{Value, json};
+use serde_json::Value;
 use std::alloc::{AllocError, Global};
 
 /// Returns the report of a run as one JSON document, in compact form and with a newline: the job's name, the tick at which its
-/// root ended, and an object for each task in the order of the report. The only error is that memory was refused.
-#[tactic(auto, using(crate::proofs::Integers::report_without_float))]
+/// root ended, and an object for each task in the order of the report. The text is made piece by piece, so beside the document
+/// itself only the values of one entry are in memory. Returns `AllocError` if memory is refused.
 pub fn report_json(alloc: Global, run: &Run<'_>) -> Result<Vec<u8>, AllocError>
     ensures { IfOk result (λ text. text.items ≡ document (report_json (name_of run.now) (rows_of run.now))) }
 {
-    let value = report_value(alloc, run)?;
-    document(alloc, &value)
-}
-
-// Returns the report of a run as a JSON object.
-fn report_value(alloc: Global, run: &Run<'_>) -> Result<Value, AllocError>
-    ensures { IfOk result (λ value. view value ≡ report_json (name_of run.now) (rows_of run.now)) }
-{
+    let mut out = Vec::new(alloc);
+    push_first_member(alloc, &mut out, "end", &Value::from(run.end()))?;
     let name = run.name();
-    let job = text_value(alloc, name.bytes())?;
-    let tasks = row_values(alloc, run.records())?;
-    json!(in alloc; {"job": job, "end": run.end(), "tasks": tasks})
+    push_member(alloc, &mut out, "job", &text_value(alloc, name.bytes())?)?;
+    push_tasks(alloc, &mut out, run.records())?;
+    out.extend_from_slice(b"}\n")?;
+    Ok(out)
 }

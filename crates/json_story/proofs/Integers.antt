@@ -18,7 +18,7 @@ use Rattle.json_report.specs.Values.{integer, word, list_of, text_json, label_js
 use Rattle.json_report.proofs.Integers.{exc_without_float}
 use Rattle.json_story.specs.Events.{tick_json, label_or_null, exc_or_null, cause_json, why_json, cancel_from, failure_from, kind_key, span_json, with_happening, with_what, event_head, event_json}
 use Rattle.json_story.specs.Running.{with_idle, with_doing, with_last, task_json}
-use Rattle.json_story.specs.Stories.{running_json, kept_json}
+use Rattle.json_story.specs.Stories.{running_json}
 
 -- ---- members
 
@@ -125,10 +125,6 @@ what_has_none table es t (ends home exc) ms hm =
 event_has_none : (table : Table) (es : List Event) (e : Event) → has_float (event_json table es e) ≡ false
 event_has_none table es e = what_has_none table es e.tick e.what (event_head e) refl
 
-events_have_none : (table : Table) (all es : List Event) → items_have_float (items_of (map (event_json table all) es)) ≡ false
-events_have_none table all [] = refl
-events_have_none table all (e ∷ es) = rw (event_has_none table all e, events_have_none table all es) refl
-
 -- ---- tasks that have not ended
 
 idle_has_none : (ms : Members) → members_have_float ms ≡ false → members_have_float (with_idle ms) ≡ false
@@ -172,8 +168,13 @@ running_has_none : (until : Tick) (sorted walked : List Event) → items_have_fl
 running_has_none None sorted walked = refl
 running_has_none (Some limit) sorted walked = tasks_have_none sorted (running_in walked walked)
 
--- a story as a value has no float
-pub kept_without_float : (value : Data) (name : List ℕ) (until : Tick) (table : Table) (all sorted walked : List Event) →
-    value ≡ kept_json name until table all sorted walked → has_float value ≡ false
-kept_without_float value name until table all sorted walked is =
-    rw (is, events_have_none table all sorted, tick_has_none until, running_has_none until sorted walked) refl
+-- values of an event, of a tick and of the tasks that have not ended have no float
+pub event_has_no_float : (value : Data) (table : Table) (es : List Event) (e : Event) → value ≡ event_json table es e → has_float value ≡ false
+event_has_no_float value table es e is = rw (is, event_has_none table es e) refl
+
+pub tick_has_no_float : (value : Data) (t : Tick) → value ≡ tick_json t → has_float value ≡ false
+tick_has_no_float value t is = rw (is, tick_has_none t) refl
+
+pub running_has_no_float : (value : Data) (until : Tick) (sorted walked : List Event) → value ≡ list_of (running_json until sorted walked)
+    → has_float value ≡ false
+running_has_no_float value until sorted walked is = rw (is, running_has_none until sorted walked) refl

@@ -1,7 +1,7 @@
 -- The events of a story as JSON objects. Each has its `event`, its `task` and its `tick`, and its data under the names in this
 -- file.
-use Rattle.std.specs.Prelude.{ℕ, ◌+◌, Option, Some, None, List, map, codes, if◌then◌else◌}
-use Rattle.serde_json.specs.Data.{Data, null, boolean, object, Members, no_members, put}
+use Rattle.std.specs.Prelude.{ℕ, ◌+◌, Option, Some, None, List, map, codes}
+use Rattle.serde_json.specs.Data.{Data, null, boolean, object, Members, no_members, member, put}
 use Rattle.buffer_parts.specs.Lines.{Span}
 use Rattle.exc_groups.specs.Exceptions.{Label, Exc}
 use Rattle.cancel_scopes.specs.Sight.{Tick}
@@ -130,3 +130,9 @@ event_head e =
 -- an event of a story with these events by a table
 abbrev pub event_json : Table → List Event → Event → Data
 event_json table es e = object (with_what table es e.tick e.what (event_head e))
+
+-- the event that a kernel of a task answered some lines in a tick
+abbrev pub found_json : Label → ℕ → List Span → Data
+found_json task t lines =
+    object (member (codes "event") (word (codes "finds")) (member (codes "lines") (list_of (map span_json lines))
+    (member (codes "task") (label_json task) (member (codes "tick") (integer t) no_members))))

@@ -1,34 +1,56 @@
-ghost use Rattle.std.specs.Prelude.{◌≡◌, ◌++◌, [], ◌∷◌, take, map, IfOk, OnOk, codes};
+ghost use Rattle.std.specs.Prelude.{◌≡◌, ◌++◌, map, IfOk, OnOk};
 ghost use Rattle.serde_json.specs.Data.{put as with_member};
 ghost use Rattle.serde_json.specs.View.{view, members_view};
-ghost use Rattle.job_story.specs.Held.{unboxed_exc, what_of, event_of};
+ghost use Rattle.serde_json.specs.Written.{compact_text};
+ghost use Rattle.job_story.specs.Held.{what_of, event_of};
 ghost use Rattle.story_causes.specs.Seen.{event_in};
+ghost use Rattle.json_report.specs.Values.{list_of};
 ghost use Rattle.json_story.specs.Events.{what_word, with_what, event_head, event_json};
 ghost use Rattle.json_story.specs.Known.{events_in, froms_in};
 
+use crate::found::push_found;
 use crate::happening::{happening_word, put_happening};
 use crate::known::Known;
 use crate::optional::{exc_or_null, label_or_null, tick_value};
-use job_story::{Event, What};
-use json_report::label_value;
+use job_story::{Event, Happening, What};
+use json_report::{label_value, push_comma, push_value};
 use serde_json::{Map, Value, put};
 use std::alloc::{AllocError, Global};
 
-// Returns the events of a story as JSON objects.
-pub(crate) fn event_values(
+// Appends the events of a story as a JSON array.
+pub(crate) fn push_events(
     alloc: Global,
+    out: &mut Vec<u8>,
     known: &Known<'_, '_>,
     events: &[&Event],
-) -> Result<Vec<Value>, AllocError>
-    ensures { IfOk result (λ values. map view values.items
-        ≡ map (event_json (froms_in known.now) (events_in known.now)) (map event_in events.now)) }
+) -> Result<(), AllocError>
+    ensures { OnOk result (out.new.items
+        ≡ out.old.items ++ compact_text (list_of (map (event_json (froms_in known.now) (events_in known.now)) (map event_in events.now)))) }
 {
-    let mut values = Vec::new(alloc);
-    'events: for event in events {
-        let value = event_value(alloc, known, event)?;
-        values.push(value)?;
+    out.push(b'[')?;
+    'events: for (i, event) in events.iter().enumerate() {
+        push_comma(out, i)?;
+        push_event(alloc, out, known, event)?;
     }
-    Ok(values)
+    out.push(b']')?;
+    Ok(())
+}
+
+// Appends an event as a JSON object. The lines that a kernel answered may be millions, so no value is made of them.
+fn push_event(
+    alloc: Global,
+    out: &mut Vec<u8>,
+    known: &Known<'_, '_>,
+    event: &Event,
+) -> Result<(), AllocError>
+    ensures { OnOk result (out.new.items
+        ≡ out.old.items ++ compact_text (event_json (froms_in known.now) (events_in known.now) (event_of event.now))) }
+{
+    if let What::Happens(Happening::Finds { lines }) = &event.what {
+        return push_found(alloc, out, &event.task, event.tick, lines.as_slice());
+    }
+    let value = event_value(alloc, known, event)?;
+    push_value(alloc, out, &value)
 }
 
 // Returns an event as a JSON object.

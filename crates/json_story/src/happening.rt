@@ -144,7 +144,7 @@ fn put_cancelled(
     put(members, alloc, "in_cleanup", Value::Bool(in_cleanup))
 }
 
-// Adds the places of the lines that a kernel answered.
+// Adds the places of the lines that a kernel answered. The event itself is written by `push_found`, without values.
 fn put_lines(
     members: &mut Map<String, Value>,
     alloc: Global,

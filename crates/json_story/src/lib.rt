@@ -8,6 +8,7 @@
 
 mod acts;
 mod event;
+mod found;
 mod happening;
 mod known;
 mod optional;

@@ -1,22 +1,24 @@
-ghost use Rattle.std.specs.Prelude.{◌≡◌, IfOk, map};
+ghost use Rattle.std.specs.Prelude.{◌≡◌, ◌++◌, IfOk, OnOk, map, codes, true};
+ghost use Rattle.serde_json.specs.Data.{Members, member, object};
 ghost use Rattle.serde_json.specs.View.{view};
+ghost use Rattle.serde_json.specs.Written.{compact_text, members_text};
 ghost use Rattle.job_story.specs.Froms.{table_in};
-ghost use Rattle.story_causes.specs.Knows.{Knows};
 ghost use Rattle.story_causes.specs.Seen.{event_in};
 ghost use Rattle.story_focus.specs.Holds.{label_seen};
-ghost use Rattle.json_report.specs.Values.{document};
+ghost use Rattle.json_report.specs.Values.{document, list_of};
+ghost use Rattle.json_story.specs.Events.{event_json, tick_json};
 ghost use Rattle.json_story.specs.Known.{events_in, froms_in};
 ghost use Rattle.json_story.specs.Stories.{running_json, kept_json, story_json};
 
-use crate::event::event_values;
+use crate::event::push_events;
 use crate::known::Known;
 use crate::optional::tick_value;
 use crate::running::running_values;
 use exc_groups::Label;
 use job_story::{Event, Froms};
 use job_tree::Name;
-use json_report::{document, text_value};
-use serde_json::{Value, json};
+use json_report::{push_key, push_member, text_value};
+use serde_json::Value;
 use std::alloc::{AllocError, Global};
 use story_causes::{Causes, Tasks};
 use story_focus::{concerned_tasks, of_tasks};
@@ -58,8 +60,7 @@ pub fn story_json<'e>(
     Ok(bytes)
 }
 
-// Returns some events of a story, in order and in the order of the walk, as a document.
-#[tactic(auto, using(crate::proofs::Integers::kept_without_float))]
+// Returns some events of a story, in order and in the order of the walk, as a document, which is made piece by piece.
 fn kept_json(
     alloc: Global,
     job: Name,
@@ -71,26 +72,67 @@ fn kept_json(
     ensures { IfOk result (λ bytes. bytes.items
         ≡ document (kept_json job until (froms_in known.now) (events_in known.now) (map event_in sorted.now) (map event_in walked.now))) }
 {
-    let value = kept_value(alloc, job, until, known, sorted, walked)?;
-    document(alloc, &value)
+    let mut out = Vec::new(alloc);
+    push_events_member(alloc, &mut out, known, sorted)?;
+    push_member(alloc, &mut out, "job", &text_value(alloc, job.bytes())?)?;
+    push_limit(alloc, &mut out, until)?;
+    push_running(alloc, &mut out, until, sorted, walked)?;
+    out.extend_from_slice(b"}\n")?;
+    Ok(out)
 }
 
-// Returns the same as a JSON object.
-fn kept_value(
+// Appends the opening brace of the document, and the member `events`.
+fn push_events_member(
     alloc: Global,
-    job: Name,
-    until: Option<u64>,
+    out: &mut Vec<u8>,
     known: &Known<'_, '_>,
+    sorted: &[&Event],
+) -> Result<(), AllocError>
+    ensures { OnOk result ((later : Members) → out.new.items ++ members_text true later
+        ≡ out.old.items ++ compact_text (object (member (codes "events")
+        (list_of (map (event_json (froms_in known.now) (events_in known.now)) (map event_in sorted.now))) later))) }
+{
+    out.push(b'{')?;
+    push_key(alloc, out, "events")?;
+    push_events(alloc, out, known, sorted)?;
+    Ok(())
+}
+
+// Appends the member `limit`.
+fn push_limit(alloc: Global, out: &mut Vec<u8>, until: Option<u64>) -> Result<(), AllocError>
+    ensures { OnOk result ((later : Members) → out.new.items ++ members_text true later
+        ≡ out.old.items ++ members_text true (member (codes "limit") (tick_json until) later)) }
+{
+    let limit = tick_value(until);
+    push_member(alloc, out, "limit", &limit)
+}
+
+// Appends the member `running`.
+fn push_running(
+    alloc: Global,
+    out: &mut Vec<u8>,
+    until: Option<u64>,
+    sorted: &[&Event],
+    walked: &[&Event],
+) -> Result<(), AllocError>
+    ensures { OnOk result ((later : Members) → out.new.items ++ members_text true later
+        ≡ out.old.items ++ members_text true (member (codes "running") (list_of (running_json until (map event_in sorted.now) (map event_in walked.now))) later)) }
+{
+    let value = running_value(alloc, until, sorted, walked)?;
+    push_member(alloc, out, "running", &value)
+}
+
+// Returns the tasks that have not ended by the limit as a JSON array.
+fn running_value(
+    alloc: Global,
+    until: Option<u64>,
     sorted: &[&Event],
     walked: &[&Event],
 ) -> Result<Value, AllocError>
-    ensures { IfOk result (λ value. view value
-        ≡ kept_json job until (froms_in known.now) (events_in known.now) (map event_in sorted.now) (map event_in walked.now)) }
+    ensures { IfOk result (λ value. view value ≡ list_of (running_json until (map event_in sorted.now) (map event_in walked.now))) }
 {
-    let name = text_value(alloc, job.bytes())?;
-    let events = event_values(alloc, known, sorted)?;
-    let running = running_until(alloc, until, sorted, walked)?;
-    json!(in alloc; {"job": name, "limit": tick_value(until), "events": events, "running": running})
+    let tasks = running_until(alloc, until, sorted, walked)?;
+    Ok(Value::Array(tasks))
 }
 
 // Returns the tasks that have not ended by the limit, if the story is cut off at one.
