@@ -1,12 +1,13 @@
 #!/usr/bin/env python3
-"""Doubles jobs of many shapes, and prints how their time grows.
+"""Doubles jobs of many shapes and the inputs of other commands, and prints how their time grows.
 
     python3 bench/growth.py PROGRAM [ROUNDS]
 
 PROGRAM is the built executable. Each shape is a job whose size is a number of parts: it is run with so many and with twice as many,
 ROUNDS times each (3 without the word), and the least times are compared, each without that of an empty job. A time in proportion to
 the size doubles; one that goes with the square of the size has four times. A text of a job has at most 65,536 bytes and a format 2 job
-1,000,000 steps, so the sizes are as large as the shape allows.
+1,000,000 steps, so the sizes are as large as the shape allows. The inputs of other commands are doubled five times, and each
+time is divided by the one before it.
 """
 
 import os
@@ -64,15 +65,64 @@ SHAPES = [
 ]
 
 
-def seconds(program, path, out, rounds):
+DOUBLINGS = 5
+
+
+def pattern_and_line(folder, n):
+    """A feed whose report has a line of so many words, and an expectation of every other word with a `*` between."""
+    words = [b"w%d" % i for i in range(n)]
+    write(folder, "a.feed", b"trio-job 2\njob main{longest;}\n%input\n" + b" ".join(words) + b"\n")
+    write(folder, "a.expect", b"line * " + b" * ".join(words[::2]) + b" *\n")
+    return ["test", "a.feed"]
+
+
+def lines(words):
+    """The words on a job that borrows so many lines."""
+    def made(folder, n):
+        write(folder, "a.job", job(b'find "e";'))
+        write(folder, "in", b"an e\n" * n)
+        return words
+    return made
+
+
+def text_of(words, make):
+    """The words on a job text of so many parts."""
+    def made(folder, n):
+        write(folder, "a.job", make(n))
+        return words
+    return made
+
+
+CANCELLED = b"nursery n{start a over %d{repeat %d{sleep 1;}cancel n;}start b{sleep 2;}}"
+COMMANDS = [
+    ("`test`: words of a pattern and of the line that it matches", 125, pattern_and_line),
+    ("`run`: borrowed lines", 60000, lines(["run", "a.job", "in"])),
+    ("`run --json`: borrowed lines", 60000, lines(["run", "a.job", "in", "--json"])),
+    ("`explain --json`: borrowed lines", 60000, lines(["explain", "a.job", "in", "--json"])),
+    ("`lint`: scopes, each on its line", 60, text_of(["lint", "a.job"], lambda n: job(each(b"\nscope s# after 5{sleep 1;}", n)))),
+    ("`lint`: handlers, each on its line", 60, text_of(["lint", "a.job"], lambda n: job(each(b"\ntry{raise A#;}except A#{}", n)))),
+    ("`lint`: cleanups that wait, each on its line", 50, text_of(["lint", "a.job"], lambda n: job(each(b"\ntry{sleep 1;}finally{sleep 1;}", n)))),
+    ("`explain --task`: tasks", 25, text_of(["explain", "a.job", "--task", "r0.5"], lambda n: children(b"", n))),
+    ("`races`: copies", 2, text_of(["races", "a.job"], lambda n: job(CANCELLED % (n, 3)))),
+    ("`races`: passes", 30, text_of(["races", "a.job"], lambda n: job(CANCELLED % (2, n)))),
+]
+
+
+def write(folder, name, data):
+    with open(os.path.join(folder, name), "wb") as file:
+        file.write(data)
+
+
+def seconds(program, folder, words, rounds):
+    """The least time of some runs on the words in the folder."""
     least = float("inf")
     for _ in range(rounds):
-        with open(out, "wb") as to:
+        with open(os.path.join(folder, "out"), "wb") as to:
             begin = time.perf_counter()
-            status = subprocess.run([program, "run", path, os.devnull], stdout=to, stderr=subprocess.PIPE).returncode
+            status = subprocess.run([program, *words], cwd=folder, stdout=to, stderr=subprocess.PIPE).returncode
             least = min(least, time.perf_counter() - begin)
         if status not in (0, 1):
-            raise SystemExit(f"{path}: status {status}")
+            raise SystemExit(f"{words}: status {status}")
     return least
 
 
@@ -80,18 +130,23 @@ def main():
     program = os.path.abspath(sys.argv[1])
     rounds = int(sys.argv[2]) if len(sys.argv) > 2 else 3
     with tempfile.TemporaryDirectory() as folder:
-        path, out = os.path.join(folder, "a.job"), os.path.join(folder, "out")
 
         def timed(text):
-            with open(path, "wb") as file:
-                file.write(text)
-            return seconds(program, path, out, rounds)
+            write(folder, "a.job", text)
+            return seconds(program, folder, ["run", "a.job", os.devnull], rounds)
 
         empty = timed(job(b""))
         print("| Shape | ms | ms, twice as large | times |\n|---|---|---|---|")
         for name, size, make in SHAPES:
             once, twice = timed(make(size)) - empty, timed(make(2 * size)) - empty
             print(f"| {name} | {once * 1000:.1f} | {twice * 1000:.1f} | {twice / max(once, 1e-9):.1f} |", flush=True)
+
+        print(f"\n| Command | from | ms at {2 ** DOUBLINGS} times as much | each doubling |\n|---|---|---|---|")
+        for name, size, files in COMMANDS:
+            sizes = [size << k for k in range(DOUBLINGS + 1)]
+            times = [seconds(program, folder, files(folder, n), rounds) - empty for n in sizes]
+            steps = " ".join(f"{after / max(before, 1e-3):.1f}" for before, after in zip(times, times[1:]))
+            print(f"| {name} | {size} | {times[-1] * 1000:.1f} | {steps} |", flush=True)
     return 0
 
 

@@ -203,12 +203,15 @@ pub(crate) fn tell_no_task<R: Eprint + AllocGlobal>(rt: &R, task: Option<&str>, 
     let (Some(task), Ok(nearest)) = (task, String::from_utf8(nearest)) else {
         return;
     };
-    let message = format!(in rt.alloc();
-        "error: no task has the label `{task}`: did you mean `{nearest}`?\n"
-    );
-    if let Ok(message) = message {
+    if let Ok(message) = no_task_message(rt.alloc(), task, nearest.as_str()) {
         let _ = rt.eprint(message.as_str());
     }
+}
+
+// Returns the message that no task has the label, which is shown as the name of a file is.
+fn no_task_message(alloc: Global, task: &str, nearest: &str) -> Result<String, AllocError> {
+    let shown = shown_name(alloc, task)?;
+    format!(in alloc; "error: no task has the label `{shown}`: did you mean `{nearest}`?\n")
 }
 
 // Runs a job text over an input, and returns the status.

@@ -14,6 +14,7 @@ mod examples;
 mod options;
 mod parser;
 mod reading;
+mod showing;
 mod sweeping;
 mod table;
 

@@ -1,4 +1,4 @@
-ghost use Rattle.std.specs.Prelude.{◌≡◌, [], Ok, IfOk, IfSome, IsTrue, codes};
+ghost use Rattle.std.specs.Prelude.{◌≡◌, [], Ok, IfOk, IsTrue, codes};
 ghost use Rattle.std.specs.Option.{option_map};
 ghost use Rattle.std.specs.Str.{bytes_eq};
 ghost use Rattle.nursery_cli.specs.declared.command.Command.TheVariants.{Feed};
@@ -10,6 +10,7 @@ use crate::command::{Command, CommandFault, FormatMode, Shell};
 use crate::common::{OUT_OF_RANGE, owned_copy, refusal, settings_of};
 use crate::denying::denied_kinds;
 use crate::parser::{DEFAULT_FAULT, LEAST_WIDTH, MAX_WIDTH, command_line};
+use crate::showing::{have_control, shown_words};
 use crate::sweeping::{target_of, values_of};
 use clap::ArgMatches;
 use clap::error::ErrorKind;
@@ -22,8 +23,34 @@ use std::alloc::{AllocError, Global};
 const NOT_WRITTEN: &str = "error: `--write` needs a file: JOB is standard input\n";
 
 /// Reads the words after the program's name. No words are a feed on standard input. The error has a text for the user if the
-/// words do not ask for anything that the program does, or is that memory was refused.
+/// words do not ask for anything that the program does, or is that memory was refused. The text shows a control character of a
+/// word escaped, as in a Rust string.
 pub fn read_command(alloc: Global, words: &[String]) -> Result<Command, CommandFault>
+    ensures feed { words.now ≡ [] → result ≡ Ok Feed }
+    ensures only { result ≡ Ok Feed → words.now ≡ [] }
+    ensures fit { IfOk result IsFit }
+{
+    match asked_command(alloc, words) {
+        Err(CommandFault::Refused { .. }) if have_control(words) => Err(shown_refusal(
+            alloc, words,
+        )),
+        answer => answer,
+    }
+}
+
+// Returns the refusal of words that are refused, with their control characters escaped.
+fn shown_refusal(alloc: Global, words: &[String]) -> CommandFault {
+    let Ok(shown) = shown_words(alloc, words) else {
+        return CommandFault::NoMemory;
+    };
+    match asked_command(alloc, shown.as_slice()) {
+        Ok(_) => refusal(alloc, "error: a word has a control character\n"),
+        Err(fault) => fault,
+    }
+}
+
+// Returns the command that the words ask for. The text of a refusal shows them as they are.
+fn asked_command(alloc: Global, words: &[String]) -> Result<Command, CommandFault>
     ensures feed { words.now ≡ [] → result ≡ Ok Feed }
     ensures only { result ≡ Ok Feed → words.now ≡ [] }
     ensures fit { IfOk result IsFit }
