@@ -78,6 +78,16 @@ from_little_to_enough chart grid.job lines.txt --svg
 from_little_to_enough faults few.job lines.txt
 from_little_to_enough races pair.job lines.txt
 from_little_to_enough sweep few.job lines.txt --at 2:40 --values 1..9
+from_little_to_enough check wide.job
+from_little_to_enough upgrade wide.job
+from_little_to_enough lint wide.job --json
+from_little_to_enough faults few.job lines.txt --json
+from_little_to_enough races pair.job lines.txt --json
+from_little_to_enough sweep few.job lines.txt --at 2:40 --values 1..9 --json
+head -c 1000000 lines.txt > some.txt
+{ cat grid.job; printf '%%input\n'; cat some.txt; } > grid.feed
+"$nursery" run grid.job some.txt > grid.report
+from_little_to_enough test grid.feed
 
 # ---- little stack: 256 KiB for each legal job, the deepest too ----
 
@@ -122,6 +132,12 @@ for job in scopes nurseries cleanups handlers sleeps leaves grid; do
     in_little_stack trio $job.job
     in_little_stack run $job.job log.txt --json
     in_little_stack explain $job.job log.txt --json
+    in_little_stack upgrade $job.job
+    in_little_stack lint $job.job --json
+    in_little_stack faults $job.job log.txt --workers 2 --json
+    in_little_stack races $job.job log.txt --workers 2 --json
+    { cat $job.job; printf '%%input\n'; cat log.txt; } > $job.feed
+    in_little_stack test $job.feed
 done
 column=$(awk 'NR == 2 { print index($0, "sleep 1") + 6 }' cleanups.job)
 in_little_stack sweep cleanups.job --at "2:$column" --values 1..9 --workers 2
