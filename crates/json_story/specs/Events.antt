@@ -1,6 +1,6 @@
 -- The events of a story as JSON objects. Each has its `event`, its `task` and its `tick`, and its data under the names in this
 -- file.
-use Rattle.std.specs.Prelude.{ℕ, ◌+◌, Option, Some, None, List, map, codes}
+use Rattle.std.specs.Prelude.{ℕ, ◌+◌, Option, Some, None, List, map, codes, if◌then◌else◌}
 use Rattle.serde_json.specs.Data.{Data, null, boolean, object, Members, no_members, member, put}
 use Rattle.buffer_parts.specs.Lines.{Span}
 use Rattle.exc_groups.specs.Exceptions.{Label, Exc}
