@@ -1,12 +1,13 @@
 ghost use Rattle.std.specs.Prelude.{◌≡◌, ◌++◌, ◌<◌, IfOk, OnOk};
 ghost use Rattle.std.specs.Io.KnownBytes.{Appends};
 ghost use Rattle.std.specs.String.{string_bytes};
+ghost use Rattle.refusal_text.specs.Positions.{IsPosition};
 ghost use Rattle.nursery.specs.Warned.{said_at, warning_text, warnings_text};
 
 use crate::stop::Stop;
 use job_lint::{Warning, sentence};
 use nursery_app::{Out, send};
-use refusal_text::pointed_message;
+use refusal_text::{Position, message_at};
 use std::alloc::{AllocError, Global};
 
 // Writes the text of warnings, all of them or none. The job has this name in it.
@@ -29,7 +30,8 @@ pub(crate) fn send_warnings<W: Out>(
     Ok(())
 }
 
-// Returns the text of warnings: for each its place and its sentence, the line of the job text, and a caret under the place.
+// Returns the text of warnings: for each its place and its sentence, the line of the job text, and a caret under the place. Lines
+// are counted on from one warning to the next.
 fn lines_of(
     alloc: Global,
     name: &str,
@@ -39,24 +41,29 @@ fn lines_of(
     ensures { IfOk result (λ lines. string_bytes lines ≡ warnings_text name.now text.now warnings.now) }
 {
     let mut lines = String::new(alloc);
+    let mut position = Position::of(text, 0);
     'warnings: for warning in warnings {
-        push_warning(alloc, &mut lines, name, text, warning)?;
+        position = position.moved_to(text, warning.at);
+        push_warning(alloc, &mut lines, name, text, position, warning)?;
     }
     Ok(lines)
 }
 
-// Appends the text of a warning.
+// Appends the text of a warning. Requires that the position is the warning's.
 fn push_warning(
     alloc: Global,
     lines: &mut String,
     name: &str,
     text: &[u8],
+    position: Position,
     warning: &Warning,
 ) -> Result<(), AllocError>
+    requires position { IsPosition text.now position }
+    requires place { position.at ≡ warning.now.at }
     ensures { OnOk result (string_bytes lines.new ≡ string_bytes lines.old ++ warning_text name.now text.now warning.now) }
 {
     let said = sentence(alloc, warning)?;
-    push_said(alloc, lines, name, text, warning.at, said.as_slice())
+    push_said(alloc, lines, name, text, position, said.as_slice())
 }
 
 // Appends the message with this sentence about a place, if the sentence is UTF-8. Each sentence is ASCII.
@@ -65,13 +72,14 @@ fn push_said(
     lines: &mut String,
     name: &str,
     text: &[u8],
-    at: usize,
+    position: Position,
     said: &[u8],
 ) -> Result<(), AllocError>
-    ensures { OnOk result (string_bytes lines.new ≡ string_bytes lines.old ++ said_at name.now text.now at said.now) }
+    requires { IsPosition text.now position }
+    ensures { OnOk result (string_bytes lines.new ≡ string_bytes lines.old ++ said_at name.now text.now position.at said.now) }
 {
     if let Ok(said) = str::from_utf8(said) {
-        let message = pointed_message(alloc, name, text, at, said)?;
+        let message = message_at(alloc, name, text, position, said)?;
         lines.push_str(message.as_str())?;
     }
     Ok(())

@@ -6,7 +6,7 @@ use crate::refusal_texts::{EXPECTED, HELPED, Row, WRONG};
 use job_grammar::{JobFault, JobKind, read_job};
 use job_report::MemOut;
 use nursery_app::CheckVerdict;
-use refusal_text::refusal_message;
+use refusal_text::{Position, message_at, refusal_message};
 use std::alloc::Global;
 use std::process::Abort;
 use std::test::Fail;
@@ -183,5 +183,30 @@ fn a_long_line_is_cut_around_the_place(rt: HostRuntime) -> Result<(), Fail> {
     };
     let shown = refusal_message(rt.alloc(), "f", &text, fault)?;
     assert_eq!(rt; shown.as_str(), CUT);
+    Ok(())
+}
+
+// Places in a text of four lines, each followed by the first line of the message about it.
+const HEADINGS: &[(usize, &str)] = &[
+    (1, "f:1:2: said\n"),
+    (2, "f:1:3: said\n"),
+    (3, "f:2:1: said\n"),
+    (6, "f:3:3: said\n"),
+    (6, "f:3:3: said\n"),
+    (9, "f:4:2: said\n"),
+    (4, "f:3:1: said\n"),
+    (99, "f:4:2: said\n"),
+    (0, "f:1:1: said\n"),
+];
+
+#[test]
+fn places_are_counted_on_from_one_to_the_next(rt: HostRuntime) -> Result<(), Fail> {
+    let text = b"ab\n\ncde\nf";
+    let mut position = Position::of(text, 0);
+    for &(at, heading) in HEADINGS {
+        position = position.moved_to(text, at);
+        let message = message_at(rt.alloc(), "f", text, position, "said")?;
+        assert!(rt; message.as_str().starts_with(heading), "{at}");
+    }
     Ok(())
 }

@@ -1,2 +1,3 @@
 pub mod Told
 pub mod Read
+pub mod Counted

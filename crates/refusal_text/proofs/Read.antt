@@ -1,16 +1,12 @@
 -- What is found in the job that the tokens of a text spell.
-use Rattle.std.proofs.Common.{◌≡◌, ℕ, Bool, true, false, List, [], ◌++◌, refl, sym, ap, subst, ◌∙◌, append-nil, append_assoc, min}
+use Rattle.std.proofs.Common.{◌≡◌, ℕ, false, List, [], ◌++◌, refl, sym, ap, subst, ◌∙◌, append-nil, append_assoc, min}
 use Rattle.std.specs.Prelude.{Option, Some, None, is_some}
 use Rattle.std.specs.Global.{Vec}
 use Rattle.job_tree.specs.declared.format.Format.{Format}
 use Rattle.job_tree.specs.Tree.{Tree, Steps}
 use Rattle.job_tree.specs.Names.{size_of}
-use Rattle.job_tokens.specs.declared.token.Token.{Token}
-use Rattle.job_tokens.specs.Shapes.{shapes_of}
 use Rattle.job_tokens.specs.Lexing.{Gives}
-use Rattle.job_syntax.specs.Reading.{job_at}
 use Rattle.job_checks.specs.Cancels.{Cancel, cancels_of}
-use Rattle.refusal_text.specs.declared.hinting.Hint.{Hint}
 use Rattle.refusal_text.specs.declared.hinting.Hint.TheVariants as hint
 use Rattle.refusal_text.specs.Hinting.{size_hint}
 use Rattle.refusal_text.specs.Scopes.{around_stray, cancellable_names, names_held, or_names}

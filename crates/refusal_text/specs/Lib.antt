@@ -6,4 +6,5 @@ pub mod Advice
 pub mod ByBytes
 pub mod Hinting
 pub mod Scopes
+pub mod Positions
 pub mod Explaining

@@ -3,11 +3,13 @@ ghost use Rattle.std.specs.List.{before_first};
 ghost use Rattle.std.specs.String.{string_bytes};
 ghost use Rattle.refusal_text.specs.Explaining.{Tells, pointed_message, heading, shown_byte, is_newline, last_of, most_after, hint_of, hint_line, meant_line, keyword_line, place_line, size_line, quoted_name, more_quoted_names, names_line, names_of};
 ghost use Rattle.job_syntax.specs.Keywords.{spelling_of};
+ghost use Rattle.refusal_text.specs.Positions.{IsPosition};
 ghost use Rattle.refusal_text.specs.Scopes.{names_held};
 ghost use Rattle.nursery_app.specs.Places.{line_of, column_of};
 
 use crate::findings::{Findings, findings_of};
 use crate::hinting::Hint;
+use crate::position::Position;
 use crate::sentences::sentence_of;
 use digits::push_str_number;
 use job_grammar::JobFault;
@@ -24,7 +26,7 @@ const MAX_AFTER: usize = 40;
 /// Returns the message that explains a refusal to the user: that of `pointed_message`, with a sentence for the kind of the
 /// refusal. If there is a hint, one more line has it: such as a keyword that is nearly spelled, a block that is not closed,
 /// what a job has in place of a word of Trio, or which scopes and nurseries could be cancelled there. `job` is the name that
-/// the user gave the text. The only error is that memory was refused.
+/// the user gave the text. The only error is that memory is short.
 pub fn refusal_message(
     alloc: Global,
     job: &str,
@@ -45,7 +47,7 @@ pub fn refusal_message(
 /// Returns a message about a place of a job text: `JOB:LINE:COLUMN: ` and a sentence, the line of the job text, and a caret
 /// under the place. `at` is the place in bytes. Of a long line, the 60 bytes before the place and the 40 bytes from it on are
 /// shown. A byte that is not printable ASCII is shown as `?`, and a tab or a carriage return as a space. `job` is the name that
-/// the user gave the text. The only error is that memory was refused.
+/// the user gave the text. The only error is that memory is short.
 pub fn pointed_message(
     alloc: Global,
     job: &str,
@@ -55,8 +57,22 @@ pub fn pointed_message(
 ) -> Result<String, AllocError>
     ensures { IfOk result (λ message. string_bytes message ≡ pointed_message job.now text.now at sentence.now) }
 {
-    let line = line_of(text, at);
-    let column = column_of(text, at);
+    message_at(alloc, job, text, Position::of(text, at), sentence)
+}
+
+/// Returns the same message about a place whose line and column are known. Requires that the position is one of the text. The
+/// only error is that memory is short.
+pub fn message_at(
+    alloc: Global,
+    job: &str,
+    text: &[u8],
+    position: Position,
+    sentence: &str,
+) -> Result<String, AllocError>
+    requires { IsPosition text.now position }
+    ensures { IfOk result (λ message. string_bytes message ≡ pointed_message job.now text.now position.at sentence.now) }
+{
+    let Position { at, line, column } = position;
     let (front, rest) = text.split_at(at.min(text.len()));
     let mut message = heading(alloc, job, line, column, sentence)?;
     let shown = (column - 1).min(MAX_BEFORE);

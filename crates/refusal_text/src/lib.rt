@@ -14,9 +14,11 @@ mod findings;
 mod hinting;
 mod lexed_text;
 mod nearness;
+mod position;
 mod scanning;
 mod scopes;
 mod sentences;
 mod size;
 
-pub use explaining::{pointed_message, refusal_message};
+pub use explaining::{message_at, pointed_message, refusal_message};
+pub use position::Position;
