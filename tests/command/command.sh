@@ -112,6 +112,9 @@ wants 1 "$story" '' explain raise.job --task main
 wants 3 'tick 0\n  main  starts\n  main  sleeps until 2\nlimit 1\n  main  sleeping until 2 since 0\n' '' explain raise.job --limit 1
 wants 3 'tick 0\n  main  starts\n  main  sleeps forever\nlimit 1000000\n  main  sleeping forever since 0\n' '' explain forever.job
 wants 2 '' 'error: no task has the label `mian`: did you mean `main`?\n' explain raise.job --task mian
+longest=$(head -c 384 /dev/zero | tr '\0' a)
+wants 2 '' "error: no task has the label \`$longest\`: did you mean \`main\`?\n" explain raise.job --task "$longest"
+wants 2 '' 'error: no task has the label of `--task`: a label has at most 384 bytes\n' explain raise.job --task "a$longest"
 printf 'trio-job 1\njob hedge {\n  nursery calls {\n    start fast { sleep 2; cancel calls; }\n    start slow { sleep 9; }\n  }\n}\n' > hedge.job
 slow='tick 0\n  fast  starts in nursery calls\n  fast  sleeps until 2\n  slow  starts in nursery calls\n  slow  sleeps until 9\ntick 2\n  fast  cancels nursery calls from 3\n  fast  ends: done\ntick 3\n  slow  is cancelled while sleeping since 0 by nursery calls (cancelled by fast at 2)\n  slow  ends: cancelled\n'
 wants 0 "$slow" '' explain hedge.job --task slow
@@ -195,6 +198,9 @@ printf 'trio-job 1\njob late {\n  try { sleep 5; } except Timeout { find "late";
 late='late.job:3:20: nothing in this `try` raises Timeout, so its handler never runs\n  try { sleep 5; } except Timeout { find "late"; }\n                   ^\n'
 wants 1 "$late" '' lint late.job
 helps lint "$late"
+printf 'trio-job 1\njob m { try { } except A { }\n\n  try { } except B { } }' > twice.job
+twice='twice.job:2:17: nothing in this `try` raises A, so its handler never runs\njob m { try { } except A { }\n                ^\ntwice.job:4:11: nothing in this `try` raises B, so its handler never runs\n  try { } except B { } }\n          ^\n'
+wants 1 "$twice" '' lint twice.job
 wants 0 '' '' lint raise.job
 wants 2 'refused J6 Syntax at 28\n' "$wrong" lint wrong.job
 wants 4 '' 'cannot read the job file\nnone.job: no such file\n' lint none.job

@@ -3,7 +3,7 @@ use Rattle.std.proofs.Common.{Some, None, ◌≡◌, ℕ, Bool, true, false, len
 use Rattle.std.specs.List.{list_any, list_all}
 use Rattle.std.specs.Str.{bytes_eq}
 use denote.Ref.{Bor}
-use Rattle.nursery_cli.specs.Denied.{is_among, is_kind, kinds_in, may_be_denied, denied_among, denied_in, spelled_deny, denied_if}
+use Rattle.nursery_cli.specs.Denied.{is_among, is_kind, kinds_in, may_be_denied, denied_among, denied_in, spelled_deny}
 use Rattle.fault_text.specs.declared.deny.Deny.{Deny}
 
 pub among_by_parts : (word : List ℕ) (words : List (Bor (List ℕ)))

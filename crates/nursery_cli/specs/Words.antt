@@ -1,5 +1,6 @@
 -- What the words of a command line may ask for.
 use Rattle.std.specs.Prelude.{◌≡◌, ℕ, ◌≤◌, Bool, not, ◌||◌, Option, Some, None, List, length, IsTrue, is_some, codes}
+use Rattle.std.specs.Option.{option_map}
 use Rattle.std.specs.Str.{bytes_eq}
 use Rattle.job_syntax.specs.Keywords.{keyword_of}
 use Rattle.nursery_cli.specs.declared.command.Command.{Command}
@@ -8,7 +9,7 @@ use Rattle.std.specs.String.{string_bytes}
 use Rattle.nursery_cli.specs.declared.command.FormatMode.{FormatMode}
 use Rattle.nursery_cli.specs.declared.command.FormatMode.TheVariants as modes
 use Rattle.nursery_cli.specs.Values.{values_from}
-use Rattle.nursery_cli.specs.declared.parser.TheConstants.{LEAST_WIDTH, MAX_WIDTH}
+use Rattle.nursery_cli.specs.declared.parser.TheConstants.{LEAST_WIDTH, MAX_LABEL, MAX_WIDTH}
 
 -- a name that a step may raise: not a keyword, and neither `Cancelled` nor `TooSlow`
 abbrev pub may_be_raised : List ℕ → Bool
@@ -24,18 +25,23 @@ abbrev pub IsWidth : Option ℕ → Type 0
 IsWidth None = Unit {0}
 IsWidth (Some width) = (LEAST_WIDTH ≤ width) × (width ≤ MAX_WIDTH)
 
+-- a label that is short enough for a task, or none
+abbrev pub IsLabel : Option (List ℕ) → Type 0
+IsLabel None = Unit {0}
+IsLabel (Some label) = length label ≤ MAX_LABEL
+
 -- a file that is written is not standard input
 abbrev pub IsWritten : List ℕ → FormatMode → Type 0
 IsWritten job modes.Print = Unit {0}
 IsWritten job modes.Write = IsTrue (not (bytes_eq job (codes "-")))
 IsWritten job modes.Check = Unit {0}
 
--- A chart has a width in its range or none, a faulty step can raise its exception, a sweep has values, a file that is formatted
--- in place is not standard input, and there is something to test.
+-- A label is short enough, a chart has a width in its range or none, a faulty step can raise its exception, a sweep has values, a
+-- file that is formatted in place is not standard input, and there is something to test.
 abbrev pub IsFit : Command → Type 0
 IsFit Feed = Unit {0}
 IsFit (Run args) = Unit {0}
-IsFit (Explain args) = Unit {0}
+IsFit (Explain args) = IsLabel (option_map string_bytes args.task)
 IsFit (Chart args) = IsWidth args.width
 IsFit (Faults args) = IsTrue (may_be_raised args.name)
 IsFit (Races args) = Unit {0}

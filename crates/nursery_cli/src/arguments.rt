@@ -36,7 +36,7 @@ pub struct ExplainArgs {
     pub job: String,
     /// The input file, or `-` for standard input. `None` is an empty input.
     pub input: Option<String>,
-    /// The label of the only task that the story is about. `None` is all tasks.
+    /// The label of the only task that the story is about, of at most `MAX_LABEL` bytes. `None` is all tasks.
     pub task: Option<String>,
     /// The number of workers, and the last tick of the story.
     pub settings: Settings,

@@ -17,6 +17,10 @@ pub const LEAST_WIDTH: usize = 20;
 /// The maximum width of a chart, in columns of text.
 pub const MAX_WIDTH: usize = 1_000;
 
+/// The maximum length in bytes of the label in `--task`. No label is longer: it is a name of at most 32 bytes and, for each of at most
+/// 32 blocks around the task, a dot and a number of at most 10 digits.
+pub const MAX_LABEL: usize = 384;
+
 /// The name of the exception that a faulty step raises if none is given.
 pub(crate) const DEFAULT_FAULT: &str = "Fault";
 

@@ -1,15 +1,16 @@
 ghost use Rattle.std.specs.Prelude.{◌≡◌, [], Ok, IfOk, IsTrue, codes};
 ghost use Rattle.std.specs.Option.{option_map};
 ghost use Rattle.std.specs.Str.{bytes_eq};
+ghost use Rattle.std.specs.String.{string_bytes};
 ghost use Rattle.nursery_cli.specs.declared.command.Command.TheVariants.{Feed};
 ghost use Rattle.nursery_cli.specs.Named.{order_named, shell_named};
-ghost use Rattle.nursery_cli.specs.Words.{IsFit, IsAsked, IsWidth, may_be_raised};
+ghost use Rattle.nursery_cli.specs.Words.{IsFit, IsAsked, IsLabel, IsWidth, may_be_raised};
 
 use crate::arguments::{ChartArgs, ExplainArgs, FaultsArgs, Order, RacesArgs, RunArgs, SweepArgs};
 use crate::command::{Command, CommandFault, FormatMode, Shell};
 use crate::common::{OUT_OF_RANGE, owned_copy, refusal, settings_of};
 use crate::denying::denied_kinds;
-use crate::parser::{DEFAULT_FAULT, LEAST_WIDTH, MAX_WIDTH, command_line};
+use crate::parser::{DEFAULT_FAULT, LEAST_WIDTH, MAX_LABEL, MAX_WIDTH, command_line};
 use crate::showing::{have_control, shown_words};
 use crate::sweeping::{target_of, values_of};
 use clap::ArgMatches;
@@ -21,6 +22,10 @@ use std::alloc::{AllocError, Global};
 
 // The error if standard input is to be written.
 const NOT_WRITTEN: &str = "error: `--write` needs a file: JOB is standard input\n";
+
+// The error for a label of more than `MAX_LABEL` bytes.
+const LONG_LABEL: &str =
+    "error: no task has the label of `--task`: a label has at most 384 bytes\n";
 
 /// Reads the words after the program's name. No words are a feed on standard input. The error has a text for the user if the
 /// words do not ask for anything that the program does, or is that memory was refused. The text shows a control character of a
@@ -242,11 +247,32 @@ fn explain_command(
     Ok(Command::Explain(ExplainArgs {
         job: run.job,
         input: run.input,
-        task: owned_copy(alloc, matches.get_str("task"))?,
+        task: task_of(alloc, matches.get_str("task"))?,
         settings: run.settings,
         order: order_named(matches.get_str("order")),
         json: matches.get_flag("json"),
     }))
+}
+
+// Returns an owned copy of a label, if there is one. A label that is too long for any task is refused.
+fn task_of(alloc: Global, label: Option<&str>) -> Result<Option<String>, CommandFault>
+    ensures value { IfOk result (λ task. option_map string_bytes task ≡ option_map (λ given. given.now) label.entry) }
+    ensures short { IfOk result (λ task. IsLabel (option_map string_bytes task)) }
+{
+    if !is_label(label) {
+        return Err(refusal(alloc, LONG_LABEL));
+    }
+    Ok(owned_copy(alloc, label)?)
+}
+
+// Returns whether a label is short enough. `None` is allowed.
+fn is_label(label: Option<&str>) -> bool
+    ensures { IsTrue result → IsLabel (option_map (λ given. given.now) label.entry) }
+{
+    match label {
+        Some(label) => label.len() <= MAX_LABEL,
+        None => true,
+    }
 }
 
 // Returns the command `chart` with its settings.
