@@ -186,25 +186,24 @@ fn a_long_line_is_cut_around_the_place(rt: HostRuntime) -> Result<(), Fail> {
     Ok(())
 }
 
-// Places in a text of four lines, each followed by the first line of the message about it.
-const HEADINGS: &[(usize, &str)] = &[
-    (1, "f:1:2: said\n"),
-    (2, "f:1:3: said\n"),
-    (3, "f:2:1: said\n"),
-    (6, "f:3:3: said\n"),
-    (6, "f:3:3: said\n"),
-    (9, "f:4:2: said\n"),
-    (4, "f:3:1: said\n"),
-    (99, "f:4:2: said\n"),
-    (0, "f:1:1: said\n"),
+// Two places in a text of four lines, and the first line of the message about the second, counted on from the first.
+const HEADINGS: &[(usize, usize, &str)] = &[
+    (0, 1, "f:1:2: said\n"),
+    (1, 2, "f:1:3: said\n"),
+    (2, 3, "f:2:1: said\n"),
+    (3, 6, "f:3:3: said\n"),
+    (6, 6, "f:3:3: said\n"),
+    (6, 9, "f:4:2: said\n"),
+    (9, 4, "f:3:1: said\n"),
+    (4, 99, "f:4:2: said\n"),
+    (99, 0, "f:1:1: said\n"),
 ];
 
 #[test]
-fn places_are_counted_on_from_one_to_the_next(rt: HostRuntime) -> Result<(), Fail> {
+fn a_place_is_counted_on_from_another(rt: HostRuntime) -> Result<(), Fail> {
     let text = b"ab\n\ncde\nf";
-    let mut position = Position::of(text, 0);
-    for &(at, heading) in HEADINGS {
-        position = position.moved_to(text, at);
+    for &(first, at, heading) in HEADINGS {
+        let position = Position::of(text, first).moved_to(text, at);
         let message = message_at(rt.alloc(), "f", text, position, "said")?;
         assert!(rt; message.as_str().starts_with(heading), "{at}");
     }
