@@ -1,5 +1,5 @@
 -- What the words of a command line may ask for.
-use Rattle.std.specs.Prelude.{◌≡◌, ℕ, ◌≤◌, Bool, not, ◌||◌, Option, Some, None, List, length, IsTrue, is_some, codes}
+use Rattle.std.specs.Prelude.{◌≡◌, ℕ, ◌≤◌, nat_le, Bool, true, cond, not, ◌||◌, Option, Some, None, List, length, IsTrue, is_some, codes}
 use Rattle.std.specs.Option.{option_map}
 use Rattle.std.specs.Str.{bytes_eq}
 use Rattle.job_syntax.specs.Keywords.{keyword_of}
@@ -24,6 +24,15 @@ AreValues values =
 abbrev pub IsWidth : Option ℕ → Type 0
 IsWidth None = Unit {0}
 IsWidth (Some width) = (LEAST_WIDTH ≤ width) × (width ≤ MAX_WIDTH)
+
+-- a task may have this label, or there is no label
+abbrev pub is_label : Option (List ℕ) → Bool
+is_label None = true
+is_label (Some label) = nat_le (length label) MAX_LABEL
+
+-- what the words of `--task` ask for: a label that a task may have, or none
+abbrev pub spelled_label : Option (List ℕ) → Option (Option (List ℕ))
+spelled_label given = cond (is_label given) (Some given) None
 
 -- a label that is short enough for a task, or none
 abbrev pub IsLabel : Option (List ℕ) → Type 0

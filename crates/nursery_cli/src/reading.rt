@@ -4,7 +4,8 @@ ghost use Rattle.std.specs.Str.{bytes_eq};
 ghost use Rattle.std.specs.String.{string_bytes};
 ghost use Rattle.nursery_cli.specs.declared.command.Command.TheVariants.{Feed};
 ghost use Rattle.nursery_cli.specs.Named.{order_named, shell_named};
-ghost use Rattle.nursery_cli.specs.Words.{IsFit, IsAsked, IsLabel, IsWidth, may_be_raised};
+ghost use Rattle.nursery_cli.specs.Reads.{Reads};
+ghost use Rattle.nursery_cli.specs.Words.{IsFit, IsAsked, IsLabel, IsWidth, is_label, spelled_label, may_be_raised};
 
 use crate::arguments::{ChartArgs, ExplainArgs, FaultsArgs, Order, RacesArgs, RunArgs, SweepArgs};
 use crate::command::{Command, CommandFault, FormatMode, Shell};
@@ -256,7 +257,7 @@ fn explain_command(
 
 // Returns an owned copy of a label, if there is one. A label that is too long for any task is refused.
 fn task_of(alloc: Global, label: Option<&str>) -> Result<Option<String>, CommandFault>
-    ensures value { IfOk result (λ task. option_map string_bytes task ≡ option_map (λ given. given.now) label.entry) }
+    ensures value { Reads (λ task. option_map string_bytes task) (spelled_label (option_map (λ given. given.now) label.entry)) result }
     ensures short { IfOk result (λ task. IsLabel (option_map string_bytes task)) }
 {
     if !is_label(label) {
@@ -267,7 +268,8 @@ fn task_of(alloc: Global, label: Option<&str>) -> Result<Option<String>, Command
 
 // Returns whether a label is short enough. `None` is allowed.
 fn is_label(label: Option<&str>) -> bool
-    ensures { IsTrue result → IsLabel (option_map (λ given. given.now) label.entry) }
+    ensures value { result ≡ is_label (option_map (λ given. given.now) label.entry) }
+    ensures short { IsTrue result → IsLabel (option_map (λ given. given.now) label.entry) }
 {
     match label {
         Some(label) => label.len() <= MAX_LABEL,
