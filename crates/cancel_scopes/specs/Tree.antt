@@ -71,6 +71,11 @@ abbrev pub own_from : Stack → Tick
 own_from [] = None
 own_from (l ∷ outer) = l.from
 
+-- whether the innermost scope of a stack has a shield
+abbrev pub own_shield : Stack → Bool
+own_shield [] = false
+own_shield (l ∷ outer) = l.shield
+
 -- the label of the innermost scope of a stack
 abbrev pub own_label : Stack → Option ℕ
 own_label [] = None

@@ -1,7 +1,7 @@
 ghost use Rattle.std.specs.Prelude.{◌≡◌, ◌≢◌, ℕ, ◌+◌, ◌<◌, ◌^◌, ◌∷◌, ◌||◌, [], length, true, false, Some, None, is_some, IsSome, IfOk, OnErr, MatchOption};
 ghost use Rattle.std.specs.Option.{ForSome, option_map};
-ghost use Rattle.cancel_scopes.specs.Sight.{before, sight, seen as is_seen};
-ghost use Rattle.cancel_scopes.specs.Tree.{stack_of, is_changed, IsOpen, outer_of, SameStacks, OthersKeep, SameMarks, OtherMarksKeep, TakesChanged, after_cancel, catches, own_from, outer_levels, IsInnermost, IsOwn, IsChain, IsApart};
+ghost use Rattle.cancel_scopes.specs.Sight.{before, sight, seen as is_seen, is_reached as reached};
+ghost use Rattle.cancel_scopes.specs.Tree.{stack_of, is_changed, IsOpen, outer_of, SameStacks, OthersKeep, SameMarks, OtherMarksKeep, TakesChanged, after_cancel, catches, own_from, own_shield, outer_levels, IsInnermost, IsOwn, IsChain, IsApart};
 ghost use Rattle.cancel_scopes.specs.Kept.{IsTree, IsUnder, HasSights, find_in, scope_in, children_at, upward};
 ghost use Rattle.slab.specs.Slab.{ContainsKey};
 
@@ -132,6 +132,22 @@ impl ScopeTree {
         ensures { ForSome (stack_of self.now id) (λ stack. result ≡ is_seen stack tick) }
     {
         is_reached(self.seen_from(id), tick)
+    }
+
+    /// Returns whether this scope is itself cancelled at `tick`.
+    pub fn is_cancelled(&self, id: ScopeId, tick: u64) -> bool
+        requires { IsOpen self.now id }
+        ensures { ForSome (stack_of self.now id) (λ stack. result ≡ reached (own_from stack) tick) }
+    {
+        is_reached(self.store.scopes[id.key].from, tick)
+    }
+
+    /// Returns whether this scope has a shield.
+    pub fn is_shielded(&self, id: ScopeId) -> bool
+        requires { IsOpen self.now id }
+        ensures { ForSome (stack_of self.now id) (λ stack. result ≡ own_shield stack) }
+    {
+        self.store.scopes[id.key].shield
     }
 
     /// Returns whether this scope catches a `Cancelled` that leaves it at `tick`. It does if it is itself cancelled by

@@ -12,6 +12,7 @@ use Rattle.job_story.specs.Tell.{story_by}
 use Rattle.job_story.specs.Events.{Event, events_of}
 use Rattle.nursery_app.specs.declared.verdict.Verdict.{Verdict}
 use Rattle.nursery_app.specs.declared.verdict.Verdict.TheVariants as verdicts
+use Rattle.job_meaning.specs.Moments.{Clock, clock_of}
 use Rattle.story_app.specs.declared.meaning.Ending.{Ending}
 use Rattle.story_app.specs.declared.meaning.Ending.TheVariants.{Done, Raised, Late}
 use Rattle.story_app.specs.Stories.{story_events, until_if}
@@ -31,35 +32,39 @@ verdict_is job input limit Raised h = h
 verdict_is job input limit Late h = h
 
 -- the verdict on a job, with its chart
-pub job_charted : (form : Form) (job : Tree) (input : List ℕ) (limit : ℕ) (ending : Ending) (verdict : Verdict) (table : Table) (until : Tick)
-    (events walked : List Event) (bytes : List ℕ) → IsEnding job input limit ending → table ≡ meaning_table job input →
+pub job_charted : (form : Form) (job : Tree) (input : List ℕ) (limit : ℕ) (ending : Ending) (verdict : Verdict) (clock : Clock)
+    (table : Table) (until : Tick) (events walked : List Event) (bytes : List ℕ) → IsEnding job input limit ending →
+    clock ≡ clock_of job.format → table ≡ meaning_table job input →
     until ≡ until_of ending limit → events ≡ events_of (root_label job.name) (story_by table job input) →
-    walked ≡ events_until until events → bytes ≡ chart_of form table until walked → IsInForm form bytes → verdict ≡ verdict_of ending →
+    walked ≡ events_until clock until events → bytes ≡ chart_of clock form table until walked → IsInForm form bytes → verdict ≡ verdict_of ending →
     IsJobVerdict form job input limit verdict bytes
-job_charted form job input limit ending verdict table until events walked bytes h same until_is events_are walked_is drawn fits is =
+job_charted form job input limit ending verdict clock table until events walked bytes h counts same until_is events_are walked_is drawn fits is =
     (subst (IsVerdictOn job input limit) (sym is) (verdict_is job input limit ending h), (chart, fits))
   where
     all : walked ≡ story_events limit job input
     all =
-        walked_is ∙ ap (events_until until) (events_are ∙ ap (λ (k : Table). events_of (root_label job.name) (story_by k job input)) same)
-        ∙ ap (λ (u : Tick). events_until u (events_of (root_label job.name) (story_by (meaning_table job input) job input))) until_is
+        walked_is ∙ ap (λ (c : Clock). events_until c until events) counts
+        ∙ ap (events_until (clock_of job.format) until)
+        (events_are ∙ ap (λ (k : Table). events_of (root_label job.name) (story_by k job input)) same)
+        ∙ ap (λ (u : Tick). events_until (clock_of job.format) u (events_of (root_label job.name) (story_by (meaning_table job input) job input))) until_is
         ∙ told_is job input limit ending h
 
     chart : bytes ≡ meaning_chart form limit job input
     chart =
-        drawn ∙ ap (λ (k : Table). chart_of form k until walked) same
-        ∙ ap (λ (u : Tick). chart_of form (meaning_table job input) u walked) (until_is ∙ cut_is job input limit ending h)
-        ∙ ap (chart_of form (meaning_table job input) (until_if (nat_le (meaning_end job input) limit) limit)) all
+        drawn ∙ ap (λ (c : Clock). chart_of c form table until walked) counts
+        ∙ ap (λ (k : Table). chart_of (clock_of job.format) form k until walked) same
+        ∙ ap (λ (u : Tick). chart_of (clock_of job.format) form (meaning_table job input) u walked) (until_is ∙ cut_is job input limit ending h)
+        ∙ ap (chart_of (clock_of job.format) form (meaning_table job input) (until_if (nat_le (meaning_end job input) limit) limit)) all
 
 -- ---- the drawing of an index over the events
 
-pub svg_drawn : (form : Form) (width : ℕ) (table : Table) (until : Tick) (walked known : List Event) (bars : List Bar)
+pub svg_drawn : (clock : Clock) (form : Form) (width : ℕ) (table : Table) (until : Tick) (walked known : List Event) (bars : List Bar)
     (r : Result (Vec ℕ) AllocError) → form ≡ Svg width → known ≡ walked → bars ≡ bars_of table until known →
-    IfOk r (λ bytes. bytes.items ≡ chart_svg width table until walked bars) →
-    IfOk r (λ bytes. bytes.items ≡ chart_of form table until walked)
-svg_drawn form width table until walked known bars r is same bars_are drawn =
-    subst (λ (f : Form). IfOk r (λ bytes. bytes.items ≡ chart_of f table until walked)) (sym is)
-    (subst (λ (bs : List Bar). IfOk r (λ bytes. bytes.items ≡ chart_svg width table until walked bs))
+    IfOk r (λ bytes. bytes.items ≡ chart_svg clock width table until walked bars) →
+    IfOk r (λ bytes. bytes.items ≡ chart_of clock form table until walked)
+svg_drawn clock form width table until walked known bars r is same bars_are drawn =
+    subst (λ (f : Form). IfOk r (λ bytes. bytes.items ≡ chart_of clock f table until walked)) (sym is)
+    (subst (λ (bs : List Bar). IfOk r (λ bytes. bytes.items ≡ chart_svg clock width table until walked bs))
     (bars_are ∙ ap (bars_of table until) same) drawn)
 
 -- ---- the verdict on a text

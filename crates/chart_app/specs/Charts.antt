@@ -4,6 +4,7 @@ use Rattle.job_tree.specs.Tree.{Tree}
 use Rattle.cancel_scopes.specs.Sight.{Tick}
 use Rattle.job_grammar.specs.Refusals.{Spells, IsRefused}
 use Rattle.job_meaning.specs.Log.{Table}
+use Rattle.job_meaning.specs.Moments.{Clock, clock_of}
 use Rattle.job_meaning.specs.Meaning.{meaning, meaning_end, meaning_table}
 use Rattle.job_story.specs.Events.{Event}
 use Rattle.nursery_app.specs.Verdict.{refusal_line}
@@ -20,14 +21,15 @@ use Rattle.chart_app.specs.declared.form.Form.{Form}
 use Rattle.chart_app.specs.declared.form.Form.TheVariants.{Text, Svg}
 
 -- a chart of these events by a table, of a story that is whole or cut off at a limit
-abbrev pub chart_of : Form → Table → Tick → List Event → List ℕ
-chart_of (Text width) table until walked = chart_text width until walked (bars_of table until walked)
-chart_of (Svg width) table until walked = chart_svg width table until walked (bars_of table until walked)
+abbrev pub chart_of : Clock → Form → Table → Tick → List Event → List ℕ
+chart_of clock (Text width) table until walked = chart_text width until walked (bars_of table until walked)
+chart_of clock (Svg width) table until walked = chart_svg clock width table until walked (bars_of table until walked)
 
 -- the chart of a meaning: whole where it ends by the limit, and up to the limit otherwise
 abbrev pub meaning_chart : Form → ℕ → Tree → List ℕ → List ℕ
 meaning_chart form limit job input =
-    chart_of form (meaning_table job input) (until_if (nat_le (meaning_end job input) limit) limit) (story_events limit job input)
+    chart_of (clock_of job.format) form (meaning_table job input) (until_if (nat_le (meaning_end job input) limit) limit)
+    (story_events limit job input)
 
 -- an SVG document is well formed
 abbrev pub IsInForm : Form → List ℕ → Type 0

@@ -93,8 +93,15 @@ fn job_chart<R: Threads + Sync, P: Pick, G: Gate + Sync>(
     let meaning = meaning_of(rt, alloc, job, input, settings, picker, gate)?;
     let last = meaning.ending.until(settings.limit());
     let events = tell(alloc, job, input, &meaning.table)?;
-    let walked = events_until(alloc, events.as_slice(), last)?;
-    let bytes = chart_of(alloc, form, walked.as_slice(), &meaning.table, last)?;
+    let walked = events_until(alloc, meaning.clock, events.as_slice(), last)?;
+    let bytes = chart_of(
+        alloc,
+        meaning.clock,
+        form,
+        walked.as_slice(),
+        &meaning.table,
+        last,
+    )?;
     Ok((verdict_of(meaning.ending), bytes))
 }
 

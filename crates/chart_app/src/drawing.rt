@@ -11,6 +11,7 @@ use chart_bars::{Bar, StoryIndex};
 use chart_svg::chart_svg;
 use chart_text::chart_text;
 use job_story::{Event, Froms};
+use moments::Clock;
 use std::alloc::{AllocError, Global};
 use story_causes::Causes;
 use story_text::in_order;
@@ -18,25 +19,27 @@ use story_text::in_order;
 // Returns the chart of a story with these events in the order of the walk, and this table.
 pub(crate) fn chart_of(
     alloc: Global,
+    clock: Clock,
     form: Form,
     walked: &[&Event],
     froms: &Froms,
     until: Option<u64>,
 ) -> Result<Vec<u8>, AllocError>
-    ensures chart { IfOk result (λ bytes. bytes.items ≡ chart_of form (table_in froms.now) until (map event_in walked.now)) }
+    ensures chart { IfOk result (λ bytes. bytes.items ≡ chart_of clock form (table_in froms.now) until (map event_in walked.now)) }
     ensures well { IfOk result (λ bytes. IsInForm form bytes.items) }
 {
     let index = StoryIndex::of(alloc, walked)?;
     let bars = index.bars(alloc, froms, until)?;
     match form {
         Form::Text { width } => chart_text(alloc, width, until, walked, bars.as_slice()),
-        Form::Svg { width } => svg(alloc, width, until, walked, froms, bars.as_slice()),
+        Form::Svg { width } => svg(alloc, clock, width, until, walked, froms, bars.as_slice()),
     }
 }
 
 // Returns the same chart as an SVG document, with these bars.
 fn svg<'e>(
     alloc: Global,
+    clock: Clock,
     width: usize,
     until: Option<u64>,
     walked: &[&'e Event],
@@ -44,13 +47,14 @@ fn svg<'e>(
     bars: &[Bar<'_, 'e>],
 ) -> Result<Vec<u8>, AllocError>
     ensures chart { IfOk result (λ bytes. bytes.items
-        ≡ svg.chart_svg width (table_in froms.entry.now) until (map event_in walked.now) (map bar_of bars.now)) }
+        ≡ svg.chart_svg clock width (table_in froms.entry.now) until (map event_in walked.now) (map bar_of bars.now)) }
     ensures well { IfOk result (λ bytes. IsDocument bytes.items) }
 {
     let sorted = in_order(alloc, walked)?;
     let causes = Causes::of(alloc, sorted.as_slice(), froms)?;
     chart_svg(
         alloc,
+        clock,
         width,
         until,
         walked,

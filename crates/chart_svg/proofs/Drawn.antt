@@ -5,6 +5,7 @@ use Rattle.std.proofs.lemmas.List.{append-nil}
 use Rattle.std.proofs.lemmas.Result.{on_ok_weaker}
 use Rattle.cancel_scopes.specs.Sight.{Tick}
 use Rattle.job_meaning.specs.Log.{Table}
+use Rattle.job_meaning.specs.Moments.{Clock}
 use Rattle.job_story.specs.Events.{Event, in_order}
 use Rattle.chart_bars.specs.Bars.{Bar}
 use Rattle.chart_bars.specs.Ticks.{all_ticks}
@@ -60,20 +61,24 @@ document_drawn sheet until all bars width height empty a b new none w h p q r =
     ∙ ap (λ y. whole (width_of sheet bars) y) h
 
 -- the drawing of a story, from what is known of its sheet
-pub drawing_is : (width : ℕ) (table : Table) (until : Tick) (walked : List Event) (bars : List Bar)
-    (names count : ℕ) (ticks : List ℕ) (all columns : List Column) (known : Table) (events sorted : List Event) (svg : List ℕ) →
+pub drawing_is : (clock : Clock) (width : ℕ) (table : Table) (until : Tick) (walked : List Event) (bars : List Bar)
+    (names count : ℕ) (ticks : List ℕ) (all columns : List Column) (counted : Clock) (known : Table)
+    (events sorted : List Event) (svg : List ℕ) →
     ticks ≡ all_ticks walked until → all ≡ columns_of ticks → columns ≡ columns_for width all bars → names ≡ longest_name bars →
-    known ≡ table → events ≡ sorted → sorted ≡ in_order walked → count ≡ length all →
-    svg ≡ content_text (document (record { names = names; columns = columns; table = known; events = events }) until count bars) →
-    svg ≡ chart_svg width table until walked bars
-drawing_is width table until walked bars names count ticks all columns known events sorted svg t a c n k e s l p =
-    let drawn = λ (n : ℕ) (cs : List Column) (k : Table) (es : List Event) (m : ℕ).
-    content_text (document (record { names = n; columns = cs; table = k; events = es }) until m bars) in
+    counted ≡ clock → known ≡ table → events ≡ sorted → sorted ≡ in_order walked → count ≡ length all →
+    svg ≡ content_text (document (record { names = names; columns = columns; clock = counted; table = known; events = events })
+    until count bars) →
+    svg ≡ chart_svg clock width table until walked bars
+drawing_is clock width table until walked bars names count ticks all columns counted known events sorted svg t a c n m k e s l p =
+    let drawn = λ (n : ℕ) (cs : List Column) (o : Clock) (k : Table) (es : List Event) (i : ℕ).
+    content_text (document (record { names = n; columns = cs; clock = o; table = k; events = es }) until i bars) in
+    let shown = columns_for width (columns_of (all_ticks walked until)) bars in
     let every : all ≡ columns_of (all_ticks walked until) = a ∙ ap columns_of t in
     p
-    ∙ ap (λ n. drawn n columns known events count) n
-    ∙ ap (λ cs. drawn (longest_name bars) cs known events count) (c ∙ ap (λ z. columns_for width z bars) every)
-    ∙ ap (λ k. drawn (longest_name bars) (columns_for width (columns_of (all_ticks walked until)) bars) k events count) k
-    ∙ ap (λ es. drawn (longest_name bars) (columns_for width (columns_of (all_ticks walked until)) bars) table es count) (e ∙ s)
-    ∙ ap (λ m. drawn (longest_name bars) (columns_for width (columns_of (all_ticks walked until)) bars) table (in_order walked) m)
+    ∙ ap (λ n. drawn n columns counted known events count) n
+    ∙ ap (λ cs. drawn (longest_name bars) cs counted known events count) (c ∙ ap (λ z. columns_for width z bars) every)
+    ∙ ap (λ o. drawn (longest_name bars) shown o known events count) m
+    ∙ ap (λ k. drawn (longest_name bars) shown clock k events count) k
+    ∙ ap (λ es. drawn (longest_name bars) shown clock table es count) (e ∙ s)
+    ∙ ap (λ i. drawn (longest_name bars) shown clock table (in_order walked) i)
     (l ∙ ap (λ z. length z) every)

@@ -2,6 +2,7 @@
 use Rattle.std.specs.Prelude.{ℕ, ◌+◌, ◌-◌, ◌*◌, ◌==◌, Some, None, List, [], ◌∷◌, ◌++◌, length, codes, decimal, min, nat_le, take, if◌then◌else◌}
 use Rattle.cancel_scopes.specs.Sight.{Tick}
 use Rattle.job_meaning.specs.Log.{Table}
+use Rattle.job_meaning.specs.Moments.{Clock}
 use Rattle.job_story.specs.Events.{Event, in_order}
 use Rattle.chart_bars.specs.Bars.{Bar}
 use Rattle.chart_bars.specs.Ticks.{all_ticks}
@@ -142,15 +143,15 @@ document sheet until all bars =
     element tags.Svg (svg_attributes (width_of sheet bars) (height_of bars)) (inside_of sheet until all bars) nothing
 
 -- the sheet of a chart with room for as many columns as a text chart of this width
-abbrev pub sheet_of : ℕ → Table → List Event → List Column → List Bar → Sheet
-sheet_of width table sorted all bars =
-    record { names = longest_name bars; columns = columns_for width all bars; table = table; events = sorted }
+abbrev pub sheet_of : Clock → ℕ → Table → List Event → List Column → List Bar → Sheet
+sheet_of clock width table sorted all bars =
+    record { names = longest_name bars; columns = columns_for width all bars; clock = clock; table = table; events = sorted }
 
 -- the drawing of a story, from its events in the order of the walk and their bars
-abbrev pub drawing_of : ℕ → Table → Tick → List Event → List Bar → Content
-drawing_of width table until walked bars =
+abbrev pub drawing_of : Clock → ℕ → Table → Tick → List Event → List Bar → Content
+drawing_of clock width table until walked bars =
     let all = columns_of (all_ticks walked until) in
-    document (sheet_of width table (in_order walked) all bars) until (length all) bars
+    document (sheet_of clock width table (in_order walked) all bars) until (length all) bars
 
-abbrev pub chart_svg : ℕ → Table → Tick → List Event → List Bar → List ℕ
-chart_svg width table until walked bars = content_text (drawing_of width table until walked bars)
+abbrev pub chart_svg : Clock → ℕ → Table → Tick → List Event → List Bar → List ℕ
+chart_svg clock width table until walked bars = content_text (drawing_of clock width table until walked bars)

@@ -1,6 +1,6 @@
 -- The sheets, sizes and sources of the code, as the definitions see them.
 use Rattle.std.specs.Prelude.{map}
-use Rattle.story_text.specs.Told.{events_in, froms_in}
+use Rattle.story_text.specs.Told.{clock_in, events_in, froms_in}
 use Rattle.chart_columns.specs.Held.{column_of}
 use Rattle.chart_svg.specs.Sheets as sheets
 use Rattle.chart_svg.specs.Rows as rows
@@ -14,6 +14,7 @@ sheet_held sheet =
     record {
       names = sheet.names;
       columns = map column_of sheet.columns.now;
+      clock = clock_in sheet.known.now;
       table = froms_in sheet.known.now;
       events = events_in sheet.known.now;
     }

@@ -79,7 +79,8 @@ more_told n = if nat_le n MAX_TOLD then [] else codes "and " ++ decimal (n - MAX
 abbrev pub bar_title : Sheet → Bar → Content
 bar_title sheet bar =
     element tags.Title []
-    (text (kept_text sheet.table sheet.events (take MAX_TOLD (told_of bar)) ++ more_told (length (told_of bar))) nothing) nothing
+    (text (kept_text sheet.clock sheet.table sheet.events (take MAX_TOLD (told_of bar))
+    ++ more_told (length (told_of bar))) nothing) nothing
 
 -- ---- parts of a row
 

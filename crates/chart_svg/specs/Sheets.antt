@@ -1,6 +1,7 @@
 -- The coordinates of things in a drawing, in pixels, and what the story says of them.
 use Rattle.std.specs.Prelude.{ℕ, ◌+◌, ◌*◌, List, [], ◌∷◌, min, nat_le, if◌then◌else◌}
 use Rattle.job_meaning.specs.Log.{Table}
+use Rattle.job_meaning.specs.Moments.{Clock}
 use Rattle.job_story.specs.Events.{Event}
 use Rattle.job_story.specs.Sentences.{kept_text}
 use Rattle.chart_columns.specs.Columns.{Column, column_at, gap_to}
@@ -8,11 +9,12 @@ use Rattle.svg_text.specs.Content.{Content, nothing, text, element}
 use Rattle.svg_text.specs.declared.names.Tag.TheVariants as tags
 use Rattle.chart_svg.specs.declared.layout.TheConstants.{LEFT, TOP, ROW, LETTER, PLACE, FARTHEST, MAX_NAME, MAX_ROWS}
 
--- What all parts of a drawing depend on: the length of the longest name of a row, the columns, the ticks from which scopes and
--- nurseries are cancelled, and the events in order.
+-- What all parts of a drawing depend on: the length of the longest name of a row, the columns, the clock of the story's moments,
+-- the moments from which scopes and nurseries are cancelled, and the events in order.
 pub record Sheet : Type 0 where
   pub names : ℕ
   pub columns : List Column
+  pub clock : Clock
   pub table : Table
   pub events : List Event
 
@@ -39,4 +41,4 @@ middle_of i = y_of i + 12
 
 -- what the story says of these events, as a title
 abbrev pub events_title : Sheet → List Event → Content
-events_title sheet es = element tags.Title [] (text (kept_text sheet.table sheet.events es) nothing) nothing
+events_title sheet es = element tags.Title [] (text (kept_text sheet.clock sheet.table sheet.events es) nothing) nothing

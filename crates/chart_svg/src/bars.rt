@@ -8,7 +8,7 @@ ghost use Rattle.job_story.specs.Sentences.{kept_text};
 ghost use Rattle.block_exits.specs.Held.{kind_of};
 ghost use Rattle.job_story.specs.Held.{unboxed_exc};
 ghost use Rattle.story_causes.specs.Seen.{event_in};
-ghost use Rattle.story_text.specs.Told.{events_in, froms_in};
+ghost use Rattle.story_text.specs.Told.{clock_in, events_in, froms_in};
 ghost use Rattle.chart_bars.specs.Held.{bar_of, event_seen};
 ghost use Rattle.svg_text.specs.Content.{content_text};
 ghost use Rattle.chart_svg.specs.Rows.{exc_word, end_word, class_by, class_of, size_of, told_of, more_told, bar_title};
@@ -129,7 +129,8 @@ fn told_text(
     sheet: &Sheet<'_, '_, '_>,
     events: &[&Event],
 ) -> Result<Vec<u8>, AllocError>
-    ensures { IfOk result (λ told. told.items ≡ kept_text (froms_in sheet.now.known.now) (events_in sheet.now.known.now)
+    ensures { IfOk result (λ told. told.items
+        ≡ kept_text (clock_in sheet.now.known.now) (froms_in sheet.now.known.now) (events_in sheet.now.known.now)
         (take MAX_TOLD (map event_in events.now)) ++ more_told (length (map event_in events.now))) }
 {
     let mut told = kept_text(alloc, first_of(events), sheet.known)?;

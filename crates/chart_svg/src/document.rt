@@ -25,21 +25,23 @@ use chart_columns::{columns_of, last_tick};
 use chart_text::{columns_for, longest_name, longest_outcome, push_name};
 use digits::push_number;
 use job_story::{Event, Froms};
+use moments::Clock;
 use std::alloc::{AllocError, Global};
 use story_causes::Causes;
 use story_text::Known;
 use svg_text::{Attr, Tag, attribute, begin, end, inside, number, text};
 
-/// Returns a chart as an SVG document, which is always well formed. The story is given by its events in the order of the walk
-/// (`walked`), the same events in order (`sorted`), the table with the ticks from which scopes and nurseries are cancelled
-/// (`froms`), the index of the sorted events and this table (`causes`), and the bars of the events. The caller must ensure that
-/// `sorted` is `in_order` of `walked`, and that `causes` is that index.
+/// Returns a chart as an SVG document, which is always well formed. The story is given by the clock of its moments, its events in
+/// the order of the walk (`walked`), the same events in order (`sorted`), the table with the moments from which scopes and
+/// nurseries are cancelled (`froms`), the index of the sorted events and this table (`causes`), and the bars of the events. The
+/// caller must ensure that `sorted` is `in_order` of `walked`, and that `causes` is that index.
 ///
 /// There is room for as many columns as in a text chart of `width` characters. `until` is the limit at which the story is cut
 /// off, or `None` for a whole story. At most 2,000 rows are drawn, and a note says how many are left out. Returns `AllocError` if
 /// memory is refused.
 pub fn chart_svg<'e>(
     alloc: Global,
+    clock: Clock,
     width: usize,
     until: Option<u64>,
     walked: &[&'e Event],
@@ -51,13 +53,13 @@ pub fn chart_svg<'e>(
     requires knows { Knows causes.now (table_in froms.now) (map event_in sorted.now) }
     requires sorted { map event_in sorted.now ≡ in_order (map event_in walked.now) }
     ensures drawing { IfOk result (λ svg. svg.items
-        ≡ chart_svg width (table_in froms.now) until (map event_in walked.now) (map bar_of bars.now)) }
+        ≡ chart_svg clock width (table_in froms.now) until (map event_in walked.now) (map bar_of bars.now)) }
     ensures well_formed { IfOk result (λ svg. IsDocument svg.items) }
 {
     let ticks = all_ticks(alloc, walked, until)?;
     let all = columns_of(alloc, ticks.as_slice())?;
     let columns = columns_for(alloc, width, all.as_slice(), bars)?;
-    let known = Known::new(sorted, froms, causes);
+    let known = Known::new(clock, sorted, froms, causes);
     let sheet = Sheet {
         names: longest_name(alloc, bars)?,
         columns: columns.as_slice(),

@@ -3,6 +3,7 @@ use Rattle.std.specs.Prelude.{◌≡◌, ◌≤◌, ℕ, List, [], ◌∷◌, le
 use Rattle.std.specs.Option.{option_map}
 use Rattle.exc_groups.specs.Held.{exc_of}
 use Rattle.job_tree.specs.Tree.{Tree}
+use Rattle.job_meaning.specs.Moments.{clock_of}
 use Rattle.job_meaning.specs.Meaning.{meaning, meaning_end}
 use Rattle.job_meaning.specs.Shown.{Ending, well, Row, meaning_rows}
 use Rattle.job_meaning.specs.declared.limits.TheConstants.{MAX_INPUT}
@@ -17,6 +18,7 @@ use Rattle.fault_app.specs.declared.lines.Author.{Author}
 
 -- what is kept of a run is what the meaning says
 pub record IsSummary (job : Tree) (input : List ℕ) (s : Summary) : Type 0 where
+  pub clock : s.clock ≡ clock_of job.format
   pub end : s.end ≡ meaning_end job input
   pub exc : option_map exc_of s.exc ≡ (meaning job input).exc
   pub cancelled : s.cancelled.items ≡ cancelled_in (meaning_rows job input)

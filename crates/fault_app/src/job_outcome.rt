@@ -19,6 +19,7 @@ use fault_notes::{cut_in_cleanup, is_lost, is_lost_so_far, is_raised, sleeping_f
 use fault_text::JobOutcome;
 use job_grammar::{Job, JobKind, Name, read_job};
 use job_story::Event;
+use moments::Clock;
 use std::alloc::{AllocError, Global};
 use std::thread::Threads;
 use story_app::events_until;
@@ -91,7 +92,7 @@ pub fn outcome_of_job<R: Threads + Sync>(
 {
     let summary = summary_of(rt, alloc, job, input)?;
     if summary.end > limit {
-        return stuck_outcome(alloc, summary.events.as_slice(), limit, name);
+        return stuck_outcome(alloc, summary.clock, summary.events.as_slice(), limit, name);
     }
     ended_outcome(alloc, summary, name)
 }
@@ -110,7 +111,7 @@ fn reaches_in_job<R: Threads + Sync>(
     ensures { IfOk result (λ reached. reached ≡ reaches limit name job.now input.now) }
 {
     let summary = summary_of(rt, alloc, job, input)?;
-    let walked = events_until(alloc, summary.events.as_slice(), Some(limit))?;
+    let walked = events_until(alloc, summary.clock, summary.events.as_slice(), Some(limit))?;
     Ok(is_raised(walked.as_slice(), name))
 }
 
@@ -124,12 +125,13 @@ fn ended_outcome(
         (cut_in (in_order (map event_of summary.events.items))) (loses name (map event_of summary.events.items))) }
 {
     let Summary {
+        clock,
         end,
         exc,
         cancelled,
         events,
     } = summary;
-    let walked = events_until(alloc, events.as_slice(), None)?;
+    let walked = events_until(alloc, clock, events.as_slice(), None)?;
     let cut = cut_tasks(alloc, walked.as_slice())?;
     let lost = loses(walked.as_slice(), name);
     Ok(JobOutcome::Ended {
@@ -144,13 +146,14 @@ fn ended_outcome(
 // Returns the outcome of a job that does not end by the limit.
 fn stuck_outcome(
     alloc: Global,
+    clock: Clock,
     events: &[Event],
     limit: u64,
     name: Option<Name>,
 ) -> Result<JobOutcome, AllocError>
-    ensures { IfOk result (λ job_outcome. job_outcome_held job_outcome ≡ stuck_by name (by_limit limit (map event_of events.now))) }
+    ensures { IfOk result (λ job_outcome. job_outcome_held job_outcome ≡ stuck_by name (by_limit clock limit (map event_of events.now))) }
 {
-    let walked = events_until(alloc, events, Some(limit))?;
+    let walked = events_until(alloc, clock, events, Some(limit))?;
     let asleep = sleeping_forever(alloc, walked.as_slice())?;
     Ok(JobOutcome::Stuck {
         sleeping: copies(alloc, asleep.as_slice())?,

@@ -13,6 +13,7 @@ use job_grammar::Job;
 use job_runner::{Forward, NoGate, Run, run_to_end};
 use job_story::{Event, law_froms_of_meaning};
 use job_teller::tell;
+use moments::Clock;
 use std::alloc::{AllocError, Global};
 use std::thread::Threads;
 use story_app::table_of;
@@ -20,6 +21,8 @@ use story_app::table_of;
 /// What is kept of the run of a job to its end.
 #[derive(Drop)]
 pub struct Summary {
+    /// How the time of the job is counted.
+    pub clock: Clock,
     /// The tick at which the job ends.
     pub end: u64,
     /// The exception that it ends with, or `None` if it ends without one.
@@ -44,12 +47,14 @@ pub fn summary_of<R: Threads + Sync>(
 {
     law_froms_of_meaning();
     let run = run_to_end(rt, alloc, job, input, 1, &mut Forward, &NoGate)?;
+    let clock = Clock::of(job.text_format());
     let end = run.end();
     let exc = exc_of_root(alloc, &run)?;
     let cancelled = cancelled_tasks(alloc, run.records())?;
     let table = table_of(alloc, run)?;
     let events = tell(alloc, job, input, &table)?;
     Ok(Summary {
+        clock,
         end,
         exc,
         cancelled,

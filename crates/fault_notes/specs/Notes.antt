@@ -9,7 +9,7 @@ use Rattle.job_story.specs.Focus.{is_among}
 
 -- ---- tasks that sleep forever
 
--- a task fell asleep without a tick at which it is due
+-- a task fell asleep without a moment at which it is due
 abbrev pub is_endless : What → Bool
 is_endless (happens (sleeps None)) = true
 is_endless _ = false

@@ -13,7 +13,7 @@ use std::alloc::{AllocError, Global};
 use story_causes::LastEvents;
 
 /// Returns the tasks that sleep forever after these events. The events are those of a story in the order of the walk, and may
-/// end at some tick. A task sleeps forever if it was started, and its last event is that it fell asleep without a tick at which
+/// end at some moment. A task sleeps forever if it was started, and its last event is that it fell asleep without a moment at which
 /// it is due. The tasks are in the order in which the walk starts them. The only error is that memory was refused.
 pub fn sleeping_forever<'e>(
     alloc: Global,

@@ -4,6 +4,7 @@ use Rattle.exc_groups.specs.Exceptions.{Label, Exc}
 use Rattle.job_tree.specs.Tree.{Tree}
 use Rattle.job_grammar.specs.Kinds.{number_of}
 use Rattle.job_grammar.specs.declared.fault.JobFault.{JobFault}
+use Rattle.job_meaning.specs.Moments.{Clock, clock_of}
 use Rattle.job_meaning.specs.Meaning.{root_label, meaning, meaning_end, meaning_table}
 use Rattle.job_meaning.specs.Shown.{Ending, well, by_cancellation, with_exception, Row, meaning_rows}
 use Rattle.job_story.specs.Tell.{story_by}
@@ -48,20 +49,20 @@ loses_so_far (Some name) es = is_lost_so_far name es
 abbrev pub stuck_by : Option (List ℕ) → List Event → JobOutcome
 stuck_by name es = stuck (sleeping_in es) (cut_in (in_order es)) (loses_so_far name es)
 
--- The outcome of a job that ends or does not end by a limit, given its records and events, and the name of the exception that
+-- The outcome of a job that ends or does not end by a limit, given how its time is counted, its records and events, and the name of the exception that
 -- the fault raises, if it raises one.
-abbrev pub job_outcome_by : Bool → ℕ → Option (List ℕ) → ℕ → Option Exc → List Row → List Event → JobOutcome
-job_outcome_by false limit name end exc rows es = stuck_by name (by_limit limit es)
-job_outcome_by true limit name end exc rows es = ended end exc (cancelled_in rows) (cut_in (in_order es)) (loses name es)
+abbrev pub job_outcome_by : Clock → Bool → ℕ → Option (List ℕ) → ℕ → Option Exc → List Row → List Event → JobOutcome
+job_outcome_by clock false limit name end exc rows es = stuck_by name (by_limit clock limit es)
+job_outcome_by clock true limit name end exc rows es = ended end exc (cancelled_in rows) (cut_in (in_order es)) (loses name es)
 
 abbrev pub job_outcome_of : ℕ → Option (List ℕ) → Tree → List ℕ → JobOutcome
 job_outcome_of limit name job input =
-    job_outcome_by (nat_le (meaning_end job input) limit) limit name (meaning_end job input) (meaning job input).exc (meaning_rows job input)
-    (walked_events job input)
+    job_outcome_by (clock_of job.format) (nat_le (meaning_end job input) limit) limit name (meaning_end job input) (meaning job input).exc
+    (meaning_rows job input) (walked_events job input)
 
 -- whether an exception with this name is raised by the limit
 abbrev pub reaches : ℕ → List ℕ → Tree → List ℕ → Bool
-reaches limit name job input = is_raised name (by_limit limit (walked_events job input))
+reaches limit name job input = is_raised name (by_limit (clock_of job.format) limit (walked_events job input))
 
 -- ---- how it is printed
 

@@ -1,21 +1,23 @@
--- If a run agrees with a table, the table and the froms that the run keeps agree at the present tick; and the jump: nothing
--- that was not done yet happens before the tick to which the clock jumps.
-use Rattle.std.proofs.Common.{◌≡◌, ℕ, zero, suc, ◌+◌, ◌-◌, ◌<◌, ◌≤◌, min, max, true, Some, None, List, [], ◌∷◌, refl, sym, ap, ◌∙◌, subst, inl, inr, arith}
-use Rattle.exc_groups.specs.Exceptions.{Label}
+-- If a run agrees with a table, the table and the froms that the run keeps agree in the present moment; and the jump: nothing
+-- that was not done yet happens before the moment to which the clock jumps.
+use Rattle.std.proofs.Common.{◌≡◌, ◌⊎◌, ℕ, zero, suc, ◌+◌, ◌-◌, ◌<◌, ◌≤◌, min, Bool, true, Option, Some, None, List, [], ◌∷◌, refl, sym, ap, ◌∙◌, subst, inl, inr, arith}
+use Rattle.exc_groups.specs.Exceptions.{Label, Exc}
 use Rattle.cancel_scopes.specs.Sight.{Tick, sight}
-use Rattle.job_meaning.specs.Log.{Result, Table, least_sign}
-use Rattle.job_meaning.specs.Walk.{latest}
+use Rattle.job_meaning.specs.Log.{Member, Result, Table, least_sign}
+use Rattle.job_meaning.specs.Moments.{Clock, a_round_after, wakes_at}
+use Rattle.job_meaning.specs.Walk.{by_table, latest}
 use Rattle.job_meaning.specs.Before.{upto}
-use Rattle.job_meaning.specs.Rest.{told_members, Stopped, to_begin, asking, asleep, awaiting, at_end}
+use Rattle.job_meaning.specs.Rest.{ChildOutcomes, told_members, Stopped, to_begin, asking, asleep, giving_up, awaiting, at_end, task_comes_to}
+use Rattle.job_meaning.proofs.MomentLemmas.{round_after}
 use Rattle.job_meaning.proofs.Late.{Timed}
 use Rattle.job_meaning.proofs.Clips.{upto_most, sight_near, least_late}
 use Rattle.turn_semantics.specs.Midway.{Place, stack_at}
-use Rattle.turn_semantics.specs.Placed.{PlacedStop}
+use Rattle.turn_semantics.specs.Placed.{PlacedStop, IsAmong}
 use Rattle.turn_semantics.specs.Turned.{AgreesOn, AgreesIn, made_sign}
-use Rattle.interleavings.specs.Interleaving.{Started, Tells, Fits, made_least, all_least, EnteredIn, In, Kid, HasFrom, Entered, EachPlace, RunInvariant, live, goes_on, resumes, AllFrom, Unended, StaysUntil, Blocked}
+use Rattle.interleavings.specs.Interleaving.{Started, Tells, Fits, made_least, all_least, EnteredIn, In, Kid, HasFrom, Entered, EachPlace, RunInvariant, live, slept, goes_on, resumes, AllFrom, Unended, members_by, Settling, StaysUntil, Blocked}
 use Rattle.interleavings.proofs.Readings.{upto_from, entered_times, left_fresh}
 use Rattle.interleavings.proofs.Contract.{near_places, agrees_each}
-use Rattle.interleavings.proofs.Lateness.{late_rest, timed_rest, sleeping_end, latest_in}
+use Rattle.interleavings.proofs.Lateness.{slept_after, slept_unseen, late_rest, timed_rest, latest_in}
 
 -- a record of outcomes says the same as itself
 pub told_tells : (q : Started) → Tells q q.told
@@ -42,6 +44,36 @@ lefts_late v l (q ∷ qs) h =
     let b : upto v (made_sign l q.made) ≤ v = upto_most v (made_sign l q.made) in
     let c : all_least v l qs ≡ made_least v l qs = lefts_late v l qs (λ x i. h x (inr i)) in
     omega arith
+
+-- the result of an ended task
+pub ended_final_result : (k : Table) (q : Started) → Fits k q → (u : ℕ) (e : Option Exc) → q.rest.stopped ≡ at_end u e → (q.final_result.end ≡ u)
+    × (q.final_result.exc ≡ e)
+ended_final_result k q p u e s = (
+  sym (ap (λ (r : Result). r.end) (p.comes q.told (told_tells q)))
+      ∙ ap (λ (z : Stopped). (task_comes_to (by_table k) q.told q.made (record { stopped = z; frames = q.rest.frames }) q.here
+      (stack_at k q.places) q.stop).end) s,
+  sym (ap (λ (r : Result). r.exc) (p.comes q.told (told_tells q)))
+      ∙ ap (λ (z : Stopped). (task_comes_to (by_table k) q.told q.made (record { stopped = z; frames = q.rest.frames }) q.here
+      (stack_at k q.places) q.stop).exc) s,
+)
+
+same_member : (m n : Member) → m.end ≡ n.end → m.exc ≡ n.exc → m ≡ n
+same_member m n e f = λ i. record { end = e i; exc = f i }
+
+module _ (k f : Table) (whole : Result) (qs : List Started) (o : RunInvariant k f whole qs) (q : Started) (i : In q qs) where
+  -- what is recorded of children that have ended is how they ended
+  pub told_ended : (told : ChildOutcomes) → Tells q told → (ends : ℕ → Member) (is : List ℕ) → ((n : ℕ) → IsAmong n is → n < q.count) →
+      ((n : ℕ) → IsAmong n is → (c : Started) → In c qs → c.serial ≡ q.child n → c.rest.stopped ≡ at_end (ends n).end (ends n).exc) →
+      told_members told is ≡ members_by ends is
+  told_ended told tells ends [] h e = refl
+  told_ended told tells ends (n ∷ is) h e =
+      let c : Kid qs q n = o.kids q i n (h n (inl refl)) in
+      let z : (c.kid.final_result.end ≡ (ends n).end) × (c.kid.final_result.exc ≡ (ends n).exc) =
+      ended_final_result k c.kid (o.fits c.kid c.among) (ends n).end (ends n).exc (e n (inl refl) c.kid c.among c.serial) in
+      let y : told n ≡ c.kid.final_result = tells n (h n (inl refl)) ∙ sym c.same in
+      let first : _ = same_member (record { end = (told n).end; exc = (told n).exc }) (ends n) (ap (λ (r : Result). r.end) y ∙ z.0)
+      (ap (λ (r : Result). r.exc) y ∙ z.1) in
+      λ j. first j ∷ told_ended told tells ends is (λ m x. h m (inr x)) (λ m x. e m (inr x)) j
 
 module _ (k f : Table) (whole : Result) (qs : List Started) (o : RunInvariant k f whole qs) (v : ℕ) (from : AllFrom k qs v) where
   -- the first sign before v, where there is one, was made
@@ -76,21 +108,33 @@ module _ (k f : Table) (whole : Result) (qs : List Started) (o : RunInvariant k 
   pub agrees_in : (q : Started) → In q qs → AgreesIn v k q.left
   agrees_in q i = agrees_each v k q.left (deadline_left q i)
 
-  sleeps_until : (u n since : ℕ) (x y : Tick) → v < u → u ≤ since + n → upto u y ≡ u → upto (suc v) x ≡ upto (suc v) y →
-      suc v ≤ max since (upto (since + n) x)
-  sleeps_until u n since None None m p g j = omega arith
-  sleeps_until u n since None (Some y) m p g j = omega arith
-  sleeps_until u n since (Some x) None m p g j = omega arith
-  sleeps_until u n since (Some x) (Some y) m p g j = omega arith
-
-  waits_on : (q : Started) (children : List ℕ) (ended : ℕ) (c : Unended qs q children) → suc v ≤ (q.told c.number).end →
-      suc v ≤ latest ended (told_members q.told children)
-  waits_on q children ended c h =
-      let j : (q.told c.number).end ≤ latest ended (told_members q.told children) = latest_in q.told ended children c.number c.among in
+  sleeps_until : (clock : Clock) (paced : Bool) (n since u : ℕ) (ps : List Place) → v < u → u ≤ wakes_at clock n since →
+      (upto u (sight (stack_at f ps)) ≡ u) ⊎ (u ≤ a_round_after clock since) →
+      upto (suc v) (sight (stack_at k ps)) ≡ upto (suc v) (sight (stack_at f ps)) →
+      suc v ≤ min (slept clock paced (stack_at k ps) n since).end (wakes_at clock n since)
+  sleeps_until clock paced n since u ps m p (inl g) j =
+      let a : upto (suc v) (sight (stack_at k ps)) ≡ suc v = unseen (sight (stack_at k ps)) (sight (stack_at f ps)) g j in
+      let b : suc v ≤ (slept clock paced (stack_at k ps) n since).end =
+      slept_unseen clock paced (stack_at k ps) n since (suc v) (omega arith) a in
+      omega arith
+    where
+      unseen : (x y : Tick) → upto u y ≡ u → upto (suc v) x ≡ upto (suc v) y → upto (suc v) x ≡ suc v
+      unseen x None g j = j
+      unseen x (Some y) g j = j ∙ omega arith
+  sleeps_until clock paced n since u ps m p (inr g) j =
+      let b : a_round_after clock since ≤ (slept clock paced (stack_at k ps) n since).end = slept_after clock paced (stack_at k ps) n since in
       omega arith
 
-  -- One tick further: no sleeper continues before it, and a task that waits continues no earlier than a child that has not
-  -- ended, whose serial number is greater.
+  waits_on : (clock : Clock) (q : Started) (children : List ℕ) (ended : ℕ) (c : Unended qs q children) → suc v ≤ (q.told c.number).end →
+      suc v ≤ a_round_after clock (latest ended (told_members q.told children))
+  waits_on clock q children ended c h =
+      let j : (q.told c.number).end ≤ latest ended (told_members q.told children) = latest_in q.told ended children c.number c.among in
+      let g : latest ended (told_members q.told children) ≤ a_round_after clock (latest ended (told_members q.told children)) =
+      round_after clock (latest ended (told_members q.told children)) in
+      omega arith
+
+  -- One moment further: no sleeper has its next turn before it; and one that waits, no earlier than a child that has not ended,
+  -- whose serial number is greater, or when its nursery settles.
   pub further :
       (u bound : ℕ) → v < u → Blocked f qs u → ((q : Started) → In q qs → q.serial < bound) → (n : ℕ) (q : Started) → In q qs →
       live q.rest.stopped ≡ true → bound ≤ q.serial + n →
@@ -106,19 +150,29 @@ module _ (k f : Table) (whole : Result) (qs : List Started) (o : RunInvariant k 
       let d : suc v ≤ kid.kid.final_result.end = ends_at k kid.kid (suc v) (o.fits kid.kid kid.among) (o.shape kid.kid kid.among) w y in
       subst (λ (r : Result). suc v ≤ r.end) kid.same d)
     where
+      settling : (children : List ℕ) (ended : ℕ) → Settling qs q children ended u →
+          suc v ≤ a_round_after q.here.clock (latest ended (told_members q.told children))
+      settling children ended c =
+          let e : told_members q.told children ≡ members_by c.ends children =
+          told_ended k f whole qs o q i q.told (told_tells q) c.ends children c.numbers c.over in
+          let g : u ≤ a_round_after q.here.clock (latest ended (told_members q.told children)) =
+          subst (λ (ms : List Member). u ≤ a_round_after q.here.clock (latest ended ms)) (sym e) c.later in
+          omega arith
+
       by_stop : (s : Stopped) → live s ≡ true → StaysUntil f qs u q s →
           ((children : List ℕ) (c : Unended qs q children) → suc v ≤ (q.told c.number).end) →
-          suc v ≤ goes_on q.told s (stack_at k q.places) q.stop
-      by_stop to_begin l p go = absurd p
-      by_stop (asking kernel purpose) l p go = absurd p
-      by_stop (asleep n since) l p go =
-          subst (λ j. suc v ≤ j) (sym (sleeping_end (stack_at k q.places) n since))
-          (sleeps_until u n since (sight (stack_at k q.places)) (sight (stack_at f q.places)) h p.0 p.1
-          (sight_near (suc v) _ _ (near_places v k f q.places (agrees_on q.places (o.placed q i)))))
-      by_stop (awaiting children ended exc) l p go = waits_on q children ended p (go children p)
+          suc v ≤ goes_on q.here.clock q.told s (stack_at k q.places) q.stop.at
+      by_stop to_begin l p go = omega arith
+      by_stop (asking kernel purpose) l p go = omega arith
+      by_stop (asleep paced n since) l p go =
+          sleeps_until q.here.clock paced n since u q.places h p.0 p.1
+          (sight_near (suc v) _ _ (near_places v k f q.places (agrees_on q.places (o.placed q i))))
+      by_stop (giving_up since) l p go = omega arith
+      by_stop (awaiting children ended exc) l (inl p) go = waits_on q.here.clock q children ended p (go children p)
+      by_stop (awaiting children ended exc) l (inr p) go = settling children ended p
       by_stop (at_end t e) l p go = cc
 
--- nothing that was not made happens before the tick to which the clock jumps
+-- nothing that was not made happens before the moment to which the clock jumps
 pub climb :
     (k f : Table) (whole : Result) (qs : List Started) → RunInvariant k f whole qs → (t bound : ℕ) →
     ((q : Started) → In q qs → q.serial < bound) → AllFrom k qs t → (u : ℕ) → Blocked f qs u →

@@ -6,6 +6,7 @@ use Rattle.job_tree.specs.Starting.{StartsInNurseries}
 use Rattle.exc_groups.specs.Exceptions.{Label, Exc}
 use Rattle.cancel_scopes.specs.Sight.{Tick}
 use Rattle.job_meaning.specs.Log.{Log, nil, entry, sign, entered, task, followed_by, Result, same_label, least_sign, deadline_of, deadline_if, either, from_by, entered_from, times_entered, Table}
+use Rattle.job_meaning.specs.Moments.{only_at}
 use Rattle.job_meaning.specs.Walk.{by_table, with_sign, sign_if}
 use Rattle.job_meaning.specs.Meaning.{root_walk, root_here}
 use Rattle.job_meaning.specs.Follow.{follow, IsSettled}
@@ -17,7 +18,7 @@ use Rattle.job_meaning.proofs.Finish.{finish_begin}
 use Rattle.job_meaning.proofs.Once.{enters_once, job_gives_once}
 use Rattle.turn_semantics.specs.Placed.{PlacedStop}
 use Rattle.interleavings.specs.Interleaving.{Started, Fits, times_made, made_least, all_least, made_times, all_times, EnteredIn, EntersWith, StartsChild, In, Kid, HasFrom, Parent, Entered, EachPlace, RunInvariant, AllFrom}
-use Rattle.interleavings.specs.Going.{root_task}
+use Rattle.interleavings.specs.Going.{root_result, root_task}
 use Rattle.interleavings.proofs.Readings.{entered_times}
 
 no_deadline_left : (l : Label) (a : Log) → times_entered l a ≡ 0 → deadline_of l a ≡ None
@@ -56,25 +57,25 @@ deadline_entered_once l d (task m s u e own rest) (inr h) n =
     ∙ deadline_entered_once l d rest h (omega arith)
 
 -- the root signs for nobody
-signed_root : (r : Result) → with_sign [] r ≡ r
+signed_root : (r : Result) → with_sign [] r ≡ record r { own = [] }
 unfolding with_sign
-signed_root r = ap (λ (a : Log). record r { log = a }) (ap (λ (a : Log). followed_by r.log a) (none r.exc) ∙ followed_nil r.log)
+signed_root r = ap (λ (a : Log). record r { own = []; log = a }) (ap (λ (a : Log). followed_by r.log a) (none r.exc) ∙ followed_nil r.log)
   where
     none : (o : Option Exc) → sign_if o None r.end ≡ nil
     none None = refl
     none (Some e) = refl
 
--- what is left of the root is all of following the table
+-- what is left of the root is all of following the table, but for what it has cancelled itself at its end
 root_comes : (k : Table) (job : Tree) (input : List ℕ) (told : ChildOutcomes) →
-    rest_comes_to (by_table k) told (rest_at_start job.steps) (root_here job input) [] 0 ≡ follow k job input
+    rest_comes_to (by_table k) told (rest_at_start job.steps) (root_here job input) [] (only_at 0) ≡ root_result k job input
 unfolding follow
-root_comes k job input told = finish_begin (by_table k) told job.steps (root_here job input) [] 0
+root_comes k job input told = finish_begin (by_table k) told job.steps (root_here job input) [] (only_at 0)
     ∙ signed_root (root_walk (by_table k) job input)
 
 module _ (k f : Table) (job : Tree) (input : List ℕ) (names : GivesNamesOnce job) (nurseries : StartsInNurseries job)
     (settled : IsSettled k job input) where
   abbrev whole : Result
-  whole = follow k job input
+  whole = root_result k job input
 
   abbrev tasks : List Started
   tasks = root_task k job input ∷ []

@@ -4,12 +4,13 @@ use Rattle.std.proofs.lemmas.Bool.Decides.{nat_tests}
 use Rattle.exc_groups.specs.Exceptions.{Label}
 use Rattle.cancel_scopes.specs.Sight.{Tick}
 use Rattle.job_meaning.specs.Log.{Log, nil, entry, sign, entered, task, followed_by, Result, same_label, tick_if, least_sign, times_entered, Table}
+use Rattle.job_meaning.specs.Moments.{a_round_after, Now, only_at}
 use Rattle.job_meaning.specs.Walk.{by_table}
 use Rattle.job_meaning.specs.Before.{upto}
 use Rattle.job_meaning.specs.Rest.{Event, noted, signs, enters, starts, ChildOutcomes, fill, Stopped, rest_comes_to, rest_at_start}
 use Rattle.job_meaning.proofs.Clips.{upto_most, upto_earlier}
 use Rattle.job_meaning.proofs.Finish.{followed_assoc, fill_append, finish_begin}
-use Rattle.turn_semantics.specs.Midway.{stack_at, Begun, Move, none_told, begun_comes_to}
+use Rattle.turn_semantics.specs.Midway.{stack_at, Begun, Move, now_after, none_told, begun_comes_to}
 use Rattle.turn_semantics.specs.Wakes.{Wake, WakesBy}
 use Rattle.turn_semantics.specs.Turned.{AgreesOn, AgreesIn, AllTold, Starts, made_sign, TurnsOver}
 use Rattle.interleavings.specs.Interleaving.{Started, Tells, Fits, times_made, all_least, all_times, EnteredIn, In}
@@ -136,40 +137,44 @@ module _ (k : Table) (t : ℕ) (told : ChildOutcomes) where
 
 -- ---- the task that had its turn
 
-module _ (k f : Table) (t m : ℕ) (wake : Wake) (q : Started) (o : Move) (s : Stopped)
-    (w : TurnsOver q.stop t q.here f wake q.rest q.places q.count o) (stopped : o.stopped ≡ Some s) (fit : Fits k q)
-    (near : AgreesOn t k f q.places) (deadlines : AgreesIn t k q.left)
-    (come : (told : ChildOutcomes) → Tells q told → WakesBy k told q.here q.stop t wake q.rest.stopped q.places) where
+module _ (k f : Table) (now : Now) (m : ℕ) (wake : Wake) (q : Started) (o : Move) (s : Stopped)
+    (w : TurnsOver q.stop now q.here f wake q.rest q.places q.count o) (stopped : o.stopped ≡ Some s) (fit : Fits k q)
+    (near : AgreesOn now.at k f q.places) (deadlines : AgreesIn now.at k q.left)
+    (come : (told : ChildOutcomes) → Tells q told → WakesBy k told q.here q.stop now wake q.rest.stopped q.places) where
+  -- the moment in which the new children begin
+  abbrev next : ℕ
+  next = a_round_after q.here.clock now.at
+
   abbrev left_before : ChildOutcomes → Result
   left_before told = rest_comes_to (by_table k) told q.rest q.here (stack_at k q.places) q.stop
 
   abbrev left_after : ChildOutcomes → Result
-  left_after told = rest_comes_to (by_table k) told (record { stopped = s; frames = o.frames }) q.here (stack_at k o.places) t
+  left_after told = rest_comes_to (by_table k) told (record { stopped = s; frames = o.frames }) q.here (stack_at k o.places) (now_after q.here.clock now o.made)
 
   numbers : NumberedFrom q.count o.begun
   numbers = numbers_of q.count o.made o.begun w.starts
 
-  tells_before : (told : ChildOutcomes) → Tells (task_after_turn k t m q o s) told → Tells q told
-  tells_before told h = λ i x. h i (omega arith) ∙ old_told k t q.told q.count o.begun numbers i x
+  tells_before : (told : ChildOutcomes) → Tells (task_after_turn k now m q o s) told → Tells q told
+  tells_before told h = λ i x. h i (omega arith) ∙ old_told k next q.told q.count o.begun numbers i x
 
   -- a record of outcomes that fits the task after the turn contains for its new children the results of
   -- following the table
-  pub tells_begun : (told : ChildOutcomes) → Tells (task_after_turn k t m q o s) told → AllTold t k told o.begun
-  tells_begun told h = all_told k t q.told told q.count o.begun numbers (λ i x y. h i y)
+  pub tells_begun : (told : ChildOutcomes) → Tells (task_after_turn k now m q o s) told → AllTold next k told o.begun
+  tells_begun told h = all_told k next q.told told q.count o.begun numbers (λ i x y. h i y)
 
   -- and its own record fits it
-  pub tells_itself : Tells (task_after_turn k t m q o s) (task_after_turn k t m q o s).told
+  pub tells_itself : Tells (task_after_turn k now m q o s) (task_after_turn k now m q o s).told
   tells_itself = λ i h. refl
 
-  turn_keeps : (told : ChildOutcomes) → Tells (task_after_turn k t m q o s) told →
+  turn_keeps : (told : ChildOutcomes) → Tells (task_after_turn k now m q o s) told →
       left_before told ≡ record (left_after told) { log = followed_by (fill told o.made) (left_after told).log }
   turn_keeps told h =
-      keeps_to t f wake q o s w stopped k told near
-      (subst (λ (a : Log). AgreesIn t k a) (sym (fit.lefts told (tells_before told h))) deadlines)
+      keeps_to now f wake q o s w stopped k told near
+      (subst (λ (a : Log). AgreesIn now.at k a) (sym (fit.lefts told (tells_before told h))) deadlines)
       (tells_begun told h) (come told (tells_before told h))
 
   -- what was left before is what was made and what is left after
-  pub left_is : (told : ChildOutcomes) → Tells (task_after_turn k t m q o s) told → q.left ≡ followed_by (fill told o.made) (left_after told).log
+  pub left_is : (told : ChildOutcomes) → Tells (task_after_turn k now m q o s) told → q.left ≡ followed_by (fill told o.made) (left_after told).log
   left_is told h = sym (fit.lefts told (tells_before told h)) ∙ ap (λ (r : Result). r.log) (turn_keeps told h)
 
   made_more : (told : ChildOutcomes) → followed_by (fill told (q.made ++ o.made)) (left_after told).log
@@ -179,43 +184,43 @@ module _ (k f : Table) (t m : ℕ) (wake : Wake) (q : Started) (o : Move) (s : S
       ∙ followed_assoc (fill told q.made) (fill told o.made) (left_after told).log
 
   -- the task still has the same whole result
-  pub fits_turned : Fits k (task_after_turn k t m q o s)
+  pub fits_turned : Fits k (task_after_turn k now m q o s)
   fits_turned = record {
     comes = λ told h.
         ap (λ (a : Log). record (left_after told) { log = a }) (made_more told)
         ∙ (ap (λ (r : Result). record r { log = followed_by (fill told q.made) r.log }) (sym (turn_keeps told h))
         ∙ fit.comes told (tells_before told h));
     lefts = λ told h.
-        let d : ChildOutcomes = (task_after_turn k t m q o s).told in
+        let d : ChildOutcomes = (task_after_turn k now m q o s).told in
         followed_cancel (fill told o.made) (left_after told).log (left_after d).log
         (sym (left_is told h) ∙ (left_is d tells_itself
         ∙ ap (λ (a : Log). followed_by a (left_after d).log) (fill_agree d told q.count o.made o.begun w.starts (λ i x. sym (h i x)))));
   }
 
   -- the first signs are the same, with the new children
-  pub least_turned : (c : ℕ) (l : Label) → all_least c l (task_after_turn k t m q o s ∷ children_from k t m o.begun)
+  pub least_turned : (c : ℕ) (l : Label) → all_least c l (task_after_turn k now m q o s ∷ children_from k next m o.begun)
       ≡ min (upto c (made_sign l q.made)) (upto c (least_sign l q.left))
   unfolding all_least
   least_turned c l =
-      let d : ChildOutcomes = (task_after_turn k t m q o s).told in
+      let d : ChildOutcomes = (task_after_turn k now m q o s).told in
       let x : upto c (least_sign l q.left) ≡ min (upto c (least_sign l (fill d o.made))) (upto c (least_sign l (left_after d).log)) =
       ap (λ (a : Log). upto c (least_sign l a)) (left_is d tells_itself) ∙ least_join c l (fill d o.made) (left_after d).log in
-      let y : upto c (least_sign l (fill d o.made)) ≡ min (upto c (made_sign l o.made)) (all_least c l (children_from k t m o.begun)) =
-      fill_least k t d c l q.count m o.made o.begun w.starts (tells_begun d tells_itself) in
+      let y : upto c (least_sign l (fill d o.made)) ≡ min (upto c (made_sign l o.made)) (all_least c l (children_from k next m o.begun)) =
+      fill_least k next d c l q.count m o.made o.begun w.starts (tells_begun d tells_itself) in
       let v : upto c (made_sign l (q.made ++ o.made)) ≡ min (upto c (made_sign l q.made)) (upto c (made_sign l o.made)) =
       first_join c l q.made o.made in
       omega arith
 
   -- and so is how often a label is entered
-  pub times_turned : (l : Label) → all_times l (task_after_turn k t m q o s ∷ children_from k t m o.begun)
+  pub times_turned : (l : Label) → all_times l (task_after_turn k now m q o s ∷ children_from k next m o.begun)
       ≡ times_made l q.made + times_entered l q.left
   unfolding all_times
   times_turned l =
-      let d : ChildOutcomes = (task_after_turn k t m q o s).told in
+      let d : ChildOutcomes = (task_after_turn k now m q o s).told in
       let x : times_entered l q.left ≡ times_entered l (fill d o.made) + times_entered l (left_after d).log =
       ap (λ (a : Log). times_entered l a) (left_is d tells_itself) ∙ left_join l (fill d o.made) (left_after d).log in
-      let y : times_entered l (fill d o.made) ≡ times_made l o.made + all_times l (children_from k t m o.begun) =
-      fill_times k t d l q.count m o.made o.begun w.starts (tells_begun d tells_itself) in
+      let y : times_entered l (fill d o.made) ≡ times_made l o.made + all_times l (children_from k next m o.begun) =
+      fill_times k next d l q.count m o.made o.begun w.starts (tells_begun d tells_itself) in
       let v : times_made l (q.made ++ o.made) ≡ times_made l q.made + times_made l o.made = times_join l q.made o.made in
       omega arith
 
@@ -225,16 +230,16 @@ unfolding children_from
 fits_begun k t m [] q i = absurd i
 fits_begun k t m (b ∷ bs) q (inl e) = subst (λ (x : Started). Fits k x) (sym e) (fits_first b)
   where
-    open_child : (b : Begun) (told : ChildOutcomes) → rest_comes_to (by_table k) told (rest_at_start b.body) b.here (stack_at k b.places) t
+    open_child : (b : Begun) (told : ChildOutcomes) → rest_comes_to (by_table k) told (rest_at_start b.body) b.here (stack_at k b.places) (only_at t)
         ≡ begun_comes_to k t b
-    open_child b told = finish_begin (by_table k) told b.body b.here (stack_at k b.places) t
-        ∙ sym (finish_begin (by_table k) none_told b.body b.here (stack_at k b.places) t)
+    open_child b told = finish_begin (by_table k) told b.body b.here (stack_at k b.places) (only_at t)
+        ∙ sym (finish_begin (by_table k) none_told b.body b.here (stack_at k b.places) (only_at t))
 
     fits_first : (b : Begun) → Fits k (record {
       serial = m;
       here = b.here;
       places = b.places;
-      stop = t;
+      stop = only_at t;
       rest = rest_at_start b.body;
       made = [];
       count = 0;

@@ -3,10 +3,11 @@ use Rattle.std.proofs.Common.{◌≡◌, ◌⊎◌, ℕ, suc, ◌+◌, ◌<◌, 
 use Rattle.exc_groups.specs.Exceptions.{Label}
 use Rattle.cancel_scopes.specs.Sight.{Tick}
 use Rattle.job_meaning.specs.Log.{Log, nil, entry, sign, entered, task, Table}
+use Rattle.job_meaning.specs.Moments.{Clock, a_round_after, Now}
 use Rattle.job_meaning.specs.Walk.{by_table}
 use Rattle.job_meaning.specs.Before.{upto, Near}
 use Rattle.job_meaning.specs.Rest.{Event, noted, signs, enters, starts, ChildOutcomes, Stopped, Rest, rest_comes_to, rest_weight, stop_weight, frames_weight}
-use Rattle.turn_semantics.specs.Midway.{Place, stack_at, Begun, Move, after_events, stop_comes_to}
+use Rattle.turn_semantics.specs.Midway.{Place, stack_at, Begun, Move, now_after, after_events, stop_comes_to}
 use Rattle.turn_semantics.specs.Steps.{froms_after}
 use Rattle.turn_semantics.specs.Placed.{PlacedStop, PlacedAfter}
 use Rattle.turn_semantics.specs.Wakes.{Wake, WakesBy}
@@ -86,36 +87,36 @@ lowered_from c f l es h =
     not_entered i = let j : 1 ≤ times_made l es = enters_counted l es i in absurd (omega arith)
 
 -- that of a label which was entered once, and not known before, is its deadline lowered likewise
-pub opened_from : (c t : ℕ) (f : Table) (ls : List Label) (l : Label) (d : Tick) (es : List Event) → MadeAt t ls es → (Known l ls → ⊥) →
+pub opened_from : (c : ℕ) (clock : Clock) (t : ℕ) (f : Table) (ls : List Label) (l : Label) (d : Tick) (es : List Event) → MadeAt clock t ls es → (Known l ls → ⊥) →
     EntersWith l d es → times_made l es ≡ 1 → upto (suc c) (froms_after f es l) ≡ min (upto (suc c) d) (suc (upto c (made_sign l es)))
-opened_from c t f ls l d es made fresh h n =
-    ap (λ (x : Tick). upto (suc c) x) (from_opened t es ls f l d made fresh (enters_once l d es h n)) ∙ upto_from c d (made_sign l es)
+opened_from c clock t f ls l d es made fresh h n =
+    ap (λ (x : Tick). upto (suc c) x) (from_opened clock t es ls f l d made fresh (enters_once l d es h n)) ∙ upto_from c d (made_sign l es)
 
 -- ---- the stop
 
-module _ (t : ℕ) (f : Table) (wake : Wake) (q : Started) (o : Move) (s : Stopped)
-    (w : TurnsOver q.stop t q.here f wake q.rest q.places q.count o) (e : o.stopped ≡ Some s) where
+module _ (now : Now) (f : Table) (wake : Wake) (q : Started) (o : Move) (s : Stopped)
+    (w : TurnsOver q.stop now q.here f wake q.rest q.places q.count o) (e : o.stopped ≡ Some s) where
   -- what is left after a turn
   abbrev pub rest_after : Rest
   rest_after = record { stopped = s; frames = o.frames }
 
   -- what was left before the turn results in what it did, followed by the result of what is left after it
-  pub keeps_to : (k : Table) (told : ChildOutcomes) → AgreesOn t k f q.places →
-      AgreesIn t k (rest_comes_to (by_table k) told q.rest q.here (stack_at k q.places) q.stop).log → AllTold t k told o.begun →
-      WakesBy k told q.here q.stop t wake q.rest.stopped q.places →
+  pub keeps_to : (k : Table) (told : ChildOutcomes) → AgreesOn now.at k f q.places →
+      AgreesIn now.at k (rest_comes_to (by_table k) told q.rest q.here (stack_at k q.places) q.stop).log → AllTold (a_round_after q.here.clock now.at) k told o.begun →
+      WakesBy k told q.here q.stop now wake q.rest.stopped q.places →
       rest_comes_to (by_table k) told q.rest q.here (stack_at k q.places) q.stop
-      ≡ after_events told o.made (rest_comes_to (by_table k) told rest_after q.here (stack_at k o.places) t)
+      ≡ after_events told o.made (rest_comes_to (by_table k) told rest_after q.here (stack_at k o.places) (now_after q.here.clock now o.made))
   keeps_to k told near inside all come =
       w.keeps k told come near (inr inside) all
-      ∙ ap (λ (x : Option Stopped). after_events told o.made (stop_comes_to x k told q.here t o.frames o.places o.exc)) e
+      ∙ ap (λ (x : Option Stopped). after_events told o.made (stop_comes_to x k told q.here (now_after q.here.clock now o.made) o.frames o.places o.exc)) e
 
   -- the frames that are left fit the enclosing scopes and nurseries
   pub placed_stop : PlacedStop s o.frames o.places
   placed_stop = subst (λ (x : Option Stopped). PlacedAfter x o.frames o.places) e w.placed
 
   -- how the task stopped
-  pub stops_at : StopsAt t (froms_after f o.made) (Some s) o.places
-  stops_at = subst (λ (x : Option Stopped). StopsAt t (froms_after f o.made) x o.places) e w.stops
+  pub stops_at : StopsAt q.here.clock now.at (froms_after f o.made) (Some s) o.places
+  stops_at = subst (λ (x : Option Stopped). StopsAt q.here.clock now.at (froms_after f o.made) x o.places) e w.stops
 
   -- what is left weighs less than before, that of the children included
   pub lighter : rest_weight rest_after + weight_of_begun o.begun < rest_weight q.rest

@@ -5,6 +5,7 @@ use Rattle.job_tree.specs.Tree.{Tree}
 use Rattle.exc_groups.specs.Exceptions.{Label, Exc}
 use Rattle.cancel_scopes.specs.Sight.{Tick}
 use Rattle.job_meaning.specs.Log.{Log, Result, Table}
+use Rattle.job_meaning.specs.Moments.{Clock, tick_of}
 use Rattle.job_meaning.specs.Walk.{by_table}
 use Rattle.job_meaning.specs.Before.{upto}
 use Rattle.job_meaning.specs.Meaning.{Noted, Record, entries_of, records_of, entered_by, all_entered, root_label, root_log, From, froms_by}
@@ -13,17 +14,17 @@ use Rattle.job_meaning.proofs.Clips.{followed_nil}
 use Rattle.turn_semantics.specs.Midway.{stack_at}
 use Rattle.interleavings.specs.Interleaving.{Started, Fits, EntersWith, StartsChild, In, Kid, RunInvariant, live, AllFrom}
 use Rattle.interleavings.specs.Rows.{Row, entries_made, entered_made, children_made, StartsRows, HasRow, record_of, records_by, froms_in, DepthFirst, no_more, and_more}
-use Rattle.interleavings.proofs.Agreement.{told_tells, agrees}
-use Rattle.interleavings.proofs.Waking.{ended_final_result}
+use Rattle.interleavings.proofs.Agreement.{told_tells, agrees, ended_final_result}
 
 -- ---- readings of the log of events
 
-entries_fill : (told : ChildOutcomes) (es : List Event) → entries_of (fill told es) ≡ entries_made es
-entries_fill told [] = refl
-entries_fill told (noted t e ∷ es) = ap (λ (x : List Noted). record { tick = t; entry = e } ∷ x) (entries_fill told es)
-entries_fill told (signs l t ∷ es) = entries_fill told es
-entries_fill told (enters l t d ∷ es) = entries_fill told es
-entries_fill told (starts i l t ∷ es) = entries_fill told es
+entries_fill : (clock : Clock) (told : ChildOutcomes) (es : List Event) → entries_of clock (fill told es) ≡ entries_made clock es
+entries_fill clock told [] = refl
+entries_fill clock told (noted t e ∷ es) =
+    ap (λ (x : List Noted). record { tick = tick_of clock t; entry = e } ∷ x) (entries_fill clock told es)
+entries_fill clock told (signs l t ∷ es) = entries_fill clock told es
+entries_fill clock told (enters l t d ∷ es) = entries_fill clock told es
+entries_fill clock told (starts i l t ∷ es) = entries_fill clock told es
 
 entered_fill : (told : ChildOutcomes) (es : List Event) → entered_by (fill told es) ≡ entered_made es
 entered_fill told [] = refl
@@ -56,13 +57,13 @@ same_tick (Some a) (Some b) h =
 
 -- ---- the rows
 
-module _ (k f : Table) (whole : Result) (qs : List Started) (o : RunInvariant k f whole qs) (rows : ℕ → Row)
-    (rowed : (q : Started) → In q qs → HasRow f rows q) where
+module _ (k f : Table) (whole : Result) (qs : List Started) (o : RunInvariant k f whole qs) (clock : Clock) (rows : ℕ → Row)
+    (rowed : (q : Started) → In q qs → HasRow clock f rows q) where
   none_live : (v : ℕ) → AllFrom k qs v
   none_live v q i l = absurd (no (rowed q i))
     where
-      no : HasRow f rows q → ⊥
-      no h = let z : live (at_end (rows q.serial).end (rows q.serial).exc) ≡ true = subst (λ (s : Stopped). live s ≡ true) h.ended l in cc
+      no : HasRow clock f rows q → ⊥
+      no h = let z : live (at_end h.end (rows q.serial).exc) ≡ true = subst (λ (s : Stopped). live s ≡ true) h.ended l in cc
 
   -- each from that was kept is the table's
   pub from_over : (q : Started) → In q qs → (l : Label) (d : Tick) → EntersWith l d q.made → f l ≡ k l
@@ -81,11 +82,11 @@ module _ (k f : Table) (whole : Result) (qs : List Started) (o : RunInvariant k 
 
   -- the log of a task that ended
   log_of : (q : Started) → In q qs → q.final_result.log ≡ fill q.told q.made
-  log_of q i = let h : HasRow f rows q = rowed q i in ended_log k q (o.fits q i) (rows q.serial).end (rows q.serial).exc h.ended
+  log_of q i = let h : HasRow clock f rows q = rowed q i in ended_log k q (o.fits q i) h.end (rows q.serial).exc h.ended
 
   -- a row says of its task what its outcome does
-  row_entries : (q : Started) → In q qs → (rows q.serial).entries ≡ entries_of q.final_result.log
-  row_entries q i = (rowed q i).entries ∙ sym (ap entries_of (log_of q i) ∙ entries_fill q.told q.made)
+  row_entries : (q : Started) → In q qs → (rows q.serial).entries ≡ entries_of clock q.final_result.log
+  row_entries q i = (rowed q i).entries ∙ sym (ap (entries_of clock) (log_of q i) ∙ entries_fill clock q.told q.made)
 
   row_froms : (q : Started) → In q qs → (rows q.serial).froms ≡ froms_by k (entered_by q.final_result.log)
   row_froms q i = (rowed q i).froms ∙ (froms_over q i q.made (λ l d j. j)
@@ -95,7 +96,7 @@ module _ (k f : Table) (whole : Result) (qs : List Started) (o : RunInvariant k 
 
   abbrev records_all : List Started → List Record
   records_all [] = []
-  records_all (q ∷ ts) = (record_of (rows q.serial) ∷ records_of q.final_result.log) ++ records_all ts
+  records_all (q ∷ ts) = (record_of (rows q.serial) ∷ records_of clock q.final_result.log) ++ records_all ts
 
   abbrev froms_all : List Started → List From
   froms_all [] = []
@@ -120,8 +121,8 @@ module _ (k f : Table) (whole : Result) (qs : List Started) (o : RunInvariant k 
   records_append : (ts us : List Started) → records_all (ts ++ us) ≡ records_all ts ++ records_all us
   records_append [] us = refl
   records_append (q ∷ ts) us =
-      ap (λ (x : List Record). (record_of (rows q.serial) ∷ records_of q.final_result.log) ++ x) (records_append ts us)
-      ∙ sym (append_assoc (record_of (rows q.serial) ∷ records_of q.final_result.log) (records_all ts) (records_all us))
+      ap (λ (x : List Record). (record_of (rows q.serial) ∷ records_of clock q.final_result.log) ++ x) (records_append ts us)
+      ∙ sym (append_assoc (record_of (rows q.serial) ∷ records_of clock q.final_result.log) (records_all ts) (records_all us))
 
   froms_all_append : (ts us : List Started) → froms_all (ts ++ us) ≡ froms_all ts ++ froms_all us
   froms_all_append [] us = refl
@@ -134,31 +135,32 @@ module _ (k f : Table) (whole : Result) (qs : List Started) (o : RunInvariant k 
     tasks : List Started
     among : AllIn tasks
     numbers : serials tasks ≡ children_made q.child es
-    records : records_all tasks ≡ records_of (fill q.told es)
+    records : records_all tasks ≡ records_of clock (fill q.told es)
     froms : froms_all tasks ≡ froms_by k (all_entered (fill q.told es))
 
-  child_record : (q : Started) (i : ℕ) (l : Label) (t : ℕ) (c : Kid qs q i) → (rows (q.child i)).label ≡ l → (rows (q.child i)).start ≡ t →
+  child_record : (q : Started) (i : ℕ) (l : Label) (t : ℕ) (c : Kid qs q i) → (rows (q.child i)).label ≡ l → (rows (q.child i)).start ≡ tick_of clock t →
       record_of (rows c.kid.serial) ≡ record {
         label = l;
-        start = t;
-        end = (q.told i).end;
+        start = tick_of clock t;
+        end = tick_of clock (q.told i).end;
         exc = (q.told i).exc;
         entries =
-            entries_of (q.told i).log;
+            entries_of clock (q.told i).log;
       }
   child_record q i l t c a b =
-      let h : HasRow f rows c.kid = rowed c.kid c.among in
-      let z : (c.kid.final_result.end ≡ (rows c.kid.serial).end) × (c.kid.final_result.exc ≡ (rows c.kid.serial).exc) =
-      ended_final_result k c.kid (o.fits c.kid c.among) (rows c.kid.serial).end (rows c.kid.serial).exc h.ended in
+      let h : HasRow clock f rows c.kid = rowed c.kid c.among in
+      let z : (c.kid.final_result.end ≡ h.end) × (c.kid.final_result.exc ≡ (rows c.kid.serial).exc) =
+      ended_final_result k c.kid (o.fits c.kid c.among) h.end (rows c.kid.serial).exc h.ended in
       let x1 : (rows c.kid.serial).label ≡ l = ap (λ (n : ℕ). (rows n).label) c.serial ∙ a in
-      let x2 : (rows c.kid.serial).start ≡ t = ap (λ (n : ℕ). (rows n).start) c.serial ∙ b in
-      let x3 : (rows c.kid.serial).end ≡ (q.told i).end = sym z.0 ∙ ap (λ (r : Result). r.end) c.same in
+      let x2 : (rows c.kid.serial).start ≡ tick_of clock t = ap (λ (n : ℕ). (rows n).start) c.serial ∙ b in
+      let x3 : (rows c.kid.serial).end ≡ tick_of clock (q.told i).end =
+      h.tick ∙ ap (tick_of clock) (sym z.0 ∙ ap (λ (r : Result). r.end) c.same) in
       let x4 : (rows c.kid.serial).exc ≡ (q.told i).exc = sym z.1 ∙ ap (λ (r : Result). r.exc) c.same in
-      let x5 : (rows c.kid.serial).entries ≡ entries_of (q.told i).log =
-      row_entries c.kid c.among ∙ ap (λ (r : Result). entries_of r.log) c.same in
+      let x5 : (rows c.kid.serial).entries ≡ entries_of clock (q.told i).log =
+      row_entries c.kid c.among ∙ ap (λ (r : Result). entries_of clock r.log) c.same in
       λ j. record { label = x1 j; start = x2 j; end = x3 j; exc = x4 j; entries = x5 j }
 
-  children_of : (q : Started) → In q qs → (es : List Event) → ((i : ℕ) → StartsChild i es → i < q.count) → StartsRows rows q.child es →
+  children_of : (q : Started) → In q qs → (es : List Event) → ((i : ℕ) → StartsChild i es → i < q.count) → StartsRows clock rows q.child es →
       Children q es
   children_of q j [] h s = record { tasks = []; among = tt; numbers = refl; records = refl; froms = refl }
   children_of q j (noted t e ∷ es) h s =
@@ -193,13 +195,13 @@ module _ (k f : Table) (whole : Result) (qs : List Started) (o : RunInvariant k 
       let c : Kid qs q i = o.kids q j i (h i (inl refl)) in
       let x : record_of (rows c.kid.serial) ≡ record {
         label = l;
-        start = t;
-        end = (q.told i).end;
+        start = tick_of clock t;
+        end = tick_of clock (q.told i).end;
         exc = (q.told i).exc;
         entries =
-            entries_of (q.told i).log;
+            entries_of clock (q.told i).log;
       } = child_record q i l t c s.0 s.1 in
-      let y : records_of c.kid.final_result.log ≡ records_of (q.told i).log = ap (λ (v : Result). records_of v.log) c.same in
+      let y : records_of clock c.kid.final_result.log ≡ records_of clock (q.told i).log = ap (λ (v : Result). records_of clock v.log) c.same in
       let z : (rows c.kid.serial).froms ++ froms_by k (all_entered c.kid.final_result.log) ≡ froms_by k (entered_by (q.told i).log)
       ++ froms_by k (all_entered (q.told i).log) =
       ap (λ (v : List From). v ++ froms_by k (all_entered c.kid.final_result.log)) (row_froms c.kid c.among)
@@ -235,7 +237,7 @@ module _ (k f : Table) (whole : Result) (qs : List Started) (o : RunInvariant k 
       let kids : (rows s).children ≡ serials c.tasks = ap (λ (n : ℕ). (rows n).children) first ∙ ((rowed q p.0).children ∙ sym c.numbers) in
       let more : (rows s).children ++ stack ≡ serials (c.tasks ++ ts) =
       ap (λ (x : List ℕ). x ++ stack) kids ∙ (ap (λ (x : List ℕ). serials c.tasks ++ x) rest ∙ sym (serials_append c.tasks ts)) in
-      let own : records_all c.tasks ≡ records_of q.final_result.log = c.records ∙ sym (ap records_of (log_of q p.0)) in
+      let own : records_all c.tasks ≡ records_of clock q.final_result.log = c.records ∙ sym (ap (records_of clock) (log_of q p.0)) in
       ap (λ (n : ℕ). record_of (rows n) ∷ records_by rows taken) first
       ∙ ap (λ (x : List Record). record_of (rows q.serial) ∷ x)
       (taken_records d (c.tasks ++ ts) (all_in_append c.tasks ts c.among p.1) more
@@ -263,35 +265,35 @@ module _ (k f : Table) (whole : Result) (qs : List Started) (o : RunInvariant k 
 
   -- ---- the whole
 
-  root_row : (rows 0).end ≡ whole.end
-  root_row = let h : HasRow f rows o.root.root = rowed o.root.root o.root.among in
+  root_row : (rows 0).end ≡ tick_of clock whole.end
+  root_row = let h : HasRow clock f rows o.root.root = rowed o.root.root o.root.among in
       ap (λ (n : ℕ). (rows n).end) (sym o.root.first)
-      ∙ (sym (ended_final_result k o.root.root (o.fits o.root.root o.root.among) (rows o.root.root.serial).end (rows o.root.root.serial).exc
-      h.ended).0 ∙ ap (λ (r : Result). r.end) o.root.comes)
+      ∙ (h.tick ∙ ap (tick_of clock) (sym (ended_final_result k o.root.root (o.fits o.root.root o.root.among) h.end
+      (rows o.root.root.serial).exc h.ended).0 ∙ ap (λ (r : Result). r.end) o.root.comes))
 
   root_exc : (rows 0).exc ≡ whole.exc
-  root_exc = let h : HasRow f rows o.root.root = rowed o.root.root o.root.among in
+  root_exc = let h : HasRow clock f rows o.root.root = rowed o.root.root o.root.among in
       ap (λ (n : ℕ). (rows n).exc) (sym o.root.first)
-      ∙ (sym (ended_final_result k o.root.root (o.fits o.root.root o.root.among) (rows o.root.root.serial).end (rows o.root.root.serial).exc
+      ∙ (sym (ended_final_result k o.root.root (o.fits o.root.root o.root.among) h.end (rows o.root.root.serial).exc
       h.ended).1 ∙ ap (λ (r : Result). r.exc) o.root.comes)
 
   -- the row of the root has the end of the whole
-  pub ends_over : (rows 0).end ≡ whole.end
+  pub ends_over : (rows 0).end ≡ tick_of clock whole.end
   ends_over = root_row
 
   -- the records of the rows, each followed by its descendants, are those of the whole
-  pub records_over : (job : Tree) → (rows 0).label ≡ root_label job.name → (rows 0).start ≡ 0 → (taken : List ℕ) →
+  pub records_over : (job : Tree) → (rows 0).label ≡ root_label job.name → (rows 0).start ≡ tick_of clock 0 → (taken : List ℕ) →
       DepthFirst rows (0 ∷ []) taken →
-      records_by rows taken ≡ records_of (root_log job whole)
+      records_by rows taken ≡ records_of clock (root_log job whole)
   records_over job a b taken d =
       let q : Started = o.root.root in
       let z : q.serial ≡ 0 = o.root.first in
-      let y : (rows q.serial).entries ≡ entries_of whole.log = row_entries q o.root.among
-      ∙ ap (λ (r : Result). entries_of r.log) o.root.comes in
-      let x : (rows 0).entries ≡ entries_of whole.log = ap (λ (n : ℕ). (rows n).entries) (sym z) ∙ y in
-      let w : records_of q.final_result.log ≡ records_of whole.log = ap (λ (r : Result). records_of r.log) o.root.comes in
+      let y : (rows q.serial).entries ≡ entries_of clock whole.log = row_entries q o.root.among
+      ∙ ap (λ (r : Result). entries_of clock r.log) o.root.comes in
+      let x : (rows 0).entries ≡ entries_of clock whole.log = ap (λ (n : ℕ). (rows n).entries) (sym z) ∙ y in
+      let w : records_of clock q.final_result.log ≡ records_of clock whole.log = ap (λ (r : Result). records_of clock r.log) o.root.comes in
       taken_records d (q ∷ []) (o.root.among, tt) (ap (λ (n : ℕ). n ∷ []) (sym z))
-      ∙ (ap (λ (n : ℕ). (record_of (rows n) ∷ records_of q.final_result.log) ++ []) z
+      ∙ (ap (λ (n : ℕ). (record_of (rows n) ∷ records_of clock q.final_result.log) ++ []) z
       ∙ λ j. (record { label = a j; start = b j; end = root_row j; exc = root_exc j; entries = x j } ∷ w j) ++ [])
 
   -- and so are the froms

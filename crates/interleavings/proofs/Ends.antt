@@ -1,5 +1,5 @@
 -- If `start` occurs only directly in nurseries, a task ends no earlier than those that it started.
-use Rattle.std.proofs.Common.{◌≡◌, ℕ, zero, suc, ◌+◌, ◌≤◌, max, Bool, true, false, Option, Some, None, List, [], ◌∷◌, ◌++◌, refl, subst, arith, nat_le, if◌then◌else◌}
+use Rattle.std.proofs.Common.{◌≡◌, ℕ, zero, suc, ◌≤◌, max, Bool, true, false, Option, Some, None, List, [], ◌∷◌, ◌++◌, refl, subst, arith, nat_le, if◌then◌else◌}
 use Rattle.job_tree.specs.Tree.{Step, sleep, checkpoint, forever, pace, find, head, longest, need, raise, cancel, scope, nursery, start, repeat, attempt, Steps, stop, step, Handled, unhandled, except, Cleaned, uncleaned, finally}
 use Rattle.job_tree.specs.Starting.{StartsIn, StartsAt, HandlerStarts, CleanupStarts}
 use Rattle.buffer_parts.specs.Lines.{Span}
@@ -7,7 +7,9 @@ use Rattle.exc_groups.specs.Exceptions.{Label, Exc, cancelled}
 use Rattle.exc_groups.specs.Split.{Wanted, keep, drop}
 use Rattle.cancel_scopes.specs.Sight.{Tick, sight}
 use Rattle.job_meaning.specs.Log.{Log, nil, entry, sign, entered, task, followed_by, Member, Result}
-use Rattle.job_meaning.specs.Walk.{Stack, Mode, Here, walk, walk_step, walk_handler, walk_cleanup, done_at, raised_at, in_sequence, and_then, then_if, sleep_by_sight, sleep_result, log_of_lines, lines_result, need_result, cancel_result, sign_of, Kind, from_of, block, with_sign, sign_if, home_of, latest, nursery_result, child, each, handler_result, handler_for, handler_if_any, cleanup_result, passes}
+use Rattle.job_meaning.specs.Moments.{Clock, a_round_after, wakes_at, gives_up_at, Now, only_at}
+use Rattle.job_meaning.specs.Walk.{Stack, Mode, Here, walk, walk_step, walk_handler, walk_cleanup, done_at, raised_at, now_of, in_sequence, and_then, then_if, wait_by_sight, sleep_result, pace_result, log_of_lines, lines_result, need_result, raise_result, cancel_result, sign_of, Kind, from_of, block, with_sign, sign_if, home_of, latest, nursery_result, child, each, handler_result, handler_for, handler_if_any, cleanup_result, passes}
+use Rattle.job_meaning.proofs.MomentLemmas.{round_after}
 use Rattle.job_meaning.proofs.Late.{Late, late, latest_ends, child_ends, each_ends, late_passes}
 
 -- each task of a log ends by e, and those that it started by its end
@@ -73,47 +75,55 @@ ends_joined body r q h k le = record {
   closed = λ e. (λ i. h.closed e i ++ k.closed e i);
 }
 
-ends_then : (body : Bool) (r : Result) (go : ℕ → Result) → Ends body r → ((u : ℕ) → Ends body (go u)) → ((u : ℕ) → Late u (go u)) →
+ends_then : (body : Bool) (r : Result) (go : Now → Result) → Ends body r → ((u : Now) → Ends body (go u)) → ((u : Now) → Late u.at (go u)) →
     Ends body (and_then r go)
 unfolding and_then
 ends_then body r go h k l = by_exc r.exc
   where
     by_exc : (o : Option Exc) → Ends body (then_if o r go)
-    by_exc None = ends_joined body r (go r.end) h (k r.end) (l r.end).ends
+    by_exc None = ends_joined body r (go (now_of r)) h (k (now_of r)) (l (now_of r)).ends
     by_exc (Some e) = h
 
-ends_done : (body : Bool) (t : ℕ) → Ends body (done_at t)
+ends_done : (body : Bool) (t : Now) → Ends body (done_at t)
 ends_done body t = record { inside = tt; closed = λ e. refl }
 
-ends_raised : (body : Bool) (e : Exc) (t : ℕ) → Ends body (raised_at e t)
+ends_raised : (body : Bool) (e : Exc) (t : Now) → Ends body (raised_at e t)
 ends_raised body e t = record { inside = tt; closed = λ e. refl }
 
-ends_sleeping : (body : Bool) (st : Stack) (n t : ℕ) → Ends body (sleep_result st n t)
-unfolding sleep_result
-ends_sleeping body st n t = by_sight (sight st)
+ends_waiting : (body : Bool) (a : Tick) (least gives_up end : ℕ) → Ends body (wait_by_sight a least gives_up end)
+ends_waiting body None least gives_up end = ends_done body (only_at end)
+ends_waiting body (Some from) least gives_up end = by_now (nat_le from least) (nat_le from end)
   where
-    by_sight : (a : Tick) → Ends body (sleep_by_sight a n t)
-    by_sight None = ends_done body (t + n)
-    by_sight (Some from) = by_now (nat_le from t) (nat_le from (t + n))
-      where
-        by_now : (now due : Bool) → Ends body (if now then raised_at cancelled t else
-            (if due then raised_at cancelled from else done_at (t + n)))
-        by_now true due = ends_raised body cancelled t
-        by_now false true = ends_raised body cancelled from
-        by_now false false = ends_done body (t + n)
+    by_now : (now due : Bool) → Ends body (if now then raised_at cancelled (only_at gives_up) else
+        (if due then raised_at cancelled (only_at from) else done_at (only_at end)))
+    by_now true due = ends_raised body cancelled (only_at gives_up)
+    by_now false true = ends_raised body cancelled (only_at from)
+    by_now false false = ends_done body (only_at end)
+
+ends_sleeping : (body : Bool) (clock : Clock) (st : Stack) (n t : ℕ) → Ends body (sleep_result clock st n t)
+unfolding sleep_result
+ends_sleeping body clock st n t = ends_waiting body (sight st) (a_round_after clock t) (gives_up_at clock n t) (wakes_at clock n t)
+
+ends_pacing : (body : Bool) (clock : Clock) (st : Stack) (n t : ℕ) → Ends body (pace_result clock st n t)
+unfolding pace_result
+ends_pacing body clock st n t = ends_waiting body (sight st) (a_round_after clock t) (a_round_after clock t) (wakes_at clock n t)
 
 inside_lines : (e t : ℕ) (ls : List Span) → Inside e (log_of_lines t ls)
 inside_lines e t [] = tt
 inside_lines e t (l ∷ ls) = inside_lines e t ls
 
-ends_showing : (body : Bool) (ls : List Span) (t : ℕ) → Ends body (lines_result ls t)
+ends_showing : (body : Bool) (ls : List Span) (t : Now) → Ends body (lines_result ls t)
 unfolding lines_result
-ends_showing body ls t = record { inside = inside_lines t t ls; closed = λ e. refl }
+ends_showing body ls t = record { inside = inside_lines t.at t.at ls; closed = λ e. refl }
 
-ends_needing : (body : Bool) (found : Option Span) (name : List ℕ) (label : Label) (t : ℕ) → Ends body (need_result found name label t)
+ends_raising : (body : Bool) (name : List ℕ) (here : Here) (t : Now) → Ends body (raise_result name here t)
+unfolding raise_result
+ends_raising body name here t = record { inside = tt; closed = λ e. refl }
+
+ends_needing : (body : Bool) (found : Option Span) (name : List ℕ) (here : Here) (t : Now) → Ends body (need_result found name here t)
 unfolding need_result
-ends_needing body (Some l) name label t = ends_showing body (l ∷ []) t
-ends_needing body None name label t = record { inside = tt; closed = λ e. refl }
+ends_needing body (Some l) name here t = ends_showing body (l ∷ []) t
+ends_needing body None name here t = ends_raising body name here t
 
 inside_sign : (e : ℕ) (o : Option Label) (t : ℕ) → Inside e (sign_of o t)
 inside_sign e None t = tt
@@ -123,19 +133,19 @@ inside_sign_if : (e : ℕ) (x : Option Exc) (o : Option Label) (t : ℕ) → Ins
 inside_sign_if e None o t = tt
 inside_sign_if e (Some x) o t = inside_sign e o t
 
-ends_cancelling : (body : Bool) (o : Option Label) (t : ℕ) → Ends body (cancel_result o t)
+ends_cancelling : (body : Bool) (clock : Clock) (o : Option Label) (t : Now) → Ends body (cancel_result clock o t)
 unfolding cancel_result
-ends_cancelling body o t = record { inside = inside_sign t o t; closed = λ e. refl }
+ends_cancelling body clock o t = record { inside = inside_sign t.at o t.at; closed = λ e. refl }
 
 -- with no member open all ends by the end
 inside_closed : (r : Result) → Ends false r → Inside r.end r.log
 inside_closed r h = subst (λ (ms : List Member). Inside (latest r.end ms) r.log) (h.closed refl) h.inside
 
-ends_block : (body : Bool) (m : Mode) (kind : Kind) (label : Label) (t : ℕ) (d : Tick) (shield : Bool) (st : Stack)
+ends_block : (body : Bool) (clock : Clock) (m : Mode) (kind : Kind) (label : Label) (t : ℕ) (d : Tick) (shield : Bool) (st : Stack)
     (inside : Tick → Result) →
-    ((f : Tick) → Ends false (inside f)) → Ends body (block m kind label t d shield st inside)
+    ((f : Tick) → Ends false (inside f)) → Ends body (block clock m kind label t d shield st inside)
 unfolding block
-ends_block body m kind label t d shield st inside h =
+ends_block body clock m kind label t d shield st inside h =
     let f : Tick = from_of m label d inside in
     record {
       inside = inside_followed (inside f).end (inside f).log (entry (inside f).end _ nil) (inside_closed (inside f) (h f)) tt;
@@ -150,34 +160,39 @@ ends_signed body st r h = record {
   closed = h.closed;
 }
 
-ends_gathered : (body : Bool) (label : Label) (r : Result) → Ends true r → Ends body (nursery_result label r)
+ends_gathered : (body : Bool) (clock : Clock) (label : Label) (r : Result) → Ends true r → Ends body (nursery_result clock label r)
 unfolding nursery_result
-ends_gathered body label r h = record { inside = h.inside; closed = λ e. refl }
+ends_gathered body clock label r h = record {
+  inside = inside_later (latest r.end r.members) (a_round_after clock (latest r.end r.members)) r.log
+      (round_after clock (latest r.end r.members)) h.inside;
+  closed = λ e. refl;
+}
 
-ends_child : (label : Label) (t : ℕ) (r : Result) → Ends false r → Ends true (child label t r)
+ends_child : (label : Label) (begins : ℕ) (r : Result) (t : Now) → Ends false r → Ends true (child label begins r t)
 unfolding child
-ends_child label t r h = record { inside = (omega arith, inside_closed r h, tt); closed = λ e. cc }
+ends_child label begins r t h = record { inside = (omega arith, inside_closed r h, tt); closed = λ e. cc }
 
-ends_each : (k : ℕ) (go : ℕ → Result) (t : ℕ) → ((i : ℕ) → (go i).end ≡ t) → ((i : ℕ) → Ends true (go i)) → Ends true (each k go t)
+ends_each : (k : ℕ) (go : ℕ → Result) (t : Now) → ((i : ℕ) → (go i).end ≡ t.at) → ((i : ℕ) → Ends true (go i)) → Ends true (each k go t)
 ends_each zero go t e h = ends_done true t
 ends_each (suc k) go t e h =
-    let a : (each k go t).end ≡ t = each_ends k go t e in
-    let b : (go k).end ≡ t = e k in
+    let a : (each k go t).end ≡ t.at = each_ends k go t e in
+    let b : (go k).end ≡ t.at = e k in
     ends_joined true (each k go t) (go k) (ends_each k go t e h) (h k) (omega arith)
 
-ends_passes : (body : Bool) (k first : ℕ) (go : ℕ → ℕ → Result) (t : ℕ) → ((i u : ℕ) → Ends body (go i u)) → ((i u : ℕ) → Late u (go i u)) →
+ends_passes : (body : Bool) (k first : ℕ) (go : ℕ → Now → Result) (t : Now) → ((i : ℕ) (u : Now) → Ends body (go i u)) →
+    ((i : ℕ) (u : Now) → Late u.at (go i u)) →
     Ends body (passes first k go t)
 ends_passes body zero first go t h l = ends_done body t
 ends_passes body (suc k) first go t h l =
     ends_then body (go first t) _ (h first t) (λ u. ends_passes body k (suc first) go u h l) (λ u. late_passes k (suc first) go u l)
 
-ends_handled : (body : Bool) (wanted : Wanted) (r : Result) (go : ℕ → Result) → Ends body r → ((u : ℕ) → Ends body (go u)) →
-    ((u : ℕ) → Late u (go u)) → Ends body (handler_result wanted r go)
+ends_handled : (body : Bool) (wanted : Wanted) (r : Result) (go : Now → Result) → Ends body r → ((u : Now) → Ends body (go u)) →
+    ((u : Now) → Late u.at (go u)) → Ends body (handler_result wanted r go)
 unfolding handler_result
 ends_handled body wanted r go h k l = by_exc r.exc
   where
-    both : Ends body (in_sequence r (go r.end))
-    both = ends_joined body r (go r.end) h (k r.end) (l r.end).ends
+    both : Ends body (in_sequence r (go (now_of r)))
+    both = ends_joined body r (go (now_of r)) h (k (now_of r)) (l (now_of r)).ends
 
     by_match : (o rest : Option Exc) → Ends body (handler_if_any o rest r go)
     by_match None rest = h
@@ -187,11 +202,11 @@ ends_handled body wanted r go h k l = by_exc r.exc
     by_exc None = h
     by_exc (Some e) = by_match (keep wanted e) (drop wanted e)
 
-ends_cleaned : (body : Bool) (r : Result) (go : ℕ → Result) → Ends body r → ((u : ℕ) → Ends body (go u)) → ((u : ℕ) → Late u (go u)) →
+ends_cleaned : (body : Bool) (r : Result) (go : Now → Result) → Ends body r → ((u : Now) → Ends body (go u)) → ((u : Now) → Late u.at (go u)) →
     Ends body (cleanup_result r go)
 unfolding cleanup_result
 ends_cleaned body r go h k l =
-    let both : Ends body (in_sequence r (go r.end)) = ends_joined body r (go r.end) h (k r.end) (l r.end).ends in
+    let both : Ends body (in_sequence r (go (now_of r))) = ends_joined body r (go (now_of r)) h (k (now_of r)) (l (now_of r)).ends in
     record { inside = both.inside; closed = both.closed }
 
 -- outside of a nursery's body nothing is open, so in one too
@@ -201,28 +216,29 @@ ends_in body r h = record { inside = h.inside; closed = λ e. h.closed refl }
 mutual
   unfolding walk
 
-  ends : (m : Mode) (body : Bool) (b : Steps) (here : Here) (st : Stack) (t : ℕ) → StartsIn body b → Ends body (walk m b here st t)
+  ends : (m : Mode) (body : Bool) (b : Steps) (here : Here) (st : Stack) (t : Now) → StartsIn body b → Ends body (walk m b here st t)
   ends m body stop here st t p = ends_done body t
   ends m body (step s ss) here st t p =
       ends_then body _ _ (ends_step m body s here st t p.0) (λ u. ends m body ss here st u p.1) (λ u. late m ss here st u)
 
-  ends_step : (m : Mode) (body : Bool) (s : Step) (here : Here) (st : Stack) (t : ℕ) → StartsAt body s → Ends body (walk_step m s here st t)
-  ends_step m body (sleep n) here st t p = ends_sleeping body st _ t
-  ends_step m body checkpoint here st t p = ends_sleeping body st _ t
-  ends_step m body forever here st t p = ends_sleeping body st _ t
-  ends_step m body (pace k) here st t p = ends_sleeping body st _ t
+  ends_step : (m : Mode) (body : Bool) (s : Step) (here : Here) (st : Stack) (t : Now) → StartsAt body s → Ends body (walk_step m s here st t)
+  ends_step m body (sleep n) here st t p = ends_sleeping body here.clock st _ t.at
+  ends_step m body checkpoint here st t p = ends_sleeping body here.clock st _ t.at
+  ends_step m body forever here st t p = ends_sleeping body here.clock st _ t.at
+  ends_step m body (pace k) here st t p = ends_pacing body here.clock st _ t.at
   ends_step m body (find text) here st t p = ends_showing body _ t
   ends_step m body (head n) here st t p = ends_showing body _ t
   ends_step m body longest here st t p = ends_showing body _ t
-  ends_step m body (need text name) here st t p = ends_needing body _ name here.task t
-  ends_step m body (raise name) here st t p = ends_raised body _ t
-  ends_step m body (cancel name) here st t p = ends_cancelling body _ t
-  ends_step m body (scope name d shield fail b) here st t p = ends_block body m _ _ t _ shield st _ (λ f. ends m false b here _ t p)
+  ends_step m body (need text name) here st t p = ends_needing body _ name here t
+  ends_step m body (raise name) here st t p = ends_raising body name here t
+  ends_step m body (cancel name) here st t p = ends_cancelling body here.clock _ t
+  ends_step m body (scope name d shield fail b) here st t p = ends_block body here.clock m _ _ t.at _ shield st _ (λ f. ends m false b here _ t p)
   ends_step m body (nursery name d shield b) here st t p =
-      ends_block body m _ _ t _ shield st _ (λ f. ends_gathered false _ _ (ends_signed true _ _ (ends m true b here _ t p)))
-  ends_step m true (start name None b) here st t p = ends_child _ t _ (ends_signed false st _ (ends m false b _ st t p.1))
+      ends_block body here.clock m _ _ t.at _ shield st _ (λ f. ends_gathered false here.clock _ _ (ends_signed true _ _ (ends m true b here _ t p)))
+  ends_step m true (start name None b) here st t p = ends_child _ _ _ t (ends_signed false st _ (ends m false b _ st (only_at (a_round_after here.clock t.at)) p.1))
   ends_step m true (start name (Some k) b) here st t p =
-      ends_each k _ t (λ i. child_ends _ t _) (λ i. ends_child _ t _ (ends_signed false st _ (ends m false b _ st t p.1)))
+      ends_each k _ t (λ i. child_ends _ (a_round_after here.clock t.at) _ t)
+      (λ i. ends_child _ (a_round_after here.clock t.at) _ t (ends_signed false st _ (ends m false b _ st (only_at (a_round_after here.clock t.at)) p.1)))
   ends_step m false (start name over b) here st t p = cc
   ends_step m body (repeat count b) here st t p =
       ends_passes body count 0 _ t (λ i u. ends_in body _ (ends m false b _ st u p)) (λ i u. late m b _ st u)
@@ -242,6 +258,6 @@ mutual
       ends_cleaned body r _ h (λ u. ends_in body _ (ends m false b here st u p)) (λ u. late m b here st u)
 
 -- each task of a job's walk ends by the end of the root
-pub ends_by_root : (m : Mode) (b : Steps) (here : Here) (st : Stack) (t : ℕ) → StartsIn false b →
+pub ends_by_root : (m : Mode) (b : Steps) (here : Here) (st : Stack) (t : Now) → StartsIn false b →
     Inside (walk m b here st t).end (walk m b here st t).log
 ends_by_root m b here st t p = inside_closed _ (ends m false b here st t p)

@@ -4,10 +4,11 @@ use Rattle.std.proofs.Common.{◌≡◌, ◌⊎◌, inl, inr, ℕ, zero, suc, �
 use Rattle.job_tree.specs.Tree.{Tree}
 use Rattle.exc_groups.specs.Exceptions.{Label}
 use Rattle.job_meaning.specs.Log.{Table}
-use Rattle.job_meaning.specs.Rest.{Event, noted, signs, enters, starts, Frame, steps_left, in_scope, in_nursery, in_repeat, in_try, in_handler, in_cleanup, Stopped, to_begin, asking, asleep, awaiting, at_end}
+use Rattle.job_meaning.specs.Moments.{a_round_after, Now}
+use Rattle.job_meaning.specs.Rest.{Event, noted, signs, enters, starts, Frame, steps_left, in_scope, in_nursery, in_repeat, in_try, in_handler, in_cleanup, Stopped, to_begin, asking, asleep, giving_up, awaiting, at_end}
 use Rattle.turn_semantics.specs.Midway.{Place, Begun, Move}
 use Rattle.turn_semantics.specs.Placed.{PlacedStop, PlacedAfter, home_after, AllBelow, KidsBelow, KidsAfter, IsAmong, HasChild, WaitsFor, HasChildAfter, AllHoused}
-use Rattle.turn_semantics.specs.Wakes.{Wake, begins, sees, is_due, has_answer, settles}
+use Rattle.turn_semantics.specs.Wakes.{Wake, begins, sees, gives_up, is_due, has_answer, settles}
 use Rattle.turn_semantics.specs.Turned.{Known, labels_of, AllKnown, known_after, EntersIn, Starts, BegunIn, TurnsOver}
 use Rattle.interleavings.specs.Interleaving.{Started, In, EachPlace, EntersWith, times_made, made_times, all_times, live}
 use Rattle.interleavings.specs.Going.{root_task, children_from, task_after_turn}
@@ -45,47 +46,53 @@ stop_below : (n i : ℕ) (home : List Place) (s : Stopped) (fs : List Frame) (ps
     HasChildAfter i home (Some s) fs ps → i < n
 stop_below n i home to_begin fs ps b (inr h) = child_below n i home fs ps b h
 stop_below n i home (asking kernel purpose) fs ps b (inr h) = child_below n i home fs ps b h
-stop_below n i home (asleep m since) fs ps b (inr h) = child_below n i home fs ps b h
+stop_below n i home (asleep paced m since) fs ps b (inr h) = child_below n i home fs ps b h
+stop_below n i home (giving_up since) fs ps b (inr h) = child_below n i home fs ps b h
 stop_below n i home (awaiting children ended exc) fs [] b (inr h) = child_below n i home fs [] b.1 h
 stop_below n i home (awaiting children ended exc) fs (p ∷ ps) b (inl a) = among_below n i children b.0 a.0
 stop_below n i home (awaiting children ended exc) fs (p ∷ ps) b (inr h) = child_below n i home fs ps b.1 h
 stop_below n i home (at_end u e) fs ps b (inr h) = child_below n i home fs ps b h
 stop_below n i home to_begin fs ps b (inl h) = absurd h
 stop_below n i home (asking kernel purpose) fs ps b (inl h) = absurd h
-stop_below n i home (asleep m since) fs ps b (inl h) = absurd h
+stop_below n i home (asleep paced m since) fs ps b (inl h) = absurd h
+stop_below n i home (giving_up since) fs ps b (inl h) = absurd h
 stop_below n i home (awaiting children ended exc) fs [] b (inl h) = absurd h
 stop_below n i home (at_end u e) fs ps b (inl h) = absurd h
 
 -- ---- which tasks may be woken
 
 -- a task that may be woken has not ended
-wakes_live : (f : Table) (qs : List Started) (t : ℕ) (q : Started) (w : Wake) (s : Stopped) → MayWake f qs t q w s → live s ≡ true
+wakes_live : (f : Table) (qs : List Started) (t : Now) (q : Started) (w : Wake) (s : Stopped) → MayWake f qs t q w s → live s ≡ true
 wakes_live f qs t q w to_begin h = refl
 wakes_live f qs t q w (asking kernel purpose) h = refl
-wakes_live f qs t q w (asleep n since) h = refl
+wakes_live f qs t q w (asleep paced n since) h = refl
+wakes_live f qs t q w (giving_up since) h = refl
 wakes_live f qs t q w (awaiting children ended exc) h = refl
 wakes_live f qs t q begins (at_end u e) h = absurd h
 wakes_live f qs t q sees (at_end u e) h = absurd h
+wakes_live f qs t q gives_up (at_end u e) h = absurd h
 wakes_live f qs t q is_due (at_end u e) h = absurd h
 wakes_live f qs t q (has_answer a) (at_end u e) h = absurd h
 wakes_live f qs t q (settles x) (at_end u e) h = absurd h
 
 -- and none for which it waited is live
-none_waited : (f : Table) (qs : List Started) (t : ℕ) (q : Started) (w : Wake) (s : Stopped) (ps : List Place) → MayWake f qs t q w s →
+none_waited : (f : Table) (qs : List Started) (t : Now) (q : Started) (w : Wake) (s : Stopped) (ps : List Place) → MayWake f qs t q w s →
     (i : ℕ) (home : List Place) → WaitsFor i home (Some s) ps → (c : Started) → In c qs → c.serial ≡ q.child i →
     live c.rest.stopped ≡ true → ⊥
 none_waited f qs t q (settles x) (awaiting children ended e) (p ∷ ps) h i home a c among serial l =
-    let y : c.rest.stopped ≡ at_end (h.ends i).end (h.ends i).exc = h.over i a.0 c among serial in
+    let y : c.rest.stopped ≡ at_end (h.0.ends i).end (h.0.ends i).exc = h.0.over i a.0 c among serial in
     let z : live c.rest.stopped ≡ false = ap live y in
     absurd (cc)
 none_waited f qs t q begins (awaiting children ended e) (p ∷ ps) h i home a c among serial l = absurd h
 none_waited f qs t q sees (awaiting children ended e) (p ∷ ps) h i home a c among serial l = absurd h
+none_waited f qs t q gives_up (awaiting children ended e) (p ∷ ps) h i home a c among serial l = absurd h
 none_waited f qs t q is_due (awaiting children ended e) (p ∷ ps) h i home a c among serial l = absurd h
 none_waited f qs t q (has_answer b) (awaiting children ended e) (p ∷ ps) h i home a c among serial l = absurd h
 none_waited f qs t q w (awaiting children ended e) [] h i home a c among serial l = absurd a
 none_waited f qs t q w to_begin ps h i home a c among serial l = absurd a
 none_waited f qs t q w (asking kernel purpose) ps h i home a c among serial l = absurd a
-none_waited f qs t q w (asleep n since) ps h i home a c among serial l = absurd a
+none_waited f qs t q w (asleep paced n since) ps h i home a c among serial l = absurd a
+none_waited f qs t q w (giving_up since) ps h i home a c among serial l = absurd a
 none_waited f qs t q w (at_end u e) ps h i home a c among serial l = absurd a
 
 -- ---- labels of enclosing scopes and nurseries
@@ -121,15 +128,19 @@ enters_after l (starts i m t ∷ es) more h = enters_after l es more h
 
 -- ---- a turn
 
-module _ (k f : Table) (t m : ℕ) (q : Started) (ys : List Started) (wake : Wake) (o : Move) (s : Stopped)
-    (all : (x : Started) → In x (q ∷ ys) → IsHoused (q ∷ ys) x) (may : MayWake f (q ∷ ys) t q wake q.rest.stopped)
-    (goes : TurnsOver q.stop t q.here f wake q.rest q.places q.count o) (stopped : o.stopped ≡ Some s)
+module _ (k f : Table) (now : Now) (m : ℕ) (q : Started) (ys : List Started) (wake : Wake) (o : Move) (s : Stopped)
+    (all : (x : Started) → In x (q ∷ ys) → IsHoused (q ∷ ys) x) (may : MayWake f (q ∷ ys) now q wake q.rest.stopped)
+    (goes : TurnsOver q.stop now q.here f wake q.rest q.places q.count o) (stopped : o.stopped ≡ Some s)
     (small : (x : Started) → In x (q ∷ ys) → x.serial < m) where
+  -- the moment in which the new children begin
+  abbrev next : ℕ
+  next = a_round_after q.here.clock now.at
+
   abbrev q' : Started
-  q' = task_after_turn k t m q o s
+  q' = task_after_turn k now m q o s
 
   abbrev new : List Started
-  new = children_from k t m o.begun
+  new = children_from k next m o.begun
 
   abbrev after_turn : List Started
   after_turn = (q' ∷ new) ++ ys
@@ -157,7 +168,7 @@ module _ (k f : Table) (t m : ℕ) (q : Started) (ys : List Started) (wake : Wak
         where
           by_wait : HasChildAfter number home (Some q.rest.stopped) q.rest.frames q.places →
               HasChildAfter number home o.stopped o.frames o.places
-          by_wait (inl a) = absurd (none_waited f (q ∷ ys) t q wake q.rest.stopped q.places may number home a x i (e ∙ same) l)
+          by_wait (inl a) = absurd (none_waited f (q ∷ ys) now q wake q.rest.stopped q.places may number home a x i (e ∙ same) l)
           by_wait (inr a) = goes.stays number home a
 
       by_starter : In h.starter (q ∷ ys) → Home after_turn serial home
@@ -185,7 +196,7 @@ module _ (k f : Table) (t m : ℕ) (q : Started) (ys : List Started) (wake : Wak
   }
     where
       before : live q.rest.stopped ≡ true
-      before = wakes_live f (q ∷ ys) t q wake q.rest.stopped may
+      before = wakes_live f (q ∷ ys) now q wake q.rest.stopped may
 
       same_home : home_of q' ≡ home_of q
       same_home = here_stopped (λ (z : Option Stopped). home_after z o.frames o.places
@@ -215,7 +226,7 @@ module _ (k f : Table) (t m : ℕ) (q : Started) (ys : List Started) (wake : Wak
   -- the children that it began
   begun_housed : (i n j : ℕ) (es : List Event) (bs : List Begun) → Starts n es bs → n ≡ q.count + j → i ≡ m + j →
       BegunIn (known_after (labels_of q.places) o.made) bs →
-      AllHoused bs o.stopped o.frames o.places → (x : Started) → In x (children_from k t i bs) → IsHoused after_turn x
+      AllHoused bs o.stopped o.frames o.places → (x : Started) → In x (children_from k next i bs) → IsHoused after_turn x
   unfolding children_from
   begun_housed i n j es [] a e g b h x z = absurd z
   begun_housed i n j [] (c ∷ bs) a e g b h x z = absurd a
@@ -292,15 +303,15 @@ serials_below : (k : Table) (job : Tree) (input : List ℕ) (f : Table) (t m : �
     (x : Started) → In x qs → x.serial < m
 serials_below k job input f t m _ (begun f') x (inl e) = let a : x.serial ≡ 0 = ap (λ (z : Started). z.serial) e in omega arith
 serials_below k job input f t m _ (begun f') x (inr i) = absurd i
-serials_below k job input f t m _ (turn g u n p qs others wake o s r at may goes stopped) x (inl e) =
+serials_below k job input f t m _ (turn g now n p qs others wake o s r at may goes stopped) x (inl e) =
     let a : x.serial ≡ p.serial = ap (λ (z : Started). z.serial) e in
-    let b : p.serial < n = serials_below k job input g u n qs r p ((front_same p qs others at).back p (inl refl)) in
+    let b : p.serial < n = serials_below k job input g now.at n qs r p ((front_same p qs others at).back p (inl refl)) in
     omega arith
-serials_below k job input f t m _ (turn g u n p qs others wake o s r at may goes stopped) x (inr i) =
-    by_place (λ j. serials_below k job input g u n qs r x j) (in_either x (children_from k u n o.begun) others i)
+serials_below k job input f t m _ (turn g now n p qs others wake o s r at may goes stopped) x (inr i) =
+    by_place (λ j. serials_below k job input g now.at n qs r x j) (in_either x (children_from k (a_round_after p.here.clock now.at) n o.begun) others i)
   where
-    by_place : (In x qs → x.serial < n) → In x (children_from k u n o.begun) ⊎ In x others → x.serial < n + length o.begun
-    by_place before (inl j) = begun_small k u n o.begun x j
+    by_place : (In x qs → x.serial < n) → In x (children_from k (a_round_after p.here.clock now.at) n o.begun) ⊎ In x others → x.serial < n + length o.begun
+    by_place before (inl j) = begun_small k (a_round_after p.here.clock now.at) n o.begun x j
     by_place before (inr j) = let b : x.serial < n = before ((front_same p qs others at).back x (inr j)) in omega arith
 serials_below k job input f t m qs (jump g v u n qs' r le blocked) x i = serials_below k job input g v n qs' r x i
 
@@ -310,10 +321,10 @@ tasks_are_housed k job input inside f t m _ (begun f') q (inl e) =
     subst (λ (x : Started). IsHoused (root_task k job input ∷ []) x) (sym e)
     (record { placed = (inside, tt); kids = tt; own = tt; home = λ l. inl (refl, refl) })
 tasks_are_housed k job input inside f t m _ (begun f') q (inr i) = absurd i
-tasks_are_housed k job input inside f t m _ (turn g u n p qs others wake o s r at may goes stopped) q i =
-    housed_after k g u n p others wake o s
-    (housed_moved qs (p ∷ others) (front_same p qs others at) (λ x j. tasks_are_housed k job input inside g u n qs r x j))
-    may goes stopped (λ x j. serials_below k job input g u n qs r x ((front_same p qs others at).back x j)) q i
+tasks_are_housed k job input inside f t m _ (turn g now n p qs others wake o s r at may goes stopped) q i =
+    housed_after k g now n p others wake o s
+    (housed_moved qs (p ∷ others) (front_same p qs others at) (λ x j. tasks_are_housed k job input inside g now.at n qs r x j))
+    may goes stopped (λ x j. serials_below k job input g now.at n qs r x ((front_same p qs others at).back x j)) q i
 tasks_are_housed k job input inside f t m qs (jump g v u n qs' r le blocked) q i = tasks_are_housed k job input inside g v n qs' r q i
 
 -- ---- which tasks are in a scope or nursery
@@ -340,8 +351,10 @@ home_within i l home to_begin fs ps (inl h) k = absurd h
 home_within i l home to_begin fs ps (inr h) k = home_among i l home fs ps h k
 home_within i l home (asking kernel purpose) fs ps (inl h) k = absurd h
 home_within i l home (asking kernel purpose) fs ps (inr h) k = home_among i l home fs ps h k
-home_within i l home (asleep n since) fs ps (inl h) k = absurd h
-home_within i l home (asleep n since) fs ps (inr h) k = home_among i l home fs ps h k
+home_within i l home (asleep paced n since) fs ps (inl h) k = absurd h
+home_within i l home (giving_up since) fs ps (inl h) k = absurd h
+home_within i l home (asleep paced n since) fs ps (inr h) k = home_among i l home fs ps h k
+home_within i l home (giving_up since) fs ps (inr h) k = home_among i l home fs ps h k
 home_within i l home (awaiting children ended exc) fs [] (inl h) k = absurd h
 home_within i l home (awaiting children ended exc) fs [] (inr h) k = home_among i l home fs [] h k
 home_within i l home (awaiting children ended exc) fs (p ∷ ps) (inl a) k = subst (λ (rs : List Place). Known l (labels_of rs)) a.1 k
@@ -354,7 +367,8 @@ has_live : (i : ℕ) (home : List Place) (s : Stopped) (fs : List Frame) (ps : L
     HasChildAfter i home (Some s) fs ps → live s ≡ true
 has_live i home to_begin fs ps p h = refl
 has_live i home (asking kernel purpose) fs ps p h = refl
-has_live i home (asleep n since) fs ps p h = refl
+has_live i home (asleep paced n since) fs ps p h = refl
+has_live i home (giving_up since) fs ps p h = refl
 has_live i home (awaiting children ended exc) fs ps p h = refl
 has_live i home (at_end u e) fs ps p (inl h) = absurd h
 has_live i home (at_end u e) fs ps p (inr h) = absurd (subst (λ (gs : List Frame). HasChild i home gs ps) p h)

@@ -1,11 +1,11 @@
--- The limit is exact, and a blocked run has a sleeper.
+-- The limit is exact, and in a blocked run some task has a next turn.
 use Rattle.std.proofs.Common.{◌≡◌, ℕ, zero, suc, ◌+◌, ◌<◌, ◌≤◌, true, List, [], ◌∷◌, refl, sym, ap, subst, ◌⊎◌, inl, inr, arith}
 use Rattle.job_meaning.specs.Log.{Log, Result, Table, followed_by}
 use Rattle.job_meaning.specs.Walk.{by_table}
-use Rattle.job_meaning.specs.Rest.{Event, noted, signs, enters, starts, ChildOutcomes, fill, Stopped, to_begin, asking, asleep, awaiting, at_end, rest_comes_to}
+use Rattle.job_meaning.specs.Rest.{Event, noted, signs, enters, starts, ChildOutcomes, fill, Stopped, to_begin, asking, asleep, giving_up, awaiting, at_end, rest_comes_to}
 use Rattle.turn_semantics.specs.Midway.{stack_at}
-use Rattle.interleavings.specs.Interleaving.{Started, StartsChild, In, Kid, Parent, RunInvariant, live, AllFrom, Unended, StaysUntil, Blocked}
-use Rattle.interleavings.specs.Laws.{Sleeps}
+use Rattle.interleavings.specs.Interleaving.{Started, StartsChild, In, Kid, Parent, RunInvariant, live, AllFrom, Unended, Settling, StaysUntil, Blocked}
+use Rattle.interleavings.specs.Laws.{HasNextTurn, GoesOn}
 use Rattle.interleavings.proofs.Agreement.{told_tells, ends_at}
 use Rattle.interleavings.proofs.Ends.{Inside, inside_first}
 
@@ -51,7 +51,7 @@ module _ (k f : Table) (whole : Result) (qs : List Started) (o : RunInvariant k 
           (omega arith, subst (λ (r : Result). Inside r.end r.log) (sym e) h)
       by_parent (inr p) up = of_starter p (up p)
 
-  -- while a task has not ended, the whole does not end before the present tick
+  -- while a task has not ended, the whole does not end before the present moment
   pub not_before : Inside whole.end whole.log → (t : ℕ) → AllFrom k qs t → (q : Started) → In q qs → live q.rest.stopped ≡ true →
       t ≤ whole.end
   not_before h t from q i l =
@@ -59,21 +59,28 @@ module _ (k f : Table) (whole : Result) (qs : List Started) (o : RunInvariant k 
       let b : q.final_result.end ≤ whole.end = (ends_by_whole h (suc q.serial) q i (omega arith)).0 in
       omega arith
 
-  -- a blocked run has a sleeper: a task that waits does so for a child that has not ended
-  pub has_sleeper : (u bound : ℕ) → Blocked f qs u → ((q : Started) → In q qs → q.serial < bound) → (n : ℕ) (q : Started) → In q qs →
-      live q.rest.stopped ≡ true → bound ≤ q.serial + n → Sleeps qs
-  has_sleeper u m b small zero q i a z = let w : q.serial < m = small q i in absurd (omega arith)
-  has_sleeper u m b small (suc n) q i a z =
+  -- in a blocked run some task has a next turn: a task that waits does so for a child that has not ended, or its nursery settles
+  pub has_next : (u bound : ℕ) → Blocked f qs u → ((q : Started) → In q qs → q.serial < bound) → (n : ℕ) (q : Started) → In q qs →
+      live q.rest.stopped ≡ true → bound ≤ q.serial + n → GoesOn qs
+  has_next u m b small zero q i a z = let w : q.serial < m = small q i in absurd (omega arith)
+  has_next u m b small (suc n) q i a z =
       by_stop q.rest.stopped refl a (b q i)
       (λ children c.
       let kid : Kid qs q c.number = o.kids q i c.number c.below in
       let x : q.serial < kid.kid.serial = kid.later in
-      has_sleeper u m b small n kid.kid kid.among (c.alive kid.kid kid.among kid.serial) (omega arith))
+      has_next u m b small n kid.kid kid.among (c.alive kid.kid kid.among kid.serial) (omega arith))
     where
       by_stop : (s : Stopped) → q.rest.stopped ≡ s → live s ≡ true → StaysUntil f qs u q s →
-          ((children : List ℕ) (c : Unended qs q children) → Sleeps qs) → Sleeps qs
-      by_stop to_begin e l p go = absurd p
-      by_stop (asking kernel purpose) e l p go = absurd p
-      by_stop (asleep d since) e l p go = record { sleeper = q; among = i; ticks = d; since = since; stopped = e }
-      by_stop (awaiting children ended exc) e l p go = go children p
+          ((children : List ℕ) (c : Unended qs q children) → GoesOn qs) → GoesOn qs
+      by_stop to_begin e l p go = record { next = q; among = i; has = subst (λ (x : Stopped). HasNextTurn qs q x) (sym e) tt }
+      by_stop (asking kernel purpose) e l p go =
+          record { next = q; among = i; has = subst (λ (x : Stopped). HasNextTurn qs q x) (sym e) tt }
+      by_stop (asleep paced d since) e l p go =
+          record { next = q; among = i; has = subst (λ (x : Stopped). HasNextTurn qs q x) (sym e) tt }
+      by_stop (giving_up since) e l p go =
+          record { next = q; among = i; has = subst (λ (x : Stopped). HasNextTurn qs q x) (sym e) tt }
+      by_stop (awaiting children ended exc) e l (inl p) go = go children p
+      by_stop (awaiting children ended exc) e l (inr p) go =
+          let c : Settling qs q children ended 0 = record { ends = p.ends; numbers = p.numbers; over = p.over; later = omega arith } in
+          record { next = q; among = i; has = subst (λ (x : Stopped). HasNextTurn qs q x) (sym e) c }
       by_stop (at_end t x) e l p go = cc

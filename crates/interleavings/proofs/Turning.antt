@@ -5,9 +5,11 @@ use Rattle.std.proofs.lemmas.Bool.{cases_lt, le-ltb, lt-ltb}
 use Rattle.exc_groups.specs.Exceptions.{Label}
 use Rattle.cancel_scopes.specs.Sight.{Tick}
 use Rattle.job_meaning.specs.Log.{Log, Result, least_sign, from_by, times_entered, Table, followed_by}
+use Rattle.job_meaning.specs.Moments.{a_round_after, wakes_at, Now}
 use Rattle.job_meaning.specs.Walk.{latest}
 use Rattle.job_meaning.specs.Before.{upto}
-use Rattle.job_meaning.specs.Rest.{Event, ChildOutcomes, fill, told_members, Stopped, to_begin, asking, asleep, awaiting, at_end, noted, signs, enters, starts}
+use Rattle.job_meaning.specs.Rest.{Event, ChildOutcomes, fill, told_members, Stopped, to_begin, asking, asleep, giving_up, awaiting, at_end, noted, signs, enters, starts}
+use Rattle.job_meaning.proofs.MomentLemmas.{round_after, wakes_after}
 use Rattle.job_meaning.proofs.Clips.{upto_most}
 use Rattle.job_meaning.proofs.Late.{latest_ends}
 use Rattle.turn_semantics.specs.Midway.{Place, stack_at, Begun, Move, begun_comes_to}
@@ -16,11 +18,11 @@ use Rattle.turn_semantics.specs.Placed.{PlacedStop}
 use Rattle.turn_semantics.specs.Wakes.{Wake, WakesBy}
 use Rattle.turn_semantics.specs.Turned.{AgreesOn, AgreesIn, AllTold, Known, labels_of, AllKnown, known_after, Starts, BegunIn, made_sign, EntersIn, StopsAt, TurnsOver}
 use Rattle.turn_semantics.proofs.Froms.{unsigned}
-use Rattle.interleavings.specs.Interleaving.{Started, Tells, Fits, times_made, made_least, all_least, made_times, all_times, EnteredIn, EntersWith, StartsChild, In, Kid, HasFrom, Parent, Entered, EachPlace, Root, RunInvariant, goes_on, resumes, AllFrom}
+use Rattle.interleavings.specs.Interleaving.{Started, Tells, Fits, times_made, made_least, all_least, made_times, all_times, EnteredIn, EntersWith, StartsChild, In, Kid, HasFrom, Parent, Entered, EachPlace, Root, RunInvariant, slept, goes_on, resumes, AllFrom}
 use Rattle.interleavings.specs.Going.{told_new, children_from, child_from, task_after_turn}
 use Rattle.interleavings.proofs.Readings.{in_first, in_second, in_either, enters_first, enters_second, enters_either, starts_either, enters_counted, enters_times, entered_first, entered_second, enters_fill, made_low, all_least_join, all_times_join, made_few, made_counted, first_join, times_join}
 use Rattle.interleavings.proofs.Contract.{NumberedFrom, numbers_of, OldOrNew, known_of, each_known, lowered_from, opened_from, placed_stop, stops_at}
-use Rattle.interleavings.proofs.Lateness.{sleeping_end}
+use Rattle.interleavings.proofs.Lateness.{slept_after}
 use Rattle.interleavings.proofs.Agreement.{agrees_on, agrees_in}
 use Rattle.interleavings.proofs.Commit.{old_told, first_told, later_told, tells_begun, tells_itself, left_is, fits_turned, least_turned, times_turned, fits_begun, fill_entered}
 
@@ -66,7 +68,7 @@ begun_places k t m ls [] p x i = absurd i
 begun_places k t m ls (b ∷ bs) p x (inl e) = subst (λ (z : Started). AllKnown z.places ls) (sym e) p.0
 begun_places k t m ls (b ∷ bs) p x (inr i) = begun_places k t (suc m) ls bs p.2 x i
 
--- they continue in this tick
+-- they begin in this moment
 begun_resumes : (k : Table) (t m : ℕ) (bs : List Begun) (x : Started) → In x (children_from k t m bs) → t ≤ resumes k x
 unfolding children_from
 begun_resumes k t m [] x i = absurd i
@@ -143,29 +145,33 @@ new_kid k t told n m (b ∷ bs) p i h j = by_case (split i n h) (λ g. new_kid k
 -- ---- the run
 
 module _ (k f : Table) (whole : Result) (q : Started) (ys : List Started) (interleaving : RunInvariant k f whole (q ∷ ys))
-    (t : ℕ) (from : AllFrom k (q ∷ ys) t) (m : ℕ) (small : (x : Started) → In x (q ∷ ys) → x.serial < m)
+    (now : Now) (from : AllFrom k (q ∷ ys) now.at) (m : ℕ) (small : (x : Started) → In x (q ∷ ys) → x.serial < m)
     (wake : Wake) (o : Move) (s : Stopped)
-    (w : TurnsOver q.stop t q.here f wake q.rest q.places q.count o) (stopped : o.stopped ≡ Some s)
-    (come : (told : ChildOutcomes) → Tells q told → WakesBy k told q.here q.stop t wake q.rest.stopped q.places) where
+    (w : TurnsOver q.stop now q.here f wake q.rest q.places q.count o) (stopped : o.stopped ≡ Some s)
+    (come : (told : ChildOutcomes) → Tells q told → WakesBy k told q.here q.stop now wake q.rest.stopped q.places) where
+  -- the moment in which the new children begin
+  abbrev next : ℕ
+  next = a_round_after q.here.clock now.at
+
   -- the froms after the turn
   abbrev g : Table
   g = froms_after f o.made
 
   abbrev q' : Started
-  q' = task_after_turn k t m q o s
+  q' = task_after_turn k now m q o s
 
   abbrev new : List Started
-  new = children_from k t m o.begun
+  new = children_from k next m o.begun
 
   -- all tasks after the turn
   abbrev pub after_turn : List Started
   after_turn = (q' ∷ new) ++ ys
 
-  near : AgreesOn t k f q.places
-  near = agrees_on k f whole (q ∷ ys) interleaving t from q.places (interleaving.placed q (inl refl))
+  near : AgreesOn now.at k f q.places
+  near = agrees_on k f whole (q ∷ ys) interleaving now.at from q.places (interleaving.placed q (inl refl))
 
-  deadlines : AgreesIn t k q.left
-  deadlines = agrees_in k f whole (q ∷ ys) interleaving t from q (inl refl)
+  deadlines : AgreesIn now.at k q.left
+  deadlines = agrees_in k f whole (q ∷ ys) interleaving now.at from q (inl refl)
 
   numbers : NumberedFrom q.count o.begun
   numbers = numbers_of q.count o.made o.begun w.starts
@@ -174,20 +180,20 @@ module _ (k f : Table) (whole : Result) (q : Started) (ys : List Started) (inter
   fit = interleaving.fits q (inl refl)
 
   fits_after : (x : Started) → In x after_turn → Fits k x
-  fits_after x (inl e) = subst (λ (z : Started). Fits k z) (sym e) (fits_turned k f t m wake q o s w stopped fit near deadlines come)
+  fits_after x (inl e) = subst (λ (z : Started). Fits k z) (sym e) (fits_turned k f now m wake q o s w stopped fit near deadlines come)
   fits_after x (inr i) = by_place (in_either x new ys i)
     where
       by_place : In x new ⊎ In x ys → Fits k x
-      by_place (inl j) = fits_begun k t m o.begun x j
+      by_place (inl j) = fits_begun k next m o.begun x j
       by_place (inr j) = interleaving.fits x (inr j)
 
   shape_after : (x : Started) → In x after_turn → PlacedStop x.rest.stopped x.rest.frames x.places
   shape_after x (inl e) = subst (λ (z : Started). PlacedStop z.rest.stopped z.rest.frames z.places) (sym e)
-      (placed_stop t f wake q o s w stopped)
+      (placed_stop now f wake q o s w stopped)
   shape_after x (inr i) = by_place (in_either x new ys i)
     where
       by_place : In x new ⊎ In x ys → PlacedStop x.rest.stopped x.rest.frames x.places
-      by_place (inl j) = begun_shape k t m (known_after (labels_of q.places) o.made) o.begun w.begun_in x j
+      by_place (inl j) = begun_shape k next m (known_after (labels_of q.places) o.made) o.begun w.begun_in x j
       by_place (inr j) = interleaving.shape x (inr j)
 
   signed_after : (c : ℕ) (l : Label) → upto c (least_sign l whole.log) ≡ all_least c l after_turn
@@ -195,7 +201,7 @@ module _ (k f : Table) (whole : Result) (q : Started) (ys : List Started) (inter
   signed_after c l =
       let x : upto c (least_sign l whole.log) ≡ all_least c l (q ∷ ys) = interleaving.signed c l in
       let y : all_least c l (q' ∷ new) ≡ min (upto c (made_sign l q.made)) (upto c (least_sign l q.left)) =
-      least_turned k f t m wake q o s w stopped fit near deadlines come c l in
+      least_turned k f now m wake q o s w stopped fit near deadlines come c l in
       let z : all_least c l after_turn ≡ min (all_least c l (q' ∷ new)) (all_least c l ys) = all_least_join c l (q' ∷ new) ys in
       x ∙ sym (z ∙ ap (λ (v : ℕ). min v (all_least c l ys)) y)
 
@@ -204,7 +210,7 @@ module _ (k f : Table) (whole : Result) (q : Started) (ys : List Started) (inter
   once_after l =
       let x : all_times l (q ∷ ys) ≤ 1 = interleaving.once l in
       let y : all_times l (q' ∷ new) ≡ times_made l q.made + times_entered l q.left =
-      times_turned k f t m wake q o s w stopped fit near deadlines come l in
+      times_turned k f now m wake q o s w stopped fit near deadlines come l in
       let z : all_times l after_turn ≡ all_times l (q' ∷ new) + all_times l ys = all_times_join l (q' ∷ new) ys in
       subst (λ (v : ℕ). v ≤ 1) (sym (z ∙ ap (λ (v : ℕ). v + all_times l ys) y)) x
 
@@ -216,7 +222,7 @@ module _ (k f : Table) (whole : Result) (q : Started) (ys : List Started) (inter
   unfolding made_times
   times_after l =
       let x : times_made l (q.made ++ o.made) ≡ times_made l q.made + times_made l o.made = times_join l q.made o.made in
-      omega (arith, begun_times k t l m o.begun ys)
+      omega (arith, begun_times k next l m o.begun ys)
 
   least_after : (c : ℕ) (l : Label) → made_least c l after_turn
       ≡ min (min (upto c (made_sign l q.made)) (upto c (made_sign l o.made))) (made_least c l ys)
@@ -224,7 +230,7 @@ module _ (k f : Table) (whole : Result) (q : Started) (ys : List Started) (inter
   least_after c l =
       let x : upto c (made_sign l (q.made ++ o.made)) ≡ min (upto c (made_sign l q.made)) (upto c (made_sign l o.made)) =
       first_join c l q.made o.made in
-      omega (arith, begun_least k t c l m o.begun ys (made_low c l ys))
+      omega (arith, begun_least k next c l m o.begun ys (made_low c l ys))
 
   -- the label of an enclosing scope or nursery was entered
   place_counted : (l : Label) (ps : List Place) → EachPlace (Entered (q ∷ ys)) ps → Known l (labels_of ps) → 1 ≤ made_times l (q ∷ ys)
@@ -245,7 +251,7 @@ module _ (k f : Table) (whole : Result) (q : Started) (ys : List Started) (inter
       let n : (times_made l q.made + times_made l o.made) + made_times l ys ≡ 0 = sym (times_after l) ∙ h in
       let x : min (upto c (made_sign l q.made)) (made_least c l ys) ≡ c = interleaving.made c l (omega arith) in
       let y : upto c (made_sign l o.made) ≡ c =
-      ap (upto c) (unsigned t o.made (labels_of q.places) l w.made_now (no_place l (omega arith)) (not_entered (omega arith))) in
+      ap (upto c) (unsigned q.here.clock now.at o.made (labels_of q.places) l w.made_now (no_place l (omega arith)) (not_entered (omega arith))) in
       least_after c l ∙ omega arith
     where
       not_entered : times_made l o.made ≡ 0 → EntersIn l o.made → ⊥
@@ -255,12 +261,12 @@ module _ (k f : Table) (whole : Result) (q : Started) (ys : List Started) (inter
   d' = q'.told
 
   rest_is : q.left ≡ followed_by (fill d' o.made) q'.left
-  rest_is = left_is k f t m wake q o s w stopped fit near deadlines come d'
-      (tells_itself k f t m wake q o s w stopped fit near deadlines come)
+  rest_is = left_is k f now m wake q o s w stopped fit near deadlines come d'
+      (tells_itself k f now m wake q o s w stopped fit near deadlines come)
 
-  all_begun : AllTold t k d' o.begun
-  all_begun = tells_begun k f t m wake q o s w stopped fit near deadlines come d'
-      (tells_itself k f t m wake q o s w stopped fit near deadlines come)
+  all_begun : AllTold next k d' o.begun
+  all_begun = tells_begun k f now m wake q o s w stopped fit near deadlines come d'
+      (tells_itself k f now m wake q o s w stopped fit near deadlines come)
 
   in_made : (l : Label) (d : Tick) → EnteredIn l d (fill d' o.made) → EnteredIn l d q.left
   in_made l d j = subst (λ (a : Log). EnteredIn l d a) (sym rest_is) (entered_first l d (fill d' o.made) q'.left j)
@@ -274,7 +280,7 @@ module _ (k f : Table) (whole : Result) (q : Started) (ys : List Started) (inter
     where
       by_place : In x new ⊎ In x ys → k l ≡ from_by d (least_sign l whole.log)
       by_place (inl z) = interleaving.follows q (inl refl) l d (in_made l d
-          (fill_entered k t d' q.count m o.made o.begun w.starts all_begun x z l d j))
+          (fill_entered k next d' q.count m o.made o.begun w.starts all_begun x z l d j))
       by_place (inr z) = interleaving.follows x (inr z) l d j
 
   -- ---- children
@@ -300,14 +306,14 @@ module _ (k f : Table) (whole : Result) (q : Started) (ys : List Started) (inter
   numbered_after x (inr i) = by_place (in_either x new ys i)
     where
       by_place : In x new ⊎ In x ys → (n : ℕ) → StartsChild n x.made → n < x.count
-      by_place (inl z) = λ n h. absurd (subst (λ (es : List Event). StartsChild n es) (begun_made k t m o.begun x z) h)
+      by_place (inl z) = λ n h. absurd (subst (λ (es : List Event). StartsChild n es) (begun_made k next m o.begun x z) h)
       by_place (inr z) = interleaving.numbered x (inr z)
 
   old_kid : (i : ℕ) → i < q.count → Kid after_turn q' i
   old_kid i h = go (interleaving.kids q (inl refl) i h)
     where
       same : q.told i ≡ q'.told i
-      same = sym (old_told k t q.told q.count o.begun numbers i h)
+      same = sym (old_told k next q.told q.count o.begun numbers i h)
 
       place : (c : Started) → q.serial < c.serial → In c (q ∷ ys) → In c after_turn
       place c l (inl e) = let z : c.serial ≡ q.serial = ap (λ (v : Started). v.serial) e in absurd (omega arith)
@@ -325,7 +331,7 @@ module _ (k f : Table) (whole : Result) (q : Started) (ys : List Started) (inter
 
   later_kid : (i : ℕ) → q.count ≤ i → i < q.count + length o.begun → Kid after_turn q' i
   later_kid i h j =
-      let c : NewKid k t q.told q.count m o.begun i = new_kid k t q.told q.count m o.begun numbers i h j in
+      let c : NewKid k next q.told q.count m o.begun i = new_kid k next q.told q.count m o.begun numbers i h j in
       let y : c.kid.serial ≡ m + (i - q.count) = c.serial in
       let v : q.serial < m = small q (inl refl) in
       record {
@@ -367,7 +373,7 @@ module _ (k f : Table) (whole : Result) (q : Started) (ys : List Started) (inter
   kids_after x (inr i) = by_place (in_either x new ys i)
     where
       by_place : In x new ⊎ In x ys → (n : ℕ) → n < x.count → Kid after_turn x n
-      by_place (inl z) = λ n h. let y : x.count ≡ 0 = begun_count k t m o.begun x z in absurd (omega arith)
+      by_place (inl z) = λ n h. let y : x.count ≡ 0 = begun_count k next m o.begun x z in absurd (omega arith)
       by_place (inr z) = kids_other x z
 
   -- ---- starters
@@ -402,7 +408,7 @@ module _ (k f : Table) (whole : Result) (q : Started) (ys : List Started) (inter
             number = p.number;
             started = starts_first p.number q.made o.made h';
             same = s ∙ (ap (λ (v : Started). v.told p.number) e
-                ∙ sym (old_told k t q.told q.count o.begun numbers p.number (interleaving.numbered q (inl refl) p.number h')));
+                ∙ sym (old_told k next q.told q.count o.begun numbers p.number (interleaving.numbered q (inl refl) p.number h')));
           }
       by_task z (inr j) l h s = record {
         starter = z;
@@ -437,7 +443,7 @@ module _ (k f : Table) (whole : Result) (q : Started) (ys : List Started) (inter
   parents_after x (inl e) = subst (λ (z : Started). (z.final_result ≡ whole) ⊎ Parent after_turn z) (sym e) parent_turned
   parents_after x (inr i) = by_place (in_either x new ys i)
     where
-      of_new : NewChild k t m o.begun o.made d' x → Parent after_turn x
+      of_new : NewChild k next m o.begun o.made d' x → Parent after_turn x
       of_new c = let v : q.serial < m = small q (inl refl) in let z : m ≤ x.serial = c.serial in
           record {
             starter = q';
@@ -450,7 +456,7 @@ module _ (k f : Table) (whole : Result) (q : Started) (ys : List Started) (inter
           }
 
       by_place : In x new ⊎ In x ys → (x.final_result ≡ whole) ⊎ Parent after_turn x
-      by_place (inl z) = inr (of_new (new_child k t d' q.count m o.made o.begun w.starts all_begun x z))
+      by_place (inl z) = inr (of_new (new_child k next d' q.count m o.made o.begun w.starts all_begun x z))
       by_place (inr z) = root_or_old x (interleaving.parents x (inr z))
 
   -- ---- froms
@@ -481,7 +487,7 @@ module _ (k f : Table) (whole : Result) (q : Started) (ys : List Started) (inter
             let x : min (upto c (made_sign l q.made)) (made_least c l ys) ≡ c = interleaving.made c l z in
             let y : upto c (made_sign l o.made) ≤ c = upto_most c (made_sign l o.made) in
             let u : made_least c l after_turn ≡ upto c (made_sign l o.made) = least_after c l ∙ omega arith in
-            opened_from c t f (labels_of q.places) l d o.made w.made_now (no_place l z) p (omega (arith, times_after l))
+            opened_from c q.here.clock now.at f (labels_of q.places) l d o.made w.made_now (no_place l z) p (omega (arith, times_after l))
             ∙ ap (λ (v : ℕ). min (upto (suc c) d) (suc v)) (sym u);
       }
 
@@ -503,7 +509,7 @@ module _ (k f : Table) (whole : Result) (q : Started) (ys : List Started) (inter
   has_from_after x (inr i) l d h = by_place (in_either x new ys i)
     where
       by_place : In x new ⊎ In x ys → HasFrom k g whole.log after_turn l d
-      by_place (inl z) = absurd (subst (λ (es : List Event). EntersWith l d es) (begun_made k t m o.begun x z) h)
+      by_place (inl z) = absurd (subst (λ (es : List Event). EntersWith l d es) (begun_made k next m o.begun x z) h)
       by_place (inr z) = has_from_by x (inr z) l d h
 
   -- ---- enclosing scopes and nurseries
@@ -545,7 +551,7 @@ module _ (k f : Table) (whole : Result) (q : Started) (ys : List Started) (inter
   placed_after x (inr i) = by_place (in_either x new ys i)
     where
       by_place : In x new ⊎ In x ys → EachPlace (Entered after_turn) x.places
-      by_place (inl z) = each_new x.places (begun_places k t m (known_after (labels_of q.places) o.made) o.begun w.begun_in x z)
+      by_place (inl z) = each_new x.places (begun_places k next m (known_after (labels_of q.places) o.made) o.begun w.begun_in x z)
       by_place (inr z) = each_old x.places (interleaving.placed x (inr z))
 
   root_after : Root whole after_turn
@@ -578,24 +584,34 @@ module _ (k f : Table) (whole : Result) (q : Started) (ys : List Started) (inter
     root = root_after;
   }
 
-  -- the task continues in this tick or later
-  from_stop : (x : Stopped) → StopsAt t g (Some x) o.places → t ≤ goes_on d' x (stack_at k o.places) t
+  -- the task has its next turn in this moment or later
+  from_stop : (x : Stopped) → StopsAt q.here.clock now.at g (Some x) o.places → now.at ≤ goes_on q.here.clock d' x (stack_at k o.places) now.at
   from_stop to_begin c = absurd c
   from_stop (asking kernel purpose) c = omega arith
-  from_stop (asleep n since) c =
-      let e : since ≡ t = c.0 in
-      subst (λ (j : ℕ). t ≤ j) (sym (sleeping_end (stack_at k o.places) n since)) (omega arith)
-  from_stop (awaiting children ended exc) c =
-      let e : ended ≡ t = c in
-      let z : ended ≤ latest ended (told_members d' children) = latest_ends ended (told_members d' children) in
+  from_stop (asleep paced n since) c =
+      let e : since ≡ now.at = c.0 in
+      let r : since ≤ a_round_after q.here.clock since = round_after q.here.clock since in
+      let x : a_round_after q.here.clock since ≤ (slept q.here.clock paced (stack_at k o.places) n since).end =
+      slept_after q.here.clock paced (stack_at k o.places) n since in
+      let y : a_round_after q.here.clock since ≤ wakes_at q.here.clock n since = wakes_after q.here.clock n since in
       omega arith
-  from_stop (at_end u e) c = let z : u ≡ t = c in omega arith
+  from_stop (giving_up since) c = let e : since ≡ now.at = c in omega arith
+  from_stop (awaiting children ended exc) c =
+      let e : ended ≡ now.at = c in
+      let z : ended ≤ latest ended (told_members d' children) = latest_ends ended (told_members d' children) in
+      let r : latest ended (told_members d' children) ≤ a_round_after q.here.clock (latest ended (told_members d' children)) =
+      round_after q.here.clock (latest ended (told_members d' children)) in
+      omega arith
+  from_stop (at_end u e) c = let z : u ≡ now.at = c in omega arith
 
-  -- and still nothing that was not made happens before t
-  pub from_turned : AllFrom k after_turn t
-  from_turned x (inl e) l = subst (λ (z : Started). t ≤ resumes k z) (sym e) (from_stop s (stops_at t f wake q o s w stopped))
+  -- and still nothing that was not made happens before this moment
+  pub from_turned : AllFrom k after_turn now.at
+  from_turned x (inl e) l = subst (λ (z : Started). now.at ≤ resumes k z) (sym e) (from_stop s (stops_at now f wake q o s w stopped))
   from_turned x (inr i) l = by_place (in_either x new ys i)
     where
-      by_place : In x new ⊎ In x ys → t ≤ resumes k x
-      by_place (inl z) = begun_resumes k t m o.begun x z
+      by_place : In x new ⊎ In x ys → now.at ≤ resumes k x
+      by_place (inl z) =
+          let a : now.at ≤ next = round_after q.here.clock now.at in
+          let b : next ≤ resumes k x = begun_resumes k next m o.begun x z in
+          omega arith
       by_place (inr z) = from x (inr z) l

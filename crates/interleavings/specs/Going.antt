@@ -2,13 +2,19 @@
 -- turn.
 use Rattle.std.specs.Prelude.{ℕ, suc, ◌+◌, ◌-◌, ◌==◌, nat_lt, if◌then◌else◌, List, [], ◌∷◌, ◌++◌, length}
 use Rattle.job_tree.specs.Tree.{Tree}
-use Rattle.job_meaning.specs.Log.{Table}
+use Rattle.job_meaning.specs.Log.{Result, Table}
+use Rattle.job_meaning.specs.Moments.{a_round_after, Now, only_at}
 use Rattle.job_meaning.specs.Walk.{by_table}
 use Rattle.job_meaning.specs.Meaning.{root_here}
 use Rattle.job_meaning.specs.Follow.{follow}
 use Rattle.job_meaning.specs.Rest.{ChildOutcomes, Stopped, Rest, rest_comes_to, rest_at_start}
-use Rattle.turn_semantics.specs.Midway.{stack_at, Begun, Move, none_told, begun_comes_to}
+use Rattle.turn_semantics.specs.Midway.{stack_at, Begun, Move, now_after, none_told, begun_comes_to}
 use Rattle.interleavings.specs.Interleaving.{Started}
+
+-- The result of the root: that of following a table, where what the root has cancelled itself in the moment of its end does
+-- not count any more.
+abbrev pub root_result : Table → Tree → List ℕ → Result
+root_result k job input = record (follow k job input) { own = [] }
 
 -- the root before its first turn, with the result of following a table
 abbrev pub root_task : Table → Tree → List ℕ → Started
@@ -17,22 +23,22 @@ root_task k job input =
       serial = 0;
       here = root_here job input;
       places = [];
-      stop = 0;
+      stop = only_at 0;
       rest = rest_at_start job.steps;
       made = [];
       count = 0;
       child = (λ i. 0);
       told = none_told;
-      final_result = follow k job input;
-      left = (follow k job input).log;
+      final_result = root_result k job input;
+      left = (root_result k job input).log;
     }
 
--- a record of outcomes, with the results of following the table for the children begun in tick t
+-- a record of outcomes, with the results of following the table for the children that begin in moment t
 unfoldable pub told_new : Table → ℕ → ChildOutcomes → List Begun → ChildOutcomes
 told_new k t told [] i = told i
 told_new k t told (b ∷ bs) i = if i == b.number then begun_comes_to k t b else told_new k t told bs i
 
--- the children begun in tick t as started tasks, with serial numbers from m on
+-- the children that begin in moment t as started tasks, with serial numbers from m on
 unfoldable pub children_from : Table → ℕ → ℕ → List Begun → List Started
 children_from k t m [] = []
 children_from k t m (b ∷ bs) =
@@ -40,7 +46,7 @@ children_from k t m (b ∷ bs) =
       serial = m;
       here = b.here;
       places = b.places;
-      stop = t;
+      stop = only_at t;
       rest = rest_at_start b.body;
       made = [];
       count = 0;
@@ -54,21 +60,22 @@ children_from k t m (b ∷ bs) =
 unfoldable pub child_from : (count : ℕ) → (ℕ → ℕ) → ℕ → ℕ → ℕ
 child_from count child m i = if nat_lt i count then child i else (m + (i - count))
 
--- the task after a turn in tick t that stopped so, where new serial numbers start at m
-abbrev pub task_after_turn : Table → ℕ → ℕ → Started → Move → Stopped → Started
-task_after_turn k t m q o s =
-    let told = told_new k t q.told o.begun in
+-- the task after a turn in this moment that stopped so, where new serial numbers start at m
+abbrev pub task_after_turn : Table → Now → ℕ → Started → Move → Stopped → Started
+task_after_turn k now m q o s =
+    let told = told_new k (a_round_after q.here.clock now.at) q.told o.begun in
     let rest : Rest = record { stopped = s; frames = o.frames } in
+    let stop = now_after q.here.clock now o.made in
     record {
       serial = q.serial;
       here = q.here;
       places = o.places;
-      stop = t;
+      stop = stop;
       rest = rest;
       made = q.made ++ o.made;
       count = q.count + length o.begun;
       child = child_from q.count q.child m;
       told = told;
       final_result = q.final_result;
-      left = (rest_comes_to (by_table k) told rest q.here (stack_at k o.places) t).log;
+      left = (rest_comes_to (by_table k) told rest q.here (stack_at k o.places) stop).log;
     }

@@ -2,10 +2,11 @@
 use Rattle.std.specs.Prelude.{◌≡◌, ℕ, suc, ◌+◌, ◌<◌, ◌≤◌, min, Bool, true, false, List, [], ◌∷◌, ◌⊎◌, if◌then◌else◌}
 use Rattle.exc_groups.specs.Exceptions.{Label}
 use Rattle.cancel_scopes.specs.Sight.{Tick, sight}
-use Rattle.job_meaning.specs.Log.{Log, nil, entry, sign, entered, task, Result, same_label, least_sign, from_by, times_entered, Table}
-use Rattle.job_meaning.specs.Walk.{Stack, Here, by_table, sleep_result, latest}
+use Rattle.job_meaning.specs.Log.{Log, nil, entry, sign, entered, task, Member, Result, same_label, least_sign, from_by, times_entered, Table}
+use Rattle.job_meaning.specs.Moments.{Clock, a_round_after, wakes_at, Now}
+use Rattle.job_meaning.specs.Walk.{Stack, Here, by_table, sleep_result, pace_result, latest}
 use Rattle.job_meaning.specs.Before.{upto}
-use Rattle.job_meaning.specs.Rest.{Event, noted, signs, enters, starts, ChildOutcomes, told_members, Stopped, to_begin, asking, asleep, awaiting, at_end, Rest, rest_comes_to, task_comes_to}
+use Rattle.job_meaning.specs.Rest.{Event, noted, signs, enters, starts, ChildOutcomes, told_members, Stopped, to_begin, asking, asleep, giving_up, awaiting, at_end, Rest, rest_comes_to, task_comes_to}
 use Rattle.turn_semantics.specs.Midway.{Place, stack_at}
 use Rattle.turn_semantics.specs.Placed.{PlacedStop, IsAmong}
 use Rattle.turn_semantics.specs.Turned.{made_sign}
@@ -13,7 +14,7 @@ use Rattle.turn_semantics.specs.Turned.{made_sign}
 -- ---- one started task
 
 -- A started task. Its serial number distinguishes it from all others, and is never used again. It is at a point of the
--- job, enclosed by these scopes and nurseries (innermost first), since its last stop, in that tick, with that rest to do;
+-- job, enclosed by these scopes and nurseries (innermost first), since its last stop, in that moment, with that rest to do;
 -- it has made these events and started `count` children, each of which has a serial number. The last three fields depend
 -- on the table that is followed, and no code keeps them: what is recorded of its children's outcomes, the task's whole
 -- result, and the log of what it has left.
@@ -21,7 +22,7 @@ pub record Started : Type 0 where
   pub serial : ℕ
   pub here : Here
   pub places : List Place
-  pub stop : ℕ
+  pub stop : Now
   pub rest : Rest
   pub made : List Event
   pub count : ℕ
@@ -171,23 +172,30 @@ pub record RunInvariant (k f : Table) (whole : Result) (qs : List Started) : Typ
 abbrev pub live : Stopped → Bool
 live to_begin = true
 live (asking kernel purpose) = true
-live (asleep n since) = true
+live (asleep paced n since) = true
+live (giving_up since) = true
 live (awaiting children ended exc) = true
 live (at_end u e) = false
 
--- the tick in which a task that stopped in tick t continues
-abbrev pub goes_on : ChildOutcomes → Stopped → Stack → ℕ → ℕ
-goes_on told to_begin st t = t
-goes_on told (asking kernel purpose) st t = t
-goes_on told (asleep n since) st t = (sleep_result st n since).end
-goes_on told (awaiting children ended exc) st t = latest ended (told_members told children)
-goes_on told (at_end u e) st t = u
+-- the result of a sleep, by `pace` or not
+abbrev pub slept : Clock → (paced : Bool) → Stack → ℕ → ℕ → Result
+slept clock false st n since = sleep_result clock st n since
+slept clock true st n since = pace_result clock st n since
 
--- the tick in which a started task continues, according to a table
+-- the moment in which a task that stopped in moment t has its next turn
+abbrev pub goes_on : Clock → ChildOutcomes → Stopped → Stack → ℕ → ℕ
+goes_on clock told to_begin st t = t
+goes_on clock told (asking kernel purpose) st t = t
+goes_on clock told (asleep paced n since) st t = min (slept clock paced st n since).end (wakes_at clock n since)
+goes_on clock told (giving_up since) st t = suc since
+goes_on clock told (awaiting children ended exc) st t = a_round_after clock (latest ended (told_members told children))
+goes_on clock told (at_end u e) st t = u
+
+-- the moment in which a started task has its next turn, according to a table
 abbrev pub resumes : Table → Started → ℕ
-resumes k q = goes_on q.told q.rest.stopped (stack_at k q.places) q.stop
+resumes k q = goes_on q.here.clock q.told q.rest.stopped (stack_at k q.places) q.stop.at
 
--- nothing that was not done yet happens before tick v
+-- nothing that was not done yet happens before moment v
 abbrev pub AllFrom : Table → List Started → ℕ → Type 0
 AllFrom k qs v = (q : Started) → In q qs → live q.rest.stopped ≡ true → v ≤ resumes k q
 
@@ -198,14 +206,31 @@ pub record Unended (qs : List Started) (q : Started) (children : List ℕ) : Typ
   pub below : number < q.count
   pub alive : (c : Started) → In c qs → c.serial ≡ q.child number → live c.rest.stopped ≡ true
 
--- a task is not ready, and neither due nor cancelled before tick u
+-- how children ended, by their numbers, as members of their nursery
+abbrev pub members_by : (ℕ → Member) → List ℕ → List Member
+members_by ends [] = []
+members_by ends (i ∷ is) = ends i ∷ members_by ends is
+
+-- the children for which q waits have ended, and its nursery is left in moment u or later
+pub record Settling (qs : List Started) (q : Started) (children : List ℕ) (ended u : ℕ) : Type 0 where
+  pub ends : ℕ → Member
+  pub numbers : (i : ℕ) → IsAmong i children → i < q.count
+  pub over : (i : ℕ) → IsAmong i children → (c : Started) → In c qs → c.serial ≡ q.child i →
+      c.rest.stopped ≡ at_end (ends i).end (ends i).exc
+  pub later : u ≤ a_round_after q.here.clock (latest ended (members_by ends children))
+
+-- A task has its next turn in moment u or later: it begins then; it is due then, and sees no cancellation before, or its sleep
+-- has not taken a round by then; or a child has not ended for which it waits.
 abbrev pub StaysUntil : Table → List Started → ℕ → Started → Stopped → Type 0
-StaysUntil f qs u q to_begin = ⊥
-StaysUntil f qs u q (asking kernel purpose) = ⊥
-StaysUntil f qs u q (asleep n since) = (u ≤ since + n) × (upto u (sight (stack_at f q.places)) ≡ u)
-StaysUntil f qs u q (awaiting children ended exc) = Unended qs q children
+StaysUntil f qs u q to_begin = u ≤ q.stop.at
+StaysUntil f qs u q (asking kernel purpose) = u ≤ q.stop.at
+StaysUntil f qs u q (asleep paced n since) =
+    (u ≤ wakes_at q.here.clock n since)
+    × ((upto u (sight (stack_at f q.places)) ≡ u) ⊎ (u ≤ a_round_after q.here.clock since))
+StaysUntil f qs u q (giving_up since) = u ≤ suc since
+StaysUntil f qs u q (awaiting children ended exc) = Unended qs q children ⊎ Settling qs q children ended u
 StaysUntil f qs u q (at_end t e) = Unit {0}
 
--- no task is ready, and each sleeper is due, and sees a cancellation, in tick u or later
+-- each task has its next turn in moment u or later
 abbrev pub Blocked : Table → List Started → ℕ → Type 0
 Blocked f qs u = (q : Started) → In q qs → StaysUntil f qs u q q.rest.stopped

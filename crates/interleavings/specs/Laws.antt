@@ -5,13 +5,15 @@ use Rattle.job_tree.specs.Tree.{Tree}
 use Rattle.job_tree.specs.Names.{GivesNamesOnce, size_of}
 use Rattle.job_tree.specs.Starting.{StartsInNurseries}
 use Rattle.job_meaning.specs.Log.{Table}
+use Rattle.job_meaning.specs.Moments.{clock_of, tick_of}
 use Rattle.job_meaning.specs.Meaning.{root_label, meaning_records, meaning_froms, meaning_end, meaning_table}
-use Rattle.job_meaning.specs.Follow.{follow, IsSettled}
-use Rattle.job_meaning.specs.Rest.{asleep}
+use Rattle.job_meaning.specs.Follow.{IsSettled}
+use Rattle.job_meaning.specs.Rest.{Stopped, to_begin, asking, asleep, giving_up, awaiting, at_end}
 use Rattle.turn_semantics.specs.Midway.{Place}
 use Rattle.turn_semantics.specs.Placed.{PlacedStop, home_after, KidsAfter, HasChildAfter}
 use Rattle.turn_semantics.specs.Turned.{AgreesOn, Known, labels_of, EntersIn}
-use Rattle.interleavings.specs.Interleaving.{Started, In, EachPlace, RunInvariant, live, AllFrom, Blocked}
+use Rattle.interleavings.specs.Interleaving.{Started, In, EachPlace, RunInvariant, live, AllFrom, Blocked, Settling}
+use Rattle.interleavings.specs.Going.{root_result}
 use Rattle.interleavings.specs.Runs.{Reached, turns_taken, all_weights}
 use Rattle.interleavings.specs.Rows.{Row, HasRow, records_by, froms_in, DepthFirst}
 
@@ -58,38 +60,47 @@ LastToLeave =
     (f : Table) (t m : ℕ) (qs : List Started) → Reached k job input f t m qs → (l : Label) (q : Started) → In q qs → EntersIn l q.made →
     (x : Started) → In x qs → live x.rest.stopped ≡ true → Known l (labels_of x.places) → Known l (labels_of q.places)
 
--- For each settled table a run agrees with it: nothing that was not done yet happens before the tick, and the table
--- agrees there with the froms that the run keeps, for the scopes and nurseries that enclose each task.
+-- For each settled table a run agrees with it: nothing that was not done yet happens before the moment, and the
+-- table agrees there with the froms that the run keeps, for the scopes and nurseries that enclose each task. The result of the
+-- root is that of following the table, but for what it has cancelled itself in the moment of its end.
 abbrev pub RunsKeepInvariant : Type 0
 RunsKeepInvariant =
     (k : Table) (job : Tree) (input : List ℕ) → IsSettled k job input → GivesNamesOnce job → StartsInNurseries job →
     (f : Table) (t m : ℕ) (qs : List Started) → Reached k job input f t m qs →
-    RunInvariant k f (follow k job input) qs × AllFrom k qs t × ((q : Started) → In q qs → AgreesOn t k f q.places)
+    RunInvariant k f (root_result k job input) qs × AllFrom k qs t × ((q : Started) → In q qs → AgreesOn t k f q.places)
 
 -- a run in which all tasks have ended has what the job means: its records, its froms and its end
 abbrev pub RunsAreTheMeaning : Type 0
 RunsAreTheMeaning =
     (job : Tree) (input : List ℕ) → GivesNamesOnce job → StartsInNurseries job →
     (f : Table) (t m : ℕ) (qs : List Started) → Reached (meaning_table job input) job input f t m qs →
-    (rows : ℕ → Row) → ((q : Started) → In q qs → HasRow f rows q) → (rows 0).label ≡ root_label job.name → (rows 0).start ≡ 0 →
+    (rows : ℕ → Row) → ((q : Started) → In q qs → HasRow (clock_of job.format) f rows q) → (rows 0).label ≡ root_label job.name → (rows 0).start ≡ 0 →
     (taken : List ℕ) → DepthFirst rows (0 ∷ []) taken →
     (records_by rows taken ≡ meaning_records job input) × (froms_in rows taken ≡ meaning_froms job input)
     × ((rows 0).end ≡ meaning_end job input)
 
--- a task that sleeps
-pub record Sleeps (qs : List Started) : Type 0 where
-  pub sleeper : Started
-  pub among : In sleeper qs
-  pub ticks : ℕ
-  pub since : ℕ
-  pub stopped : sleeper.rest.stopped ≡ asleep ticks since
+-- a task waits for no child that has not ended, and has not ended itself
+abbrev pub HasNextTurn : List Started → Started → Stopped → Type 0
+HasNextTurn qs q to_begin = Unit {0}
+HasNextTurn qs q (asking kernel purpose) = Unit {0}
+HasNextTurn qs q (asleep paced n since) = Unit {0}
+HasNextTurn qs q (giving_up since) = Unit {0}
+HasNextTurn qs q (awaiting children ended exc) = Settling qs q children ended 0
+HasNextTurn qs q (at_end u e) = ⊥
 
--- If no task is ready and one has not ended, one sleeps: so the clock has a tick to jump to.
-abbrev pub BlockedRunsSleep : Type 0
-BlockedRunsSleep =
+-- some task has a next turn
+pub record GoesOn (qs : List Started) : Type 0 where
+  pub next : Started
+  pub among : In next qs
+  pub has : HasNextTurn qs next next.rest.stopped
+
+-- If each task has its next turn in some moment or later, and one has not ended, then one has a next turn: so the clock has a
+-- moment to jump to.
+abbrev pub BlockedRunsGoOn : Type 0
+BlockedRunsGoOn =
     (k : Table) (job : Tree) (input : List ℕ) → GivesNamesOnce job → StartsInNurseries job → IsSettled k job input →
     (f : Table) (t m : ℕ) (qs : List Started) → Reached k job input f t m qs → (u : ℕ) → Blocked f qs u →
-    (q : Started) → In q qs → live q.rest.stopped ≡ true → Sleeps qs
+    (q : Started) → In q qs → live q.rest.stopped ≡ true → GoesOn qs
 
 -- If a task of a run has not ended, the job does not end before the present tick. So if a run stops at a limit because
 -- the clock would jump past it, the job's end is past the limit.
@@ -97,4 +108,4 @@ abbrev pub LimitsAreExact : Type 0
 LimitsAreExact =
     (job : Tree) (input : List ℕ) → GivesNamesOnce job → StartsInNurseries job →
     (f : Table) (t m : ℕ) (qs : List Started) → Reached (meaning_table job input) job input f t m qs →
-    (q : Started) → In q qs → live q.rest.stopped ≡ true → t ≤ meaning_end job input
+    (q : Started) → In q qs → live q.rest.stopped ≡ true → tick_of (clock_of job.format) t ≤ meaning_end job input

@@ -2,6 +2,7 @@
 use Rattle.std.specs.Prelude.{◌≡◌, ℕ, Option, List, [], ◌∷◌, ◌++◌}
 use Rattle.exc_groups.specs.Exceptions.{Label, Exc}
 use Rattle.job_meaning.specs.Log.{Table}
+use Rattle.job_meaning.specs.Moments.{Clock, tick_of}
 use Rattle.job_meaning.specs.Meaning.{Noted, Record, From, froms_by}
 use Rattle.job_meaning.specs.Rest.{Event, noted, signs, enters, starts, at_end}
 use Rattle.interleavings.specs.Interleaving.{Started}
@@ -19,12 +20,12 @@ pub record Row : Type 0 where
 
 -- ---- readings of events
 
-abbrev pub entries_made : List Event → List Noted
-entries_made [] = []
-entries_made (noted t e ∷ es) = record { tick = t; entry = e } ∷ entries_made es
-entries_made (signs l t ∷ es) = entries_made es
-entries_made (enters l t d ∷ es) = entries_made es
-entries_made (starts i l t ∷ es) = entries_made es
+abbrev pub entries_made : Clock → List Event → List Noted
+entries_made clock [] = []
+entries_made clock (noted t e ∷ es) = record { tick = tick_of clock t; entry = e } ∷ entries_made clock es
+entries_made clock (signs l t ∷ es) = entries_made clock es
+entries_made clock (enters l t d ∷ es) = entries_made clock es
+entries_made clock (starts i l t ∷ es) = entries_made clock es
 
 abbrev pub entered_made : List Event → List Label
 entered_made [] = []
@@ -42,20 +43,23 @@ children_made child (enters l t d ∷ es) = children_made child es
 children_made child (starts i l t ∷ es) = child i ∷ children_made child es
 
 -- each child started has a row with its label and its start
-abbrev pub StartsRows : (ℕ → Row) → (ℕ → ℕ) → List Event → Type 0
-StartsRows rows child [] = Unit {0}
-StartsRows rows child (noted t e ∷ es) = StartsRows rows child es
-StartsRows rows child (signs l t ∷ es) = StartsRows rows child es
-StartsRows rows child (enters l t d ∷ es) = StartsRows rows child es
-StartsRows rows child (starts i l t ∷ es) = ((rows (child i)).label ≡ l) × ((rows (child i)).start ≡ t) × StartsRows rows child es
+abbrev pub StartsRows : Clock → (ℕ → Row) → (ℕ → ℕ) → List Event → Type 0
+StartsRows clock rows child [] = Unit {0}
+StartsRows clock rows child (noted t e ∷ es) = StartsRows clock rows child es
+StartsRows clock rows child (signs l t ∷ es) = StartsRows clock rows child es
+StartsRows clock rows child (enters l t d ∷ es) = StartsRows clock rows child es
+StartsRows clock rows child (starts i l t ∷ es) =
+    ((rows (child i)).label ≡ l) × ((rows (child i)).start ≡ tick_of clock t) × StartsRows clock rows child es
 
--- the row of a task that has ended, with the froms that the run kept
-pub record HasRow (f : Table) (rows : ℕ → Row) (q : Started) : Type 0 where
-  pub ended : q.rest.stopped ≡ at_end (rows q.serial).end (rows q.serial).exc
-  pub entries : (rows q.serial).entries ≡ entries_made q.made
+-- the row of a task that has ended, with the froms that the run kept; ticks alone are kept of moments
+pub record HasRow (clock : Clock) (f : Table) (rows : ℕ → Row) (q : Started) : Type 0 where
+  pub end : ℕ
+  pub ended : q.rest.stopped ≡ at_end end (rows q.serial).exc
+  pub tick : (rows q.serial).end ≡ tick_of clock end
+  pub entries : (rows q.serial).entries ≡ entries_made clock q.made
   pub froms : (rows q.serial).froms ≡ froms_by f (entered_made q.made)
   pub children : (rows q.serial).children ≡ children_made q.child q.made
-  pub starts : StartsRows rows q.child q.made
+  pub starts : StartsRows clock rows q.child q.made
 
 -- ---- readings of rows
 

@@ -2,6 +2,7 @@
 use Rattle.std.specs.Prelude.{◌≡◌, ℕ, ◌+◌, ◌≤◌, Some, List, [], ◌∷◌, ◌++◌, length}
 use Rattle.job_tree.specs.Tree.{Tree}
 use Rattle.job_meaning.specs.Log.{Table}
+use Rattle.job_meaning.specs.Moments.{a_round_after, Now}
 use Rattle.job_meaning.specs.Rest.{Stopped, rest_weight}
 use Rattle.turn_semantics.specs.Midway.{Move}
 use Rattle.turn_semantics.specs.Steps.{froms_after}
@@ -16,24 +17,25 @@ pub data Front : Started → List Started → List Started → Type 0 where
   is_front : (q : Started) (qs : List Started) → Front q (q ∷ qs) qs
   after_one : (q x : Started) (qs others : List Started) → Front q qs others → Front q (x ∷ qs) (x ∷ others)
 
--- A run of a job: the froms that it keeps, the tick, the number of tasks started, and these tasks. It begins with the
+-- A run of a job: the froms that it keeps, the moment, the number of tasks started, and these tasks. It begins with the
 -- root. One task that may be woken has its turn, which is any turn that keeps the promise and comes to a stop. Or the
 -- clock jumps, if no task is ready. The table only determines what is recorded of the tasks' outcomes. No step requires
 -- anything of it, so a program can show a run for every table at once, by what it keeps alone.
 pub data Reached (k : Table) (job : Tree) (input : List ℕ) : Table → ℕ → ℕ → List Started → Type 0 where
   begun : (f : Table) → Reached k job input f 0 1 (root_task k job input ∷ [])
   turn :
-      (f : Table) (t m : ℕ) (q : Started) (qs others : List Started) (wake : Wake) (o : Move) (s : Stopped) →
-      Reached k job input f t m qs → Front q qs others → MayWake f (q ∷ others) t q wake q.rest.stopped →
-      TurnsOver q.stop t q.here f wake q.rest q.places q.count o → o.stopped ≡ Some s →
-      Reached k job input (froms_after f o.made) t (m + length o.begun) ((task_after_turn k t m q o s ∷ children_from k t m o.begun) ++ others)
+      (f : Table) (now : Now) (m : ℕ) (q : Started) (qs others : List Started) (wake : Wake) (o : Move) (s : Stopped) →
+      Reached k job input f now.at m qs → Front q qs others → MayWake f (q ∷ others) now q wake q.rest.stopped →
+      TurnsOver q.stop now q.here f wake q.rest q.places q.count o → o.stopped ≡ Some s →
+      Reached k job input (froms_after f o.made) now.at (m + length o.begun)
+      ((task_after_turn k now m q o s ∷ children_from k (a_round_after q.here.clock now.at) m o.begun) ++ others)
   jump : (f : Table) (t u m : ℕ) (qs : List Started) → Reached k job input f t m qs → t ≤ u → Blocked f qs u → Reached k job input f u m qs
 
 -- how many turns a run took so far
 abbrev pub turns_taken : {k : Table} {job : Tree} {input : List ℕ} {f : Table} {t m : ℕ} {qs : List Started} →
     Reached k job input f t m qs → ℕ
 turns_taken (begun f) = 0
-turns_taken (turn f t m q qs others wake o s r at may goes stopped) = turns_taken r + 1
+turns_taken (turn f now m q qs others wake o s r at may goes stopped) = turns_taken r + 1
 turns_taken (jump f t u m qs r le blocked) = turns_taken r
 
 -- the total weight of what all tasks have left

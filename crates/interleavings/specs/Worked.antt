@@ -5,9 +5,10 @@ use Rattle.job_tree.specs.Tree.{Step, sleep, raise, cancel}
 use Rattle.exc_groups.specs.Exceptions.{Exc, cancelled}
 use Rattle.cancel_scopes.specs.Sight.{Tick}
 use Rattle.job_meaning.specs.Log.{Table}
+use Rattle.job_meaning.specs.Moments.{by_ticks, only_at}
 use Rattle.job_meaning.specs.Walk.{Here}
 use Rattle.job_meaning.specs.Meaning.{Record, root_here}
-use Rattle.job_meaning.specs.Rest.{Event, Rest, rest_at_start, Stopped, to_begin, asking, asleep, awaiting, at_end}
+use Rattle.job_meaning.specs.Rest.{Event, Rest, rest_at_start, Stopped, to_begin, asking, asleep, giving_up, awaiting, at_end}
 use Rattle.job_meaning.specs.Examples.{block_of, job_of, scope_of, shielded_scope, nursery_of, start_of, label_named, raised_by, group_by, scope_caught, scope_passed, nursery_passed, record_of, main_ran, run_of}
 use Rattle.turn_semantics.specs.Midway.{Place, Begun, Move}
 use Rattle.turn_semantics.specs.Steps.{step_of, turn_of, froms_after}
@@ -50,7 +51,7 @@ kept_begun t (b ∷ bs) =
 
 -- the turn of a task in tick t, of at most 20 steps
 abbrev pub goes_of : Table → ℕ → Wake → Kept → Move
-goes_of froms t w q = turn_from 20 froms t q.here w q.rest.stopped q.rest.frames q.places q.count
+goes_of froms t w q = turn_from 20 froms (only_at t) q.here w q.rest.stopped q.rest.frames q.places q.count
 
 -- the task with that serial number has its turn; those before it are skipped
 abbrev pub turn_in : Table → ℕ → Wake → ℕ → List Kept → List Kept → World
@@ -77,21 +78,23 @@ after_picks world (p ∷ ps) = after_picks (turn_in world.froms p.tick p.wake p.
 abbrev pub end_kept : Stopped → ℕ
 end_kept to_begin = 0
 end_kept (asking kernel purpose) = 0
-end_kept (asleep n since) = 0
+end_kept (asleep paced n since) = 0
+end_kept (giving_up since) = 0
 end_kept (awaiting children ended exc) = 0
 end_kept (at_end u e) = u
 
 abbrev pub exc_kept : Stopped → Option Exc
 exc_kept to_begin = None
 exc_kept (asking kernel purpose) = None
-exc_kept (asleep n since) = None
+exc_kept (asleep paced n since) = None
+exc_kept (giving_up since) = None
 exc_kept (awaiting children ended exc) = None
 exc_kept (at_end u e) = e
 
 -- the records of tasks that have ended
 abbrev pub records_kept : List Kept → List Record
 records_kept [] = []
-records_kept (q ∷ qs) = record_of q.here.task q.since (end_kept q.rest.stopped) (exc_kept q.rest.stopped) (entries_made q.made) ∷ records_kept qs
+records_kept (q ∷ qs) = record_of q.here.task q.since (end_kept q.rest.stopped) (exc_kept q.rest.stopped) (entries_made by_ticks q.made) ∷ records_kept qs
 
 -- scope o { nursery n {
 --   start a { sleep 1; cancel o; }

@@ -1,7 +1,7 @@
 //! The laws of runs in turns. The function does nothing: its contract is the law.
 
 ghost use Rattle.interleavings.specs.Laws.{
-  BlockedRunsSleep,
+  BlockedRunsGoOn,
   LastToLeave,
   LimitsAreExact,
   RunsAreTheMeaning,
@@ -11,17 +11,17 @@ ghost use Rattle.interleavings.specs.Laws.{
 };
 
 /// For each settled table, every run in turns agrees with the table (`RunInvariant`), whatever the order in which tasks have
-/// their turns: nothing that was not done yet happens before the present tick, and the table agrees there with the froms
+/// their turns: nothing that was not done yet happens before the present moment, and the table agrees there with the froms
 /// that the run keeps. When all tasks have ended, the records, the froms and the end that are read from their rows are
 /// those of the meaning. While a task has not ended, the job does not end before the present tick; and if no task is ready,
-/// one sleeps. A run takes at most twice as many turns as the job has steps (including those of children) plus one. A task
+/// one has a next turn. A run takes at most twice as many turns as the job has steps (including those of children) plus one. A task
 /// that has not ended is the root, or is in an unsettled nursery of the task that started it; and the task that leaves a
 /// scope or nursery is the last one in it.
 pub fn law_runs()
     ensures interleaving { RunsKeepInvariant }
     ensures meaning { RunsAreTheMeaning }
     ensures limit { LimitsAreExact }
-    ensures sleeper { BlockedRunsSleep }
+    ensures next { BlockedRunsGoOn }
     ensures turns { RunsEnd }
     ensures housed { TasksAreHoused }
     ensures last { LastToLeave }

@@ -53,8 +53,8 @@ impl Job {
         self.format.number()
     }
 
-    // Returns the same as a `Format`.
-    pub(crate) fn text_format(&self) -> Format
+    /// Returns the format of the job's text.
+    pub fn text_format(&self) -> Format
         ensures { result ≡ self.now.format }
     {
         self.format

@@ -5,29 +5,31 @@ use Rattle.std.proofs.lemmas.Bool.Decides.{nat_tests}
 use Rattle.job_tree.specs.Tree.{Step, sleep, checkpoint, forever, pace, find, head, longest, need, raise, cancel, scope, nursery, start, repeat, attempt, Steps, stop, step, Handled, unhandled, except, Cleaned, uncleaned, finally}
 use Rattle.exc_groups.specs.Exceptions.{Label, Exc, cancelled, by_nursery, group_of, parts_of}
 use Rattle.exc_groups.specs.Split.{Wanted, keep, drop}
-use Rattle.cancel_scopes.specs.Sight.{Tick, sight, seen, is_reached, catches}
+use Rattle.cancel_scopes.specs.Sight.{Tick, earlier, sight, seen, is_reached, catches}
 use Rattle.job_meaning.specs.Log.{Log, nil, entry, entered, followed_by, Member, Result}
-use Rattle.job_meaning.specs.Walk.{Stack, Mode, two_walks, by_table, Here, walk, walk_step, walk_handler, walk_cleanup, done_at, raised_at, in_sequence, and_then, then_if, sleep_by_sight, sleep_result, cancel_result, label_on, Kind, from_of, block, exit_with_from, left_with, left_as, exc_after, stack_inside, with_sign, sign_if, home_of, latest, with_exc, excs_of, nursery_result, child, each, passes, handler_result, handler_for, handler_if_any, handler_exc, with_outcome, outcome_after, cleanup_result}
+use Rattle.job_meaning.specs.Moments.{Clock, tick_of, a_round_after, wakes_at, gives_up_at, Now, only_at}
+use Rattle.job_meaning.proofs.MomentLemmas.{round_after, wakes_after, gives_up_after}
+use Rattle.job_meaning.specs.Walk.{Stack, Mode, two_walks, by_table, Here, walk, walk_step, walk_handler, walk_cleanup, done_at, raised_at, now_of, in_sequence, and_then, then_if, wait_by_sight, sleep_result, pace_result, cancel_result, is_among, from_for, stack_for, label_on, Kind, from_of, block, exit_with_from, left_with, left_as, exc_after, stack_inside, with_sign, sign_if, home_of, latest, with_exc, excs_of, nursery_result, child, each, passes, handler_result, handler_for, handler_if_any, handler_exc, with_outcome, outcome_after, cleanup_result}
 use Rattle.job_meaning.specs.Before.{upto, Near, Agree, soon, later, known_members, log_before, exc_if, entered_if, task_if}
 use Rattle.job_meaning.specs.Laws.{NothingBeforeItsCause}
 use Rattle.job_meaning.proofs.Late.{Timed, Late, late, late_signed, late_gathered, latest_ends, child_ends, each_ends, late_passes}
-use Rattle.job_meaning.proofs.Clips.{sight_near, seen_near, reached_near, label_near, home_near, both_clipped, clipped_tail, least_near, from_near, both_known, latest_known, all_known}
+use Rattle.job_meaning.proofs.Clips.{upto_earlier_same, sight_near, seen_near, reached_near, label_near, home_near, both_clipped, clipped_tail, least_near, from_near, both_known, latest_known, all_known}
 
 -- a walk agrees with itself
 pub agree_same : (c : ℕ) (r : Result) → Agree c r r
 agree_same c r = by_order (cases_lt r.end c)
   where
     by_order : (r.end < c) ⊎ (c ≤ r.end) → Agree c r r
-    by_order (inl lt) = soon lt refl refl refl refl
+    by_order (inl lt) = soon lt refl refl refl refl refl
     by_order (inr le) = later le le refl
 
 -- one after another
 pub agree_joined : (c : ℕ) (r r' q q' : Result) → Agree c r r' → Agree c q q' → r.end ≤ q.end → r'.end ≤ q'.end →
     Agree c (in_sequence r q) (in_sequence r' q')
-agree_joined c r r' q q' (soon b e x m l) (soon b₂ e₂ x₂ m₂ l₂) le le' =
-    soon b₂ e₂ x₂ (both_known c _ _ _ _ m m₂) (both_clipped c r.log q.log r'.log q'.log l l₂)
-agree_joined c r r' q q' (soon b e x m l) (later f s l₂) le le' = later f s (both_clipped c r.log q.log r'.log q'.log l l₂)
-agree_joined c r r' q q' (later f s l) (soon b₂ e₂ x₂ m₂ l₂) le le' = absurd (omega arith)
+agree_joined c r r' q q' (soon b e o x m l) (soon b₂ e₂ o₂ x₂ m₂ l₂) le le' =
+    soon b₂ e₂ o₂ x₂ (both_known c _ _ _ _ m m₂) (both_clipped c r.log q.log r'.log q'.log l l₂)
+agree_joined c r r' q q' (soon b e o x m l) (later f s l₂) le le' = later f s (both_clipped c r.log q.log r'.log q'.log l l₂)
+agree_joined c r r' q q' (later f s l) (soon b₂ e₂ o₂ x₂ m₂ l₂) le le' = absurd (omega arith)
 agree_joined c r r' q q' (later f s l) (later f₂ s₂ l₂) le le' = later f₂ s₂ (both_clipped c r.log q.log r'.log q'.log l l₂)
 
 -- x continues from r, which ended at c or later: before c it has the same log
@@ -46,94 +48,125 @@ past_joined c r q le h =
 agree_past : (c : ℕ) (r r' x x' : Result) → log_before c r.log ≡ log_before c r'.log → Past c r x → Past c r' x' → Agree c x x'
 agree_past c r r' x x' l p p' = later p.ends p'.ends (p.logs ∙ (l ∙ sym p'.logs))
 
-past_then : (c : ℕ) (r : Result) (go : ℕ → Result) → ((u : ℕ) → Late u (go u)) → c ≤ r.end → (o : Option Exc) → Past c r (then_if o r go)
-past_then c r go h le None = past_joined c r (go r.end) le (h r.end)
+past_then : (c : ℕ) (r : Result) (go : Now → Result) → ((u : Now) → Late u.at (go u)) → c ≤ r.end → (o : Option Exc) → Past c r (then_if o r go)
+past_then c r go h le None = past_joined c r (go (now_of r)) le (h (now_of r))
 past_then c r go h le (Some e) = past_same c r le
 
--- the second walks agree where they start at one tick
-agree_from : (c : ℕ) (go go' : ℕ → Result) → ((u : ℕ) → Agree c (go u) (go' u)) → (u v : ℕ) → u ≡ v → Agree c (go u) (go' v)
-agree_from c go go' h u v e = subst (λ (w : ℕ). Agree c (go u) (go' w)) e (h u)
+same_now : (r q : Result) → r.end ≡ q.end → r.own ≡ q.own → now_of r ≡ now_of q
+same_now r q e o = cc
+
+-- the second walks agree where they start at one moment
+agree_from : (c : ℕ) (go go' : Now → Result) → ((u : Now) → Agree c (go u) (go' u)) → (r q : Result) → r.end ≡ q.end → r.own ≡ q.own
+    → Agree c (go (now_of r)) (go' (now_of q))
+agree_from c go go' h r q e o = subst (λ (w : Now). Agree c (go (now_of r)) (go' w)) (same_now r q e o) (h (now_of r))
 
 -- if walks agree before c, and what continues them agrees before c from each tick on, the whole walks
 -- agree
-pub agree_and_then : (c : ℕ) (r r' : Result) (go go' : ℕ → Result) → Agree c r r' → ((u : ℕ) → Agree c (go u) (go' u)) →
-    ((u : ℕ) → Late u (go u)) → ((u : ℕ) → Late u (go' u)) → Agree c (and_then r go) (and_then r' go')
+pub agree_and_then : (c : ℕ) (r r' : Result) (go go' : Now → Result) → Agree c r r' → ((u : Now) → Agree c (go u) (go' u)) →
+    ((u : Now) → Late u.at (go u)) → ((u : Now) → Late u.at (go' u)) → Agree c (and_then r go) (and_then r' go')
 unfolding and_then
-agree_and_then c r r' go go' (soon b e x m l) h k k' =
-    subst (λ (o : Option Exc). Agree c (then_if r.exc r go) (then_if o r' go')) x (by_exc r.exc)
+agree_and_then c r r' go go' (soon b e o x m l) h k k' =
+    subst (λ (z : Option Exc). Agree c (then_if r.exc r go) (then_if z r' go')) x (by_exc r.exc)
   where
-    by_exc : (o : Option Exc) → Agree c (then_if o r go) (then_if o r' go')
-    by_exc None = agree_joined c r r' (go r.end) (go' r'.end) (soon b e x m l) (agree_from c go go' h r.end r'.end e) (k r.end).ends
-        (k' r'.end).ends
-    by_exc (Some y) = soon b e x m l
+    by_exc : (z : Option Exc) → Agree c (then_if z r go) (then_if z r' go')
+    by_exc None = agree_joined c r r' (go (now_of r)) (go' (now_of r')) (soon b e o x m l) (agree_from c go go' h r r' e o) (k (now_of r)).ends
+        (k' (now_of r')).ends
+    by_exc (Some y) = soon b e o x m l
 agree_and_then c r r' go go' (later f s l) h k k' = agree_past c r r' _ _ l (past_then c r go k f r.exc) (past_then c r' go' k' s r'.exc)
 
--- a sleep that is seen at c or later
-slept_past : (from n t c : ℕ) → c ≤ from → c ≤ t + n → Past c (done_at c) (sleep_by_sight (Some from) n t)
-slept_past from n t c le far = by_now (nat_le from t) (nat_le from (t + n)) refl
-  where
-    by_now : (now due : Bool) → nat_le from t ≡ now → Past c (done_at c)
-        (if now then raised_at cancelled t else (if due then raised_at cancelled from else done_at (t + n)))
-    by_now true due e = record { ends = grind (arith, nat_tests); logs = refl }
-    by_now false true e = record { ends = le; logs = refl }
-    by_now false false e = record { ends = far; logs = refl }
+module _ (c least gives_up end : ℕ) (le : least ≤ gives_up) (hi : least ≤ end) where
+  waits : Tick → Result
+  waits a = wait_by_sight a least gives_up end
 
-slept_whole : (from n t c : ℕ) → c ≤ from → t + n < c → sleep_by_sight (Some from) n t ≡ done_at (t + n)
-slept_whole from n t c le lt = by_now (nat_le from t) (nat_le from (t + n)) (grind (arith, nat_tests)) (grind (arith, nat_tests))
-  where
-    by_now : (now due : Bool) → now ≡ false → due ≡ false →
-        (if now then raised_at cancelled t else (if due then raised_at cancelled from else done_at (t + n))) ≡ done_at (t + n)
-    by_now true due e f = absurd (true≢false e)
-    by_now false true e f = absurd (true≢false f)
-    by_now false false e f = refl
+  -- a wait that is seen at c or later
+  waited_past : (from : ℕ) → c ≤ from → c ≤ end → Past c (done_at (only_at c)) (wait_by_sight (Some from) least gives_up end)
+  waited_past from p far = by_now (nat_le from least) (nat_le from end) refl
+    where
+      by_now : (now due : Bool) → nat_le from least ≡ now → Past c (done_at (only_at c))
+          (if now then raised_at cancelled (only_at gives_up) else (if due then raised_at cancelled (only_at from) else done_at (only_at end)))
+      by_now true due e = record { ends = grind (arith, nat_tests); logs = refl }
+      by_now false true e = record { ends = p; logs = refl }
+      by_now false false e = record { ends = far; logs = refl }
 
-never_past : (n t c : ℕ) → c ≤ t + n → Past c (done_at c) (sleep_by_sight None n t)
-never_past n t c far = record { ends = far; logs = refl }
+  waited_whole : (from : ℕ) → c ≤ from → end < c → wait_by_sight (Some from) least gives_up end ≡ done_at (only_at end)
+  waited_whole from p lt = by_now (nat_le from least) (nat_le from end) (grind (arith, nat_tests)) (grind (arith, nat_tests))
+    where
+      by_now : (now due : Bool) → now ≡ false → due ≡ false →
+          (if now then raised_at cancelled (only_at gives_up) else (if due then raised_at cancelled (only_at from) else done_at (only_at end)))
+          ≡ done_at (only_at end)
+      by_now true due e f = absurd (true≢false e)
+      by_now false true e f = absurd (true≢false f)
+      by_now false false e f = refl
 
-agree_slept : (c : ℕ) (a b : Tick) (n t : ℕ) → upto c a ≡ upto c b → Agree c (sleep_by_sight a n t) (sleep_by_sight b n t)
-agree_slept c None None n t e = agree_same c (sleep_by_sight None n t)
-agree_slept c None (Some y) n t e = by_order (cases_lt (t + n) c)
-  where
-    le : c ≤ y
-    le = omega arith
+  never_past : c ≤ end → Past c (done_at (only_at c)) (wait_by_sight None least gives_up end)
+  never_past far = record { ends = far; logs = refl }
 
-    by_order : (t + n < c) ⊎ (c ≤ t + n) → Agree c (sleep_by_sight None n t) (sleep_by_sight (Some y) n t)
-    by_order (inl lt) = subst (λ (r : Result). Agree c (done_at (t + n)) r) (sym (slept_whole y n t c le lt))
-        (agree_same c (done_at (t + n)))
-    by_order (inr far) = agree_past c (done_at c) (done_at c) _ _ refl (never_past n t c far) (slept_past y n t c le far)
-agree_slept c (Some x) None n t e = by_order (cases_lt (t + n) c)
-  where
-    le : c ≤ x
-    le = omega arith
+  pub agree_waited : (a b : Tick) → upto c a ≡ upto c b → Agree c (wait_by_sight a least gives_up end) (wait_by_sight b least gives_up end)
+  agree_waited None None e = agree_same c (wait_by_sight None least gives_up end)
+  agree_waited None (Some y) e = by_order (cases_lt end c)
+    where
+      p : c ≤ y
+      p = omega arith
 
-    by_order : (t + n < c) ⊎ (c ≤ t + n) → Agree c (sleep_by_sight (Some x) n t) (sleep_by_sight None n t)
-    by_order (inl lt) = subst (λ (r : Result). Agree c r (done_at (t + n))) (sym (slept_whole x n t c le lt))
-        (agree_same c (done_at (t + n)))
-    by_order (inr far) = agree_past c (done_at c) (done_at c) _ _ refl (slept_past x n t c le far) (never_past n t c far)
-agree_slept c (Some x) (Some y) n t e = by_before (cases_lt x c)
-  where
-    by_order : c ≤ x → c ≤ y → (t + n < c) ⊎ (c ≤ t + n) → Agree c (sleep_by_sight (Some x) n t) (sleep_by_sight (Some y) n t)
-    by_order p q (inl lt) =
-        subst (λ (r : Result). Agree c r (sleep_by_sight (Some y) n t)) (sym (slept_whole x n t c p lt))
-        (subst (λ (r : Result). Agree c (done_at (t + n)) r) (sym (slept_whole y n t c q lt)) (agree_same c (done_at (t + n))))
-    by_order p q (inr far) = agree_past c (done_at c) (done_at c) _ _ refl (slept_past x n t c p far) (slept_past y n t c q far)
+      by_order : (end < c) ⊎ (c ≤ end) → Agree c (wait_by_sight None least gives_up end) (wait_by_sight (Some y) least gives_up end)
+      by_order (inl lt) = subst (λ (r : Result). Agree c (done_at (only_at end)) r) (sym (waited_whole y p lt)) (agree_same c (done_at (only_at end)))
+      by_order (inr far) = agree_past c (done_at (only_at c)) (done_at (only_at c)) _ _ refl (never_past far) (waited_past y p far)
+  agree_waited (Some x) None e = by_order (cases_lt end c)
+    where
+      p : c ≤ x
+      p = omega arith
 
-    by_before : (x < c) ⊎ (c ≤ x) → Agree c (sleep_by_sight (Some x) n t) (sleep_by_sight (Some y) n t)
-    by_before (inl lt) = subst (λ (u : ℕ). Agree c (sleep_by_sight (Some x) n t) (sleep_by_sight (Some u) n t)) (omega arith)
-        (agree_same c (sleep_by_sight (Some x) n t))
-    by_before (inr p) = by_order p (omega arith) (cases_lt (t + n) c)
+      by_order : (end < c) ⊎ (c ≤ end) → Agree c (wait_by_sight (Some x) least gives_up end) (wait_by_sight None least gives_up end)
+      by_order (inl lt) = subst (λ (r : Result). Agree c r (done_at (only_at end))) (sym (waited_whole x p lt)) (agree_same c (done_at (only_at end)))
+      by_order (inr far) = agree_past c (done_at (only_at c)) (done_at (only_at c)) _ _ refl (waited_past x p far) (never_past far)
+  agree_waited (Some x) (Some y) e = by_before (cases_lt x c)
+    where
+      by_order : c ≤ x → c ≤ y → (end < c) ⊎ (c ≤ end) → Agree c (wait_by_sight (Some x) least gives_up end) (wait_by_sight (Some y) least gives_up end)
+      by_order p q (inl lt) =
+          subst (λ (r : Result). Agree c r (wait_by_sight (Some y) least gives_up end)) (sym (waited_whole x p lt))
+          (subst (λ (r : Result). Agree c (done_at (only_at end)) r) (sym (waited_whole y q lt)) (agree_same c (done_at (only_at end))))
+      by_order p q (inr far) = agree_past c (done_at (only_at c)) (done_at (only_at c)) _ _ refl (waited_past x p far) (waited_past y q far)
+
+      by_before : (x < c) ⊎ (c ≤ x) → Agree c (wait_by_sight (Some x) least gives_up end) (wait_by_sight (Some y) least gives_up end)
+      by_before (inl lt) = subst (λ (u : ℕ). Agree c (wait_by_sight (Some x) least gives_up end) (wait_by_sight (Some u) least gives_up end)) (omega arith)
+          (agree_same c (wait_by_sight (Some x) least gives_up end))
+      by_before (inr p) = by_order p (omega arith) (cases_lt end c)
 
 -- a sleep agrees before c on near stacks
-pub agree_sleeping : (c : ℕ) (st su : Stack) (n t : ℕ) → Near c st su → Agree c (sleep_result st n t) (sleep_result su n t)
+pub agree_sleeping : (c : ℕ) (clock : Clock) (st su : Stack) (n t : ℕ) → Near c st su → Agree c (sleep_result clock st n t) (sleep_result clock su n t)
 unfolding sleep_result
-agree_sleeping c st su n t near = agree_slept c (sight st) (sight su) n t (sight_near c st su near)
+agree_sleeping c clock st su n t near =
+    agree_waited c (a_round_after clock t) (gives_up_at clock n t) (wakes_at clock n t) (gives_up_after clock n t) (wakes_after clock n t)
+    (sight st) (sight su) (sight_near c st su near)
+
+pub agree_pacing : (c : ℕ) (clock : Clock) (st su : Stack) (n t : ℕ) → Near c st su → Agree c (pace_result clock st n t) (pace_result clock su n t)
+unfolding pace_result
+agree_pacing c clock st su n t near =
+    agree_waited c (a_round_after clock t) (a_round_after clock t) (wakes_at clock n t) (omega arith) (wakes_after clock n t)
+    (sight st) (sight su) (sight_near c st su near)
 
 -- a `cancel` of a name agrees before c on near stacks
-pub agree_cancelling : (c : ℕ) (name : List ℕ) (st su : Stack) (t : ℕ) → Near c st su →
-    Agree c (cancel_result (label_on name st) t) (cancel_result (label_on name su) t)
-agree_cancelling c name st su t near =
-    subst (λ (o : Option Label). Agree c (cancel_result (label_on name st) t) (cancel_result o t)) (label_near c name st su near)
-    (agree_same c (cancel_result (label_on name st) t))
+pub agree_cancelling : (c : ℕ) (clock : Clock) (name : List ℕ) (st su : Stack) (t : Now) → Near c st su →
+    Agree c (cancel_result clock (label_on name st) t) (cancel_result clock (label_on name su) t)
+agree_cancelling c clock name st su t near =
+    subst (λ (o : Option Label). Agree c (cancel_result clock (label_on name st) t) (cancel_result clock o t)) (label_near c name st su near)
+    (agree_same c (cancel_result clock (label_on name st) t))
+
+-- what a task sees of near stacks by its own cancels is near
+from_for_near : (c : ℕ) (own : List Label) (m : ℕ) (l k : Label) (f g : Tick) → l ≡ k → upto c f ≡ upto c g →
+    upto c (from_for own m l f) ≡ upto c (from_for own m k g)
+from_for_near c own m l k f g e h = subst (λ (z : Label). upto c (from_for own m l f) ≡ upto c (from_for own m z g)) e (by_own (is_among l own))
+  where
+    by_own : (b : Bool) → upto c (if b then earlier f (Some m) else f) ≡ upto c (if b then earlier g (Some m) else g)
+    by_own true = upto_earlier_same c f (Some m) g (Some m) h refl
+    by_own false = h
+
+stack_for_near : (c : ℕ) (own : List Label) (m : ℕ) (st su : Stack) → Near c st su → Near c (stack_for own m st) (stack_for own m su)
+stack_for_near c own m [] [] n = n
+stack_for_near c own m [] (k ∷ ks) n = absurd n
+stack_for_near c own m (l ∷ ls) [] n = absurd n
+stack_for_near c own m (l ∷ ls) (k ∷ ks) n =
+    (n.0, n.1, from_for_near c own m l.label k.label l.from k.from n.0 n.2, stack_for_near c own m ls ks n.3)
 
 -- whether a block catches in a tick before c depends only on stacks and froms before c
 catches_near : (c : ℕ) (f g : Tick) (shield : Bool) (st su : Stack) (u v : ℕ) → upto c f ≡ upto c g → Near c st su → u < c → u ≡ v →
@@ -153,34 +186,45 @@ catches_near c f g shield st su u v e near lt same =
 
 -- walks that agree before c have the same log cut at c
 pub agree_logs : {c : ℕ} {r q : Result} → Agree c r q → log_before c r.log ≡ log_before c q.log
-agree_logs (soon b e x m l) = l
+agree_logs (soon b e o x m l) = l
 agree_logs (later f s l) = l
 
--- what is left of an inside that ended in tick u with an exception, caught or not
-abbrev left_result : Kind → Label → ℕ → Tick → Log → ℕ → Option Exc → Bool → Result
-left_result kind label t d log u o caught =
+-- what is left of an inside that ended in moment u with an exception, caught or not
+abbrev left_result : Clock → Kind → Label → ℕ → Tick → Log → ℕ → List Label → Option Exc → Bool → Result
+left_result clock kind label t d log u own o caught =
     record {
       end = u;
-      exc = exc_after kind label u (left_with caught o);
+      own = own;
+      exc = exc_after kind label (tick_of clock u) (left_with caught o);
       members = [];
       log = entered label t d (followed_by log (entry u (left_as kind label (left_with caught o).caught) nil));
     }
 
-module _ (c : ℕ) (kind : Kind) (label : Label) (t : ℕ) (d : Tick) where
-  same_left : (a b : Log) (u v : ℕ) (o p : Option Exc) (x y : Bool) → u < c → log_before c a ≡ log_before c b → u ≡ v → o ≡ p → x ≡ y →
-      Agree c (left_result kind label t d a u o x) (left_result kind label t d b v p y)
-  same_left a b u v o p x y lt l i j k =
-      subst (λ (z : Bool). Agree c (left_result kind label t d a u o x) (left_result kind label t d b v p z)) k
-      (subst (λ (z : Option Exc). Agree c (left_result kind label t d a u o x) (left_result kind label t d b v z x)) j
-      (subst (λ (z : ℕ). Agree c (left_result kind label t d a u o x) (left_result kind label t d b z o x)) i
-      (soon lt refl refl refl (ap (λ (z : Log). entered_if (nat_lt t c) label t d z) (both_clipped c a _ b _ l refl)))))
+module _ (c : ℕ) (clock : Clock) (kind : Kind) (label : Label) (t : ℕ) (d : Tick) where
+  same_left : (a b : Log) (u v : ℕ) (n w : List Label) (o p : Option Exc) (x y : Bool) → u < c → log_before c a ≡ log_before c b → u ≡ v → n ≡ w →
+      o ≡ p → x ≡ y → Agree c (left_result clock kind label t d a u n o x) (left_result clock kind label t d b v w p y)
+  same_left a b u v n w o p x y lt l i h j k =
+      subst (λ (z : Bool). Agree c (left_result clock kind label t d a u n o x) (left_result clock kind label t d b v w p z)) k
+      (subst (λ (z : Option Exc). Agree c (left_result clock kind label t d a u n o x) (left_result clock kind label t d b v w z x)) j
+      (subst (λ (z : List Label). Agree c (left_result clock kind label t d a u n o x) (left_result clock kind label t d b v z o x)) h
+      (subst (λ (z : ℕ). Agree c (left_result clock kind label t d a u n o x) (left_result clock kind label t d b z n o x)) i
+      (soon lt refl refl refl refl (ap (λ (z : Log). entered_if (nat_lt t c) label t d z) (both_clipped c a _ b _ l refl))))))
 
   module _ (shield : Bool) (st su : Stack) (near : Near c st su) where
     -- how a block is left agrees, where its insides agree
     agree_left : (f g : Tick) (r q : Result) → upto c f ≡ upto c g → Agree c r q →
-        Agree c (exit_with_from kind label t d shield st f r) (exit_with_from kind label t d shield su g q)
-    agree_left f g r q e (soon b en x m l) =
-        same_left r.log q.log r.end q.end r.exc q.exc _ _ b l en x (catches_near c f g shield st su r.end q.end e near b en)
+        Agree c (exit_with_from clock kind label t d shield st f r) (exit_with_from clock kind label t d shield su g q)
+    agree_left f g r q e (soon b en o x m l) =
+        same_left r.log q.log r.end q.end r.own q.own r.exc q.exc _ _ b l en o x (same_catch en o)
+      where
+        at_first : catches (from_for r.own r.end label f) shield (stack_for r.own r.end st) r.end
+            ≡ catches (from_for r.own r.end label g) shield (stack_for r.own r.end su) r.end
+        at_first = catches_near c _ _ shield _ _ r.end r.end (from_for_near c r.own r.end label label f g refl e) (stack_for_near c r.own r.end st su near) b refl
+
+        same_catch : r.end ≡ q.end → r.own ≡ q.own → catches (from_for r.own r.end label f) shield (stack_for r.own r.end st) r.end
+            ≡ catches (from_for q.own q.end label g) shield (stack_for q.own q.end su) q.end
+        same_catch i j = at_first ∙ (ap (λ (z : ℕ). catches (from_for r.own z label g) shield (stack_for r.own z su) z) i
+            ∙ ap (λ (z : List Label). catches (from_for z q.end label g) shield (stack_for z q.end su) q.end) j)
     agree_left f g r q e (later p s l) =
         later p s (ap (λ (z : Log). entered_if (nat_lt t c) label t d z)
         (clipped_tail c r.end r.log _ p (omega arith, tt) ∙ (l ∙ sym (clipped_tail c q.end q.log _ s (omega arith, tt)))))
@@ -196,7 +240,7 @@ module _ (c : ℕ) (kind : Kind) (label : Label) (t : ℕ) (d : Tick) where
     -- blocks on near stacks agree before c where their insides do
     pub agree_block : (m : Mode) (inside inside' : Tick → Result) → ((f : Tick) → Late t (inside f)) → ((f : Tick) → Late t (inside' f)) →
         ((f g : Tick) → upto c f ≡ upto c g → Agree c (inside f) (inside' g)) →
-        Agree c (block m kind label t d shield st inside) (block m kind label t d shield su inside')
+        Agree c (block clock m kind label t d shield st inside) (block clock m kind label t d shield su inside')
     unfolding block
     agree_block m inside inside' h h' k =
         let e = block_near m inside inside' h h' k in
@@ -210,8 +254,8 @@ near_within c label shield f g st su e near = (refl, refl, e, near)
 -- a member's sign at the end of its log
 pub agree_signed : (c : ℕ) (st su : Stack) (r q : Result) → Near c st su → Agree c r q → Agree c (with_sign st r) (with_sign su q)
 unfolding with_sign
-agree_signed c st su r q near (soon b e x m l) =
-    soon b e x m (both_clipped c r.log _ q.log _ l (ap (λ (z : Log). log_before c z)
+agree_signed c st su r q near (soon b e o x m l) =
+    soon b e refl x m (both_clipped c r.log _ q.log _ l (ap (λ (z : Log). log_before c z)
     (same_sign r.exc q.exc (home_of st) (home_of su) r.end q.end x (home_near c st su near) e)))
   where
     same_sign : (o p : Option Exc) (a b : Option Label) (u v : ℕ) → o ≡ p → a ≡ b → u ≡ v → sign_if o a u ≡ sign_if p b v
@@ -226,9 +270,9 @@ agree_signed c st su r q near (later p s l) =
     timed_sign (Some e) (Some x) u = (omega arith, tt)
 
 -- a nursery's end before c, and its group, are determined by what is known of its members
-pub agree_gathered : (c : ℕ) (label : Label) (r q : Result) → Agree c r q → Agree c (nursery_result label r) (nursery_result label q)
+pub agree_gathered : (c : ℕ) (clock : Clock) (label : Label) (r q : Result) → Agree c r q → Agree c (nursery_result clock label r) (nursery_result clock label q)
 unfolding nursery_result
-agree_gathered c label r q (soon b e x m l) = by_order (cases_lt (latest r.end r.members) c)
+agree_gathered c clock label r q (soon b e o x m l) = by_order (cases_lt (a_round_after clock (latest r.end r.members)) c)
   where
     known : min c (latest r.end r.members) ≡ min c (latest q.end q.members)
     known =
@@ -243,34 +287,47 @@ agree_gathered c label r q (soon b e x m l) = by_order (cases_lt (latest r.end r
         group_of (by_nursery label) (parts_of (with_exc o (excs_of ms))) ≡ group_of (by_nursery label) (parts_of (with_exc p (excs_of ns)))
     same_group o p ms ns i j = cc
 
-    by_order : (latest r.end r.members < c) ⊎ (c ≤ latest r.end r.members) → Agree c (nursery_result label r) (nursery_result label q)
+    by_order : (a_round_after clock (latest r.end r.members) < c) ⊎ (c ≤ a_round_after clock (latest r.end r.members)) →
+        Agree c (nursery_result clock label r) (nursery_result clock label q)
     by_order (inl lt) = at_end same_end
       where
-        same_end : latest r.end r.members ≡ latest q.end q.members
-        same_end = let k = known in omega arith
+        before : latest r.end r.members < c
+        before = let after_it = round_after clock (latest r.end r.members) in omega arith
 
-        at_end : latest r.end r.members ≡ latest q.end q.members → Agree c (nursery_result label r) (nursery_result label q)
+        same_end : latest r.end r.members ≡ latest q.end q.members
+        same_end = let k = known in let h = before in omega arith
+
+        at_end : latest r.end r.members ≡ latest q.end q.members → Agree c (nursery_result clock label r) (nursery_result clock label q)
         at_end i =
-            soon lt i
-            (same_group r.exc q.exc r.members q.members x (sym (all_known c r.end r.members lt)
+            soon lt (ap (λ (u : ℕ). a_round_after clock u) i) refl
+            (same_group r.exc q.exc r.members q.members x (sym (all_known c r.end r.members before)
             ∙ (m ∙ all_known c q.end q.members (below i))))
             refl l
           where
             below : latest r.end r.members ≡ latest q.end q.members → latest q.end q.members < c
-            below j = omega arith
-    by_order (inr le) = later le (let k = known in omega arith) l
-agree_gathered c label r q (later f s l) =
+            below j = let h = before in omega arith
+    by_order (inr le) = later le (at_least (cases_lt (latest r.end r.members) c)) l
+      where
+        at_least : (latest r.end r.members < c) ⊎ (c ≤ latest r.end r.members) → c ≤ a_round_after clock (latest q.end q.members)
+        at_least (inl lt) = subst (λ (u : ℕ). c ≤ a_round_after clock u) same le
+          where
+            same : latest r.end r.members ≡ latest q.end q.members
+            same = let k = known in omega arith
+        at_least (inr past) = let k = known in let after_it = round_after clock (latest q.end q.members) in omega arith
+agree_gathered c clock label r q (later f s l) =
     let a = latest_ends r.end r.members in
     let b = latest_ends q.end q.members in
+    let a' = round_after clock (latest r.end r.members) in
+    let b' = round_after clock (latest q.end q.members) in
     later (omega arith) (omega arith) l
 
 -- what is known of an end and an exception, where walks agree
 known_end : (c : ℕ) (r q : Result) → Agree c r q → min c r.end ≡ min c q.end
-known_end c r q (soon b e x m l) = ap (λ (u : ℕ). min c u) e
+known_end c r q (soon b e o x m l) = ap (λ (u : ℕ). min c u) e
 known_end c r q (later f s l) = omega arith
 
 known_outcome : (c : ℕ) (r q : Result) → Agree c r q → exc_if (nat_lt r.end c) r.exc ≡ exc_if (nat_lt q.end c) q.exc
-known_outcome c r q (soon b e x m l) = same_known r.end q.end r.exc q.exc e x
+known_outcome c r q (soon b e o x m l) = same_known r.end q.end r.exc q.exc e x
   where
     same_known : (u v : ℕ) (o p : Option Exc) → u ≡ v → o ≡ p → exc_if (nat_lt u c) o ≡ exc_if (nat_lt v c) p
     same_known u v o p i j = cc
@@ -282,25 +339,25 @@ known_outcome c r q (later f s l) = unknown (nat_lt r.end c) r.exc (le-ltb r.end
     unknown false o e = refl
 
 -- what started tasks leave in their starter's walk agrees before c where their own walks do
-pub agree_child : (c : ℕ) (label : Label) (t : ℕ) (r q : Result) → Agree c r q → Agree c (child label t r) (child label t q)
+pub agree_child : (c : ℕ) (label : Label) (begins : ℕ) (r q : Result) (t : Now) → Agree c r q → Agree c (child label begins r t) (child label begins q t)
 unfolding child
-agree_child c label t r q h = by_order (cases_lt t c) (known_end c r q h) (known_outcome c r q h) (agree_logs h)
+agree_child c label begins r q t h = by_order (cases_lt t.at c) (known_end c r q h) (known_outcome c r q h) (agree_logs h)
   where
     same_member : (u v : ℕ) (o p : Option Exc) → u ≡ v → o ≡ p →
         ◌≡◌ {A = List Member} (record { end = u; exc = o } ∷ []) (record { end = v; exc = p } ∷ [])
     same_member u v o p i j = cc
 
     same_task : (b : Bool) (u v : ℕ) (o p : Option Exc) (x y : Log) → u ≡ v → o ≡ p → x ≡ y →
-        task_if b label t u o x nil ≡ task_if b label t v p y nil
+        task_if b label begins u o x nil ≡ task_if b label begins v p y nil
     same_task b u v o p x y i j k = cc
 
-    by_order : (t < c) ⊎ (c ≤ t) → min c r.end ≡ min c q.end → exc_if (nat_lt r.end c) r.exc ≡ exc_if (nat_lt q.end c) q.exc →
-        log_before c r.log ≡ log_before c q.log → Agree c (child label t r) (child label t q)
-    by_order (inl lt) i j k = soon lt refl refl (same_member _ _ _ _ i j) (same_task (nat_lt t c) _ _ _ _ _ _ i j k)
-    by_order (inr le) i j k = later le le (same_task (nat_lt t c) _ _ _ _ _ _ i j k)
+    by_order : (t.at < c) ⊎ (c ≤ t.at) → min c r.end ≡ min c q.end → exc_if (nat_lt r.end c) r.exc ≡ exc_if (nat_lt q.end c) q.exc →
+        log_before c r.log ≡ log_before c q.log → Agree c (child label begins r t) (child label begins q t)
+    by_order (inl lt) i j k = soon lt refl refl refl (same_member _ _ _ _ i j) (same_task (nat_lt begins c) _ _ _ _ _ _ i j k)
+    by_order (inr le) i j k = later le le (same_task (nat_lt begins c) _ _ _ _ _ _ i j k)
 
--- the children of a `start .. over`, all started in one tick, agree before c where each of them does
-pub agree_each : (c : ℕ) (k : ℕ) (go go' : ℕ → Result) (t : ℕ) → ((i : ℕ) → (go i).end ≡ t) → ((i : ℕ) → (go' i).end ≡ t) →
+-- the children of a `start .. over`, all started in one moment, agree before c where each of them does
+pub agree_each : (c : ℕ) (k : ℕ) (go go' : ℕ → Result) (t : Now) → ((i : ℕ) → (go i).end ≡ t.at) → ((i : ℕ) → (go' i).end ≡ t.at) →
     ((i : ℕ) → Agree c (go i) (go' i)) → Agree c (each k go t) (each k go' t)
 agree_each c zero go go' t e e' h = agree_same c (done_at t)
 agree_each c (suc k) go go' t e e' h =
@@ -311,8 +368,8 @@ agree_each c (suc k) go go' t e e' h =
     agree_joined c (each k go t) (each k go' t) (go k) (go' k) (agree_each c k go go' t e e' h) (h k) (omega arith) (omega arith)
 
 -- passes of a `repeat`
-pub agree_passes : (c : ℕ) (k first : ℕ) (go go' : ℕ → ℕ → Result) (t : ℕ) → ((i u : ℕ) → Agree c (go i u) (go' i u)) →
-    ((i u : ℕ) → Late u (go i u)) → ((i u : ℕ) → Late u (go' i u)) → Agree c (passes first k go t) (passes first k go' t)
+pub agree_passes : (c : ℕ) (k first : ℕ) (go go' : ℕ → Now → Result) (t : Now) → ((i : ℕ) (u : Now) → Agree c (go i u) (go' i u)) →
+    ((i : ℕ) (u : Now) → Late u.at (go i u)) → ((i : ℕ) (u : Now) → Late u.at (go' i u)) → Agree c (passes first k go t) (passes first k go' t)
 agree_passes c zero first go go' t h l l' = agree_same c (done_at t)
 agree_passes c (suc k) first go go' t h l l' =
     agree_and_then c (go first t) (go' first t) _ _ (h first t) (λ u. agree_passes c k (suc first) go go' u h l l')
@@ -321,61 +378,61 @@ agree_passes c (suc k) first go go' t h l l' =
 -- an outcome that goes by the exception agrees where the walks do
 agree_outcome : (c : ℕ) (r q : Result) (f : Option Exc → Option Exc) → Agree c r q →
     Agree c (with_outcome (f r.exc) r) (with_outcome (f q.exc) q)
-agree_outcome c r q f (soon b e x m l) = soon b e (ap f x) m l
+agree_outcome c r q f (soon b e o x m l) = soon b e o (ap f x) m l
 agree_outcome c r q f (later p s l) = later p s l
 
-past_handled : (c : ℕ) (wanted : Wanted) (r : Result) (go : ℕ → Result) → ((u : ℕ) → Late u (go u)) → c ≤ r.end → (o : Option Exc) →
+past_handled : (c : ℕ) (wanted : Wanted) (r : Result) (go : Now → Result) → ((u : Now) → Late u.at (go u)) → c ≤ r.end → (o : Option Exc) →
     Past c r (handler_for o wanted r go)
 past_handled c wanted r go h le None = past_same c r le
 past_handled c wanted r go h le (Some e) = by_match (keep wanted e) (drop wanted e)
   where
-    both : Past c r (in_sequence r (go r.end))
-    both = past_joined c r (go r.end) le (h r.end)
+    both : Past c r (in_sequence r (go (now_of r)))
+    both = past_joined c r (go (now_of r)) le (h (now_of r))
 
     by_match : (o rest : Option Exc) → Past c r (handler_if_any o rest r go)
     by_match None rest = past_same c r le
     by_match (Some y) rest = record { ends = both.ends; logs = both.logs }
 
 -- bodies with their handlers agree before c where the bodies do, and the handlers from each tick on
-pub agree_handled : (c : ℕ) (wanted : Wanted) (r r' : Result) (go go' : ℕ → Result) → Agree c r r' → ((u : ℕ) → Agree c (go u) (go' u)) →
-    ((u : ℕ) → Late u (go u)) → ((u : ℕ) → Late u (go' u)) → Agree c (handler_result wanted r go) (handler_result wanted r' go')
+pub agree_handled : (c : ℕ) (wanted : Wanted) (r r' : Result) (go go' : Now → Result) → Agree c r r' → ((u : Now) → Agree c (go u) (go' u)) →
+    ((u : Now) → Late u.at (go u)) → ((u : Now) → Late u.at (go' u)) → Agree c (handler_result wanted r go) (handler_result wanted r' go')
 unfolding handler_result
-agree_handled c wanted r r' go go' (soon b e x m l) h k k' =
-    subst (λ (o : Option Exc). Agree c (handler_for r.exc wanted r go) (handler_for o wanted r' go')) x (by_exc r.exc)
+agree_handled c wanted r r' go go' (soon b e o x m l) h k k' =
+    subst (λ (z : Option Exc). Agree c (handler_for r.exc wanted r go) (handler_for z wanted r' go')) x (by_exc r.exc)
   where
-    both : Agree c (in_sequence r (go r.end)) (in_sequence r' (go' r'.end))
-    both = agree_joined c r r' (go r.end) (go' r'.end) (soon b e x m l) (agree_from c go go' h r.end r'.end e) (k r.end).ends
-        (k' r'.end).ends
+    both : Agree c (in_sequence r (go (now_of r))) (in_sequence r' (go' (now_of r')))
+    both = agree_joined c r r' (go (now_of r)) (go' (now_of r')) (soon b e o x m l) (agree_from c go go' h r r' e o) (k (now_of r)).ends
+        (k' (now_of r')).ends
 
-    by_match : (o rest : Option Exc) → Agree c (handler_if_any o rest r go) (handler_if_any o rest r' go')
-    by_match None rest = soon b e x m l
-    by_match (Some y) rest = agree_outcome c (in_sequence r (go r.end)) (in_sequence r' (go' r'.end)) (λ o. handler_exc o rest) both
+    by_match : (z rest : Option Exc) → Agree c (handler_if_any z rest r go) (handler_if_any z rest r' go')
+    by_match None rest = soon b e o x m l
+    by_match (Some y) rest = agree_outcome c (in_sequence r (go (now_of r))) (in_sequence r' (go' (now_of r'))) (λ z. handler_exc z rest) both
 
-    by_exc : (o : Option Exc) → Agree c (handler_for o wanted r go) (handler_for o wanted r' go')
-    by_exc None = soon b e x m l
+    by_exc : (z : Option Exc) → Agree c (handler_for z wanted r go) (handler_for z wanted r' go')
+    by_exc None = soon b e o x m l
     by_exc (Some y) = by_match (keep wanted y) (drop wanted y)
 agree_handled c wanted r r' go go' (later f s l) h k k' =
     agree_past c r r' _ _ l (past_handled c wanted r go k f r.exc) (past_handled c wanted r' go' k' s r'.exc)
 
 -- results with their cleanups agree before c likewise
-pub agree_cleaned : (c : ℕ) (r r' : Result) (go go' : ℕ → Result) → Agree c r r' → ((u : ℕ) → Agree c (go u) (go' u)) →
-    ((u : ℕ) → Late u (go u)) → ((u : ℕ) → Late u (go' u)) → Agree c (cleanup_result r go) (cleanup_result r' go')
+pub agree_cleaned : (c : ℕ) (r r' : Result) (go go' : Now → Result) → Agree c r r' → ((u : Now) → Agree c (go u) (go' u)) →
+    ((u : Now) → Late u.at (go u)) → ((u : Now) → Late u.at (go' u)) → Agree c (cleanup_result r go) (cleanup_result r' go')
 unfolding cleanup_result
-agree_cleaned c r r' go go' (soon b e x m l) h k k' =
-    subst (λ (o : Option Exc). Agree c (with_outcome (outcome_after r.exc (go r.end).exc) (in_sequence r (go r.end)))
-    (with_outcome (outcome_after o (go' r'.end).exc) (in_sequence r' (go' r'.end)))) x
-    (agree_outcome c (in_sequence r (go r.end)) (in_sequence r' (go' r'.end)) (λ o. outcome_after r.exc o)
-    (agree_joined c r r' (go r.end) (go' r'.end) (soon b e x m l) (agree_from c go go' h r.end r'.end e) (k r.end).ends (k' r'.end).ends))
+agree_cleaned c r r' go go' (soon b e o x m l) h k k' =
+    subst (λ (z : Option Exc). Agree c (with_outcome (outcome_after r.exc (go (now_of r)).exc) (in_sequence r (go (now_of r))))
+    (with_outcome (outcome_after z (go' (now_of r')).exc) (in_sequence r' (go' (now_of r'))))) x
+    (agree_outcome c (in_sequence r (go (now_of r))) (in_sequence r' (go' (now_of r'))) (λ z. outcome_after r.exc z)
+    (agree_joined c r r' (go (now_of r)) (go' (now_of r')) (soon b e o x m l) (agree_from c go go' h r r' e o) (k (now_of r)).ends (k' (now_of r')).ends))
 agree_cleaned c r r' go go' (later f s l) h k k' =
-    let a = past_joined c r (go r.end) f (k r.end) in
-    let b = past_joined c r' (go' r'.end) s (k' r'.end) in
+    let a = past_joined c r (go (now_of r)) f (k (now_of r)) in
+    let b = past_joined c r' (go' (now_of r')) s (k' (now_of r')) in
     agree_past c r r' _ _ l (record { ends = a.ends; logs = a.logs }) (record { ends = b.ends; logs = b.logs })
 
 mutual
   unfolding walk
 
   -- on near stacks every walk agrees
-  pub agree : (c : ℕ) (m : Mode) (b : Steps) (here : Here) (st su : Stack) (t : ℕ) → Near c st su →
+  pub agree : (c : ℕ) (m : Mode) (b : Steps) (here : Here) (st su : Stack) (t : Now) → Near c st su →
       Agree c (walk m b here st t) (walk m b here su t)
   agree c m stop here st su t near = agree_same c (done_at t)
   agree c m (step s ss) here st su t near =
@@ -383,34 +440,34 @@ mutual
       (λ u. late m ss here su u)
 
   -- the same of one step
-  pub agree_step : (c : ℕ) (m : Mode) (s : Step) (here : Here) (st su : Stack) (t : ℕ) → Near c st su →
+  pub agree_step : (c : ℕ) (m : Mode) (s : Step) (here : Here) (st su : Stack) (t : Now) → Near c st su →
       Agree c (walk_step m s here st t) (walk_step m s here su t)
-  agree_step c m (sleep n) here st su t near = agree_sleeping c st su _ t near
-  agree_step c m checkpoint here st su t near = agree_sleeping c st su _ t near
-  agree_step c m forever here st su t near = agree_sleeping c st su _ t near
-  agree_step c m (pace k) here st su t near = agree_sleeping c st su _ t near
+  agree_step c m (sleep n) here st su t near = agree_sleeping c here.clock st su _ t.at near
+  agree_step c m checkpoint here st su t near = agree_sleeping c here.clock st su _ t.at near
+  agree_step c m forever here st su t near = agree_sleeping c here.clock st su _ t.at near
+  agree_step c m (pace k) here st su t near = agree_pacing c here.clock st su _ t.at near
   agree_step c m (find text) here st su t near = agree_same c _
   agree_step c m (head n) here st su t near = agree_same c _
   agree_step c m longest here st su t near = agree_same c _
   agree_step c m (need text name) here st su t near = agree_same c _
   agree_step c m (raise name) here st su t near = agree_same c _
-  agree_step c m (cancel name) here st su t near = agree_cancelling c name st su t near
+  agree_step c m (cancel name) here st su t near = agree_cancelling c here.clock name st su t near
   agree_step c m (scope name d shield fail body) here st su t near =
-      agree_block c _ _ t _ shield st su near m _ _
+      agree_block c here.clock _ _ t.at _ shield st su near m _ _
       (λ f. late m body here _ t)
       (λ f. late m body here _ t)
       (λ f g e. agree c m body here _ _ t (near_within c _ shield f g st su e near))
   agree_step c m (nursery name d shield body) here st su t near =
-      agree_block c _ _ t _ shield st su near m _ _
-      (λ f. late_gathered t _ _ (late_signed t _ _ (late m body here _ t)))
-      (λ f. late_gathered t _ _ (late_signed t _ _ (late m body here _ t)))
-      (λ f g e. agree_gathered c _ _ _ (agree_signed c _ _ _ _ (near_within c _ shield f g st su e near)
+      agree_block c here.clock _ _ t.at _ shield st su near m _ _
+      (λ f. late_gathered here.clock t.at _ _ (late_signed t.at _ _ (late m body here _ t)))
+      (λ f. late_gathered here.clock t.at _ _ (late_signed t.at _ _ (late m body here _ t)))
+      (λ f g e. agree_gathered c here.clock _ _ _ (agree_signed c _ _ _ _ (near_within c _ shield f g st su e near)
       (agree c m body here _ _ t (near_within c _ shield f g st su e near))))
   agree_step c m (start name None body) here st su t near =
-      agree_child c _ t _ _ (agree_signed c st su _ _ near (agree c m body _ st su t near))
+      agree_child c _ (a_round_after here.clock t.at) _ _ t (agree_signed c st su _ _ near (agree c m body _ st su (only_at (a_round_after here.clock t.at)) near))
   agree_step c m (start name (Some k) body) here st su t near =
-      agree_each c k _ _ t (λ i. child_ends _ t _) (λ i. child_ends _ t _)
-      (λ i. agree_child c _ t _ _ (agree_signed c st su _ _ near (agree c m body _ st su t near)))
+      agree_each c k _ _ t (λ i. child_ends _ (a_round_after here.clock t.at) _ t) (λ i. child_ends _ (a_round_after here.clock t.at) _ t)
+      (λ i. agree_child c _ (a_round_after here.clock t.at) _ _ t (agree_signed c st su _ _ near (agree c m body _ st su (only_at (a_round_after here.clock t.at)) near)))
   agree_step c m (repeat count body) here st su t near =
       agree_passes c count 0 _ _ t (λ i u. agree c m body _ st su u near) (λ i u. late m body _ st u) (λ i u. late m body _ su u)
   agree_step c m (attempt body handler cleanup) here st su t near =
@@ -432,4 +489,4 @@ mutual
 
 -- on stacks that agree except where both froms are at least c, a walk does the same before c
 pub nothing_before_its_cause : NothingBeforeItsCause
-nothing_before_its_cause c mode steps here stack other t near = agree c mode steps here stack other t near
+nothing_before_its_cause c mode steps here stack other now near = agree c mode steps here stack other now near

@@ -1,5 +1,5 @@
--- By when a walk ends: a step instance takes at most as long as `forever`.
-use Rattle.std.proofs.Common.{◌≡◌, ℕ, zero, suc, ◌+◌, ◌-◌, ◌*◌, ◌/◌, ◌≤◌, max, Bool, true, false, Option, Some, None, List, [], ◌∷◌, ◌++◌, length, drop as dropped, length-drop, suc-mul, refl, arith, nat_le, if◌then◌else◌}
+-- By when a walk ends: a step instance ends at most as many moments beyond the reach of its start as `span` says.
+use Rattle.std.proofs.Common.{◌≡◌, ℕ, zero, suc, ◌+◌, ◌-◌, ◌*◌, ◌/◌, ◌≤◌, min, max, Bool, true, false, Option, Some, None, List, [], ◌∷◌, ◌++◌, length, drop as dropped, length-drop, refl, arith, nat_le, if◌then◌else◌}
 use Rattle.std.proofs.lemmas.Bool.Decides.{nat_tests}
 use Rattle.std.proofs.lemmas.List.{length-take}
 use Rattle.std.proofs.Math.Nat.{mul-le-mul_right}
@@ -16,16 +16,50 @@ use Rattle.exc_groups.specs.Exceptions.{Label, Exc, cancelled}
 use Rattle.exc_groups.specs.Split.{Wanted, keep, drop}
 use Rattle.cancel_scopes.specs.Sight.{Tick, sight}
 use Rattle.job_meaning.specs.Log.{Member, Result}
+use Rattle.job_meaning.specs.Moments.{Clock, by_ticks, by_rounds, clock_of, tick_of, a_round_after, wakes_at, gives_up_at, Now, only_at, far}
 use Rattle.job_meaning.specs.Meaning.{meaning, root_walk, root_here}
 use Rattle.job_meaning.specs.Laws.{EndsByTheLastTick}
-use Rattle.job_meaning.specs.Walk.{Stack, Mode, two_walks, Here, walk, walk_step, walk_handler, walk_cleanup, done_at, raised_at, in_sequence, and_then, then_if, sleep_by_sight, sleep_result, pace_ticks, lines_result, need_result, cancel_result, Kind, from_of, block, with_sign, latest, nursery_result, child, each, passes, handler_result, handler_for, handler_if_any, cleanup_result}
+use Rattle.job_meaning.specs.Walk.{Stack, Mode, two_walks, Here, walk, walk_step, walk_handler, walk_cleanup, done_at, raised_at, now_of, in_sequence, and_then, then_if, wait_by_sight, sleep_result, pace_result, pace_ticks, lines_result, raise_result, need_result, cancel_result, Kind, from_of, block, with_sign, latest, nursery_result, child, each, passes, handler_result, handler_for, handler_if_any, cleanup_result}
 
--- all members have ended by a tick
+-- By rounds, the start of tick `far`, beyond which no sleep lasts. By ticks, where each sleep lasts as long as it is, 0.
+abbrev pub base : Clock → ℕ
+base by_ticks = 0
+base by_rounds = 2305843009213693952
+
+-- the later of a moment and the base
+abbrev pub reach : Clock → ℕ → ℕ
+reach clock m = max m (base clock)
+
+-- How many moments beyond the reach a step instance ends at most. By ticks, it is as long as `forever`, which is two to the 40. By
+-- rounds, a checkpoint that is cancelled takes two. That a child begins a moment later and that a nursery is left a moment later
+-- is counted for the `start` and for the nursery itself.
+abbrev pub span : Clock → ℕ
+span by_ticks = 1099511627776
+span by_rounds = 2
+
+round_by : (clock : Clock) (m : ℕ) → a_round_after clock m ≤ m + span clock
+round_by by_ticks m = omega arith
+round_by by_rounds m = omega arith
+
+wakes_by : (clock : Clock) (n m : ℕ) → n ≤ 1099511627776 → wakes_at clock n m ≤ reach clock m + span clock
+wakes_by by_ticks n m le = omega arith
+wakes_by by_rounds zero m le = omega arith
+wakes_by by_rounds (suc n) m le = capped (m / 2097152 + suc n)
+  where
+    capped : (tick : ℕ) → max (m + 1) (min 1099511627776 tick * 2097152) ≤ max m 2305843009213693952 + 2
+    capped tick = omega arith
+
+gives_up_by : (clock : Clock) (n m : ℕ) → gives_up_at clock n m ≤ m + span clock
+gives_up_by by_ticks n m = omega arith
+gives_up_by by_rounds zero m = omega arith
+gives_up_by by_rounds (suc n) m = omega arith
+
+-- all members have ended by a moment
 abbrev pub AllBy : ℕ → List Member → Type 0
 AllBy b [] = Unit {0}
 AllBy b (m ∷ ms) = (m.end ≤ b) × AllBy b ms
 
--- a walk and its members have ended by a tick
+-- a walk and its members have ended by a moment
 pub record EndsBy (b : ℕ) (r : Result) : Type 0 where
   pub end : r.end ≤ b
   pub members : AllBy b r.members
@@ -49,51 +83,64 @@ later b c r le h =
 pub by_joined : (b : ℕ) (r q : Result) → AllBy b r.members → EndsBy b q → EndsBy b (in_sequence r q)
 by_joined b r q h k = record { end = k.end; members = all_append b r.members q.members h k.members }
 
-by_and_then : (b c : ℕ) (r : Result) (go : ℕ → Result) → b ≤ c → EndsBy b r → ((u : ℕ) → u ≤ b → EndsBy c (go u)) → EndsBy c (and_then r go)
+by_and_then : (b c : ℕ) (r : Result) (go : Now → Result) → b ≤ c → EndsBy b r → ((u : Now) → u.at ≤ b → EndsBy c (go u)) →
+    EndsBy c (and_then r go)
 unfolding and_then
 by_and_then b c r go le h k = by_exc r.exc
   where
     by_exc : (o : Option Exc) → EndsBy c (then_if o r go)
-    by_exc None = by_joined c r (go r.end) (all_later b c r.members le h.members) (k r.end h.end)
+    by_exc None = by_joined c r (go (now_of r)) (all_later b c r.members le h.members) (k (now_of r) h.end)
     by_exc (Some e) = later b c r le h
 
-by_done : (b t : ℕ) → t ≤ b → EndsBy b (done_at t)
+by_done : (b : ℕ) (t : Now) → t.at ≤ b → EndsBy b (done_at t)
 by_done b t le = record { end = le; members = tt }
 
-by_raised : (e : Exc) (b t : ℕ) → t ≤ b → EndsBy b (raised_at e t)
+by_raised : (e : Exc) (b : ℕ) (t : Now) → t.at ≤ b → EndsBy b (raised_at e t)
 by_raised e b t le = record { end = le; members = tt }
 
-by_slept : (a : Tick) (n t : ℕ) → EndsBy (t + n) (sleep_by_sight a n t)
-by_slept None n t = by_done (t + n) (t + n) (omega arith)
-by_slept (Some from) n t = by_now (nat_le from t) (nat_le from (t + n)) refl
+by_waited : (a : Tick) (least gives_up end b : ℕ) → gives_up ≤ b → end ≤ b → EndsBy b (wait_by_sight a least gives_up end)
+by_waited None least gives_up end b up le = by_done b (only_at end) le
+by_waited (Some from) least gives_up end b up le = by_now (nat_le from least) (nat_le from end) refl
   where
-    by_now : (now due : Bool) → nat_le from (t + n) ≡ due → EndsBy (t + n) (if now then raised_at cancelled t else
-        (if due then raised_at cancelled from else done_at (t + n)))
-    by_now true due e = by_raised cancelled (t + n) t (omega arith)
-    by_now false true e = by_raised cancelled (t + n) from (grind (arith, nat_tests))
-    by_now false false e = by_done (t + n) (t + n) (omega arith)
+    by_now : (now due : Bool) → nat_le from end ≡ due → EndsBy b (if now then raised_at cancelled (only_at gives_up) else
+        (if due then raised_at cancelled (only_at from) else done_at (only_at end)))
+    by_now true due e = by_raised cancelled b (only_at gives_up) up
+    by_now false true e = by_raised cancelled b (only_at from) (grind (arith, nat_tests))
+    by_now false false e = by_done b (only_at end) le
 
-by_sleeping : (b : ℕ) (st : Stack) (n t : ℕ) → t + n ≤ b → EndsBy b (sleep_result st n t)
+by_sleeping : (clock : Clock) (st : Stack) (n t b : ℕ) → n ≤ 1099511627776 → reach clock t + span clock ≤ b → EndsBy b (sleep_result clock st n t)
 unfolding sleep_result
-by_sleeping b st n t le = later (t + n) b _ le (by_slept (sight st) n t)
+by_sleeping clock st n t b few le =
+    by_waited (sight st) (a_round_after clock t) (gives_up_at clock n t) (wakes_at clock n t) b
+    (omega (arith, gives_up_by clock n t)) (omega (arith, wakes_by clock n t few))
 
-by_showing : (ls : List Span) (b t : ℕ) → t ≤ b → EndsBy b (lines_result ls t)
+by_pacing : (clock : Clock) (st : Stack) (n t b : ℕ) → n ≤ 1099511627776 → reach clock t + span clock ≤ b → EndsBy b (pace_result clock st n t)
+unfolding pace_result
+by_pacing clock st n t b few le =
+    by_waited (sight st) (a_round_after clock t) (a_round_after clock t) (wakes_at clock n t) b
+    (omega (arith, round_by clock t)) (omega (arith, wakes_by clock n t few))
+
+by_showing : (ls : List Span) (b : ℕ) (t : Now) → t.at ≤ b → EndsBy b (lines_result ls t)
 unfolding lines_result
 by_showing ls b t le = record { end = le; members = tt }
 
-by_needing : (found : Option Span) (name : List ℕ) (label : Label) (b t : ℕ) → t ≤ b → EndsBy b (need_result found name label t)
-unfolding need_result
-by_needing (Some l) name label b t le = by_showing (l ∷ []) b t le
-by_needing None name label b t le = record { end = le; members = tt }
+by_needing : (found : Option Span) (name : List ℕ) (here : Here) (b : ℕ) (t : Now) → t.at ≤ b → EndsBy b (need_result found name here t)
+unfolding need_result raise_result
+by_needing (Some l) name here b t le = by_showing (l ∷ []) b t le
+by_needing None name here b t le = record { end = le; members = tt }
 
-by_cancelling : (label : Option Label) (b t : ℕ) → t ≤ b → EndsBy b (cancel_result label t)
+by_raising : (name : List ℕ) (here : Here) (b : ℕ) (t : Now) → t.at ≤ b → EndsBy b (raise_result name here t)
+unfolding raise_result
+by_raising name here b t le = by_raised _ b t le
+
+by_cancelling : (clock : Clock) (label : Option Label) (b : ℕ) (t : Now) → t.at ≤ b → EndsBy b (cancel_result clock label t)
 unfolding cancel_result
-by_cancelling label b t le = record { end = le; members = tt }
+by_cancelling clock label b t le = record { end = le; members = tt }
 
-by_block : (m : Mode) (kind : Kind) (label : Label) (t : ℕ) (d : Tick) (shield : Bool) (st : Stack) (inside : Tick → Result) (b : ℕ) →
-    ((from : Tick) → EndsBy b (inside from)) → EndsBy b (block m kind label t d shield st inside)
+by_block : (clock : Clock) (m : Mode) (kind : Kind) (label : Label) (t : ℕ) (d : Tick) (shield : Bool) (st : Stack) (inside : Tick → Result) (b : ℕ) →
+    ((from : Tick) → EndsBy b (inside from)) → EndsBy b (block clock m kind label t d shield st inside)
 unfolding block
-by_block m kind label t d shield st inside b h =
+by_block clock m kind label t d shield st inside b h =
     let inner : EndsBy b (inside (from_of m label d inside)) = h (from_of m label d inside) in
     record { end = inner.end; members = tt }
 
@@ -107,30 +154,32 @@ latest_by b t (m ∷ ms) le h =
     let first : m.end ≤ b = h.0 in
     latest_by b (max t m.end) ms (omega arith) h.1
 
-by_gathered : (b : ℕ) (label : Label) (r : Result) → EndsBy b r → EndsBy b (nursery_result label r)
+by_gathered : (clock : Clock) (b c : ℕ) (label : Label) (r : Result) → b + span clock ≤ c → EndsBy b r → EndsBy c (nursery_result clock label r)
 unfolding nursery_result
-by_gathered b label r h = record { end = latest_by b r.end r.members h.end h.members; members = tt }
+by_gathered clock b c label r le h =
+    let last : latest r.end r.members ≤ b = latest_by b r.end r.members h.end h.members in
+    record { end = omega (arith, last, round_by clock (latest r.end r.members)); members = tt }
 
-by_child : (label : Label) (b t : ℕ) (r : Result) → t ≤ b → EndsBy b r → EndsBy b (child label t r)
+by_child : (label : Label) (b begins : ℕ) (r : Result) (t : Now) → t.at ≤ b → EndsBy b r → EndsBy b (child label begins r t)
 unfolding child
-by_child label b t r le h = record { end = le; members = (h.end, tt) }
+by_child label b begins r t le h = record { end = le; members = (h.end, tt) }
 
-by_each : (k : ℕ) (go : ℕ → Result) (b t : ℕ) → t ≤ b → ((i : ℕ) → EndsBy b (go i)) → EndsBy b (each k go t)
+by_each : (k : ℕ) (go : ℕ → Result) (b : ℕ) (t : Now) → t.at ≤ b → ((i : ℕ) → EndsBy b (go i)) → EndsBy b (each k go t)
 by_each zero go b t le h = by_done b t le
 by_each (suc k) go b t le h =
     by_joined b (each k go t) (go k) ((by_each k go b t le h).members) (h k)
 
-by_passes : (k first : ℕ) (go : ℕ → ℕ → Result) (c t : ℕ) → ((i u : ℕ) → EndsBy (u + c * 1099511627776) (go i u)) →
-    EndsBy (t + k * c * 1099511627776) (passes first k go t)
-by_passes zero first go c t h = by_done _ t (omega arith)
-by_passes (suc k) first go c t h =
-    let all : suc k * c ≡ k * c + c = suc-mul k c in
-    by_and_then (t + c * 1099511627776) (t + suc k * c * 1099511627776) (go first t) (λ (u : ℕ). passes (suc first) k go u)
+by_passes : (k first : ℕ) (go : ℕ → Now → Result) (b c s : ℕ) (t : Now) → ((i : ℕ) (u : Now) → EndsBy (max u.at b + c * s) (go i u)) →
+    EndsBy (max t.at b + k * c * s) (passes first k go t)
+by_passes zero first go b c s t h = by_done _ t (omega arith)
+by_passes (suc k) first go b c s t h =
+    let all : suc k * c * s ≡ k * c * s + c * s = omega arith in
+    by_and_then (max t.at b + c * s) (max t.at b + suc k * c * s) (go first t) (λ (u : Now). passes (suc first) k go u)
     (omega (arith, all)) (h first t)
-    (λ (u : ℕ) (le : u ≤ t + c * 1099511627776). later (u + k * c * 1099511627776) _ _ (omega (arith, all)) (by_passes k
-    (suc first) go c u h))
+    (λ (u : Now) (le : u.at ≤ max t.at b + c * s). later (max u.at b + k * c * s) _ _ (omega (arith, all)) (by_passes k
+    (suc first) go b c s u h))
 
-by_handled : (b c : ℕ) (wanted : Wanted) (r : Result) (go : ℕ → Result) → b ≤ c → EndsBy b r → ((u : ℕ) → u ≤ b → EndsBy c (go u)) →
+by_handled : (b c : ℕ) (wanted : Wanted) (r : Result) (go : Now → Result) → b ≤ c → EndsBy b r → ((u : Now) → u.at ≤ b → EndsBy c (go u)) →
     EndsBy c (handler_result wanted r go)
 unfolding handler_result
 by_handled b c wanted r go le h k = by_exc r.exc
@@ -138,17 +187,20 @@ by_handled b c wanted r go le h k = by_exc r.exc
     by_match : (o rest : Option Exc) → EndsBy c (handler_if_any o rest r go)
     by_match None rest = later b c r le h
     by_match (Some e) rest =
-        let both : EndsBy c (in_sequence r (go r.end)) = by_joined c r (go r.end) (all_later b c r.members le h.members) (k r.end h.end) in
+        let both : EndsBy c (in_sequence r (go (now_of r))) =
+        by_joined c r (go (now_of r)) (all_later b c r.members le h.members) (k (now_of r) h.end) in
         record { end = both.end; members = both.members }
 
     by_exc : (o : Option Exc) → EndsBy c (handler_for o wanted r go)
     by_exc None = later b c r le h
     by_exc (Some e) = by_match (keep wanted e) (drop wanted e)
 
-by_cleaned : (b c : ℕ) (r : Result) (go : ℕ → Result) → b ≤ c → EndsBy b r → ((u : ℕ) → u ≤ b → EndsBy c (go u)) → EndsBy c (cleanup_result r go)
+by_cleaned : (b c : ℕ) (r : Result) (go : Now → Result) → b ≤ c → EndsBy b r → ((u : Now) → u.at ≤ b → EndsBy c (go u)) →
+    EndsBy c (cleanup_result r go)
 unfolding cleanup_result
 by_cleaned b c r go le h k =
-    let both : EndsBy c (in_sequence r (go r.end)) = by_joined c r (go r.end) (all_later b c r.members le h.members) (k r.end h.end) in
+    let both : EndsBy c (in_sequence r (go (now_of r))) =
+    by_joined c r (go (now_of r)) (all_later b c r.members le h.members) (k (now_of r) h.end) in
     record { end = both.end; members = both.members }
 
 -- a part has no more lines than its buffer has bytes
@@ -166,6 +218,9 @@ pub paced_le : (count k : ℕ) → pace_ticks count k ≤ count + k
 paced_le count zero = omega arith
 paced_le count (suc k) = omega (arith, div_le (count + k) k)
 
+left_le : (x y : ℕ) → x - y ≤ x
+left_le x y = omega arith
+
 -- one copy is no longer than all
 copies_le : (k x : ℕ) → 1 ≤ k → x ≤ k * x
 copies_le k x le = omega (arith, mul-le-mul_right x le)
@@ -173,75 +228,82 @@ copies_le k x le = omega (arith, mul-le-mul_right x le)
 mutual
   unfolding walk
 
-  -- every walk ends by its start and as many times `forever` as it has step instances
-  pub ends_by : (m : Mode) (b : Steps) (here : Here) (st : Stack) (t : ℕ) → AreInRange b → length here.input ≤ 16777216 →
-      EndsBy (t + size_of b * 1099511627776) (walk m b here st t)
+  -- every walk ends by its start and as many times the span as it has step instances
+  pub ends_by : (m : Mode) (b : Steps) (here : Here) (st : Stack) (t : Now) → AreInRange b → length here.input ≤ 16777216 →
+      EndsBy (reach here.clock t.at + size_of b * span here.clock) (walk m b here st t)
   ends_by m stop here st t h small = by_done _ t (omega arith)
   ends_by m (step s ss) here st t h small =
-      by_and_then (t + size_in s * 1099511627776) _ _ _ (omega arith) (ends_step m s here st t h.0 small)
-      (λ (u : ℕ) (le : u ≤ t + size_in s * 1099511627776). later (u + size_of ss * 1099511627776) _ _ (omega arith)
+      by_and_then (reach here.clock t.at + size_in s * span here.clock) _ _ _ (omega arith) (ends_step m s here st t h.0 small)
+      (λ (u : Now) (le : u.at ≤ reach here.clock t.at + size_in s * span here.clock). later (reach here.clock u.at + size_of ss * span here.clock) _ _ (omega arith)
       (ends_by m ss here st u h.1 small))
 
-  pub ends_step : (m : Mode) (s : Step) (here : Here) (st : Stack) (t : ℕ) → IsInRangeStep s → length here.input ≤ 16777216 →
-      EndsBy (t + size_in s * 1099511627776) (walk_step m s here st t)
-  ends_step m (sleep n) here st t h small = by_sleeping _ st _ t (omega arith)
-  ends_step m checkpoint here st t h small = by_sleeping _ st _ t (omega arith)
-  ends_step m forever here st t h small = by_sleeping _ st _ t (omega arith)
+  pub ends_step : (m : Mode) (s : Step) (here : Here) (st : Stack) (t : Now) → IsInRangeStep s → length here.input ≤ 16777216 →
+      EndsBy (reach here.clock t.at + size_in s * span here.clock) (walk_step m s here st t)
+  ends_step m (sleep n) here st t h small = by_sleeping here.clock st n t.at _ (omega arith) (omega arith)
+  ends_step m checkpoint here st t h small = by_sleeping here.clock st 0 t.at _ (omega arith) (omega arith)
+  ends_step m forever here st t h small =
+      by_sleeping here.clock st (far - tick_of here.clock t.at) t.at _ (left_le far (tick_of here.clock t.at)) (omega arith)
   ends_step m (pace k) here st t h small =
       let in_range : k ≤ 1000000 = h.1 in
-      by_sleeping _ st _ t (omega (arith, count_le here.input here.part, paced_le (count_in here.input here.part) k))
+      by_pacing here.clock st (pace_ticks (count_in here.input here.part) k) t.at _
+      (omega (arith, count_le here.input here.part, paced_le (count_in here.input here.part) k)) (omega arith)
   ends_step m (find text) here st t h small = by_showing _ _ t (omega arith)
   ends_step m (head n) here st t h small = by_showing _ _ t (omega arith)
   ends_step m longest here st t h small = by_showing _ _ t (omega arith)
-  ends_step m (need text name) here st t h small = by_needing _ name here.task _ t (omega arith)
-  ends_step m (raise name) here st t h small = by_raised _ _ t (omega arith)
-  ends_step m (cancel name) here st t h small = by_cancelling _ _ t (omega arith)
+  ends_step m (need text name) here st t h small = by_needing _ name here _ t (omega arith)
+  ends_step m (raise name) here st t h small = by_raising name here _ t (omega arith)
+  ends_step m (cancel name) here st t h small = by_cancelling here.clock _ _ t (omega arith)
   ends_step m (scope name d shield fail body) here st t h small =
-      by_block m _ _ t _ shield st _ _ (λ from. later (t + size_of body * 1099511627776) _ _ (omega arith)
+      by_block here.clock m _ _ t.at _ shield st _ _ (λ from. later (reach here.clock t.at + size_of body * span here.clock) _ _ (omega arith)
       (ends_by m body here _ t h.1 small))
   ends_step m (nursery name d shield body) here st t h small =
-      by_block m _ _ t _ shield st _ _ (λ from. by_gathered _ _ _ (by_signed _ _ _ (later (t + size_of body * 1099511627776) _ _
-      (omega arith) (ends_by m body here _ t h.1 small))))
+      by_block here.clock m _ _ t.at _ shield st _ _ (λ from. by_gathered here.clock (reach here.clock t.at + size_of body * span here.clock) _ _ _
+      (omega arith) (by_signed _ _ _ (ends_by m body here _ t h.1 small)))
   ends_step m (start name None body) here st t h small =
-      by_child _ _ t _ (omega arith) (by_signed _ st _ (later (t + size_of body * 1099511627776) _ _ (omega arith)
-      (ends_by m body _ st t h.1 small)))
+      by_child _ _ (a_round_after here.clock t.at) _ t (omega arith)
+      (by_signed _ st _ (later (reach here.clock (a_round_after here.clock t.at) + size_of body * span here.clock) _ _
+      (omega (arith, round_by here.clock t.at)) (ends_by m body _ st (only_at (a_round_after here.clock t.at)) h.1 small)))
   ends_step m (start name (Some k) body) here st t h small =
-      let one : 1 + size_of body ≤ k * (1 + size_of body) = copies_le k (1 + size_of body) h.0.0 in
-      by_each k _ _ t (omega arith) (λ (i : ℕ). by_child _ _ t _ (omega arith) (by_signed _ st _ (later
-      (t + size_of body * 1099511627776) _ _ (omega (arith, one)) (ends_by m body _ st t h.1 small))))
+      let one : (1 + size_of body) * span here.clock ≤ k * ((1 + size_of body) * span here.clock) =
+      copies_le k ((1 + size_of body) * span here.clock) h.0.0 in
+      by_each k _ _ t (omega arith) (λ (i : ℕ). by_child _ _ (a_round_after here.clock t.at) _ t (omega arith) (by_signed _ st _ (later
+      (reach here.clock (a_round_after here.clock t.at) + size_of body * span here.clock) _ _ (omega (arith, one, round_by here.clock t.at))
+      (ends_by m body _ st (only_at (a_round_after here.clock t.at)) h.1 small))))
   ends_step m (repeat count body) here st t h small =
-      later (t + count * (1 + size_of body) * 1099511627776) _ _ (omega arith)
-      (by_passes count 0 _ (1 + size_of body) t (λ (i : ℕ) (u : ℕ).
-      later (u + size_of body * 1099511627776) _ _ (omega arith) (ends_by m body _ st u h.1 small)))
+      later (reach here.clock t.at + count * (1 + size_of body) * span here.clock) _ _ (omega arith)
+      (by_passes count 0 _ (base here.clock) (1 + size_of body) (span here.clock) t (λ (i : ℕ) (u : Now).
+      later (reach here.clock u.at + size_of body * span here.clock) _ _ (omega arith) (ends_by m body _ st u h.1 small)))
   ends_step m (attempt body handler cleanup) here st t h small =
-      later (t + size_of body * 1099511627776 + handled_size handler * 1099511627776 + cleaned_size cleanup * 1099511627776) _ _
+      later (reach here.clock t.at + size_of body * span here.clock + handled_size handler * span here.clock + cleaned_size cleanup * span here.clock) _ _
       (omega arith)
-      (ends_cleanup m cleanup here st _ (t + size_of body * 1099511627776 + handled_size handler * 1099511627776) h.2 small
-      (ends_handler m handler here st _ (t + size_of body * 1099511627776) h.1 small (ends_by m body here st t h.0 small)))
+      (ends_cleanup m cleanup here st _ (reach here.clock t.at + size_of body * span here.clock + handled_size handler * span here.clock) h.2 small (omega arith)
+      (ends_handler m handler here st _ (reach here.clock t.at + size_of body * span here.clock) h.1 small (omega arith) (ends_by m body here st t h.0 small)))
 
   pub ends_handler : (m : Mode) (x : Handled) (here : Here) (st : Stack) (r : Result) (b : ℕ) → IsInRangeHandler x →
-      length here.input ≤ 16777216 → EndsBy b r → EndsBy (b + handled_size x * 1099511627776) (walk_handler m x here st r)
-  ends_handler m unhandled here st r b h small e = later b _ r (omega arith) e
-  ends_handler m (except name body) here st r b h small e =
-      by_handled b _ _ r _ (omega arith) e (λ (u : ℕ) (le : u ≤ b). later (u + size_of body * 1099511627776) _ _ (omega arith)
+      length here.input ≤ 16777216 → base here.clock ≤ b → EndsBy b r → EndsBy (b + handled_size x * span here.clock) (walk_handler m x here st r)
+  ends_handler m unhandled here st r b h small low e = later b _ r (omega arith) e
+  ends_handler m (except name body) here st r b h small low e =
+      by_handled b _ _ r _ (omega arith) e (λ (u : Now) (le : u.at ≤ b). later (reach here.clock u.at + size_of body * span here.clock) _ _ (omega arith)
       (ends_by m body here st u h small))
 
   pub ends_cleanup : (m : Mode) (x : Cleaned) (here : Here) (st : Stack) (r : Result) (b : ℕ) → IsInRangeCleanup x →
-      length here.input ≤ 16777216 → EndsBy b r → EndsBy (b + cleaned_size x * 1099511627776) (walk_cleanup m x here st r)
-  ends_cleanup m uncleaned here st r b h small e = later b _ r (omega arith) e
-  ends_cleanup m (finally body) here st r b h small e =
-      by_cleaned b _ r _ (omega arith) e (λ (u : ℕ) (le : u ≤ b). later (u + size_of body * 1099511627776) _ _ (omega arith)
+      length here.input ≤ 16777216 → base here.clock ≤ b → EndsBy b r → EndsBy (b + cleaned_size x * span here.clock) (walk_cleanup m x here st r)
+  ends_cleanup m uncleaned here st r b h small low e = later b _ r (omega arith) e
+  ends_cleanup m (finally body) here st r b h small low e =
+      by_cleaned b _ r _ (omega arith) e (λ (u : Now) (le : u.at ≤ b). later (reach here.clock u.at + size_of body * span here.clock) _ _ (omega arith)
       (ends_by m body here st u h small))
+
+-- a million steps end by the last tick, in either clock
+in_ticks_by : (clock : Clock) (size end : ℕ) → size ≤ 1000000 → end ≤ reach clock 0 + size * span clock → tick_of clock end ≤ 4611686018427387904
+in_ticks_by by_ticks size end few le = omega arith
+in_ticks_by by_rounds size end few le = omega arith
 
 -- so a job ends by the last tick
 pub ends_by_the_last_tick : EndsByTheLastTick
 unfolding meaning
 ends_by_the_last_tick job input in_range small =
-    let ends : EndsBy (0 + size_of job.steps * 1099511627776) (root_walk two_walks job input) =
-    ends_by two_walks job.steps (root_here job input) [] 0 in_range.numbers small in
-    let end : (root_walk two_walks job input).end ≤ 0 + size_of job.steps * 1099511627776 = ends.end in
-    let size : size_of job.steps ≤ 1000000 = at_most job.format in_range.size in
-    omega (arith, end, size)
+    in_ticks_by (clock_of job.format) (size_of job.steps) (root_walk two_walks job input).end (at_most job.format in_range.size)
+    (ends_by two_walks job.steps (root_here job input) [] (only_at 0) in_range.numbers small).end
   where
     at_most : (format : Format) → size_of job.steps ≤ most_steps format → size_of job.steps ≤ 1000000
     at_most One le = omega (arith, le)

@@ -9,7 +9,8 @@ use Rattle.exc_groups.specs.Split.{Wanted, named, keep, drop}
 use Rattle.cancel_scopes.specs.Sight.{Level}
 use Rattle.job_meaning.proofs.Clips.{followed_nil}
 use Rattle.job_meaning.specs.Log.{Log, nil, entry, sign, entered, task, followed_by, Member, Result, Table}
-use Rattle.job_meaning.specs.Walk.{in_pass, passes, Stack, Mode, by_table, Here, walk, walk_step, walk_handler, walk_cleanup, done_at, in_sequence, and_then, then_if, block, due, stack_inside, Kind, with_sign, nursery_result, child, handler_result, handler_for, handler_if_any, cleanup_result, with_outcome, handler_exc, outcome_after, sign_if, a_scope, a_nursery, label_here, label_over, each, here_in}
+use Rattle.job_meaning.specs.Moments.{Clock, due, a_round_after, Now, only_at}
+use Rattle.job_meaning.specs.Walk.{now_of, in_pass, passes, Stack, Mode, by_table, Here, walk, walk_step, walk_handler, walk_cleanup, done_at, in_sequence, and_then, then_if, block, stack_inside, Kind, with_sign, nursery_result, child, handler_result, handler_for, handler_if_any, cleanup_result, with_outcome, handler_exc, outcome_after, sign_if, a_scope, a_nursery, label_here, label_over, each, here_in}
 use Rattle.job_meaning.specs.Rest.{Event, noted, signs, enters, starts, fill, consecutive, starts_over, ChildOutcomes, told_members, Frame, steps_left, in_scope, in_nursery, in_repeat, in_try, in_handler, in_cleanup, inside, block_left, with_children, wait_result, finish, rest_comes_to, rest_at_start}
 
 -- three logs one after another are the same, whichever two are joined first
@@ -27,37 +28,37 @@ after a r = record r { log = followed_by a r.log }
 after_joined : (a : Log) (r q : Result) → in_sequence (after a r) q ≡ after a (in_sequence r q)
 after_joined a r q = ap (λ (x : Log). record (in_sequence r q) { log = x }) (followed_assoc a r.log q.log)
 
-after_and_then : (a : Log) (r : Result) (go : ℕ → Result) → and_then (after a r) go ≡ after a (and_then r go)
+after_and_then : (a : Log) (r : Result) (go : Now → Result) → and_then (after a r) go ≡ after a (and_then r go)
 unfolding and_then
 after_and_then a r go = by_exc r.exc
   where
     by_exc : (o : Option Exc) → then_if o (after a r) go ≡ after a (then_if o r go)
-    by_exc None = after_joined a r (go r.end)
+    by_exc None = after_joined a r (go (now_of r))
     by_exc (Some e) = refl
 
 after_signed : (a : Log) (st : Stack) (r : Result) → with_sign st (after a r) ≡ after a (with_sign st r)
 unfolding with_sign
-after_signed a st r = ap (λ (x : Log). record r { log = x }) (followed_assoc a r.log _)
+after_signed a st r = ap (λ (x : Log). record r { own = []; log = x }) (followed_assoc a r.log _)
 
-after_block_left : (a : Log) (kind : Kind) (l : Level Label) (outer : Stack) (r : Result) →
-    block_left kind l outer (after a r) ≡ after a (block_left kind l outer r)
-after_block_left a kind l outer r = ap (λ (x : Log). record (block_left kind l outer r) { log = x }) (followed_assoc a r.log _)
+after_block_left : (a : Log) (clock : Clock) (kind : Kind) (l : Level Label) (outer : Stack) (r : Result) →
+    block_left clock kind l outer (after a r) ≡ after a (block_left clock kind l outer r)
+after_block_left a clock kind l outer r = ap (λ (x : Log). record (block_left clock kind l outer r) { log = x }) (followed_assoc a r.log _)
 
-after_handled : (a : Log) (wanted : Wanted) (r : Result) (go : ℕ → Result) → handler_result wanted (after a r) go ≡ after a (handler_result wanted r go)
+after_handled : (a : Log) (wanted : Wanted) (r : Result) (go : Now → Result) → handler_result wanted (after a r) go ≡ after a (handler_result wanted r go)
 unfolding handler_result
 after_handled a wanted r go = by_exc r.exc
   where
     by_match : (o rest : Option Exc) → handler_if_any o rest (after a r) go ≡ after a (handler_if_any o rest r go)
     by_match None rest = refl
-    by_match (Some e) rest = ap (λ (x : Result). with_outcome (handler_exc (go r.end).exc rest) x) (after_joined a r (go r.end))
+    by_match (Some e) rest = ap (λ (x : Result). with_outcome (handler_exc (go (now_of r)).exc rest) x) (after_joined a r (go (now_of r)))
 
     by_exc : (o : Option Exc) → handler_for o wanted (after a r) go ≡ after a (handler_for o wanted r go)
     by_exc None = refl
     by_exc (Some e) = by_match (keep wanted e) (drop wanted e)
 
-after_cleaned : (a : Log) (r : Result) (go : ℕ → Result) → cleanup_result (after a r) go ≡ after a (cleanup_result r go)
+after_cleaned : (a : Log) (r : Result) (go : Now → Result) → cleanup_result (after a r) go ≡ after a (cleanup_result r go)
 unfolding cleanup_result
-after_cleaned a r go = ap (λ (x : Result). with_outcome (outcome_after r.exc (go r.end).exc) x) (after_joined a r (go r.end))
+after_cleaned a r go = ap (λ (x : Result). with_outcome (outcome_after r.exc (go (now_of r)).exc) x) (after_joined a r (go (now_of r)))
 
 after_handler : (a : Log) (m : Mode) (x : Handled) (here : Here) (st : Stack) (r : Result) →
     walk_handler m x here st (after a r) ≡ after a (walk_handler m x here st r)
@@ -81,13 +82,13 @@ finish_after (steps_left ss ∷ fs) a m told here st r =
     ∙ finish_after fs a m told here st (and_then r (λ u. walk m ss (inside fs here) st u))
 finish_after (in_scope fail ∷ fs) a m told here [] r = finish_after fs a m told here [] r
 finish_after (in_scope fail ∷ fs) a m told here (l ∷ outer) r =
-    ap (λ (x : Result). finish m told fs here outer x) (after_block_left a (a_scope fail) l outer r) ∙ finish_after fs a m told here outer _
+    ap (λ (x : Result). finish m told fs here outer x) (after_block_left a here.clock (a_scope fail) l outer r) ∙ finish_after fs a m told here outer _
 finish_after (in_nursery children ∷ fs) a m told here [] r = finish_after fs a m told here [] r
 finish_after (in_nursery children ∷ fs) a m told here (l ∷ outer) r =
-    ap (λ (x : Result). finish m told fs here outer (block_left a_nursery l outer
-    (nursery_result l.label (with_children (told_members told children) x)))) (after_signed a (l ∷ outer) r)
-    ∙ (ap (λ (x : Result). finish m told fs here outer x) (after_block_left a a_nursery l outer
-    (nursery_result l.label (with_children (told_members told children) (with_sign (l ∷ outer) r))))
+    ap (λ (x : Result). finish m told fs here outer (block_left here.clock a_nursery l outer
+    (nursery_result here.clock l.label (with_children (told_members told children) x)))) (after_signed a (l ∷ outer) r)
+    ∙ (ap (λ (x : Result). finish m told fs here outer x) (after_block_left a here.clock a_nursery l outer
+    (nursery_result here.clock l.label (with_children (told_members told children) (with_sign (l ∷ outer) r))))
     ∙ finish_after fs a m told here outer _)
 finish_after (in_repeat pass left body ∷ fs) a m told here st r =
     ap (λ (x : Result). finish m told fs here st x)
@@ -106,19 +107,19 @@ finish_after (in_handler rest cleanup ∷ fs) a m told here st r =
 finish_after (in_cleanup outcome ∷ fs) a m told here st r = finish_after fs a m told here st _
 
 -- the result of a task that was just started is that of its block
-pub finish_begin : (m : Mode) (told : ChildOutcomes) (b : Steps) (here : Here) (st : Stack) (t : ℕ) →
+pub finish_begin : (m : Mode) (told : ChildOutcomes) (b : Steps) (here : Here) (st : Stack) (t : Now) →
     rest_comes_to m told (rest_at_start b) here st t ≡ with_sign st (walk m b here st t)
 unfolding finish and_then
 finish_begin m told b here st t = refl
 
 -- a block with no step left
-pub finish_stop : (fs : List Frame) (m : Mode) (told : ChildOutcomes) (here : Here) (st : Stack) (t : ℕ) →
+pub finish_stop : (fs : List Frame) (m : Mode) (told : ChildOutcomes) (here : Here) (st : Stack) (t : Now) →
     finish m told (steps_left stop ∷ fs) here st (done_at t) ≡ finish m told fs here st (done_at t)
 unfolding finish and_then walk
 finish_stop fs m told here st t = refl
 
 -- a step that opens no frame
-pub finish_step : (fs : List Frame) (m : Mode) (told : ChildOutcomes) (s : Step) (ss : Steps) (here : Here) (st : Stack) (t : ℕ) →
+pub finish_step : (fs : List Frame) (m : Mode) (told : ChildOutcomes) (s : Step) (ss : Steps) (here : Here) (st : Stack) (t : Now) →
     finish m told (steps_left (step s ss) ∷ fs) here st (done_at t)
     ≡ finish m told (steps_left ss ∷ fs) here st (walk_step m s (inside fs here) st t)
 unfolding finish and_then walk
@@ -132,33 +133,33 @@ finish_raised fs m told ss here st r e = refl
 
 -- a scope is entered
 pub finish_scope : (fs : List Frame) (table : Table) (told : ChildOutcomes) (name : List ℕ) (d : Deadline) (shield fail : Bool) (body ss : Steps)
-    (here : Here) (st : Stack) (t : ℕ) →
+    (here : Here) (st : Stack) (t : Now) →
     finish (by_table table) told (steps_left (step (scope name d shield fail body) ss) ∷ fs) here st (done_at t)
-    ≡ after (entered (label_here name (inside fs here)) t (due d t) nil)
+    ≡ after (entered (label_here name (inside fs here)) t.at (due here.clock d t.at) nil)
     (finish (by_table table) told (steps_left body ∷ in_scope fail ∷ steps_left ss ∷ fs) here
     (stack_inside (label_here name (inside fs here)) shield (table (label_here name (inside fs here))) st) (done_at t))
 unfolding finish and_then walk block
 finish_scope fs table told name d shield fail body ss here st t =
-    finish_after (steps_left body ∷ in_scope fail ∷ steps_left ss ∷ fs) (entered (label_here name (inside fs here)) t (due d t) nil)
+    finish_after (steps_left body ∷ in_scope fail ∷ steps_left ss ∷ fs) (entered (label_here name (inside fs here)) t.at (due here.clock d t.at) nil)
     (by_table table) told here
     (stack_inside (label_here name (inside fs here)) shield (table (label_here name (inside fs here))) st) (done_at t)
 
 -- a nursery is entered
 pub finish_nursery : (fs : List Frame) (table : Table) (told : ChildOutcomes) (name : List ℕ) (d : Deadline) (shield : Bool) (body ss : Steps)
-    (here : Here) (st : Stack) (t : ℕ) →
+    (here : Here) (st : Stack) (t : Now) →
     finish (by_table table) told (steps_left (step (nursery name d shield body) ss) ∷ fs) here st (done_at t)
-    ≡ after (entered (label_here name (inside fs here)) t (due d t) nil)
+    ≡ after (entered (label_here name (inside fs here)) t.at (due here.clock d t.at) nil)
     (finish (by_table table) told (steps_left body ∷ in_nursery [] ∷ steps_left ss ∷ fs) here
     (stack_inside (label_here name (inside fs here)) shield (table (label_here name (inside fs here))) st) (done_at t))
 unfolding finish and_then walk block nursery_result with_sign
 finish_nursery fs table told name d shield body ss here st t =
-    finish_after (steps_left body ∷ in_nursery [] ∷ steps_left ss ∷ fs) (entered (label_here name (inside fs here)) t (due d t) nil)
+    finish_after (steps_left body ∷ in_nursery [] ∷ steps_left ss ∷ fs) (entered (label_here name (inside fs here)) t.at (due here.clock d t.at) nil)
     (by_table table) told here
     (stack_inside (label_here name (inside fs here)) shield (table (label_here name (inside fs here))) st) (done_at t)
 
 -- a `try` is entered
 pub finish_try : (fs : List Frame) (m : Mode) (told : ChildOutcomes) (body : Steps) (handler : Handled) (cleanup : Cleaned) (ss : Steps)
-    (here : Here) (st : Stack) (t : ℕ) →
+    (here : Here) (st : Stack) (t : Now) →
     finish m told (steps_left (step (attempt body handler cleanup) ss) ∷ fs) here st (done_at t)
     ≡ finish m told (steps_left body ∷ in_try handler cleanup ∷ steps_left ss ∷ fs) here st (done_at t)
 unfolding finish and_then walk
@@ -194,28 +195,28 @@ finish_no_handler fs m told unhandled cleanup here st r = refl
 finish_no_handler fs m told (except name body) cleanup here st r = refl
 
 -- a `repeat` without a pass
-pub finish_no_pass : (fs : List Frame) (m : Mode) (told : ChildOutcomes) (body ss : Steps) (here : Here) (st : Stack) (t : ℕ) →
+pub finish_no_pass : (fs : List Frame) (m : Mode) (told : ChildOutcomes) (body ss : Steps) (here : Here) (st : Stack) (t : Now) →
     finish m told (steps_left (step (repeat zero body) ss) ∷ fs) here st (done_at t) ≡ finish m told (steps_left ss ∷ fs) here st
     (done_at t)
 unfolding finish and_then walk
 finish_no_pass fs m told body ss here st t = refl
 
 -- the first pass of a `repeat` is entered
-pub finish_first_pass : (fs : List Frame) (m : Mode) (told : ChildOutcomes) (k : ℕ) (body ss : Steps) (here : Here) (st : Stack) (t : ℕ) →
+pub finish_first_pass : (fs : List Frame) (m : Mode) (told : ChildOutcomes) (k : ℕ) (body ss : Steps) (here : Here) (st : Stack) (t : Now) →
     finish m told (steps_left (step (repeat (suc k) body) ss) ∷ fs) here st (done_at t)
     ≡ finish m told (steps_left body ∷ in_repeat 0 k body ∷ steps_left ss ∷ fs) here st (done_at t)
 unfolding finish and_then walk
 finish_first_pass fs m told k body ss here st t = refl
 
 -- a pass has ended, and the next one is entered
-pub finish_next_pass : (fs : List Frame) (m : Mode) (told : ChildOutcomes) (pass k : ℕ) (body : Steps) (here : Here) (st : Stack) (t : ℕ) →
+pub finish_next_pass : (fs : List Frame) (m : Mode) (told : ChildOutcomes) (pass k : ℕ) (body : Steps) (here : Here) (st : Stack) (t : Now) →
     finish m told (in_repeat pass (suc k) body ∷ fs) here st (done_at t)
     ≡ finish m told (steps_left body ∷ in_repeat (suc pass) k body ∷ fs) here st (done_at t)
 unfolding finish and_then
 finish_next_pass fs m told pass k body here st t = refl
 
 -- the last pass has ended
-pub finish_last_pass : (fs : List Frame) (m : Mode) (told : ChildOutcomes) (pass : ℕ) (body : Steps) (here : Here) (st : Stack) (t : ℕ) →
+pub finish_last_pass : (fs : List Frame) (m : Mode) (told : ChildOutcomes) (pass : ℕ) (body : Steps) (here : Here) (st : Stack) (t : Now) →
     finish m told (in_repeat pass zero body ∷ fs) here st (done_at t) ≡ finish m told fs here st (done_at t)
 unfolding finish and_then
 finish_last_pass fs m told pass body here st t = refl
@@ -257,26 +258,26 @@ finish_cleaned fs m told outcome here st r = refl
 -- a scope is left
 pub finish_leave : (fs : List Frame) (m : Mode) (told : ChildOutcomes) (fail : Bool) (here : Here) (l : Level Label) (outer : Stack)
     (r : Result) →
-    finish m told (in_scope fail ∷ fs) here (l ∷ outer) r ≡ finish m told fs here outer (block_left (a_scope fail) l outer r)
+    finish m told (in_scope fail ∷ fs) here (l ∷ outer) r ≡ finish m told fs here outer (block_left here.clock (a_scope fail) l outer r)
 unfolding finish
 finish_leave fs m told fail here l outer r = refl
 
 -- the body of a nursery has ended, and the wait begins: with the sign of a body that failed before it
-pub finish_wait : (fs : List Frame) (m : Mode) (told : ChildOutcomes) (children : List ℕ) (here : Here) (l : Level Label) (outer : Stack) (t : ℕ)
+pub finish_wait : (fs : List Frame) (m : Mode) (told : ChildOutcomes) (children : List ℕ) (here : Here) (l : Level Label) (outer : Stack) (t : Now)
     (e : Option Exc) →
-    finish m told (in_nursery children ∷ fs) here (l ∷ outer) (record { end = t; exc = e; members = []; log = nil })
-    ≡ after (sign_if e (Some l.label) t) (finish m told fs here outer (wait_result (told_members told children) t e l outer))
+    finish m told (in_nursery children ∷ fs) here (l ∷ outer) (record { end = t.at; own = t.own; exc = e; members = []; log = nil })
+    ≡ after (sign_if e (Some l.label) t.at) (finish m told fs here outer (wait_result here.clock (told_members told children) t.at e l outer))
 unfolding finish with_sign nursery_result
 finish_wait fs m told children here l outer t e =
-    ap (λ (ms : List Member). finish m told fs here outer (block_left a_nursery l outer
-    (nursery_result l.label (record { end = t; exc = e; members = ms; log = sign_if e (Some l.label) t }))))
+    ap (λ (ms : List Member). finish m told fs here outer (block_left here.clock a_nursery l outer
+    (nursery_result here.clock l.label (record { end = t.at; own = []; exc = e; members = ms; log = sign_if e (Some l.label) t.at }))))
     (append-nil (told_members told children))
-    ∙ (ap (λ (x : Log). finish m told fs here outer (block_left a_nursery l outer
-    (nursery_result l.label (record { end = t; exc = e; members = told_members told children; log = x }))))
-    (sym (followed_nil (sign_if e (Some l.label) t)))
-    ∙ (ap (λ (x : Result). finish m told fs here outer x) (after_block_left (sign_if e (Some l.label) t) a_nursery l outer
-    (nursery_result l.label (record { end = t; exc = e; members = told_members told children; log = nil })))
-    ∙ finish_after fs (sign_if e (Some l.label) t) m told here outer (wait_result (told_members told children) t e l outer)))
+    ∙ (ap (λ (x : Log). finish m told fs here outer (block_left here.clock a_nursery l outer
+    (nursery_result here.clock l.label (record { end = t.at; own = []; exc = e; members = told_members told children; log = x }))))
+    (sym (followed_nil (sign_if e (Some l.label) t.at)))
+    ∙ (ap (λ (x : Result). finish m told fs here outer x) (after_block_left (sign_if e (Some l.label) t.at) here.clock a_nursery l outer
+    (nursery_result here.clock l.label (record { end = t.at; own = []; exc = e; members = told_members told children; log = nil })))
+    ∙ finish_after fs (sign_if e (Some l.label) t.at) m told here outer (wait_result here.clock (told_members told children) t.at e l outer)))
 
 told_append : (told : ChildOutcomes) (is js : List ℕ) → told_members told (is ++ js) ≡ told_members told is ++ told_members told js
 told_append told [] js = refl
@@ -289,9 +290,10 @@ pub finish_children : (fs : List Frame) (m : Mode) (told : ChildOutcomes) (child
     ≡ finish m told (in_nursery children ∷ fs) here (l ∷ outer) (record r { members = told_members told more ++ r.members })
 unfolding finish with_sign
 finish_children fs m told children more here l outer r =
-    ap (λ (ms : List Member). finish m told fs here outer (block_left a_nursery l outer
-    (nursery_result l.label (record {
+    ap (λ (ms : List Member). finish m told fs here outer (block_left here.clock a_nursery l outer
+    (nursery_result here.clock l.label (record {
       end = r.end;
+      own = [];
       exc = r.exc;
       members = ms;
       log =
@@ -301,12 +303,12 @@ finish_children fs m told children more here l outer r =
     ∙ append_assoc (told_members told children) (told_members told more) r.members)
 
 -- the result of starting children: the starter continues in the same tick
-abbrev pub just_started : ChildOutcomes → List ℕ → Log → ℕ → Result
-just_started told more a t = record { end = t; exc = None; members = told_members told more; log = a }
+abbrev pub just_started : ChildOutcomes → List ℕ → Log → Now → Result
+just_started told more a t = record { end = t.at; own = t.own; exc = None; members = told_members told more; log = a }
 
 -- after children were started, the body's steps continue with these among the nursery's, after the log so far
 pub finish_started : (fs : List Frame) (m : Mode) (told : ChildOutcomes) (ss : Steps) (children more : List ℕ) (here : Here) (l : Level Label)
-    (outer : Stack) (t : ℕ) (a : Log) →
+    (outer : Stack) (t : Now) (a : Log) →
     finish m told (steps_left ss ∷ in_nursery children ∷ fs) here (l ∷ outer) (just_started told more a t)
     ≡ after a (finish m told (steps_left ss ∷ in_nursery (children ++ more) ∷ fs) here (l ∷ outer) (done_at t))
 unfolding finish and_then
@@ -316,17 +318,18 @@ finish_started fs m told ss children more here l outer t a =
 
 -- a child is started
 pub finish_start : (fs : List Frame) (m : Mode) (told : ChildOutcomes) (i : ℕ) (name : List ℕ) (body ss : Steps) (children : List ℕ) (here : Here)
-    (l : Level Label) (outer : Stack) (t : ℕ) →
-    told i ≡ with_sign (l ∷ outer) (walk m body (here_in (label_here name (inside fs here)) here.part here) (l ∷ outer) t) →
+    (l : Level Label) (outer : Stack) (t : Now) →
+    told i ≡ with_sign (l ∷ outer) (walk m body (here_in (label_here name (inside fs here)) here.part here) (l ∷ outer) (only_at (a_round_after here.clock t.at))) →
     finish m told (steps_left (step (start name None body) ss) ∷ in_nursery children ∷ fs) here (l ∷ outer) (done_at t)
-    ≡ after (fill told (starts i (label_here name (inside fs here)) t ∷ []))
+    ≡ after (fill told (starts i (label_here name (inside fs here)) (a_round_after here.clock t.at) ∷ []))
     (finish m told (steps_left ss ∷ in_nursery (children ++ i ∷ []) ∷ fs) here (l ∷ outer) (done_at t))
 unfolding walk child
 finish_start fs m told i name body ss children here l outer t e =
     finish_step (in_nursery children ∷ fs) m told (start name None body) ss here (l ∷ outer) t
     ∙ (ap (λ (r : Result). finish m told (steps_left ss ∷ in_nursery children ∷ fs) here (l ∷ outer)
-    (child (label_here name (inside fs here)) t r)) (sym e)
-    ∙ finish_started fs m told ss children (i ∷ []) here l outer t (fill told (starts i (label_here name (inside fs here)) t ∷ [])))
+    (child (label_here name (inside fs here)) (a_round_after here.clock t.at) r t)) (sym e)
+    ∙ finish_started fs m told ss children (i ∷ []) here l outer t
+    (fill told (starts i (label_here name (inside fs here)) (a_round_after here.clock t.at) ∷ [])))
 
 -- what was made, and more
 pub fill_append : (told : ChildOutcomes) (es others : List Event) → fill told (es ++ others) ≡ followed_by (fill told es) (fill told others)
@@ -338,39 +341,39 @@ fill_append told (starts i l t ∷ es) others =
     ap (λ (x : Log). task l t (told i).end (told i).exc (told i).log x) (fill_append told es others)
 
 -- the children of a `start .. over`, by their numbers
-each_started : (told : ChildOutcomes) (name : List ℕ) (here : Here) (t first k : ℕ) (go : ℕ → Result) →
+each_started : (told : ChildOutcomes) (name : List ℕ) (here : Here) (begins : ℕ) (t : Now) (first k : ℕ) (go : ℕ → Result) →
     ((i : ℕ) → i < k → told (first + i) ≡ go i) →
-    each k (λ i. child (label_over name here i) t (go i)) t ≡ just_started told (consecutive first k)
-    (fill told (starts_over name here t first k)) t
+    each k (λ i. child (label_over name here i) begins (go i) t) t ≡ just_started told (consecutive first k)
+    (fill told (starts_over name here begins first k)) t
 unfolding child
-each_started told name here t first zero go h = refl
-each_started told name here t first (suc k) go h =
-    ap (λ (r : Result). in_sequence r (child (label_over name here k) t (go k)))
-    (each_started told name here t first k go (λ i lt. h i (below i lt)))
-    ∙ (ap (λ (r : Result). in_sequence (just_started told (consecutive first k) (fill told (starts_over name here t first k)) t)
-    (child (label_over name here k) t r)) (sym (h k (omega arith)))
+each_started told name here begins t first zero go h = refl
+each_started told name here begins t first (suc k) go h =
+    ap (λ (r : Result). in_sequence r (child (label_over name here k) begins (go k) t))
+    (each_started told name here begins t first k go (λ i lt. h i (below i lt)))
+    ∙ (ap (λ (r : Result). in_sequence (just_started told (consecutive first k) (fill told (starts_over name here begins first k)) t)
+    (child (label_over name here k) begins r t)) (sym (h k (omega arith)))
     ∙ both (sym (told_append told (consecutive first k) ((first + k) ∷ [])))
-    (sym (fill_append told (starts_over name here t first k) (starts (first + k) (label_over name here k) t ∷ []))))
+    (sym (fill_append told (starts_over name here begins first k) (starts (first + k) (label_over name here k) begins ∷ []))))
   where
     below : (i : ℕ) → i < k → i < suc k
     below i lt = omega arith
 
     both : {ms ns : List Member} {a b : Log} → ms ≡ ns → a ≡ b →
-        ◌≡◌ {A = Result} (record { end = t; exc = None; members = ms; log = a }) (record { end = t; exc = None; members = ns; log = b })
+        ◌≡◌ {A = Result} (record { end = t.at; own = t.own; exc = None; members = ms; log = a }) (record { end = t.at; own = t.own; exc = None; members = ns; log = b })
     both e f = cc
 
 -- the children of a `start .. over` are started
 pub finish_start_over : (fs : List Frame) (m : Mode) (told : ChildOutcomes) (first k : ℕ) (name : List ℕ) (body ss : Steps) (children : List ℕ)
-    (here : Here) (l : Level Label) (outer : Stack) (t : ℕ) →
+    (here : Here) (l : Level Label) (outer : Stack) (t : Now) →
     ((i : ℕ) → i < k → told (first + i) ≡ with_sign (l ∷ outer) (walk m body
-    (here_in (label_over name (inside fs here) i) (cut_of here.input here.part k i) here) (l ∷ outer) t)) →
+    (here_in (label_over name (inside fs here) i) (cut_of here.input here.part k i) here) (l ∷ outer) (only_at (a_round_after here.clock t.at)))) →
     finish m told (steps_left (step (start name (Some k) body) ss) ∷ in_nursery children ∷ fs) here (l ∷ outer) (done_at t)
-    ≡ after (fill told (starts_over name (inside fs here) t first k))
+    ≡ after (fill told (starts_over name (inside fs here) (a_round_after here.clock t.at) first k))
     (finish m told (steps_left ss ∷ in_nursery (children ++ consecutive first k) ∷ fs) here (l ∷ outer) (done_at t))
 unfolding walk
 finish_start_over fs m told first k name body ss children here l outer t h =
     finish_step (in_nursery children ∷ fs) m told (start name (Some k) body) ss here (l ∷ outer) t
     ∙ (ap (λ (r : Result). finish m told (steps_left ss ∷ in_nursery children ∷ fs) here (l ∷ outer) r)
-    (each_started told name (inside fs here) t first k (λ i. with_sign (l ∷ outer)
-    (walk m body (here_in (label_over name (inside fs here) i) (cut_of here.input here.part k i) here) (l ∷ outer) t)) h)
-    ∙ finish_started fs m told ss children (consecutive first k) here l outer t (fill told (starts_over name (inside fs here) t first k)))
+    (each_started told name (inside fs here) (a_round_after here.clock t.at) t first k (λ i. with_sign (l ∷ outer)
+    (walk m body (here_in (label_over name (inside fs here) i) (cut_of here.input here.part k i) here) (l ∷ outer) (only_at (a_round_after here.clock t.at)))) h)
+    ∙ finish_started fs m told ss children (consecutive first k) here l outer t (fill told (starts_over name (inside fs here) (a_round_after here.clock t.at) first k)))

@@ -7,7 +7,9 @@ use Rattle.exc_groups.specs.Exceptions.{Label, Exc, cancelled}
 use Rattle.exc_groups.specs.Split.{Wanted, keep, drop}
 use Rattle.cancel_scopes.specs.Sight.{Tick, sight}
 use Rattle.job_meaning.specs.Log.{Log, nil, entry, sign, entered, task, followed_by, Member, Result}
-use Rattle.job_meaning.specs.Walk.{Stack, Mode, Here, walk, walk_step, walk_handler, walk_cleanup, done_at, raised_at, in_sequence, and_then, then_if, sleep_by_sight, sleep_result, log_of_lines, lines_result, need_result, cancel_result, Kind, from_of, block, with_sign, sign_if, home_of, latest, nursery_result, child, each, passes, handler_result, handler_for, handler_if_any, cleanup_result}
+use Rattle.job_meaning.specs.Moments.{Clock, a_round_after, wakes_at, gives_up_at, Now, only_at}
+use Rattle.job_meaning.proofs.MomentLemmas.{round_after, wakes_after, gives_up_after}
+use Rattle.job_meaning.specs.Walk.{Stack, Mode, Here, walk, walk_step, walk_handler, walk_cleanup, done_at, raised_at, now_of, in_sequence, and_then, then_if, wait_by_sight, sleep_result, pace_result, log_of_lines, lines_result, raise_result, need_result, cancel_result, Kind, from_of, block, with_sign, sign_if, home_of, latest, nursery_result, child, each, passes, handler_result, handler_for, handler_if_any, cleanup_result}
 
 -- all that is in a log is at tick t or later
 abbrev pub Timed : ℕ → Log → Type 0
@@ -61,37 +63,43 @@ late_joined t r q h k =
     }
 
 -- a late walk that continues with late ones is late as a whole
-pub late_and_then : (t : ℕ) (r : Result) (go : ℕ → Result) → Late t r → ((u : ℕ) → Late u (go u)) → Late t (and_then r go)
+pub late_and_then : (t : ℕ) (r : Result) (go : Now → Result) → Late t r → ((u : Now) → Late u.at (go u)) → Late t (and_then r go)
 unfolding and_then
 late_and_then t r go h k = by_exc r.exc
   where
     by_exc : (o : Option Exc) → Late t (then_if o r go)
-    by_exc None = late_joined t r (go r.end) h (k r.end)
+    by_exc None = late_joined t r (go (now_of r)) h (k (now_of r))
     by_exc (Some e) = h
 
 -- where nothing happens until tick t or later, that is late
-pub late_done : (t u : ℕ) → t ≤ u → Late t (done_at u)
+pub late_done : (t : ℕ) (u : Now) → t ≤ u.at → Late t (done_at u)
 late_done t u le = record { ends = le; timed = tt }
 
 -- an exception in tick t or later is late
-pub late_raised : (e : Exc) (t u : ℕ) → t ≤ u → Late t (raised_at e u)
+pub late_raised : (e : Exc) (t : ℕ) (u : Now) → t ≤ u.at → Late t (raised_at e u)
 late_raised e t u le = record { ends = le; timed = tt }
 
--- a sleep ends when it is due, or at the first tick at which a cancellation is seen, or at once
-pub late_slept : (a : Tick) (n t : ℕ) → Late t (sleep_by_sight a n t)
-late_slept None n t = late_done t (t + n) (omega arith)
-late_slept (Some from) n t = by_now (nat_le from t) (nat_le from (t + n)) refl
+-- a wait ends when it is due, or at the first moment at which a cancellation is seen, or when it gives up
+pub late_waited : (a : Tick) (least gives_up end t : ℕ) → t ≤ least → least ≤ gives_up → least ≤ end → Late t (wait_by_sight a least gives_up end)
+late_waited None least gives_up end t lo mid hi = late_done t (only_at end) (omega arith)
+late_waited (Some from) least gives_up end t lo mid hi = by_now (nat_le from least) (nat_le from end) refl
   where
-    by_now : (now due : Bool) → nat_le from t ≡ now →
-        Late t (if now then raised_at cancelled t else (if due then raised_at cancelled from else done_at (t + n)))
-    by_now true due e = late_raised cancelled t t (omega arith)
-    by_now false true e = late_raised cancelled t from (grind (arith, nat_tests))
-    by_now false false e = late_done t (t + n) (omega arith)
+    by_now : (now due : Bool) → nat_le from least ≡ now →
+        Late t (if now then raised_at cancelled (only_at gives_up) else (if due then raised_at cancelled (only_at from) else done_at (only_at end)))
+    by_now true due e = late_raised cancelled t (only_at gives_up) (omega arith)
+    by_now false true e = late_raised cancelled t (only_at from) (grind (arith, nat_tests))
+    by_now false false e = late_done t (only_at end) (omega arith)
 
 -- a sleep on a stack is late
-pub late_sleeping : (st : Stack) (n t : ℕ) → Late t (sleep_result st n t)
+pub late_sleeping : (clock : Clock) (st : Stack) (n t : ℕ) → Late t (sleep_result clock st n t)
 unfolding sleep_result
-late_sleeping st n t = late_slept (sight st) n t
+late_sleeping clock st n t =
+    late_waited (sight st) (a_round_after clock t) (gives_up_at clock n t) (wakes_at clock n t) t (round_after clock t) (gives_up_after clock n t) (wakes_after clock n t)
+
+pub late_pacing : (clock : Clock) (st : Stack) (n t : ℕ) → Late t (pace_result clock st n t)
+unfolding pace_result
+late_pacing clock st n t =
+    late_waited (sight st) (a_round_after clock t) (a_round_after clock t) (wakes_at clock n t) t (round_after clock t) (omega arith) (wakes_after clock n t)
 
 -- what is noted of lines in a tick has no earlier tick
 pub timed_lines : (ls : List Span) (t : ℕ) → Timed t (log_of_lines t ls)
@@ -99,27 +107,32 @@ timed_lines [] t = tt
 timed_lines (l ∷ ls) t = (omega arith, timed_lines ls t)
 
 -- lines that are shown are late
-pub late_showing : (ls : List Span) (t : ℕ) → Late t (lines_result ls t)
+pub late_showing : (ls : List Span) (t : Now) → Late t.at (lines_result ls t)
 unfolding lines_result
-late_showing ls t = record { ends = omega arith; timed = timed_lines ls t }
+late_showing ls t = record { ends = omega arith; timed = timed_lines ls t.at }
 
 -- a `need` is late, whether its line is found or not
-pub late_needing : (found : Option Span) (name : List ℕ) (label : Label) (t : ℕ) → Late t (need_result found name label t)
-unfolding need_result
-late_needing (Some l) name label t = late_showing (l ∷ []) t
-late_needing None name label t = record { ends = omega arith; timed = tt }
+pub late_needing : (found : Option Span) (name : List ℕ) (here : Here) (t : Now) → Late t.at (need_result found name here t)
+unfolding need_result raise_result
+late_needing (Some l) name here t = late_showing (l ∷ []) t
+late_needing None name here t = record { ends = omega arith; timed = tt }
+
+-- an exception that is raised here is late
+pub late_raising : (name : List ℕ) (here : Here) (t : Now) → Late t.at (raise_result name here t)
+unfolding raise_result
+late_raising name here t = late_raised _ t.at t (omega arith)
 
 -- a `cancel` is late, whether its name is found or not
-pub late_cancelling : (label : Option Label) (t : ℕ) → Late t (cancel_result label t)
+pub late_cancelling : (clock : Clock) (label : Option Label) (t : Now) → Late t.at (cancel_result clock label t)
 unfolding cancel_result
-late_cancelling None t = record { ends = omega arith; timed = tt }
-late_cancelling (Some l) t = record { ends = omega arith; timed = (omega arith, tt) }
+late_cancelling clock None t = record { ends = omega arith; timed = tt }
+late_cancelling clock (Some l) t = record { ends = omega arith; timed = (omega arith, tt) }
 
 -- a scope or nursery is late where its inside is, whatever its from
-pub late_block : (m : Mode) (kind : Kind) (label : Label) (t : ℕ) (d : Tick) (shield : Bool) (st : Stack) (inside : Tick → Result) →
-    ((from : Tick) → Late t (inside from)) → Late t (block m kind label t d shield st inside)
+pub late_block : (clock : Clock) (m : Mode) (kind : Kind) (label : Label) (t : ℕ) (d : Tick) (shield : Bool) (st : Stack) (inside : Tick → Result) →
+    ((from : Tick) → Late t (inside from)) → Late t (block clock m kind label t d shield st inside)
 unfolding block
-late_block m kind label t d shield st inside h =
+late_block clock m kind label t d shield st inside h =
     let inner : Late t (inside (from_of m label d inside)) = h (from_of m label d inside) in
     record {
       ends = inner.ends;
@@ -152,42 +165,43 @@ latest_ends t (m ∷ ms) =
     omega arith
 
 -- a nursery with a late body is late, once its members have ended
-pub late_gathered : (t : ℕ) (label : Label) (r : Result) → Late t r → Late t (nursery_result label r)
+pub late_gathered : (clock : Clock) (t : ℕ) (label : Label) (r : Result) → Late t r → Late t (nursery_result clock label r)
 unfolding nursery_result
-late_gathered t label r h =
+late_gathered clock t label r h =
     let first : t ≤ r.end = h.ends in
     let last : r.end ≤ latest r.end r.members = latest_ends r.end r.members in
+    let left : latest r.end r.members ≤ a_round_after clock (latest r.end r.members) = round_after clock (latest r.end r.members) in
     record { ends = omega arith; timed = h.timed }
 
 -- what a late started task leaves in its starter's walk is late
-pub late_child : (label : Label) (t : ℕ) (r : Result) → Late t r → Late t (child label t r)
+pub late_child : (label : Label) (begins : ℕ) (r : Result) (t : Now) → t.at ≤ begins → Late begins r → Late t.at (child label begins r t)
 unfolding child
-late_child label t r h = record { ends = omega arith; timed = (omega arith, h.ends, h.timed, tt) }
+late_child label begins r t le h = record { ends = omega arith; timed = (le, h.ends, h.timed, tt) }
 
 -- the starter continues in the same tick
-pub child_ends : (label : Label) (t : ℕ) (r : Result) → (child label t r).end ≡ t
+pub child_ends : (label : Label) (begins : ℕ) (r : Result) (t : Now) → (child label begins r t).end ≡ t.at
 unfolding child
-child_ends label t r = refl
+child_ends label begins r t = refl
 
 -- the starter of a `start .. over` continues in the same tick
-pub each_ends : (k : ℕ) (go : ℕ → Result) (t : ℕ) → ((i : ℕ) → (go i).end ≡ t) → (each k go t).end ≡ t
+pub each_ends : (k : ℕ) (go : ℕ → Result) (t : Now) → ((i : ℕ) → (go i).end ≡ t.at) → (each k go t).end ≡ t.at
 each_ends zero go t h = refl
 each_ends (suc k) go t h = h k
 
 -- the children of a `start .. over`, all started in one tick, are late where each of them is
-pub late_each : (k : ℕ) (go : ℕ → Result) (t : ℕ) → ((i : ℕ) → (go i).end ≡ t) → ((i : ℕ) → Late t (go i)) → Late t (each k go t)
-late_each zero go t ends h = late_done t t (omega arith)
+pub late_each : (k : ℕ) (go : ℕ → Result) (t : Now) → ((i : ℕ) → (go i).end ≡ t.at) → ((i : ℕ) → Late t.at (go i)) → Late t.at (each k go t)
+late_each zero go t ends h = late_done t.at t (omega arith)
 late_each (suc k) go t ends h =
-    late_joined t (each k go t) (go k) (late_each k go t ends h)
+    late_joined t.at (each k go t) (go k) (late_each k go t ends h)
     (subst (λ (u : ℕ). Late u (go k)) (sym (each_ends k go t ends)) (h k))
 
 -- passes of a `repeat`, each from where the one before it ended
-pub late_passes : (k first : ℕ) (go : ℕ → ℕ → Result) (t : ℕ) → ((i u : ℕ) → Late u (go i u)) → Late t (passes first k go t)
-late_passes zero first go t h = late_done t t (omega arith)
-late_passes (suc k) first go t h = late_and_then t (go first t) _ (h first t) (λ u. late_passes k (suc first) go u h)
+pub late_passes : (k first : ℕ) (go : ℕ → Now → Result) (t : Now) → ((i : ℕ) (u : Now) → Late u.at (go i u)) → Late t.at (passes first k go t)
+late_passes zero first go t h = late_done t.at t (omega arith)
+late_passes (suc k) first go t h = late_and_then t.at (go first t) _ (h first t) (λ u. late_passes k (suc first) go u h)
 
 -- a late body and its handler are late
-pub late_handled : (t : ℕ) (wanted : Wanted) (r : Result) (go : ℕ → Result) → Late t r → ((u : ℕ) → Late u (go u)) →
+pub late_handled : (t : ℕ) (wanted : Wanted) (r : Result) (go : Now → Result) → Late t r → ((u : Now) → Late u.at (go u)) →
     Late t (handler_result wanted r go)
 unfolding handler_result
 late_handled t wanted r go h k = by_exc r.exc
@@ -195,7 +209,7 @@ late_handled t wanted r go h k = by_exc r.exc
     by_match : (o rest : Option Exc) → Late t (handler_if_any o rest r go)
     by_match None rest = h
     by_match (Some e) rest =
-        let both : Late t (in_sequence r (go r.end)) = late_joined t r (go r.end) h (k r.end) in
+        let both : Late t (in_sequence r (go (now_of r))) = late_joined t r (go (now_of r)) h (k (now_of r)) in
         record { ends = both.ends; timed = both.timed }
 
     by_exc : (o : Option Exc) → Late t (handler_for o wanted r go)
@@ -203,43 +217,45 @@ late_handled t wanted r go h k = by_exc r.exc
     by_exc (Some e) = by_match (keep wanted e) (drop wanted e)
 
 -- what is late and its cleanup are late
-pub late_cleaned : (t : ℕ) (r : Result) (go : ℕ → Result) → Late t r → ((u : ℕ) → Late u (go u)) → Late t (cleanup_result r go)
+pub late_cleaned : (t : ℕ) (r : Result) (go : Now → Result) → Late t r → ((u : Now) → Late u.at (go u)) → Late t (cleanup_result r go)
 unfolding cleanup_result
 late_cleaned t r go h k =
-    let both : Late t (in_sequence r (go r.end)) = late_joined t r (go r.end) h (k r.end) in
+    let both : Late t (in_sequence r (go (now_of r))) = late_joined t r (go (now_of r)) h (k (now_of r)) in
     record { ends = both.ends; timed = both.timed }
 
 mutual
   unfolding walk
 
   -- every walk is late
-  pub late : (m : Mode) (b : Steps) (here : Here) (st : Stack) (t : ℕ) → Late t (walk m b here st t)
-  late m stop here st t = late_done t t (omega arith)
-  late m (step s ss) here st t = late_and_then t _ _ (late_step m s here st t) (λ u. late m ss here st u)
+  pub late : (m : Mode) (b : Steps) (here : Here) (st : Stack) (t : Now) → Late t.at (walk m b here st t)
+  late m stop here st t = late_done t.at t (omega arith)
+  late m (step s ss) here st t = late_and_then t.at _ _ (late_step m s here st t) (λ u. late m ss here st u)
 
   -- the same of one step
-  pub late_step : (m : Mode) (s : Step) (here : Here) (st : Stack) (t : ℕ) → Late t (walk_step m s here st t)
-  late_step m (sleep n) here st t = late_sleeping st _ t
-  late_step m checkpoint here st t = late_sleeping st _ t
-  late_step m forever here st t = late_sleeping st _ t
-  late_step m (pace k) here st t = late_sleeping st _ t
+  pub late_step : (m : Mode) (s : Step) (here : Here) (st : Stack) (t : Now) → Late t.at (walk_step m s here st t)
+  late_step m (sleep n) here st t = late_sleeping here.clock st _ t.at
+  late_step m checkpoint here st t = late_sleeping here.clock st _ t.at
+  late_step m forever here st t = late_sleeping here.clock st _ t.at
+  late_step m (pace k) here st t = late_pacing here.clock st _ t.at
   late_step m (find text) here st t = late_showing _ t
   late_step m (head n) here st t = late_showing _ t
   late_step m longest here st t = late_showing _ t
-  late_step m (need text name) here st t = late_needing _ name here.task t
-  late_step m (raise name) here st t = late_raised _ t t (omega arith)
-  late_step m (cancel name) here st t = late_cancelling _ t
+  late_step m (need text name) here st t = late_needing _ name here t
+  late_step m (raise name) here st t = late_raising name here t
+  late_step m (cancel name) here st t = late_cancelling here.clock _ t
   late_step m (scope name d shield fail body) here st t =
-      late_block m _ _ t _ shield st _ (λ from. late m body here _ t)
+      late_block here.clock m _ _ t.at _ shield st _ (λ from. late m body here _ t)
   late_step m (nursery name d shield body) here st t =
-      late_block m _ _ t _ shield st _ (λ from. late_gathered t _ _ (late_signed t _ _ (late m body here _ t)))
+      late_block here.clock m _ _ t.at _ shield st _ (λ from. late_gathered here.clock t.at _ _ (late_signed t.at _ _ (late m body here _ t)))
   late_step m (start name None body) here st t =
-      late_child _ t _ (late_signed t st _ (late m body _ st t))
+      late_child _ (a_round_after here.clock t.at) _ t (round_after here.clock t.at) (late_signed _ st _ (late m body _ st (only_at (a_round_after here.clock t.at))))
   late_step m (start name (Some k) body) here st t =
-      late_each k _ t (λ i. child_ends _ t _) (λ i. late_child _ t _ (late_signed t st _ (late m body _ st t)))
+      late_each k _ t (λ i. child_ends _ (a_round_after here.clock t.at) _ t)
+      (λ i. late_child _ (a_round_after here.clock t.at) _ t (round_after here.clock t.at)
+      (late_signed _ st _ (late m body _ st (only_at (a_round_after here.clock t.at)))))
   late_step m (repeat count body) here st t = late_passes count 0 _ t (λ i u. late m body _ st u)
   late_step m (attempt body handler cleanup) here st t =
-      late_cleanup m cleanup here st _ t (late_handler m handler here st _ t (late m body here st t))
+      late_cleanup m cleanup here st _ t.at (late_handler m handler here st _ t.at (late m body here st t))
 
   -- the same for a handler, if what it follows is late
   pub late_handler : (m : Mode) (x : Handled) (here : Here) (st : Stack) (r : Result) (t : ℕ) → Late t r →

@@ -1,18 +1,20 @@
 -- What is left of a task ends no earlier than the present tick, and notes, enters and signs nothing earlier.
-use Rattle.std.proofs.Common.{ℕ, suc, ◌≤◌, Option, List, [], ◌∷◌}
+use Rattle.std.proofs.Common.{ℕ, suc, ◌≤◌, Option, List, [], ◌∷◌, arith}
 use Rattle.exc_groups.specs.Exceptions.{Label, Exc}
 use Rattle.cancel_scopes.specs.Sight.{Level, catches}
 use Rattle.job_meaning.specs.Log.{entry, nil, Member, Result}
-use Rattle.job_meaning.specs.Walk.{Stack, Mode, Here, walk, in_pass, Kind, a_scope, a_nursery, left_as, left_with, latest, nursery_result, with_sign, with_outcome, handler_exc, outcome_after}
+use Rattle.job_meaning.specs.Moments.{Clock, a_round_after}
+use Rattle.job_meaning.proofs.MomentLemmas.{round_after}
+use Rattle.job_meaning.specs.Walk.{Stack, Mode, Here, walk, in_pass, from_for, stack_for, Kind, a_scope, a_nursery, left_as, left_with, latest, nursery_result, with_sign, with_outcome, handler_exc, outcome_after}
 use Rattle.job_meaning.specs.Rest.{ChildOutcomes, told_members, Frame, steps_left, in_scope, in_nursery, in_repeat, in_try, in_handler, in_cleanup, inside, block_left, with_children, wait_result, finish}
 use Rattle.job_meaning.proofs.Late.{Late, late, late_and_then, late_passes, late_handler, late_cleanup, late_signed, late_gathered, timed_followed}
 
 -- a block that is left ends with what was in it
-pub late_left : (t : ℕ) (kind : Kind) (l : Level Label) (outer : Stack) (r : Result) → Late t r → Late t (block_left kind l outer r)
-late_left t kind l outer r h =
+pub late_left : (t : ℕ) (clock : Clock) (kind : Kind) (l : Level Label) (outer : Stack) (r : Result) → Late t r → Late t (block_left clock kind l outer r)
+late_left t clock kind l outer r h =
     record {
       ends = h.ends;
-      timed = timed_followed t r.log (entry r.end (left_as kind l.label (left_with (catches l.from l.shield outer r.end) r.exc).caught) nil)
+      timed = timed_followed t r.log (entry r.end (left_as kind l.label (left_with (catches (from_for r.own r.end l.label l.from) l.shield (stack_for r.own r.end outer) r.end) r.exc).caught) nil)
           h.timed (h.ends, tt);
     }
 
@@ -28,11 +30,11 @@ late_finish (steps_left ss ∷ fs) t m told here st r h =
     late_finish fs t m told here st _ (late_and_then t r (λ u. walk m ss (inside fs here) st u) h (λ u. late m ss (inside fs here) st u))
 late_finish (in_scope fail ∷ fs) t m told here [] r h = late_finish fs t m told here [] r h
 late_finish (in_scope fail ∷ fs) t m told here (l ∷ outer) r h =
-    late_finish fs t m told here outer _ (late_left t (a_scope fail) l outer r h)
+    late_finish fs t m told here outer _ (late_left t here.clock (a_scope fail) l outer r h)
 late_finish (in_nursery children ∷ fs) t m told here [] r h = late_finish fs t m told here [] r h
 late_finish (in_nursery children ∷ fs) t m told here (l ∷ outer) r h =
     late_finish fs t m told here outer _
-    (late_left t a_nursery l outer _ (late_gathered t l.label (with_children (told_members told children) (with_sign (l ∷ outer) r))
+    (late_left t here.clock a_nursery l outer _ (late_gathered here.clock t l.label (with_children (told_members told children) (with_sign (l ∷ outer) r))
     (late_children (late_signed t (l ∷ outer) r h))))
   where
     late_children : Late t (with_sign (l ∷ outer) r) → Late t (with_children (told_members told children) (with_sign (l ∷ outer) r))
@@ -47,10 +49,11 @@ late_finish (in_handler rest cleanup ∷ fs) t m told here st r h =
 late_finish (in_cleanup outcome ∷ fs) t m told here st r h =
     late_finish fs t m told here st _ (late_with_outcome t (outcome_after outcome r.exc) r h)
 
--- a task that waits for children that end at tick t or later is as late
-pub late_waited : (t : ℕ) (ms : List Member) (u : ℕ) (exc : Option Exc) (l : Level Label) (outer : Stack) → t ≤ latest u ms →
-    Late t (wait_result ms u exc l outer)
+-- a task that waits for children that end at moment t or later is as late
+pub late_waited : (clock : Clock) (t : ℕ) (ms : List Member) (u : ℕ) (exc : Option Exc) (l : Level Label) (outer : Stack) → t ≤ latest u ms →
+    Late t (wait_result clock ms u exc l outer)
 unfolding nursery_result
-late_waited t ms u exc l outer h =
-    late_left t a_nursery l outer (nursery_result l.label (record { end = u; exc = exc; members = ms; log = nil }))
-    (record { ends = h; timed = tt })
+late_waited clock t ms u exc l outer h =
+    let left : latest u ms ≤ a_round_after clock (latest u ms) = round_after clock (latest u ms) in
+    late_left t clock a_nursery l outer (nursery_result clock l.label (record { end = u; own = []; exc = exc; members = ms; log = nil }))
+    (record { ends = omega arith; timed = tt })

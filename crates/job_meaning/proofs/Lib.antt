@@ -1,4 +1,5 @@
 pub mod Ticks
+pub mod MomentLemmas
 pub mod Late
 pub mod Leaves
 pub mod Root

@@ -9,7 +9,8 @@ use Rattle.exc_groups.specs.Exceptions.{Label, Exc, cancelled}
 use Rattle.exc_groups.specs.Split.{Wanted, keep, drop}
 use Rattle.cancel_scopes.specs.Sight.{Tick, sight}
 use Rattle.job_meaning.specs.Log.{Log, nil, entry, sign, entered, task, followed_by, Result, same_label, times_entered, times_given}
-use Rattle.job_meaning.specs.Walk.{Stack, Mode, Here, walk, walk_step, walk_handler, walk_cleanup, done_at, raised_at, in_sequence, and_then, then_if, sleep_by_sight, sleep_result, log_of_lines, lines_result, need_result, sign_of, cancel_result, Kind, from_of, block, exit_with_from, stack_inside, with_sign, sign_if, home_of, nursery_result, child, each, passes, handler_result, handler_for, handler_if_any, cleanup_result, label_here, label_over, here_in, in_pass}
+use Rattle.job_meaning.specs.Moments.{Clock, a_round_after, Now, only_at}
+use Rattle.job_meaning.specs.Walk.{Stack, Mode, Here, walk, walk_step, walk_handler, walk_cleanup, done_at, raised_at, now_of, in_sequence, and_then, then_if, wait_by_sight, sleep_result, pace_result, log_of_lines, lines_result, raise_result, need_result, sign_of, cancel_result, Kind, from_of, block, exit_with_from, stack_inside, with_sign, sign_if, home_of, nursery_result, child, each, passes, handler_result, handler_for, handler_if_any, cleanup_result, label_here, label_over, here_in, in_pass}
 use Rattle.job_meaning.specs.Meaning.{root_walk, root_here, root_label, root_log}
 use Rattle.job_meaning.proofs.Distinct.{Distinct, distinct_left, distinct_right, distinct_apart, distinct_by_bytes, same_label_equal, Belongs, after_other}
 use Rattle.job_meaning.proofs.Touched.{Gives, gives_followed}
@@ -57,59 +58,67 @@ pub record Unique (r : Result) : Type 0 where
 unique_joined : (r q : Result) → Unique r → Unique q → ((l : Label) → Gives l r.log → Gives l q.log → ⊥) → Unique (in_sequence r q)
 unique_joined r q h k differ = record { once = once_followed r.log q.log h.once k.once differ }
 
-unique_and_then : (r : Result) (go : ℕ → Result) → Unique r → ((u : ℕ) → Unique (go u)) →
-    ((u : ℕ) (l : Label) → Gives l r.log → Gives l (go u).log → ⊥) → Unique (and_then r go)
+unique_and_then : (r : Result) (go : Now → Result) → Unique r → ((u : Now) → Unique (go u)) →
+    ((u : Now) (l : Label) → Gives l r.log → Gives l (go u).log → ⊥) → Unique (and_then r go)
 unfolding and_then
 unique_and_then r go h k differ = by_exc r.exc
   where
     by_exc : (o : Option Exc) → Unique (then_if o r go)
-    by_exc None = unique_joined r (go r.end) h (k r.end) (differ r.end)
+    by_exc None = unique_joined r (go (now_of r)) h (k (now_of r)) (differ (now_of r))
     by_exc (Some e) = h
 
-unique_done : (t : ℕ) → Unique (done_at t)
+unique_done : (t : Now) → Unique (done_at t)
 unique_done t = record { once = tt }
 
-unique_sleeping : (st : Stack) (n t : ℕ) → Unique (sleep_result st n t)
-unfolding sleep_result
-unique_sleeping st n t = by_sight (sight st)
+unique_waited : (a : Tick) (least gives_up end : ℕ) → Unique (wait_by_sight a least gives_up end)
+unique_waited None least gives_up end = unique_done (only_at end)
+unique_waited (Some from) least gives_up end = by_now (nat_le from least) (nat_le from end)
   where
-    by_sight : (a : Tick) → Unique (sleep_by_sight a n t)
-    by_sight None = unique_done (t + n)
-    by_sight (Some from) = by_now (nat_le from t) (nat_le from (t + n))
-      where
-        by_now : (now due : Bool) → Unique (if now then raised_at cancelled t else
-            (if due then raised_at cancelled from else done_at (t + n)))
-        by_now true due = record { once = tt }
-        by_now false true = record { once = tt }
-        by_now false false = record { once = tt }
+    by_now : (now due : Bool) → Unique (if now then raised_at cancelled (only_at gives_up) else
+        (if due then raised_at cancelled (only_at from) else done_at (only_at end)))
+    by_now true due = record { once = tt }
+    by_now false true = record { once = tt }
+    by_now false false = record { once = tt }
+
+unique_sleeping : (clock : Clock) (st : Stack) (n t : ℕ) → Unique (sleep_result clock st n t)
+unfolding sleep_result
+unique_sleeping clock st n t = unique_waited (sight st) _ _ _
+
+unique_pacing : (clock : Clock) (st : Stack) (n t : ℕ) → Unique (pace_result clock st n t)
+unfolding pace_result
+unique_pacing clock st n t = unique_waited (sight st) _ _ _
 
 once_lines : (ls : List Span) (t : ℕ) → GivesOnce (log_of_lines t ls)
 once_lines [] t = tt
 once_lines (l ∷ ls) t = once_lines ls t
 
-unique_showing : (ls : List Span) (t : ℕ) → Unique (lines_result ls t)
+unique_showing : (ls : List Span) (t : Now) → Unique (lines_result ls t)
 unfolding lines_result
-unique_showing ls t = record { once = once_lines ls t }
+unique_showing ls t = record { once = once_lines ls t.at }
 
-unique_needing : (found : Option Span) (name : List ℕ) (label : Label) (t : ℕ) → Unique (need_result found name label t)
-unfolding need_result
-unique_needing (Some l) name label t = unique_showing (l ∷ []) t
-unique_needing None name label t = record { once = tt }
+unique_needing : (found : Option Span) (name : List ℕ) (here : Here) (t : Now) → Unique (need_result found name here t)
+unfolding need_result raise_result
+unique_needing (Some l) name here t = unique_showing (l ∷ []) t
+unique_needing None name here t = record { once = tt }
+
+unique_raising : (name : List ℕ) (here : Here) (t : Now) → Unique (raise_result name here t)
+unfolding raise_result
+unique_raising name here t = record { once = tt }
 
 once_sign : (o : Option Label) (t : ℕ) → GivesOnce (sign_of o t)
 once_sign None t = tt
 once_sign (Some l) t = tt
 
-unique_cancelling : (o : Option Label) (t : ℕ) → Unique (cancel_result o t)
+unique_cancelling : (clock : Clock) (o : Option Label) (t : Now) → Unique (cancel_result clock o t)
 unfolding cancel_result
-unique_cancelling o t = record { once = once_sign o t }
+unique_cancelling clock o t = record { once = once_sign o t.at }
 
-unique_block : (m : Mode) (kind : Kind) (label : Label) (t : ℕ) (d : Tick) (shield : Bool) (st : Stack) (inside : Tick → Result) →
-    ((f : Tick) → Unique (inside f)) → ((f : Tick) → Gives label (inside f).log → ⊥) → Unique (block m kind label t d shield st inside)
+unique_block : (clock : Clock) (m : Mode) (kind : Kind) (label : Label) (t : ℕ) (d : Tick) (shield : Bool) (st : Stack) (inside : Tick → Result) →
+    ((f : Tick) → Unique (inside f)) → ((f : Tick) → Gives label (inside f).log → ⊥) → Unique (block clock m kind label t d shield st inside)
 unfolding block
-unique_block m kind label t d shield st inside h own = at_from (from_of m label d inside)
+unique_block clock m kind label t d shield st inside h own = at_from (from_of m label d inside)
   where
-    at_from : (f : Tick) → Unique (exit_with_from kind label t d shield st f (inside f))
+    at_from : (f : Tick) → Unique (exit_with_from clock kind label t d shield st f (inside f))
     at_from f =
         record {
           once = (
@@ -133,19 +142,19 @@ unique_signed st r h =
     once_home None = tt
     once_home (Some e) = once_sign (home_of st) r.end
 
-unique_gathered : (label : Label) (r : Result) → Unique r → Unique (nursery_result label r)
+unique_gathered : (clock : Clock) (label : Label) (r : Result) → Unique r → Unique (nursery_result clock label r)
 unfolding nursery_result
-unique_gathered label r h = record { once = h.once }
+unique_gathered clock label r h = record { once = h.once }
 
-unique_child : (label : Label) (t : ℕ) (r : Result) → (Gives label r.log → ⊥) → Unique r → Unique (child label t r)
+unique_child : (label : Label) (begins : ℕ) (r : Result) (t : Now) → (Gives label r.log → ⊥) → Unique r → Unique (child label begins r t)
 unfolding child
-unique_child label t r own h = record { once = (none, h.once, tt, λ l i j. j) }
+unique_child label begins r t own h = record { once = (none, h.once, tt, λ l i j. j) }
   where
     none : Gives label r.log ⊎ ⊥ → ⊥
     none (inl i) = own i
     none (inr j) = j
 
-unique_each : (st : Stack) (names : List (List ℕ)) (path : List ℕ) (k : ℕ) (go : ℕ → Result) (t : ℕ) →
+unique_each : (st : Stack) (names : List (List ℕ)) (path : List ℕ) (k : ℕ) (go : ℕ → Result) (t : Now) →
     ((i : ℕ) → Tidy st (Belongs names (path ++ i ∷ [])) (go i)) → ((i : ℕ) → Unique (go i)) → Unique (each k go t)
 unique_each st names path zero go t h k = unique_done t
 unique_each st names path (suc n) go t h k = unique_joined (each n go t) (go n) (unique_each st names path n go t h k) (k n) differ
@@ -166,8 +175,8 @@ unique_each st names path (suc n) go t h k = unique_joined (each n go t) (go n) 
         apart b c = after_other names names path b.0 n l b.1 b.2 c
 
 -- labels given in a pass, and in the later ones
-unique_passes : (st : Stack) (names : List (List ℕ)) (path : List ℕ) (k first : ℕ) (go : ℕ → ℕ → Result) (t : ℕ) →
-    ((i u : ℕ) → Tidy st (Belongs names (path ++ i ∷ [])) (go i u)) → ((i u : ℕ) → Unique (go i u)) → Unique (passes first k go t)
+unique_passes : (st : Stack) (names : List (List ℕ)) (path : List ℕ) (k first : ℕ) (go : ℕ → Now → Result) (t : Now) →
+    ((i : ℕ) (u : Now) → Tidy st (Belongs names (path ++ i ∷ [])) (go i u)) → ((i : ℕ) (u : Now) → Unique (go i u)) → Unique (passes first k go t)
 unique_passes st names path zero first go t h k = unique_done t
 unique_passes st names path (suc n) first go t h k =
     unique_and_then (go first t) _ (k first t) (λ u. unique_passes st names path n (suc first) go u h k) differ
@@ -178,7 +187,7 @@ unique_passes st names path (suc n) first go t h k =
     after : (i : ℕ) → suc first ≤ i → (l : Label) → Belongs names (path ++ i ∷ []) l → Later l
     after i le l b = (i, omega arith, b)
 
-    later_ones : (u : ℕ) → Tidy st Later (passes (suc first) n go u)
+    later_ones : (u : Now) → Tidy st Later (passes (suc first) n go u)
     later_ones u =
         tidy_passes st Later n (suc first) go u (λ i v le. tidy_in st (Belongs names (path ++ i ∷ [])) Later (go i v) (after i le)
         (h i v))
@@ -186,16 +195,16 @@ unique_passes st names path (suc n) first go t h k =
     apart : (l : Label) → Belongs names (path ++ first ∷ []) l → Later l → ⊥
     apart l b c = after_other names names path first c.0 l c.1 b c.2
 
-    differ : (u : ℕ) (l : Label) → Gives l (go first t).log → Gives l (passes (suc first) n go u).log → ⊥
+    differ : (u : Now) (l : Label) → Gives l (go first t).log → Gives l (passes (suc first) n go u).log → ⊥
     differ u l i j = apart l ((h first t).gives l i) ((later_ones u).gives l j)
 
-unique_handled : (wanted : Wanted) (r : Result) (go : ℕ → Result) → Unique r → ((u : ℕ) → Unique (go u)) →
-    ((u : ℕ) (l : Label) → Gives l r.log → Gives l (go u).log → ⊥) → Unique (handler_result wanted r go)
+unique_handled : (wanted : Wanted) (r : Result) (go : Now → Result) → Unique r → ((u : Now) → Unique (go u)) →
+    ((u : Now) (l : Label) → Gives l r.log → Gives l (go u).log → ⊥) → Unique (handler_result wanted r go)
 unfolding handler_result
 unique_handled wanted r go h k differ = by_exc r.exc
   where
-    both : Unique (in_sequence r (go r.end))
-    both = unique_joined r (go r.end) h (k r.end) (differ r.end)
+    both : Unique (in_sequence r (go (now_of r)))
+    both = unique_joined r (go (now_of r)) h (k (now_of r)) (differ (now_of r))
 
     by_match : (o rest : Option Exc) → Unique (handler_if_any o rest r go)
     by_match None rest = h
@@ -205,11 +214,11 @@ unique_handled wanted r go h k differ = by_exc r.exc
     by_exc None = h
     by_exc (Some e) = by_match (keep wanted e) (drop wanted e)
 
-unique_cleaned : (r : Result) (go : ℕ → Result) → Unique r → ((u : ℕ) → Unique (go u)) →
-    ((u : ℕ) (l : Label) → Gives l r.log → Gives l (go u).log → ⊥) → Unique (cleanup_result r go)
+unique_cleaned : (r : Result) (go : Now → Result) → Unique r → ((u : Now) → Unique (go u)) →
+    ((u : Now) (l : Label) → Gives l r.log → Gives l (go u).log → ⊥) → Unique (cleanup_result r go)
 unfolding cleanup_result
 unique_cleaned r go h k differ =
-    let both : Unique (in_sequence r (go r.end)) = unique_joined r (go r.end) h (k r.end) (differ r.end) in
+    let both : Unique (in_sequence r (go (now_of r))) = unique_joined r (go (now_of r)) h (k (now_of r)) (differ (now_of r)) in
     record { once = both.once }
 
 -- two blocks whose names are given once give no label in common
@@ -225,7 +234,7 @@ mutual
   unfolding walk
 
   -- a walk of a block whose names are given once gives no label twice
-  pub unique : (m : Mode) (b : Steps) (here : Here) (st : Stack) (t : ℕ) → Distinct (names_of b) → Unique (walk m b here st t)
+  pub unique : (m : Mode) (b : Steps) (here : Here) (st : Stack) (t : Now) → Distinct (names_of b) → Unique (walk m b here st t)
   unique m stop here st t distinct = unique_done t
   unique m (step s ss) here st t distinct =
       unique_and_then _ _
@@ -234,39 +243,39 @@ mutual
       (λ u. differ_by_names st (names_in s) (names_of ss) here.path _ _ distinct (tidy_step m s here st t) (tidy m ss here st u))
 
   -- the same of one step
-  pub unique_step : (m : Mode) (s : Step) (here : Here) (st : Stack) (t : ℕ) → Distinct (names_in s) → Unique (walk_step m s here st t)
-  unique_step m (sleep n) here st t distinct = unique_sleeping st _ t
-  unique_step m checkpoint here st t distinct = unique_sleeping st _ t
-  unique_step m forever here st t distinct = unique_sleeping st _ t
-  unique_step m (pace k) here st t distinct = unique_sleeping st _ t
+  pub unique_step : (m : Mode) (s : Step) (here : Here) (st : Stack) (t : Now) → Distinct (names_in s) → Unique (walk_step m s here st t)
+  unique_step m (sleep n) here st t distinct = unique_sleeping here.clock st _ t.at
+  unique_step m checkpoint here st t distinct = unique_sleeping here.clock st _ t.at
+  unique_step m forever here st t distinct = unique_sleeping here.clock st _ t.at
+  unique_step m (pace k) here st t distinct = unique_pacing here.clock st _ t.at
   unique_step m (find text) here st t distinct = unique_showing _ t
   unique_step m (head n) here st t distinct = unique_showing _ t
   unique_step m longest here st t distinct = unique_showing _ t
-  unique_step m (need text name) here st t distinct = unique_needing _ name here.task t
-  unique_step m (raise name) here st t distinct = record { once = tt }
-  unique_step m (cancel name) here st t distinct = unique_cancelling _ t
+  unique_step m (need text name) here st t distinct = unique_needing _ name here t
+  unique_step m (raise name) here st t distinct = unique_raising name here t
+  unique_step m (cancel name) here st t distinct = unique_cancelling here.clock _ t
   unique_step m (scope name d shield fail body) here st t distinct =
-      unique_block m _ (label_here name here) t _ shield st _
+      unique_block here.clock m _ (label_here name here) t.at _ shield st _
       (λ f. unique m body here _ t distinct.1)
       (λ f i. distinct.0 ((tidy m body here (stack_inside (label_here name here) shield f st) t).gives _ i).named)
   unique_step m (nursery name d shield body) here st t distinct =
-      unique_block m _ (label_here name here) t _ shield st _
-      (λ f. unique_gathered _ _ (unique_signed _ _ (unique m body here _ t distinct.1)))
+      unique_block here.clock m _ (label_here name here) t.at _ shield st _
+      (λ f. unique_gathered here.clock _ _ (unique_signed _ _ (unique m body here _ t distinct.1)))
       (λ f i. distinct.0
-      ((tidy_gathered (stack_inside (label_here name here) shield f st) (Belongs (names_of body) here.path) (label_here name here) _
+      ((tidy_gathered here.clock (stack_inside (label_here name here) shield f st) (Belongs (names_of body) here.path) (label_here name here) _
       (tidy_signed (stack_inside (label_here name here) shield f st) _ _ (tidy m body here (stack_inside (label_here name here) shield f st) t))).gives
       _ i).named)
   unique_step m (start name None body) here st t distinct =
-      unique_child _ t _
-      (λ i. distinct.0 ((tidy_signed st _ _ (tidy m body (here_in (label_here name here) here.part here) st t)).gives _ i).named)
-      (unique_signed st _ (unique m body _ st t distinct.1))
+      unique_child _ (a_round_after here.clock t.at) _ t
+      (λ i. distinct.0 ((tidy_signed st _ _ (tidy m body (here_in (label_here name here) here.part here) st (only_at (a_round_after here.clock t.at)))).gives _ i).named)
+      (unique_signed st _ (unique m body _ st (only_at (a_round_after here.clock t.at)) distinct.1))
   unique_step m (start name (Some k) body) here st t distinct =
       unique_each st (name ∷ names_of body) here.path k _ t
       (λ i. tidy_over m name body here (cut_of here.input here.part k i) i st t)
-      (λ i. unique_child _ t _
+      (λ i. unique_child _ (a_round_after here.clock t.at) _ t
       (λ j. distinct.0 ((tidy_signed st _ _ (tidy m body (here_in (label_over name here i) (cut_of here.input here.part k i) here) st
-      t)).gives _ j).named)
-      (unique_signed st _ (unique m body _ st t distinct.1)))
+      (only_at (a_round_after here.clock t.at)))).gives _ j).named)
+      (unique_signed st _ (unique m body _ st (only_at (a_round_after here.clock t.at)) distinct.1)))
   unique_step m (repeat count body) here st t distinct =
       unique_passes st (names_of body) here.path count 0 _ t (λ i u. tidy m body (in_pass i here) st u)
       (λ i u. unique m body (in_pass i here) st u distinct)
@@ -384,7 +393,7 @@ enters_once l a h = let i = entered_given l a in let j = times_once l a h in ome
 -- no label is given twice in a walk of a job whose names are given once
 pub job_gives_once : (m : Mode) (job : Tree) (input : List ℕ) → GivesNamesOnce job → GivesOnce (root_walk m job input).log
 job_gives_once m job input once =
-    (unique m job.steps (root_here job input) [] 0 (distinct_by_bytes (job.name ∷ names_of job.steps) once).1).once
+    (unique m job.steps (root_here job input) [] (only_at 0) (distinct_by_bytes (job.name ∷ names_of job.steps) once).1).once
 
 -- nor with the root, whose label is the job's name
 pub labels_once : (m : Mode) (job : Tree) (input : List ℕ) → GivesNamesOnce job → (l : Label) →
@@ -395,5 +404,5 @@ labels_once m job input once l = times_once l (root_log job (root_walk m job inp
     distinct = distinct_by_bytes (job.name ∷ names_of job.steps) once
 
     none : Gives (root_label job.name) (root_walk m job input).log ⊎ ⊥ → ⊥
-    none (inl i) = distinct.0 ((tidy m job.steps (root_here job input) [] 0).gives (root_label job.name) i).named
+    none (inl i) = distinct.0 ((tidy m job.steps (root_here job input) [] (only_at 0)).gives (root_label job.name) i).named
     none (inr j) = j

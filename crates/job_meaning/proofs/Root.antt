@@ -1,27 +1,33 @@
--- A walk whose exception holds a `Cancelled` ends in a tick at which its stack is seen.
-use Rattle.std.proofs.Common.{◌≡◌, ℕ, zero, suc, ◌+◌, ◌≤◌, max, Bool, true, false, ◌||◌, ◌&&◌, not, Option, Some, None, List, [], ◌∷◌, ◌++◌, refl, sym, ◌∙◌, IsTrue, ◌⊎◌, inl, inr, arith, nat_le, if◌then◌else◌}
+-- A walk by ticks whose exception holds a `Cancelled` ends in a tick at which its stack is seen.
+use Rattle.std.proofs.Common.{◌≡◌, ℕ, zero, suc, ◌+◌, ◌≤◌, max, Bool, true, false, ◌||◌, ◌&&◌, not, Option, Some, None, List, [], ◌∷◌, ◌++◌, refl, sym, ap, ◌∙◌, IsTrue, ◌⊎◌, inl, inr, arith, nat_le, if◌then◌else◌}
 use Rattle.std.proofs.lemmas.Bool.{false≢true, or_cases}
 use Rattle.std.proofs.lemmas.Bool.Decides.{nat_tests}
-use Rattle.job_tree.specs.Tree.{Step, sleep, checkpoint, forever, pace, find, head, longest, need, raise, cancel, scope, nursery, start, repeat, attempt, Steps, stop, step, Handled, unhandled, except, Cleaned, uncleaned, finally}
+use Rattle.job_tree.specs.declared.format.Format.{Format}
+use Rattle.job_tree.specs.declared.format.Format.TheVariants.{One, Two}
+use Rattle.job_tree.specs.Tree.{Tree, Step, sleep, checkpoint, forever, pace, find, head, longest, need, raise, cancel, scope, nursery, start, repeat, attempt, Steps, stop, step, Handled, unhandled, except, Cleaned, uncleaned, finally}
 use Rattle.buffer_parts.specs.Lines.{Span}
 use Rattle.exc_groups.specs.Exceptions.{Label, Exc, cancelled, hold_cancelled, parts_of, holds_cancelled, by_nursery}
 use Rattle.exc_groups.specs.Split.{Wanted, keep, drop}
 use Rattle.cancel_scopes.specs.Sight.{Tick, sight, seen, is_reached, catches}
 use Rattle.job_meaning.specs.Log.{Member, Result}
-use Rattle.job_meaning.specs.Walk.{Stack, Mode, Here, walk, walk_step, walk_handler, walk_cleanup, done_at, raised_at, in_sequence, and_then, then_if, sleep_by_sight, sleep_result, lines_result, need_result, cancel_result, Kind, from_of, block, stack_inside, left_with, exc_after, with_sign, latest, with_exc, excs_of, nursery_result, child, each, passes, handler_result, handler_for, handler_if_any, handler_exc, cleanup_result, outcome_after}
+use Rattle.job_meaning.specs.Moments.{Clock, by_ticks, a_round_after, wakes_at, gives_up_at, tick_of, clock_of, Now, only_at}
+use Rattle.job_meaning.specs.Walk.{Stack, Mode, Here, walk, walk_step, walk_handler, walk_cleanup, done_at, raised_at, now_of, in_sequence, and_then, then_if, wait_by_sight, sleep_result, pace_result, lines_result, raise_result, need_result, with_own, cancel_result, from_for, stack_for, Kind, from_of, block, stack_inside, left_with, exc_after, with_sign, latest, with_exc, excs_of, nursery_result, child, each, passes, handler_result, handler_for, handler_if_any, handler_exc, cleanup_result, outcome_after}
 use Rattle.job_meaning.specs.Meaning.{root_walk, root_here}
 use Rattle.job_meaning.specs.Laws.{some_cancelled, CancelledIsSeen, NoneReachesTheRoot}
 use Rattle.job_meaning.proofs.Ticks.{seen_cons, stays_seen}
+use Rattle.job_meaning.proofs.MomentLemmas.{round_after, gives_up_after}
 use Rattle.job_meaning.proofs.Late.{Late, late, latest_ends}
 use Rattle.job_meaning.proofs.Leaves.{group_holds, with_exc_holds, pruned_holds, left_holds}
 
--- each member that ended with a `Cancelled` did so in a tick at which its stack is seen
+-- each member that ended with a `Cancelled` did so in a moment at which its stack is seen
 abbrev pub MembersSeen : Stack → List Member → Type 0
 MembersSeen st [] = Unit {0}
 MembersSeen st (m ∷ ms) = (IsTrue (some_cancelled m.exc) → IsTrue (seen st m.end)) × MembersSeen st ms
 
--- the result of a walk on a stack holds a `Cancelled` only where it is seen
+-- The result of a walk on a stack holds a `Cancelled` only where it is seen. By ticks, what a task has cancelled itself is not
+-- kept apart.
 pub record Rooted (st : Stack) (r : Result) : Type 0 where
+  pub own : r.own ≡ []
   pub exc : IsTrue (some_cancelled r.exc) → IsTrue (seen st r.end)
   pub members : MembersSeen st r.members
 
@@ -32,54 +38,86 @@ members_append st (m ∷ ms) ns h k = (h.0, members_append st ms ns h.1 k)
 
 -- one rooted result after another is rooted
 pub root_joined : (st : Stack) (r q : Result) → Rooted st r → Rooted st q → Rooted st (in_sequence r q)
-root_joined st r q h k = record { exc = k.exc; members = members_append st r.members q.members h.members k.members }
+root_joined st r q h k = record { own = k.own; exc = k.exc; members = members_append st r.members q.members h.members k.members }
 
 -- a rooted walk that continues with rooted ones is rooted as a whole
-pub root_and_then : (st : Stack) (r : Result) (go : ℕ → Result) → Rooted st r → ((u : ℕ) → Rooted st (go u)) → Rooted st (and_then r go)
+pub root_and_then : (st : Stack) (r : Result) (go : Now → Result) → Rooted st r → ((u : Now) → u.own ≡ [] → Rooted st (go u)) →
+    Rooted st (and_then r go)
 unfolding and_then
 root_and_then st r go h k = by_exc r.exc
   where
     by_exc : (o : Option Exc) → Rooted st (then_if o r go)
-    by_exc None = root_joined st r (go r.end) h (k r.end)
+    by_exc None = root_joined st r (go (now_of r)) h (k (now_of r) h.own)
     by_exc (Some e) = h
 
 -- where nothing happens, that is rooted
-pub root_done : (st : Stack) (t : ℕ) → Rooted st (done_at t)
-root_done st t = record { exc = λ h. absurd (false≢true h); members = tt }
+pub root_done : (st : Stack) (t : Now) → t.own ≡ [] → Rooted st (done_at t)
+root_done st t none = record { own = none; exc = λ h. absurd (false≢true h); members = tt }
 
--- a sleep is cancelled in a tick at which that is seen
-pub root_sleeping : (st : Stack) (n t : ℕ) → Rooted st (sleep_result st n t)
-unfolding sleep_result
-root_sleeping st n t = by_sight (sight st) (λ u h. h)
+-- a wait is cancelled in a moment at which that is seen
+pub root_waited : (st : Stack) (least gives_up end : ℕ) → least ≤ gives_up → Rooted st (wait_by_sight (sight st) least gives_up end)
+root_waited st least gives_up end le = by_sight (sight st) (λ u h. h)
   where
-    by_sight : (a : Tick) → ((u : ℕ) → IsTrue (is_reached a u) → IsTrue (seen st u)) → Rooted st (sleep_by_sight a n t)
-    by_sight None sees = root_done st (t + n)
-    by_sight (Some from) sees = by_now (nat_le from t) (nat_le from (t + n)) (sees t)
+    by_sight : (a : Tick) → ((u : ℕ) → IsTrue (is_reached a u) → IsTrue (seen st u)) → Rooted st (wait_by_sight a least gives_up end)
+    by_sight None sees = root_done st (only_at end) refl
+    by_sight (Some from) sees = by_now (nat_le from least) (nat_le from end) (λ h. sees gives_up (grind (arith, nat_tests, le, h)))
       where
         at_from : IsTrue (seen st from)
         at_from = sees from (grind (arith, nat_tests))
 
-        by_now : (now due : Bool) → (IsTrue now → IsTrue (seen st t)) →
-            Rooted st (if now then raised_at cancelled t else (if due then raised_at cancelled from else done_at (t + n)))
-        by_now true due h = record { exc = h; members = tt }
-        by_now false true h = record { exc = λ k. at_from; members = tt }
-        by_now false false h = root_done st (t + n)
+        by_now : (now due : Bool) → (IsTrue now → IsTrue (seen st gives_up)) →
+            Rooted st (if now then raised_at cancelled (only_at gives_up) else (if due then raised_at cancelled (only_at from) else
+            done_at (only_at end)))
+        by_now true due h = record { own = refl; exc = h; members = tt }
+        by_now false true h = record { own = refl; exc = λ k. at_from; members = tt }
+        by_now false false h = root_done st (only_at end) refl
+
+-- a sleep is rooted
+pub root_sleeping : (clock : Clock) (st : Stack) (n t : ℕ) → Rooted st (sleep_result clock st n t)
+unfolding sleep_result
+root_sleeping clock st n t =
+    root_waited st (a_round_after clock t) (gives_up_at clock n t) (wakes_at clock n t) (gives_up_after clock n t)
+
+-- so is a `pace`
+pub root_pacing : (clock : Clock) (st : Stack) (n t : ℕ) → Rooted st (pace_result clock st n t)
+unfolding pace_result
+root_pacing clock st n t = root_waited st (a_round_after clock t) (a_round_after clock t) (wakes_at clock n t) (omega arith)
 
 -- lines that are shown are rooted
-pub root_showing : (st : Stack) (ls : List Span) (t : ℕ) → Rooted st (lines_result ls t)
+pub root_showing : (st : Stack) (ls : List Span) (t : Now) → t.own ≡ [] → Rooted st (lines_result ls t)
 unfolding lines_result
-root_showing st ls t = record { exc = λ h. absurd (false≢true h); members = tt }
+root_showing st ls t none = record { own = none; exc = λ h. absurd (false≢true h); members = tt }
+
+-- an exception that is raised here is rooted
+pub root_raising : (st : Stack) (name : List ℕ) (here : Here) (t : Now) → t.own ≡ [] → Rooted st (raise_result name here t)
+unfolding raise_result
+root_raising st name here t none = record { own = none; exc = λ h. absurd (false≢true h); members = tt }
 
 -- a `need` is rooted, whether its line is found or not
-pub root_needing : (st : Stack) (found : Option Span) (name : List ℕ) (label : Label) (t : ℕ) → Rooted st (need_result found name label t)
+pub root_needing : (st : Stack) (found : Option Span) (name : List ℕ) (here : Here) (t : Now) → t.own ≡ [] →
+    Rooted st (need_result found name here t)
 unfolding need_result
-root_needing st (Some l) name label t = root_showing st (l ∷ []) t
-root_needing st None name label t = record { exc = λ h. absurd (false≢true h); members = tt }
+root_needing st (Some l) name here t none = root_showing st (l ∷ []) t none
+root_needing st None name here t none = root_raising st name here t none
 
--- a `cancel` is rooted
-pub root_cancelling : (st : Stack) (label : Option Label) (t : ℕ) → Rooted st (cancel_result label t)
+-- a `cancel` is rooted: by ticks it keeps nothing apart
+pub root_cancelling : (clock : Clock) (st : Stack) (label : Option Label) (t : Now) → clock ≡ by_ticks → t.own ≡ [] →
+    Rooted st (cancel_result clock label t)
 unfolding cancel_result
-root_cancelling st label t = record { exc = λ h. absurd (false≢true h); members = tt }
+root_cancelling clock st label t ticks none =
+    record { own = ap (λ (c : Clock). with_own c label t.own) ticks ∙ none; exc = λ h. absurd (false≢true h); members = tt }
+
+-- a task that has cancelled nothing sees its stack as it is
+stack_for_none : (t : ℕ) (st : Stack) → stack_for [] t st ≡ st
+stack_for_none t [] = refl
+stack_for_none t (l ∷ ls) = ap (λ (rest : Stack). l ∷ rest) (stack_for_none t ls)
+
+-- so its blocks catch by their stacks
+caught_without_own : (own : List Label) (label : Label) (from : Tick) (shield : Bool) (st : Stack) (t : ℕ) → own ≡ [] →
+    catches from shield st t ≡ catches (from_for own t label from) shield (stack_for own t st) t
+caught_without_own own label from shield st t none =
+    sym (ap (λ (o : List Label). catches (from_for o t label from) shield (stack_for o t st) t) none
+    ∙ ap (λ (su : Stack). catches from shield su t) (stack_for_none t st))
 
 -- where a block sees a cancellation and does not catch, its outside sees it
 pub seen_outside : (label : Label) (shield : Bool) (from : Tick) (st : Stack) (t : ℕ) →
@@ -91,23 +129,29 @@ seen_outside label shield from st t c h =
     outside a s x e k = grind arith
 
 -- a scope or nursery is rooted on its stack, where its inside is rooted on the stack within it
-pub root_block : (m : Mode) (kind : Kind) (label : Label) (t : ℕ) (d : Tick) (shield : Bool) (st : Stack) (inside : Tick → Result) →
-    ((from : Tick) → Rooted (stack_inside label shield from st) (inside from)) → Rooted st (block m kind label t d shield st inside)
+pub root_block : (clock : Clock) (m : Mode) (kind : Kind) (label : Label) (t : ℕ) (d : Tick) (shield : Bool) (st : Stack)
+    (inside : Tick → Result) → ((from : Tick) → Rooted (stack_inside label shield from st) (inside from)) →
+    Rooted st (block clock m kind label t d shield st inside)
 unfolding block
-root_block m kind label t d shield st inside h =
-    record { exc = leaves (from_of m label d inside); members = tt }
+root_block clock m kind label t d shield st inside h =
+    record { own = (h (from_of m label d inside)).own; exc = leaves (from_of m label d inside); members = tt }
   where
-    leaves : (from : Tick) → IsTrue
-        (some_cancelled (exc_after kind label (inside from).end (left_with (catches from shield st (inside from).end) (inside from).exc))) →
-        IsTrue (seen st (inside from).end)
+    leaves : (from : Tick) →
+        let r = inside from in
+        IsTrue (some_cancelled (exc_after kind label (tick_of clock r.end)
+        (left_with (catches (from_for r.own r.end label from) shield (stack_for r.own r.end st) r.end) r.exc))) →
+        IsTrue (seen st r.end)
     leaves from k =
-        let both = left_holds kind label (inside from).end (catches from shield st (inside from).end) (inside from).exc k in
-        seen_outside label shield from st (inside from).end both.0 ((h from).exc both.1)
+        let r = inside from in
+        let both = left_holds kind label (tick_of clock r.end)
+        (catches (from_for r.own r.end label from) shield (stack_for r.own r.end st) r.end) r.exc k in
+        seen_outside label shield from st r.end
+        (caught_without_own r.own label from shield st r.end (h from).own ∙ both.0) ((h from).exc both.1)
 
 -- a rooted member is rooted with its sign too
 pub root_signed : (st : Stack) (r : Result) → Rooted st r → Rooted st (with_sign st r)
 unfolding with_sign
-root_signed st r h = record { exc = h.exc; members = h.members }
+root_signed st r h = record { own = refl; exc = h.exc; members = h.members }
 
 -- a member's `Cancelled` is still seen when the last member ends
 pub members_hold : (st : Stack) (t : ℕ) (ms : List Member) → MembersSeen st ms → IsTrue (hold_cancelled (parts_of (excs_of ms))) →
@@ -128,48 +172,54 @@ members_hold st t (m ∷ ms) h k =
     either_one others (inr rest) = others rest
 
 -- a nursery with a rooted body is rooted, with the group that it raises once its members have ended
-pub root_gathered : (st : Stack) (label : Label) (r : Result) → Rooted st r → Rooted st (nursery_result label r)
+pub root_gathered : (clock : Clock) (st : Stack) (label : Label) (r : Result) → Rooted st r → Rooted st (nursery_result clock label r)
 unfolding nursery_result
-root_gathered st label r h =
+root_gathered clock st label r h =
     record {
+      own = refl;
       exc = λ k. either_one (or_cases _ _ (sym (with_exc_holds r.exc (excs_of r.members))
           ∙ (sym (group_holds (by_nursery label) (parts_of (with_exc r.exc (excs_of r.members)))) ∙ k)));
       members = tt;
     }
   where
+    by_then : IsTrue (seen st (latest r.end r.members)) → IsTrue (seen st (a_round_after clock (latest r.end r.members)))
+    by_then = stays_seen st (latest r.end r.members) _ (round_after clock (latest r.end r.members))
+
     either_one : IsTrue (some_cancelled r.exc) ⊎ IsTrue (hold_cancelled (parts_of (excs_of r.members))) →
-        IsTrue (seen st (latest r.end r.members))
-    either_one (inl body) = stays_seen st r.end (latest r.end r.members) (latest_ends r.end r.members) (h.exc body)
-    either_one (inr rest) = members_hold st r.end r.members h.members rest
+        IsTrue (seen st (a_round_after clock (latest r.end r.members)))
+    either_one (inl body) = by_then (stays_seen st r.end (latest r.end r.members) (latest_ends r.end r.members) (h.exc body))
+    either_one (inr rest) = by_then (members_hold st r.end r.members h.members rest)
 
 -- what a rooted started task leaves in its starter's walk is rooted
-pub root_child : (st : Stack) (label : Label) (t : ℕ) (r : Result) → Rooted st r → Rooted st (child label t r)
+pub root_child : (st : Stack) (label : Label) (begins : ℕ) (r : Result) (t : Now) → t.own ≡ [] → Rooted st r →
+    Rooted st (child label begins r t)
 unfolding child
-root_child st label t r h = record { exc = λ k. absurd (false≢true k); members = (h.exc, tt) }
+root_child st label begins r t none h = record { own = none; exc = λ k. absurd (false≢true k); members = (h.exc, tt) }
 
 -- the children of a `start .. over` are rooted where each of them is
-pub root_each : (st : Stack) (k : ℕ) (go : ℕ → Result) (t : ℕ) → ((i : ℕ) → Rooted st (go i)) → Rooted st (each k go t)
-root_each st zero go t h = root_done st t
-root_each st (suc k) go t h = root_joined st (each k go t) (go k) (root_each st k go t h) (h k)
+pub root_each : (st : Stack) (k : ℕ) (go : ℕ → Result) (t : Now) → t.own ≡ [] → ((i : ℕ) → Rooted st (go i)) → Rooted st (each k go t)
+root_each st zero go t none h = root_done st t none
+root_each st (suc k) go t none h = root_joined st (each k go t) (go k) (root_each st k go t none h) (h k)
 
 -- passes of a `repeat`
-pub root_passes : (st : Stack) (k first : ℕ) (go : ℕ → ℕ → Result) (t : ℕ) → ((i u : ℕ) → Rooted st (go i u)) →
-    Rooted st (passes first k go t)
-root_passes st zero first go t h = root_done st t
-root_passes st (suc k) first go t h = root_and_then st (go first t) _ (h first t) (λ u. root_passes st k (suc first) go u h)
+pub root_passes : (st : Stack) (k first : ℕ) (go : ℕ → Now → Result) (t : Now) → t.own ≡ [] →
+    ((i : ℕ) (u : Now) → u.own ≡ [] → Rooted st (go i u)) → Rooted st (passes first k go t)
+root_passes st zero first go t none h = root_done st t none
+root_passes st (suc k) first go t none h =
+    root_and_then st (go first t) _ (h first t none) (λ u own. root_passes st k (suc first) go u own h)
 
 -- a handler ends no earlier than the body, so what the body's rest holds is still seen
-pub root_handled : (st : Stack) (wanted : Wanted) (r : Result) (go : ℕ → Result) → Rooted st r → ((u : ℕ) → Rooted st (go u)) →
-    ((u : ℕ) → Late u (go u)) → Rooted st (handler_result wanted r go)
+pub root_handled : (st : Stack) (wanted : Wanted) (r : Result) (go : Now → Result) → Rooted st r →
+    ((u : Now) → u.own ≡ [] → Rooted st (go u)) → ((u : Now) → Late u.at (go u)) → Rooted st (handler_result wanted r go)
 unfolding handler_result
 root_handled st wanted r go h k later = by_exc r.exc h.exc
   where
-    still : IsTrue (seen st r.end) → IsTrue (seen st (go r.end).end)
-    still s = stays_seen st r.end (go r.end).end (later r.end).ends s
+    still : IsTrue (seen st r.end) → IsTrue (seen st (go (now_of r)).end)
+    still s = stays_seen st r.end (go (now_of r)).end (later (now_of r)).ends s
 
-    outcome : (o rest : Option Exc) → (IsTrue (some_cancelled o) → IsTrue (seen st (go r.end).end)) →
+    outcome : (o rest : Option Exc) → (IsTrue (some_cancelled o) → IsTrue (seen st (go (now_of r)).end)) →
         (IsTrue (some_cancelled rest) → IsTrue (seen st r.end)) → IsTrue (some_cancelled (handler_exc o rest)) →
-        IsTrue (seen st (go r.end).end)
+        IsTrue (seen st (go (now_of r)).end)
     outcome None rest own old e = still (old e)
     outcome (Some x) None own old e = own e
     outcome (Some x) (Some y) own old e = by_part (or_cases (holds_cancelled x) (holds_cancelled y || false) e)
@@ -178,7 +228,7 @@ root_handled st wanted r go h k later = by_exc r.exc h.exc
         or_nothing true i = i
         or_nothing false i = i
 
-        by_part : IsTrue (holds_cancelled x) ⊎ IsTrue (holds_cancelled y || false) → IsTrue (seen st (go r.end).end)
+        by_part : IsTrue (holds_cancelled x) ⊎ IsTrue (holds_cancelled y || false) → IsTrue (seen st (go (now_of r)).end)
         by_part (inl a) = own a
         by_part (inr b) = still (old (or_nothing (holds_cancelled y) b))
 
@@ -186,9 +236,10 @@ root_handled st wanted r go h k later = by_exc r.exc h.exc
     by_match None rest old = h
     by_match (Some e) rest old =
         record {
-          exc = outcome (go r.end).exc rest (k r.end).exc old;
+          own = (k (now_of r) h.own).own;
+          exc = outcome (go (now_of r)).exc rest (k (now_of r) h.own).exc old;
           members =
-              members_append st r.members (go r.end).members h.members (k r.end).members;
+              members_append st r.members (go (now_of r)).members h.members (k (now_of r) h.own).members;
         }
 
     by_exc : (o : Option Exc) → (IsTrue (some_cancelled o) → IsTrue (seen st r.end)) → Rooted st (handler_for o wanted r go)
@@ -196,72 +247,91 @@ root_handled st wanted r go h k later = by_exc r.exc h.exc
     by_exc (Some e) old = by_match (keep wanted e) (drop wanted e) (λ i. old (pruned_holds e _ i))
 
 -- a rooted result and its rooted cleanup, which ends no earlier, are rooted
-pub root_cleaned : (st : Stack) (r : Result) (go : ℕ → Result) → Rooted st r → ((u : ℕ) → Rooted st (go u)) → ((u : ℕ) → Late u (go u)) →
-    Rooted st (cleanup_result r go)
+pub root_cleaned : (st : Stack) (r : Result) (go : Now → Result) → Rooted st r → ((u : Now) → u.own ≡ [] → Rooted st (go u)) →
+    ((u : Now) → Late u.at (go u)) → Rooted st (cleanup_result r go)
 unfolding cleanup_result
 root_cleaned st r go h k later =
     record {
-      exc = outcome (go r.end).exc (k r.end).exc;
+      own = (k (now_of r) h.own).own;
+      exc = outcome (go (now_of r)).exc (k (now_of r) h.own).exc;
       members =
-          members_append st r.members (go r.end).members h.members (k r.end).members;
+          members_append st r.members (go (now_of r)).members h.members (k (now_of r) h.own).members;
     }
   where
-    outcome : (o : Option Exc) → (IsTrue (some_cancelled o) → IsTrue (seen st (go r.end).end)) →
-        IsTrue (some_cancelled (outcome_after r.exc o)) → IsTrue (seen st (go r.end).end)
-    outcome None own e = stays_seen st r.end (go r.end).end (later r.end).ends (h.exc e)
+    outcome : (o : Option Exc) → (IsTrue (some_cancelled o) → IsTrue (seen st (go (now_of r)).end)) →
+        IsTrue (some_cancelled (outcome_after r.exc o)) → IsTrue (seen st (go (now_of r)).end)
+    outcome None own e = stays_seen st r.end (go (now_of r)).end (later (now_of r)).ends (h.exc e)
     outcome (Some x) own e = own e
 
 mutual
   unfolding walk
 
-  -- every walk is rooted
-  pub root : (m : Mode) (b : Steps) (here : Here) (st : Stack) (t : ℕ) → Rooted st (walk m b here st t)
-  root m stop here st t = root_done st t
-  root m (step s ss) here st t = root_and_then st _ _ (root_step m s here st t) (λ u. root m ss here st u)
+  -- every walk by ticks is rooted
+  pub root : (m : Mode) (b : Steps) (here : Here) (st : Stack) (t : Now) → here.clock ≡ by_ticks → t.own ≡ [] → Rooted st (walk m b here st t)
+  root m stop here st t ticks none = root_done st t none
+  root m (step s ss) here st t ticks none =
+      root_and_then st _ _ (root_step m s here st t ticks none) (λ u own. root m ss here st u ticks own)
 
   -- the same of one step
-  pub root_step : (m : Mode) (s : Step) (here : Here) (st : Stack) (t : ℕ) → Rooted st (walk_step m s here st t)
-  root_step m (sleep n) here st t = root_sleeping st _ t
-  root_step m checkpoint here st t = root_sleeping st _ t
-  root_step m forever here st t = root_sleeping st _ t
-  root_step m (pace k) here st t = root_sleeping st _ t
-  root_step m (find text) here st t = root_showing st _ t
-  root_step m (head n) here st t = root_showing st _ t
-  root_step m longest here st t = root_showing st _ t
-  root_step m (need text name) here st t = root_needing st _ name here.task t
-  root_step m (raise name) here st t = record { exc = λ h. absurd (false≢true h); members = tt }
-  root_step m (cancel name) here st t = root_cancelling st _ t
-  root_step m (scope name d shield fail body) here st t =
-      root_block m _ _ t _ shield st _ (λ from. root m body here _ t)
-  root_step m (nursery name d shield body) here st t =
-      root_block m _ _ t _ shield st _ (λ from. root_gathered _ _ _ (root_signed _ _ (root m body here _ t)))
-  root_step m (start name None body) here st t =
-      root_child st _ t _ (root_signed st _ (root m body _ st t))
-  root_step m (start name (Some k) body) here st t =
-      root_each st k _ t (λ i. root_child st _ t _ (root_signed st _ (root m body _ st t)))
-  root_step m (repeat count body) here st t = root_passes st count 0 _ t (λ i u. root m body _ st u)
-  root_step m (attempt body handler cleanup) here st t =
-      root_cleanup m cleanup here st _ (root_handler m handler here st _ (root m body here st t))
+  pub root_step : (m : Mode) (s : Step) (here : Here) (st : Stack) (t : Now) → here.clock ≡ by_ticks → t.own ≡ [] →
+      Rooted st (walk_step m s here st t)
+  root_step m (sleep n) here st t ticks none = root_sleeping here.clock st _ t.at
+  root_step m checkpoint here st t ticks none = root_sleeping here.clock st _ t.at
+  root_step m forever here st t ticks none = root_sleeping here.clock st _ t.at
+  root_step m (pace k) here st t ticks none = root_pacing here.clock st _ t.at
+  root_step m (find text) here st t ticks none = root_showing st _ t none
+  root_step m (head n) here st t ticks none = root_showing st _ t none
+  root_step m longest here st t ticks none = root_showing st _ t none
+  root_step m (need text name) here st t ticks none = root_needing st _ name here t none
+  root_step m (raise name) here st t ticks none = root_raising st name here t none
+  root_step m (cancel name) here st t ticks none = root_cancelling here.clock st _ t ticks none
+  root_step m (scope name d shield fail body) here st t ticks none =
+      root_block here.clock m _ _ t.at _ shield st _ (λ from. root m body here _ t ticks none)
+  root_step m (nursery name d shield body) here st t ticks none =
+      root_block here.clock m _ _ t.at _ shield st _
+      (λ from. root_gathered here.clock _ _ _ (root_signed _ _ (root m body here _ t ticks none)))
+  root_step m (start name None body) here st t ticks none =
+      root_child st _ _ _ t none (root_signed st _ (root m body _ st (only_at (a_round_after here.clock t.at)) ticks refl))
+  root_step m (start name (Some k) body) here st t ticks none =
+      root_each st k _ t none
+      (λ i. root_child st _ _ _ t none (root_signed st _ (root m body _ st (only_at (a_round_after here.clock t.at)) ticks refl)))
+  root_step m (repeat count body) here st t ticks none =
+      root_passes st count 0 _ t none (λ i u own. root m body _ st u ticks own)
+  root_step m (attempt body handler cleanup) here st t ticks none =
+      root_cleanup m cleanup here st _ ticks (root_handler m handler here st _ ticks (root m body here st t ticks none))
 
   -- the same for a handler, if what it follows is rooted
-  pub root_handler : (m : Mode) (x : Handled) (here : Here) (st : Stack) (r : Result) → Rooted st r → Rooted st (walk_handler m x here st r)
-  root_handler m unhandled here st r h = h
-  root_handler m (except name body) here st r h = root_handled st _ r _ h (λ u. root m body here st u) (λ u. late m body here st u)
+  pub root_handler : (m : Mode) (x : Handled) (here : Here) (st : Stack) (r : Result) → here.clock ≡ by_ticks → Rooted st r →
+      Rooted st (walk_handler m x here st r)
+  root_handler m unhandled here st r ticks h = h
+  root_handler m (except name body) here st r ticks h =
+      root_handled st _ r _ h (λ u own. root m body here st u ticks own) (λ u. late m body here st u)
 
   -- the same for a cleanup, if what it follows is rooted
-  pub root_cleanup : (m : Mode) (x : Cleaned) (here : Here) (st : Stack) (r : Result) → Rooted st r → Rooted st (walk_cleanup m x here st r)
-  root_cleanup m uncleaned here st r h = h
-  root_cleanup m (finally body) here st r h = root_cleaned st r _ h (λ u. root m body here st u) (λ u. late m body here st u)
+  pub root_cleanup : (m : Mode) (x : Cleaned) (here : Here) (st : Stack) (r : Result) → here.clock ≡ by_ticks → Rooted st r →
+      Rooted st (walk_cleanup m x here st r)
+  root_cleanup m uncleaned here st r ticks h = h
+  root_cleanup m (finally body) here st r ticks h =
+      root_cleaned st r _ h (λ u own. root m body here st u ticks own) (λ u. late m body here st u)
 
 -- a walk whose exception holds a `Cancelled` ends in a tick at which its stack is seen
 pub cancelled_is_seen : CancelledIsSeen
-cancelled_is_seen mode steps here stack t = (root mode steps here stack t).exc
+cancelled_is_seen mode steps here stack t ticks = (root mode steps here stack (only_at t) ticks refl).exc
 
--- so no `Cancelled` comes out of a job
-pub none_reaches_the_root : NoneReachesTheRoot
-none_reaches_the_root mode job input =
-    by_cases (some_cancelled (root_walk mode job input).exc) (root mode job.steps (root_here job input) [] 0).exc
+-- so no `Cancelled` comes out of a job that goes by ticks
+pub none_by_ticks : (mode : Mode) (job : Tree) (input : List ℕ) → clock_of job.format ≡ by_ticks →
+    some_cancelled (root_walk mode job input).exc ≡ false
+none_by_ticks mode job input ticks =
+    by_cases (some_cancelled (root_walk mode job input).exc) (root mode job.steps (root_here job input) [] (only_at 0) ticks refl).exc
   where
     by_cases : (b : Bool) → (IsTrue b → IsTrue false) → b ≡ false
     by_cases true h = absurd (false≢true (h refl))
     by_cases false h = refl
+
+-- so none comes out of a job of either format
+pub none_reaches_the_root : NoneReachesTheRoot
+none_reaches_the_root mode job input = none_by_ticks mode job input (goes_by_ticks job.format)
+  where
+    goes_by_ticks : (format : Format) → clock_of format ≡ by_ticks
+    goes_by_ticks One = refl
+    goes_by_ticks Two = refl

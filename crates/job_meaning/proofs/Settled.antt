@@ -7,7 +7,8 @@ use Rattle.exc_groups.specs.Exceptions.{Label, Exc}
 use Rattle.exc_groups.specs.Split.{Wanted, keep, drop}
 use Rattle.cancel_scopes.specs.Sight.{Tick, catches}
 use Rattle.job_meaning.specs.Log.{Log, nil, entry, followed_by, Result, least_sign, deadline_of, deadline_if, either, same_label, from_by, Table, table_of, entered_from}
-use Rattle.job_meaning.specs.Walk.{Stack, Mode, two_walks, by_table, Here, walk, walk_step, walk_handler, walk_cleanup, in_sequence, and_then, then_if, Kind, block, exit_with_from, left_as, left_with, stack_inside, with_sign, sign_if, home_of, nursery_result, child, each, passes, handler_result, handler_for, handler_if_any, handler_after, cleanup_result, cleanup_after, label_here, label_over, here_in, in_pass}
+use Rattle.job_meaning.specs.Moments.{Clock, a_round_after, Now, only_at}
+use Rattle.job_meaning.specs.Walk.{Stack, Mode, two_walks, by_table, Here, walk, walk_step, walk_handler, walk_cleanup, now_of, from_for, stack_for, in_sequence, and_then, then_if, Kind, block, exit_with_from, left_as, left_with, stack_inside, with_sign, sign_if, home_of, nursery_result, child, each, passes, handler_result, handler_for, handler_if_any, handler_after, cleanup_result, cleanup_after, label_here, label_over, here_in, in_pass}
 use Rattle.job_meaning.specs.Meaning.{meaning, meaning_table, root_walk, root_here}
 use Rattle.job_meaning.specs.Follow.{follow, IsSettled}
 use Rattle.job_meaning.specs.Before.{upto, log_before, Near}
@@ -21,20 +22,20 @@ use Rattle.job_meaning.proofs.Tidy.{Tidy, tidy, tidy_step, tidy_handler, tidy_in
 use Rattle.job_meaning.proofs.Fits.{Fits, fits_own, fits_first, fits_second, Apart, apart_tidy, same_first_sign}
 
 -- one after another: the first walk is the same, and then the second
-fits_then : (table : Table) (r : Result) (go : ℕ → Result) → ((u : ℕ) → Apart r.log (go u).log) → (o : Option Exc) →
+fits_then : (table : Table) (r : Result) (go : Now → Result) → ((u : Now) → Apart r.log (go u).log) → (o : Option Exc) →
     Fits table (then_if o r go).log → Fits table r.log
-fits_then table r go apart None f = fits_first table r.log (go r.end).log (apart r.end) f
+fits_then table r go apart None f = fits_first table r.log (go (now_of r)).log (apart (now_of r)) f
 fits_then table r go apart (Some e) f = f
 
-same_then : (table : Table) (r : Result) (go go' : ℕ → Result) → ((u : ℕ) → Apart r.log (go u).log) →
-    ((u : ℕ) → Fits table (go u).log → go' u ≡ go u) →
+same_then : (table : Table) (r : Result) (go go' : Now → Result) → ((u : Now) → Apart r.log (go u).log) →
+    ((u : Now) → Fits table (go u).log → go' u ≡ go u) →
     (o : Option Exc) → Fits table (then_if o r go).log → then_if o r go' ≡ then_if o r go
-same_then table r go go' apart h None f = ap (λ (q : Result). in_sequence r q) (h r.end (fits_second table r.log (go r.end).log (apart r.end) f))
+same_then table r go go' apart h None f = ap (λ (q : Result). in_sequence r q) (h (now_of r) (fits_second table r.log (go (now_of r)).log (apart (now_of r)) f))
 same_then table r go go' apart h (Some e) f = refl
 
-settled_and_then : (table : Table) (r q : Result) (go go' : ℕ → Result) → (Fits table r.log → q ≡ r) →
-    ((u : ℕ) → Fits table (go u).log → go' u ≡ go u) →
-    ((u : ℕ) → Apart r.log (go u).log) → Fits table (and_then r go).log → and_then q go' ≡ and_then r go
+settled_and_then : (table : Table) (r q : Result) (go go' : Now → Result) → (Fits table r.log → q ≡ r) →
+    ((u : Now) → Fits table (go u).log → go' u ≡ go u) →
+    ((u : Now) → Apart r.log (go u).log) → Fits table (and_then r go).log → and_then q go' ≡ and_then r go
 unfolding and_then
 settled_and_then table r q go go' h k apart f =
     ap (λ (x : Result). then_if x.exc x go') (h (fits_then table r go apart r.exc f)) ∙ same_then table r go go' apart k r.exc f
@@ -45,18 +46,18 @@ record Inside (t : ℕ) (inside : Tick → Result) : Type 0 where
   later : (f : Tick) → Late t (inside f)
   causal : (c : ℕ) (f g : Tick) → upto c f ≡ upto c g → log_before c (inside f).log ≡ log_before c (inside g).log
 
-module _ (table : Table) (kind : Kind) (label : Label) (t : ℕ) (d : Tick) (shield : Bool) (st : Stack) (inside inside' : Tick → Result)
+module _ (table : Table) (clock : Clock) (kind : Kind) (label : Label) (t : ℕ) (d : Tick) (shield : Bool) (st : Stack) (inside inside' : Tick → Result)
     (own : (f : Tick) → Gives label (inside f).log → ⊥) where
   -- the log of a block after the entering of its label
   abbrev inner_log : Tick → Log
   inner_log f = followed_by (inside f).log (entry (inside f).end
-      (left_as kind label (left_with (catches f shield st (inside f).end) (inside f).exc).caught) nil)
+      (left_as kind label (left_with (catches (from_for (inside f).own (inside f).end label f) shield (stack_for (inside f).own (inside f).end st) (inside f).end) (inside f).exc).caught) nil)
 
   -- the deadline and signs in a block's log are those inside, but for its own deadline
-  block_signs : (f : Tick) (l : Label) → least_sign l (exit_with_from kind label t d shield st f (inside f)).log ≡ least_sign l (inside f).log
+  block_signs : (f : Tick) (l : Label) → least_sign l (exit_with_from clock kind label t d shield st f (inside f)).log ≡ least_sign l (inside f).log
   block_signs f l = least_followed l (inside f).log _ ∙ earlier_never (least_sign l (inside f).log)
 
-  fits_inside : (f : Tick) → Fits table (exit_with_from kind label t d shield st f (inside f)).log → Fits table (inside f).log
+  fits_inside : (f : Tick) → Fits table (exit_with_from clock kind label t d shield st f (inside f)).log → Fits table (inside f).log
   fits_inside f h = record { each_label = each_one }
     where
       each_one : (l : Label) (x : Tick) → deadline_of l (inside f).log ≡ Some x → table l ≡ from_by x (least_sign l (inside f).log)
@@ -70,7 +71,7 @@ module _ (table : Table) (kind : Kind) (label : Label) (t : ℕ) (d : Tick) (shi
               (deadline_entered l (inside f).log x e)))
           found false i = rest
 
-  fits_label : (f : Tick) → Fits table (exit_with_from kind label t d shield st f (inside f)).log →
+  fits_label : (f : Tick) → Fits table (exit_with_from clock kind label t d shield st f (inside f)).log →
       table label ≡ from_by d (least_sign label (inside f).log)
   fits_label f h =
       h.each_label label d (ap (λ (b : Bool). either (deadline_if b d) (deadline_of label (inner_log f))) (same_label_itself label))
@@ -78,8 +79,8 @@ module _ (table : Table) (kind : Kind) (label : Label) (t : ℕ) (d : Tick) (shi
 
   -- A block by two walks and by a table that fits these: the table has its from, and inside all is the same.
   block_by_table : Inside t inside → ((f : Tick) → Fits table (inside f).log → inside' f ≡ inside f) →
-      Fits table (block two_walks kind label t d shield st inside).log →
-      block (by_table table) kind label t d shield st inside' ≡ block two_walks kind label t d shield st inside
+      Fits table (block clock two_walks kind label t d shield st inside).log →
+      block clock (by_table table) kind label t d shield st inside' ≡ block clock two_walks kind label t d shield st inside
   unfolding block
   block_by_table i same h =
       let first : Tick = least_sign label (inside d).log in
@@ -88,14 +89,14 @@ module _ (table : Table) (kind : Kind) (label : Label) (t : ℕ) (d : Tick) (shi
       same_first_sign d first (least_sign label (inside from).log)
       (λ c e. least_near c t label (inside d).log (inside from).log (i.later d).timed (i.later from).timed (i.causal c d from e)) in
       let told : table label ≡ from = fits_label from h ∙ ap (λ (s : Tick). from_by d s) again in
-      ap (λ (f : Tick). exit_with_from kind label t d shield st f (inside' f)) told
-      ∙ ap (λ (r : Result). exit_with_from kind label t d shield st from r) (same from (fits_inside from h))
+      ap (λ (f : Tick). exit_with_from clock kind label t d shield st f (inside' f)) told
+      ∙ ap (λ (r : Result). exit_with_from clock kind label t d shield st from r) (same from (fits_inside from h))
 
   -- A block by a table that fits its own following, and by two walks: the first of these has the sign from which the table's
   -- from follows, and inside all is the same.
   block_by_walks : Inside t inside' → ((f : Tick) → Fits table (inside f).log → inside' f ≡ inside f) →
-      Fits table (block (by_table table) kind label t d shield st inside).log →
-      block two_walks kind label t d shield st inside' ≡ block (by_table table) kind label t d shield st inside
+      Fits table (block clock (by_table table) kind label t d shield st inside).log →
+      block clock two_walks kind label t d shield st inside' ≡ block clock (by_table table) kind label t d shield st inside
   unfolding block
   block_by_walks i same h =
       let from : Tick = table label in
@@ -108,24 +109,24 @@ module _ (table : Table) (kind : Kind) (label : Label) (t : ℕ) (d : Tick) (shi
       (λ c e. least_near c t label (inside' from).log (inside' d).log (i.later from).timed (i.later d).timed
       (i.causal c from d (ap (λ (x : Tick). upto c x) told ∙ sym e))) in
       let found : from_by d (least_sign label (inside' d).log) ≡ from = ap (λ (s : Tick). from_by d s) again ∙ sym told in
-      ap (λ (f : Tick). exit_with_from kind label t d shield st f (inside' f)) found
-      ∙ ap (λ (r : Result). exit_with_from kind label t d shield st from r) inner
+      ap (λ (f : Tick). exit_with_from clock kind label t d shield st f (inside' f)) found
+      ∙ ap (λ (r : Result). exit_with_from clock kind label t d shield st from r) inner
 
 -- A block has the same result in two modes, if the table fits it in the first and its inside has the same result.
 abbrev SameBlocks : Table → Mode → Mode → Type 0
 SameBlocks table m other =
-    (kind : Kind) (label : Label) (t : ℕ) (d : Tick) (shield : Bool) (st : Stack) (inside inside' : Tick → Result) →
+    (clock : Clock) (kind : Kind) (label : Label) (t : ℕ) (d : Tick) (shield : Bool) (st : Stack) (inside inside' : Tick → Result) →
     ((f : Tick) → Gives label (inside f).log → ⊥) → Inside t inside → Inside t inside' →
-    ((f : Tick) → Fits table (inside f).log → inside' f ≡ inside f) → Fits table (block m kind label t d shield st inside).log →
-    block other kind label t d shield st inside' ≡ block m kind label t d shield st inside
+    ((f : Tick) → Fits table (inside f).log → inside' f ≡ inside f) → Fits table (block clock m kind label t d shield st inside).log →
+    block clock other kind label t d shield st inside' ≡ block clock m kind label t d shield st inside
 
 same_by_table : (table : Table) → SameBlocks table two_walks (by_table table)
-same_by_table table kind label t d shield st inside inside' own i j same h =
-    block_by_table table kind label t d shield st inside inside' own i same h
+same_by_table table clock kind label t d shield st inside inside' own i j same h =
+    block_by_table table clock kind label t d shield st inside inside' own i same h
 
 same_by_walks : (table : Table) → SameBlocks table (by_table table) two_walks
-same_by_walks table kind label t d shield st inside inside' own i j same h =
-    block_by_walks table kind label t d shield st inside inside' own j same h
+same_by_walks table clock kind label t d shield st inside inside' own i j same h =
+    block_by_walks table clock kind label t d shield st inside inside' own j same h
 
 -- a sign for the home of a stack is for no label that a walk on it enters
 home_apart : (st : Stack) (P : Label → Type 0) (r : Result) → Tidy st P r → ((l : Label) → OnStack l st → P l → ⊥) →
@@ -143,23 +144,23 @@ unfolding with_sign
 settled_signed table st P r q h fresh same f =
     ap (λ (x : Result). with_sign st x) (same (fits_first table r.log (sign_if r.exc (home_of st) r.end) (home_apart st P r h fresh) f))
 
-settled_gathered : (table : Table) (label : Label) (r q : Result) → (Fits table r.log → q ≡ r) → Fits table (nursery_result label r).log →
-    nursery_result label q ≡ nursery_result label r
+settled_gathered : (table : Table) (clock : Clock) (label : Label) (r q : Result) → (Fits table r.log → q ≡ r) → Fits table (nursery_result clock label r).log →
+    nursery_result clock label q ≡ nursery_result clock label r
 unfolding nursery_result
-settled_gathered table label r q same f = ap (λ (x : Result). nursery_result label x) (same f)
+settled_gathered table clock label r q same f = ap (λ (x : Result). nursery_result clock label x) (same f)
 
 -- a child's log is separate in what the child adds
-settled_child : (table : Table) (label : Label) (t : ℕ) (r q : Result) → (Fits table r.log → q ≡ r) → Fits table (child label t r).log →
-    child label t q ≡ child label t r
+settled_child : (table : Table) (label : Label) (begins : ℕ) (r q : Result) (t : Now) → (Fits table r.log → q ≡ r) → Fits table (child label begins r t).log →
+    child label begins q t ≡ child label begins r t
 unfolding child
-settled_child table label t r q same f = ap (λ (x : Result). child label t x) (same (record { each_label = own }))
+settled_child table label begins r q t same f = ap (λ (x : Result). child label begins x t) (same (record { each_label = own }))
   where
     own : (l : Label) (d : Tick) → deadline_of l r.log ≡ Some d → table l ≡ from_by d (least_sign l r.log)
     own l d e = f.each_label l d (either_nothing (deadline_of l r.log) ∙ e)
         ∙ ap (λ (s : Tick). from_by d s) (earlier_never (least_sign l r.log))
 
 -- the children of one `start .. over` enter different labels
-settled_each : (table : Table) (st : Stack) (names : List (List ℕ)) (path : List ℕ) (k : ℕ) (go go' : ℕ → Result) (t : ℕ) →
+settled_each : (table : Table) (st : Stack) (names : List (List ℕ)) (path : List ℕ) (k : ℕ) (go go' : ℕ → Result) (t : Now) →
     Fresh st names → ((i : ℕ) → Tidy st (Belongs names (path ++ i ∷ [])) (go i)) → ((i : ℕ) → Fits table (go i).log → go' i ≡ go i) →
     Fits table (each k go t).log → each k go' t ≡ each k go t
 settled_each table st names path zero go go' t fresh h same f = refl
@@ -186,9 +187,9 @@ settled_each table st names path (suc k) go go' t fresh h same f =
     both e i = ap (λ (x : Result). in_sequence x (go' k)) e ∙ ap (λ (x : Result). in_sequence (each k go t) x) i
 
 -- the passes of one `repeat` enter different labels
-settled_passes : (table : Table) (st : Stack) (names : List (List ℕ)) (path : List ℕ) (k first : ℕ) (go go' : ℕ → ℕ → Result) (t : ℕ) →
-    Fresh st names → ((i u : ℕ) → Tidy st (Belongs names (path ++ i ∷ [])) (go i u)) →
-    ((i u : ℕ) → Fits table (go i u).log → go' i u ≡ go i u) →
+settled_passes : (table : Table) (st : Stack) (names : List (List ℕ)) (path : List ℕ) (k first : ℕ) (go go' : ℕ → Now → Result) (t : Now) →
+    Fresh st names → ((i : ℕ) (u : Now) → Tidy st (Belongs names (path ++ i ∷ [])) (go i u)) →
+    ((i : ℕ) (u : Now) → Fits table (go i u).log → go' i u ≡ go i u) →
     Fits table (passes first k go t).log → passes first k go' t ≡ passes first k go t
 settled_passes table st names path zero first go go' t fresh h same f = refl
 settled_passes table st names path (suc k) first go go' t fresh h same f =
@@ -198,30 +199,30 @@ settled_passes table st names path (suc k) first go go' t fresh h same f =
     Later : Label → Type 0
     Later l = (i : ℕ) × (first < i) × Belongs names (path ++ i ∷ []) l
 
-    after : (i : ℕ) → suc first ≤ i → (l : Label) → Belongs names (path ++ i ∷ []) l → Later l
-    after i le l b = (i, omega arith, b)
+    from_later : (i : ℕ) → suc first ≤ i → (l : Label) → Belongs names (path ++ i ∷ []) l → Later l
+    from_later i le l b = (i, omega arith, b)
 
-    apart : (u : ℕ) → Apart (go first t).log (passes (suc first) k go u).log
+    apart : (u : Now) → Apart (go first t).log (passes (suc first) k go u).log
     apart u =
         apart_tidy st (Belongs names (path ++ first ∷ [])) Later (go first t) (passes (suc first) k go u) (h first t)
         (tidy_passes st Later k (suc first) go u
-        (λ i v le. tidy_in st (Belongs names (path ++ i ∷ [])) Later (go i v) (after i le) (h i v)))
+        (λ i v le. tidy_in st (Belongs names (path ++ i ∷ [])) Later (go i v) (from_later i le) (h i v)))
         (λ l b c. after_other names names path first c.0 l c.1 b c.2)
         (λ l o b. fresh.none l o b.named)
         (λ l o b. fresh.none l o b.2.named)
 
 -- a handler or a cleanup after a body that is the same
-fits_handled : (table : Table) (wanted : Wanted) (r : Result) (go : ℕ → Result) → ((u : ℕ) → Apart r.log (go u).log) → (o : Option Exc) →
+fits_handled : (table : Table) (wanted : Wanted) (r : Result) (go : Now → Result) → ((u : Now) → Apart r.log (go u).log) → (o : Option Exc) →
     Fits table (handler_for o wanted r go).log → Fits table r.log
 fits_handled table wanted r go apart None f = f
 fits_handled table wanted r go apart (Some e) f = by_match (keep wanted e) (drop wanted e) f
   where
     by_match : (o rest : Option Exc) → Fits table (handler_if_any o rest r go).log → Fits table r.log
     by_match None rest h = h
-    by_match (Some x) rest h = fits_first table r.log (go r.end).log (apart r.end) h
+    by_match (Some x) rest h = fits_first table r.log (go (now_of r)).log (apart (now_of r)) h
 
-same_handled : (table : Table) (wanted : Wanted) (r : Result) (go go' : ℕ → Result) → ((u : ℕ) → Apart r.log (go u).log) →
-    ((u : ℕ) → Fits table (go u).log → go' u ≡ go u) →
+same_handled : (table : Table) (wanted : Wanted) (r : Result) (go go' : Now → Result) → ((u : Now) → Apart r.log (go u).log) →
+    ((u : Now) → Fits table (go u).log → go' u ≡ go u) →
     (o : Option Exc) → Fits table (handler_for o wanted r go).log → handler_for o wanted r go' ≡ handler_for o wanted r go
 same_handled table wanted r go go' apart same None f = refl
 same_handled table wanted r go go' apart same (Some e) f = by_match (keep wanted e) (drop wanted e) f
@@ -229,22 +230,22 @@ same_handled table wanted r go go' apart same (Some e) f = by_match (keep wanted
     by_match : (o rest : Option Exc) → Fits table (handler_if_any o rest r go).log → handler_if_any o rest r go' ≡ handler_if_any o rest r go
     by_match None rest h = refl
     by_match (Some x) rest h = ap (λ (q : Result). handler_after rest r q)
-        (same r.end (fits_second table r.log (go r.end).log (apart r.end) h))
+        (same (now_of r) (fits_second table r.log (go (now_of r)).log (apart (now_of r)) h))
 
-settled_handled : (table : Table) (wanted : Wanted) (r : Result) (go go' : ℕ → Result) → ((u : ℕ) → Apart r.log (go u).log) →
-    ((u : ℕ) → Fits table (go u).log → go' u ≡ go u) →
+settled_handled : (table : Table) (wanted : Wanted) (r : Result) (go go' : Now → Result) → ((u : Now) → Apart r.log (go u).log) →
+    ((u : Now) → Fits table (go u).log → go' u ≡ go u) →
     Fits table (handler_result wanted r go).log → Fits table r.log × (handler_result wanted r go' ≡ handler_result wanted r go)
 unfolding handler_result
 settled_handled table wanted r go go' apart same f =
     (fits_handled table wanted r go apart r.exc f, same_handled table wanted r go go' apart same r.exc f)
 
-settled_cleaned : (table : Table) (r : Result) (go go' : ℕ → Result) → ((u : ℕ) → Apart r.log (go u).log) →
-    ((u : ℕ) → Fits table (go u).log → go' u ≡ go u) →
+settled_cleaned : (table : Table) (r : Result) (go go' : Now → Result) → ((u : Now) → Apart r.log (go u).log) →
+    ((u : Now) → Fits table (go u).log → go' u ≡ go u) →
     Fits table (cleanup_result r go).log → Fits table r.log × (cleanup_result r go' ≡ cleanup_result r go)
 unfolding cleanup_result
 settled_cleaned table r go go' apart same f = (
-  fits_first table r.log (go r.end).log (apart r.end) f,
-  ap (λ (q : Result). cleanup_after r q) (same r.end (fits_second table r.log (go r.end).log (apart r.end) f)),
+  fits_first table r.log (go (now_of r)).log (apart (now_of r)) f,
+  ap (λ (q : Result). cleanup_after r q) (same (now_of r) (fits_second table r.log (go (now_of r)).log (apart (now_of r)) f)),
 )
 
 -- two blocks side by side, whose names are given once, on a stack with none of them
@@ -281,33 +282,33 @@ near_same c [] = tt
 near_same c (l ∷ ls) = (refl, refl, refl, near_same c ls)
 
 -- the inside of a nursery, walked on the stack within it
-abbrev nursery_inside : Mode → Steps → Label → Here → Stack → ℕ → Result
-nursery_inside m body label here inner t = nursery_result label (with_sign inner (walk m body here inner t))
+abbrev nursery_inside : Mode → Steps → Label → Here → Stack → Now → Result
+nursery_inside m body label here inner t = nursery_result here.clock label (with_sign inner (walk m body here inner t))
 
 -- the inside of a scope, and of a nursery, by any mode
-scope_is_inside : (m : Mode) (body : Steps) (label : Label) (here : Here) (shield : Bool) (st : Stack) (t : ℕ) →
-    Inside t (λ f. walk m body here (stack_inside label shield f st) t)
+scope_is_inside : (m : Mode) (body : Steps) (label : Label) (here : Here) (shield : Bool) (st : Stack) (t : Now) →
+    Inside t.at (λ f. walk m body here (stack_inside label shield f st) t)
 scope_is_inside m body label here shield st t =
     record {
       later = λ f. late m body here (stack_inside label shield f st) t;
       causal = λ c f g e. agree_logs (agree c m body here _ _ t (near_within c label shield f g st st e (near_same c st)));
     }
 
-tidy_nursery : (m : Mode) (body : Steps) (label : Label) (here : Here) (inner : Stack) (t : ℕ) →
+tidy_nursery : (m : Mode) (body : Steps) (label : Label) (here : Here) (inner : Stack) (t : Now) →
     Tidy inner (Belongs (names_of body) here.path) (nursery_inside m body label here inner t)
-tidy_nursery m body label here inner t = tidy_gathered inner _ label _ (tidy_signed inner _ _ (tidy m body here inner t))
+tidy_nursery m body label here inner t = tidy_gathered here.clock inner _ label _ (tidy_signed inner _ _ (tidy m body here inner t))
 
-late_nursery : (m : Mode) (body : Steps) (label : Label) (here : Here) (inner : Stack) (t : ℕ) →
-    Late t (nursery_inside m body label here inner t)
-late_nursery m body label here inner t = late_gathered t label _ (late_signed t inner _ (late m body here inner t))
+late_nursery : (m : Mode) (body : Steps) (label : Label) (here : Here) (inner : Stack) (t : Now) →
+    Late t.at (nursery_inside m body label here inner t)
+late_nursery m body label here inner t = late_gathered here.clock t.at label _ (late_signed t.at inner _ (late m body here inner t))
 
-agree_nursery : (c : ℕ) (m : Mode) (body : Steps) (label : Label) (here : Here) (inner outer : Stack) (t : ℕ) → Near c inner outer →
+agree_nursery : (c : ℕ) (m : Mode) (body : Steps) (label : Label) (here : Here) (inner outer : Stack) (t : Now) → Near c inner outer →
     log_before c (nursery_inside m body label here inner t).log ≡ log_before c (nursery_inside m body label here outer t).log
 agree_nursery c m body label here inner outer t near =
-    agree_logs (agree_gathered c label _ _ (agree_signed c inner outer _ _ near (agree c m body here inner outer t near)))
+    agree_logs (agree_gathered c here.clock label _ _ (agree_signed c inner outer _ _ near (agree c m body here inner outer t near)))
 
-nursery_is_inside : (m : Mode) (body : Steps) (label : Label) (here : Here) (shield : Bool) (st : Stack) (t : ℕ) →
-    Inside t (λ f. nursery_inside m body label here (stack_inside label shield f st) t)
+nursery_is_inside : (m : Mode) (body : Steps) (label : Label) (here : Here) (shield : Bool) (st : Stack) (t : Now) →
+    Inside t.at (λ f. nursery_inside m body label here (stack_inside label shield f st) t)
 nursery_is_inside m body label here shield st t =
     record {
       later = λ f. late_nursery m body label here (stack_inside label shield f st) t;
@@ -318,7 +319,7 @@ mutual
   unfolding walk
 
   -- a walk in one mode is that in another, if a table fits the first and blocks have the same results
-  settled : (table : Table) (m other : Mode) → SameBlocks table m other → (b : Steps) (here : Here) (st : Stack) (t : ℕ) → Distinct (names_of b) → Fresh st (names_of b) →
+  settled : (table : Table) (m other : Mode) → SameBlocks table m other → (b : Steps) (here : Here) (st : Stack) (t : Now) → Distinct (names_of b) → Fresh st (names_of b) →
       Fits table (walk m b here st t).log → walk other b here st t ≡ walk m b here st t
   settled table m other blocks stop here st t distinct fresh f = refl
   settled table m other blocks (step s ss) here st t distinct fresh f =
@@ -332,7 +333,7 @@ mutual
       fresh (tidy_step m s here st t) (tidy m ss here st u))
       f
 
-  settled_step : (table : Table) (m other : Mode) → SameBlocks table m other → (s : Step) (here : Here) (st : Stack) (t : ℕ) → Distinct (names_in s) → Fresh st (names_in s) →
+  settled_step : (table : Table) (m other : Mode) → SameBlocks table m other → (s : Step) (here : Here) (st : Stack) (t : Now) → Distinct (names_in s) → Fresh st (names_in s) →
       Fits table (walk_step m s here st t).log → walk_step other s here st t ≡ walk_step m s here st t
   settled_step table m other blocks (sleep n) here st t distinct fresh f = refl
   settled_step table m other blocks checkpoint here st t distinct fresh f = refl
@@ -345,19 +346,19 @@ mutual
   settled_step table m other blocks (raise name) here st t distinct fresh f = refl
   settled_step table m other blocks (cancel name) here st t distinct fresh f = refl
   settled_step table m other blocks (scope name d shield fail body) here st t distinct fresh f =
-      blocks _ (label_here name here) t _ shield st _ _
+      blocks here.clock _ (label_here name here) t.at _ shield st _ _
       (λ g e. not_inside name (names_of body) here here.path distinct ((tidy m body here _ t).gives _ e))
       (scope_is_inside m body (label_here name here) here shield st t)
       (scope_is_inside other body (label_here name here) here shield st t)
       (λ g h. settled table m other blocks body here _ t distinct.1 (fresh_within name (names_of body) here shield g st distinct fresh) h)
       f
   settled_step table m other blocks (nursery name d shield body) here st t distinct fresh f =
-      blocks _ (label_here name here) t _ shield st _ _
+      blocks here.clock _ (label_here name here) t.at _ shield st _ _
       (λ g e. not_inside name (names_of body) here here.path distinct
       ((tidy_nursery m body (label_here name here) here (stack_inside (label_here name here) shield g st) t).gives _ e))
       (nursery_is_inside m body (label_here name here) here shield st t)
       (nursery_is_inside other body (label_here name here) here shield st t)
-      (λ g h. settled_gathered table (label_here name here) _ _
+      (λ g h. settled_gathered table here.clock (label_here name here) _ _
       (settled_signed table (stack_inside (label_here name here) shield g st) (Belongs (names_of body) here.path) _ _
       (tidy m body here (stack_inside (label_here name here) shield g st) t)
       (λ l o b. (fresh_within name (names_of body) here shield g st distinct fresh).none l o b.named)
@@ -366,19 +367,19 @@ mutual
       h)
       f
   settled_step table m other blocks (start name None body) here st t distinct fresh f =
-      settled_child table (label_here name here) t _ _
-      (settled_signed table st (Belongs (names_of body) here.path) _ _ (tidy m body _ st t)
+      settled_child table (label_here name here) (a_round_after here.clock t.at) _ _ t
+      (settled_signed table st (Belongs (names_of body) here.path) _ _ (tidy m body _ st (only_at (a_round_after here.clock t.at)))
       (λ l o b. fresh.none l o (inr b.named))
-      (λ g. settled table m other blocks body _ st t distinct.1 (fresh_in st (names_of body) (name ∷ names_of body) (λ n i. inr i) fresh) g))
+      (λ g. settled table m other blocks body _ st (only_at (a_round_after here.clock t.at)) distinct.1 (fresh_in st (names_of body) (name ∷ names_of body) (λ n i. inr i) fresh) g))
       f
   settled_step table m other blocks (start name (Some k) body) here st t distinct fresh f =
       settled_each table st (name ∷ names_of body) here.path k _ _ t fresh
       (λ i. tidy_over m name body here (cut_of here.input here.part k i) i st t)
-      (λ i g. settled_child table (label_over name here i) t _ _
+      (λ i g. settled_child table (label_over name here i) (a_round_after here.clock t.at) _ _ t
       (settled_signed table st (Belongs (names_of body) (here.path ++ i ∷ [])) _ _
-      (tidy m body (here_in (label_over name here i) (cut_of here.input here.part k i) here) st t)
+      (tidy m body (here_in (label_over name here i) (cut_of here.input here.part k i) here) st (only_at (a_round_after here.clock t.at)))
       (λ l o b. fresh.none l o (inr b.named))
-      (λ h. settled table m other blocks body (here_in (label_over name here i) (cut_of here.input here.part k i) here) st t distinct.1
+      (λ h. settled table m other blocks body (here_in (label_over name here i) (cut_of here.input here.part k i) here) st (only_at (a_round_after here.clock t.at)) distinct.1
       (fresh_in st (names_of body) (name ∷ names_of body) (λ n j. inr j) fresh) h))
       g)
       f
@@ -431,7 +432,7 @@ pub following_is_meaning : FollowingIsMeaning
 unfolding follow meaning
 following_is_meaning job input once =
     settled (meaning_table job input) two_walks (by_table (meaning_table job input)) (same_by_table (meaning_table job input))
-    job.steps (root_here job input) [] 0
+    job.steps (root_here job input) [] (only_at 0)
     (distinct_by_bytes (job.name ∷ names_of job.steps) once).1
     (record { none = λ l o i. o })
     (fits_own (root_walk two_walks job input).log)
@@ -451,7 +452,7 @@ fits_settled table job input h =
 pub settled_is_meaning : FollowingSettledIsMeaning
 unfolding follow meaning
 settled_is_meaning table job input once h =
-    sym (settled table (by_table table) two_walks (same_by_walks table) job.steps (root_here job input) [] 0
+    sym (settled table (by_table table) two_walks (same_by_walks table) job.steps (root_here job input) [] (only_at 0)
     (distinct_by_bytes (job.name ∷ names_of job.steps) once).1
     (record { none = λ l o i. o })
     (fits_settled table job input h))

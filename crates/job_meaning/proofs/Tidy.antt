@@ -10,7 +10,8 @@ use Rattle.exc_groups.specs.Exceptions.{Label, Exc, cancelled}
 use Rattle.exc_groups.specs.Split.{Wanted, keep, drop}
 use Rattle.cancel_scopes.specs.Sight.{Tick, sight, catches}
 use Rattle.job_meaning.specs.Log.{Log, nil, entry, followed_by, Result}
-use Rattle.job_meaning.specs.Walk.{Stack, Mode, Here, walk, walk_step, walk_handler, walk_cleanup, done_at, raised_at, in_sequence, and_then, then_if, sleep_by_sight, sleep_result, log_of_lines, lines_result, need_result, label_on, label_if, sign_of, cancel_result, Kind, from_of, block, exit_with_from, left_as, left_with, stack_inside, with_sign, sign_if, home_of, nursery_result, child, each, passes, handler_result, handler_for, handler_if_any, cleanup_result, label_here, label_over, here_in, in_pass}
+use Rattle.job_meaning.specs.Moments.{Clock, a_round_after, Now, only_at}
+use Rattle.job_meaning.specs.Walk.{Stack, Mode, Here, walk, walk_step, walk_handler, walk_cleanup, done_at, raised_at, now_of, in_sequence, and_then, then_if, wait_by_sight, sleep_result, pace_result, log_of_lines, lines_result, raise_result, need_result, from_for, stack_for, label_on, label_if, sign_of, cancel_result, Kind, from_of, block, exit_with_from, left_as, left_with, stack_inside, with_sign, sign_if, home_of, nursery_result, child, each, passes, handler_result, handler_for, handler_if_any, cleanup_result, label_here, label_over, here_in, in_pass}
 use Rattle.job_meaning.proofs.Distinct.{among_left, among_right, Belongs, belongs_in, belongs_after, OnStack}
 use Rattle.job_meaning.proofs.Touched.{Gives, Signs, gives_followed, gives_first, gives_second, signs_followed}
 
@@ -59,37 +60,43 @@ tidy_joined st P r q h k =
     seen_to l (inr e) = second l (k.signs l e)
 
 -- a tidy walk that continues with tidy ones is tidy as a whole
-pub tidy_and_then : (st : Stack) (P : Label → Type 0) (r : Result) (go : ℕ → Result) → Tidy st P r → ((u : ℕ) → Tidy st P (go u)) →
+pub tidy_and_then : (st : Stack) (P : Label → Type 0) (r : Result) (go : Now → Result) → Tidy st P r → ((u : Now) → Tidy st P (go u)) →
     Tidy st P (and_then r go)
 unfolding and_then
 tidy_and_then st P r go h k = by_exc r.exc
   where
     by_exc : (o : Option Exc) → Tidy st P (then_if o r go)
-    by_exc None = tidy_joined st P r (go r.end) h (k r.end)
+    by_exc None = tidy_joined st P r (go (now_of r)) h (k (now_of r))
     by_exc (Some e) = h
 
 -- where nothing happens, that is tidy
-pub tidy_done : (st : Stack) (P : Label → Type 0) (t : ℕ) → Tidy st P (done_at t)
+pub tidy_done : (st : Stack) (P : Label → Type 0) (t : Now) → Tidy st P (done_at t)
 tidy_done st P t = tidy_plain st P (done_at t) plain_nil
 
 -- an exception is tidy
-pub tidy_raised : (st : Stack) (P : Label → Type 0) (e : Exc) (t : ℕ) → Tidy st P (raised_at e t)
+pub tidy_raised : (st : Stack) (P : Label → Type 0) (e : Exc) (t : Now) → Tidy st P (raised_at e t)
 tidy_raised st P e t = tidy_plain st P (raised_at e t) plain_nil
 
--- a sleep is tidy
-pub tidy_sleeping : (st : Stack) (P : Label → Type 0) (n t : ℕ) → Tidy st P (sleep_result st n t)
-unfolding sleep_result
-tidy_sleeping st P n t = by_sight (sight st)
+-- a wait is tidy
+tidy_waited : (st : Stack) (P : Label → Type 0) (a : Tick) (least gives_up end : ℕ) → Tidy st P (wait_by_sight a least gives_up end)
+tidy_waited st P None least gives_up end = tidy_done st P (only_at end)
+tidy_waited st P (Some from) least gives_up end = by_now (nat_le from least) (nat_le from end)
   where
-    by_sight : (a : Tick) → Tidy st P (sleep_by_sight a n t)
-    by_sight None = tidy_done st P (t + n)
-    by_sight (Some from) = by_now (nat_le from t) (nat_le from (t + n))
-      where
-        by_now : (now due : Bool) → Tidy st P (if now then raised_at cancelled t else
-            (if due then raised_at cancelled from else done_at (t + n)))
-        by_now true due = tidy_raised st P cancelled t
-        by_now false true = tidy_raised st P cancelled from
-        by_now false false = tidy_done st P (t + n)
+    by_now : (now due : Bool) → Tidy st P (if now then raised_at cancelled (only_at gives_up) else
+        (if due then raised_at cancelled (only_at from) else done_at (only_at end)))
+    by_now true due = tidy_raised st P cancelled (only_at gives_up)
+    by_now false true = tidy_raised st P cancelled (only_at from)
+    by_now false false = tidy_done st P (only_at end)
+
+-- a sleep is tidy
+pub tidy_sleeping : (clock : Clock) (st : Stack) (P : Label → Type 0) (n t : ℕ) → Tidy st P (sleep_result clock st n t)
+unfolding sleep_result
+tidy_sleeping clock st P n t = tidy_waited st P (sight st) _ _ _
+
+-- and so is a `pace`
+pub tidy_pacing : (clock : Clock) (st : Stack) (P : Label → Type 0) (n t : ℕ) → Tidy st P (pace_result clock st n t)
+unfolding pace_result
+tidy_pacing clock st P n t = tidy_waited st P (sight st) _ _ _
 
 no_enters_lines : (l : Label) (t : ℕ) (ls : List Span) → Gives l (log_of_lines t ls) → ⊥
 no_enters_lines l t [] h = h
@@ -100,17 +107,22 @@ no_signs_lines l t [] h = h
 no_signs_lines l t (s ∷ ss) h = no_signs_lines l t ss h
 
 -- lines that are shown are tidy
-pub tidy_showing : (st : Stack) (P : Label → Type 0) (ls : List Span) (t : ℕ) → Tidy st P (lines_result ls t)
+pub tidy_showing : (st : Stack) (P : Label → Type 0) (ls : List Span) (t : Now) → Tidy st P (lines_result ls t)
 unfolding lines_result
 tidy_showing st P ls t = tidy_plain st P (lines_result ls t) (record
-    { none = λ l h. no_enters_lines l t ls h; unsigned = λ l h. no_signs_lines l t ls h })
+    { none = λ l h. no_enters_lines l t.at ls h; unsigned = λ l h. no_signs_lines l t.at ls h })
+
+-- an exception that is raised here is tidy
+pub tidy_raising : (st : Stack) (P : Label → Type 0) (name : List ℕ) (here : Here) (t : Now) → Tidy st P (raise_result name here t)
+unfolding raise_result
+tidy_raising st P name here t = tidy_raised st P _ t
 
 -- a `need` is tidy, whether its line is found or not
-pub tidy_needing : (st : Stack) (P : Label → Type 0) (found : Option Span) (name : List ℕ) (label : Label) (t : ℕ) →
-    Tidy st P (need_result found name label t)
+pub tidy_needing : (st : Stack) (P : Label → Type 0) (found : Option Span) (name : List ℕ) (here : Here) (t : Now) →
+    Tidy st P (need_result found name here t)
 unfolding need_result
-tidy_needing st P (Some l) name label t = tidy_showing st P (l ∷ []) t
-tidy_needing st P None name label t = tidy_plain st P (need_result None name label t) plain_nil
+tidy_needing st P (Some l) name here t = tidy_showing st P (l ∷ []) t
+tidy_needing st P None name here t = tidy_raising st P name here t
 
 -- a label that was found on a stack is on it
 abbrev OnStackIf : Option Label → Stack → Type 0
@@ -142,26 +154,26 @@ no_enters_sign None t l h = h
 no_enters_sign (Some m) t l h = h
 
 -- a `cancel` of a name is tidy
-pub tidy_cancelling : (st : Stack) (P : Label → Type 0) (name : List ℕ) (t : ℕ) → Tidy st P (cancel_result (label_on name st) t)
+pub tidy_cancelling : (clock : Clock) (st : Stack) (P : Label → Type 0) (name : List ℕ) (t : Now) → Tidy st P (cancel_result clock (label_on name st) t)
 unfolding cancel_result
-tidy_cancelling st P name t =
+tidy_cancelling clock st P name t =
     record {
-      gives = λ l e. absurd (no_enters_sign (label_on name st) t l e);
-      signs = λ l e. inl (sign_on st (label_on name st) t (found_on name st) l e);
+      gives = λ l e. absurd (no_enters_sign (label_on name st) t.at l e);
+      signs = λ l e. inl (sign_on st (label_on name st) t.at (found_on name st) l e);
     }
 
 -- a scope or nursery with a label of its own is tidy, where its inside is tidy on the stack within it
-pub tidy_block : (m : Mode) (kind : Kind) (label : Label) (t : ℕ) (d : Tick) (shield : Bool) (st : Stack) (P : Label → Type 0)
+pub tidy_block : (clock : Clock) (m : Mode) (kind : Kind) (label : Label) (t : ℕ) (d : Tick) (shield : Bool) (st : Stack) (P : Label → Type 0)
     (inside : Tick → Result) →
-    P label → ((f : Tick) → Tidy (stack_inside label shield f st) P (inside f)) → Tidy st P (block m kind label t d shield st inside)
+    P label → ((f : Tick) → Tidy (stack_inside label shield f st) P (inside f)) → Tidy st P (block clock m kind label t d shield st inside)
 unfolding block
-tidy_block m kind label t d shield st P inside p h = at_from (from_of m label d inside)
+tidy_block clock m kind label t d shield st P inside p h = at_from (from_of m label d inside)
   where
-    at_from : (f : Tick) → Tidy st P (exit_with_from kind label t d shield st f (inside f))
+    at_from : (f : Tick) → Tidy st P (exit_with_from clock kind label t d shield st f (inside f))
     at_from f = record { gives = own; signs = λ l e. seen_to l (signs_followed l (inside f).log _ e) }
       where
         end_log : Log
-        end_log = entry (inside f).end (left_as kind label (left_with (catches f shield st (inside f).end) (inside f).exc).caught) nil
+        end_log = entry (inside f).end (left_as kind label (left_with (catches (from_for (inside f).own (inside f).end label f) shield (stack_for (inside f).own (inside f).end st) (inside f).end) (inside f).exc).caught) nil
 
         after : (l : Label) → Gives l (inside f).log ⊎ ⊥ → P l
         after l (inl e) = (h f).gives l e
@@ -214,15 +226,15 @@ tidy_signed st P r h =
     seen_to l (inr e) = inl (signs_home st r.exc r.end l e)
 
 -- a nursery with a tidy body is tidy, once its members have ended
-pub tidy_gathered : (st : Stack) (P : Label → Type 0) (label : Label) (r : Result) → Tidy st P r → Tidy st P (nursery_result label r)
+pub tidy_gathered : (clock : Clock) (st : Stack) (P : Label → Type 0) (label : Label) (r : Result) → Tidy st P r → Tidy st P (nursery_result clock label r)
 unfolding nursery_result
-tidy_gathered st P label r h = record { gives = h.gives; signs = h.signs }
+tidy_gathered clock st P label r h = record { gives = h.gives; signs = h.signs }
 
 -- what a tidy started task with a label of its own leaves in its starter's walk is tidy
-pub tidy_child : (st : Stack) (P : Label → Type 0) (label : Label) (t : ℕ) (r : Result) → P label → Tidy st P r →
-    Tidy st P (child label t r)
+pub tidy_child : (st : Stack) (P : Label → Type 0) (label : Label) (begins : ℕ) (r : Result) (t : Now) → P label → Tidy st P r →
+    Tidy st P (child label begins r t)
 unfolding child
-tidy_child st P label t r p h = record { gives = own; signs = seen_to }
+tidy_child st P label begins r t p h = record { gives = own; signs = seen_to }
   where
     own : (l : Label) → (l ≡ label) ⊎ (Gives l r.log ⊎ ⊥) → P l
     own l (inl e) = subst P (sym e) p
@@ -238,7 +250,7 @@ tidy_child st P label t r p h = record { gives = own; signs = seen_to }
     seen_to l (inr e) = absurd e
 
 -- the children of a `start .. over` are tidy where each of them is
-pub tidy_each : (st : Stack) (P : Label → Type 0) (k : ℕ) (go : ℕ → Result) (t : ℕ) → ((i : ℕ) → i < k → Tidy st P (go i)) →
+pub tidy_each : (st : Stack) (P : Label → Type 0) (k : ℕ) (go : ℕ → Result) (t : Now) → ((i : ℕ) → i < k → Tidy st P (go i)) →
     Tidy st P (each k go t)
 tidy_each st P zero go t h = tidy_done st P t
 tidy_each st P (suc k) go t h = tidy_joined st P (each k go t) (go k) (tidy_each st P k go t (λ i lt. h i (below i lt))) (h k (omega arith))
@@ -247,8 +259,8 @@ tidy_each st P (suc k) go t h = tidy_joined st P (each k go t) (go k) (tidy_each
     below i lt = omega arith
 
 -- passes of a `repeat` from one on
-pub tidy_passes : (st : Stack) (P : Label → Type 0) (k first : ℕ) (go : ℕ → ℕ → Result) (t : ℕ) →
-    ((i u : ℕ) → first ≤ i → Tidy st P (go i u)) → Tidy st P (passes first k go t)
+pub tidy_passes : (st : Stack) (P : Label → Type 0) (k first : ℕ) (go : ℕ → Now → Result) (t : Now) →
+    ((i : ℕ) (u : Now) → first ≤ i → Tidy st P (go i u)) → Tidy st P (passes first k go t)
 tidy_passes st P zero first go t h = tidy_done st P t
 tidy_passes st P (suc k) first go t h =
     tidy_and_then st P (go first t) _ (h first t (omega arith)) (λ u. tidy_passes st P k (suc first) go u (λ i v le. h i v (later i le)))
@@ -257,13 +269,13 @@ tidy_passes st P (suc k) first go t h =
     later i le = omega arith
 
 -- a tidy body and its tidy handler are tidy
-pub tidy_handled : (st : Stack) (P : Label → Type 0) (wanted : Wanted) (r : Result) (go : ℕ → Result) → Tidy st P r →
-    ((u : ℕ) → Tidy st P (go u)) → Tidy st P (handler_result wanted r go)
+pub tidy_handled : (st : Stack) (P : Label → Type 0) (wanted : Wanted) (r : Result) (go : Now → Result) → Tidy st P r →
+    ((u : Now) → Tidy st P (go u)) → Tidy st P (handler_result wanted r go)
 unfolding handler_result
 tidy_handled st P wanted r go h k = by_exc r.exc
   where
-    both : Tidy st P (in_sequence r (go r.end))
-    both = tidy_joined st P r (go r.end) h (k r.end)
+    both : Tidy st P (in_sequence r (go (now_of r)))
+    both = tidy_joined st P r (go (now_of r)) h (k (now_of r))
 
     by_match : (o rest : Option Exc) → Tidy st P (handler_if_any o rest r go)
     by_match None rest = h
@@ -274,11 +286,11 @@ tidy_handled st P wanted r go h k = by_exc r.exc
     by_exc (Some e) = by_match (keep wanted e) (drop wanted e)
 
 -- a tidy result and its tidy cleanup are tidy
-pub tidy_cleaned : (st : Stack) (P : Label → Type 0) (r : Result) (go : ℕ → Result) → Tidy st P r → ((u : ℕ) → Tidy st P (go u)) →
+pub tidy_cleaned : (st : Stack) (P : Label → Type 0) (r : Result) (go : Now → Result) → Tidy st P r → ((u : Now) → Tidy st P (go u)) →
     Tidy st P (cleanup_result r go)
 unfolding cleanup_result
 tidy_cleaned st P r go h k =
-    let both : Tidy st P (in_sequence r (go r.end)) = tidy_joined st P r (go r.end) h (k r.end) in
+    let both : Tidy st P (in_sequence r (go (now_of r))) = tidy_joined st P r (go (now_of r)) h (k (now_of r)) in
     record { gives = both.gives; signs = both.signs }
 
 -- a label that is entered here belongs to its block
@@ -306,7 +318,7 @@ mutual
   unfolding walk
 
   -- every walk is tidy
-  pub tidy : (m : Mode) (b : Steps) (here : Here) (st : Stack) (t : ℕ) → Tidy st (Belongs (names_of b) here.path) (walk m b here st t)
+  pub tidy : (m : Mode) (b : Steps) (here : Here) (st : Stack) (t : Now) → Tidy st (Belongs (names_of b) here.path) (walk m b here st t)
   tidy m stop here st t = tidy_done st _ t
   tidy m (step s ss) here st t =
       tidy_and_then st _ _ _
@@ -314,31 +326,31 @@ mutual
       (λ u. tidy_in st _ _ _ (in_right (names_in s) (names_of ss) here.path) (tidy m ss here st u))
 
   -- the same of one step
-  pub tidy_step : (m : Mode) (s : Step) (here : Here) (st : Stack) (t : ℕ) →
+  pub tidy_step : (m : Mode) (s : Step) (here : Here) (st : Stack) (t : Now) →
       Tidy st (Belongs (names_in s) here.path) (walk_step m s here st t)
-  tidy_step m (sleep n) here st t = tidy_sleeping st _ _ t
-  tidy_step m checkpoint here st t = tidy_sleeping st _ _ t
-  tidy_step m forever here st t = tidy_sleeping st _ _ t
-  tidy_step m (pace k) here st t = tidy_sleeping st _ _ t
+  tidy_step m (sleep n) here st t = tidy_sleeping here.clock st _ _ t.at
+  tidy_step m checkpoint here st t = tidy_sleeping here.clock st _ _ t.at
+  tidy_step m forever here st t = tidy_sleeping here.clock st _ _ t.at
+  tidy_step m (pace k) here st t = tidy_pacing here.clock st _ _ t.at
   tidy_step m (find text) here st t = tidy_showing st _ _ t
   tidy_step m (head n) here st t = tidy_showing st _ _ t
   tidy_step m longest here st t = tidy_showing st _ _ t
-  tidy_step m (need text name) here st t = tidy_needing st _ _ name here.task t
-  tidy_step m (raise name) here st t = tidy_raised st _ _ t
-  tidy_step m (cancel name) here st t = tidy_cancelling st _ name t
+  tidy_step m (need text name) here st t = tidy_needing st _ _ name here t
+  tidy_step m (raise name) here st t = tidy_raising st _ name here t
+  tidy_step m (cancel name) here st t = tidy_cancelling here.clock st _ name t
   tidy_step m (scope name d shield fail body) here st t =
-      tidy_block m _ _ t _ shield st _ _ (belongs_here name (names_of body) here)
+      tidy_block here.clock m _ _ t.at _ shield st _ _ (belongs_here name (names_of body) here)
       (λ f. tidy_in _ _ _ _ (in_body name (names_of body) here.path) (tidy m body here _ t))
   tidy_step m (nursery name d shield body) here st t =
-      tidy_block m _ _ t _ shield st _ _ (belongs_here name (names_of body) here)
-      (λ f. tidy_in _ _ _ _ (in_body name (names_of body) here.path) (tidy_gathered _ _ _ _ (tidy_signed _ _ _ (tidy m body here _ t))))
+      tidy_block here.clock m _ _ t.at _ shield st _ _ (belongs_here name (names_of body) here)
+      (λ f. tidy_in _ _ _ _ (in_body name (names_of body) here.path) (tidy_gathered here.clock _ _ _ _ (tidy_signed _ _ _ (tidy m body here _ t))))
   tidy_step m (start name None body) here st t =
-      tidy_child st _ _ t _ (belongs_here name (names_of body) here)
-      (tidy_in st _ _ _ (in_body name (names_of body) here.path) (tidy_signed st _ _ (tidy m body _ st t)))
+      tidy_child st _ _ (a_round_after here.clock t.at) _ t (belongs_here name (names_of body) here)
+      (tidy_in st _ _ _ (in_body name (names_of body) here.path) (tidy_signed st _ _ (tidy m body _ st (only_at (a_round_after here.clock t.at)))))
   tidy_step m (start name (Some k) body) here st t =
       tidy_each st _ k _ t (λ i lt. tidy_in st _ _ _ (belongs_after (name ∷ names_of body) here.path i)
-      (tidy_child st _ _ t _ (belongs_over name (names_of body) here i)
-      (tidy_in st _ _ _ (in_body name (names_of body) (here.path ++ i ∷ [])) (tidy_signed st _ _ (tidy m body _ st t)))))
+      (tidy_child st _ _ (a_round_after here.clock t.at) _ t (belongs_over name (names_of body) here i)
+      (tidy_in st _ _ _ (in_body name (names_of body) (here.path ++ i ∷ [])) (tidy_signed st _ _ (tidy m body _ st (only_at (a_round_after here.clock t.at)))))))
   tidy_step m (repeat count body) here st t =
       tidy_passes st _ count 0 _ t (λ i u le. tidy_in st _ _ _ (belongs_after (names_of body) here.path i)
       (tidy m body (in_pass i here) st u))
@@ -363,10 +375,10 @@ mutual
       (λ u. tidy_in st _ _ _ (in_right names (names_of body) here.path) (tidy m body here st u))
 
 -- a child of a `start .. over` gives only labels with its index
-pub tidy_over : (m : Mode) (name : List ℕ) (body : Steps) (here : Here) (lent : Range) (i : ℕ) (st : Stack) (t : ℕ) →
+pub tidy_over : (m : Mode) (name : List ℕ) (body : Steps) (here : Here) (lent : Range) (i : ℕ) (st : Stack) (t : Now) →
     Tidy st (Belongs (name ∷ names_of body) (here.path ++ i ∷ []))
-    (child (label_over name here i) t (with_sign st (walk m body (here_in (label_over name here i) lent here) st t)))
+    (child (label_over name here i) (a_round_after here.clock t.at) (with_sign st (walk m body (here_in (label_over name here i) lent here) st (only_at (a_round_after here.clock t.at)))) t)
 tidy_over m name body here lent i st t =
-    tidy_child st _ (label_over name here i) t _ (belongs_over name (names_of body) here i)
+    tidy_child st _ (label_over name here i) (a_round_after here.clock t.at) _ t (belongs_over name (names_of body) here i)
     (tidy_in st _ _ _ (in_body name (names_of body) (here.path ++ i ∷ []))
-    (tidy_signed st _ _ (tidy m body (here_in (label_over name here i) lent here) st t)))
+    (tidy_signed st _ _ (tidy m body (here_in (label_over name here i) lent here) st (only_at (a_round_after here.clock t.at)))))

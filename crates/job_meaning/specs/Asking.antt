@@ -2,9 +2,9 @@
 use Rattle.std.specs.Prelude.{ℕ, Option, Some, None, List, [], ◌∷◌}
 use Rattle.buffer_parts.specs.Lines.{Span}
 use Rattle.line_kernels.specs.Kernels.{found_in, head_of, longest_in, needed_in, count_in}
-use Rattle.exc_groups.specs.Exceptions.{raised}
 use Rattle.job_meaning.specs.Log.{Result}
-use Rattle.job_meaning.specs.Walk.{Stack, Here, done_at, raised_at, pace_ticks, lines_result, sleep_result}
+use Rattle.job_meaning.specs.Moments.{Now}
+use Rattle.job_meaning.specs.Walk.{Stack, Here, done_at, pace_ticks, lines_result, pace_result, raise_result}
 
 -- a kernel, to run on a task's part
 pub data Kernel : Type 0 where
@@ -47,12 +47,12 @@ Suits (need text) (needs name) = Unit {0}
 Suits count (paces k) = Unit {0}
 Suits _ _ = ⊥
 
--- the result of an answer in tick t
-abbrev pub answer_result : Answer → Purpose → Here → Stack → ℕ → Result
-answer_result (lines ls) purpose here st t = lines_result ls t
-answer_result missing (needs name) here st t = raised_at (raised name here.task t) t
-answer_result missing shows here st t = done_at t
-answer_result missing (paces k) here st t = done_at t
-answer_result (counted n) (paces k) here st t = sleep_result st (pace_ticks n k) t
-answer_result (counted n) shows here st t = done_at t
-answer_result (counted n) (needs name) here st t = done_at t
+-- the result of an answer
+abbrev pub answer_result : Answer → Purpose → Here → Stack → Now → Result
+answer_result (lines ls) purpose here st now = lines_result ls now
+answer_result missing (needs name) here st now = raise_result name here now
+answer_result missing shows here st now = done_at now
+answer_result missing (paces k) here st now = done_at now
+answer_result (counted n) (paces k) here st now = pace_result here.clock st (pace_ticks n k) now.at
+answer_result (counted n) shows here st now = done_at now
+answer_result (counted n) (needs name) here st now = done_at now

@@ -56,10 +56,10 @@ log_before c (entered l t d rest) = entered_if (nat_lt t c) l t d (log_before c 
 log_before c (task l s u e own rest) =
     task_if (nat_lt s c) l s (min c u) (exc_if (nat_lt u c) e) (log_before c own) (log_before c rest)
 
--- Two walks agree before c: starts, entries, entered labels, signs and ends. Either both end in the same tick before
--- c with the same exception, or both end at c or later.
+-- Two walks agree before c: starts, entries, entered labels, signs and ends. Either both end in the same moment before
+-- c with the same own cancels and the same exception, or both end at c or later.
 pub data Agree (c : ℕ) (r q : Result) : Type 0 where
   soon :
-      (before : r.end < c) → (ends : r.end ≡ q.end) → (excs : r.exc ≡ q.exc) →
+      (before : r.end < c) → (ends : r.end ≡ q.end) → (owns : r.own ≡ q.own) → (excs : r.exc ≡ q.exc) →
       (members : known_members c r.members ≡ known_members c q.members) → (logs : log_before c r.log ≡ log_before c q.log) → Agree c r q
   later : (first : c ≤ r.end) → (second : c ≤ q.end) → (logs : log_before c r.log ≡ log_before c q.log) → Agree c r q

@@ -5,7 +5,7 @@ use Rattle.job_tree.specs.declared.format.Format.TheVariants.{Two}
 use Rattle.job_tree.specs.Tree.{Step, scope, nursery, start, attempt, Steps, stop, step, unhandled, except, uncleaned, finally, Tree}
 use Rattle.exc_groups.specs.Exceptions.{Label, by_nursery, by_handler, Exc, raised, group, parts_of}
 use Rattle.job_meaning.specs.Log.{line, scope_left, nursery_left}
-use Rattle.job_meaning.specs.Walk.{walk, and_then, sleep_result, lines_result, need_result, cancel_result, block, with_sign, nursery_result, child, handler_result, cleanup_result}
+use Rattle.job_meaning.specs.Walk.{walk, and_then, sleep_result, pace_result, lines_result, raise_result, need_result, cancel_result, block, with_sign, nursery_result, child, handler_result, cleanup_result}
 use Rattle.job_meaning.specs.Meaning.{Noted, Record, meaning, meaning_records, meaning_end, meaning_table}
 use Rattle.job_meaning.specs.Follow.{follow}
 
@@ -106,15 +106,15 @@ main_ran from to exc entries = record_of (label_named (codes "main")) from to ex
 -- the records of the steps of a job over an input; an example that names it computes with the whole
 -- meaning
 unfoldable pub run_of : List Step → List ℕ → List Record
-unfolding meaning walk and_then sleep_result lines_result need_result cancel_result block with_sign nursery_result child handler_result cleanup_result
+unfolding meaning walk and_then sleep_result pace_result lines_result raise_result need_result cancel_result block with_sign nursery_result child handler_result cleanup_result
 run_of ss input = meaning_records (job_of ss) input
 
 -- the tick at which they end
 unfoldable pub end_of : List Step → List ℕ → ℕ
-unfolding meaning walk and_then sleep_result lines_result need_result cancel_result block with_sign nursery_result child handler_result cleanup_result
+unfolding meaning walk and_then sleep_result pace_result lines_result raise_result need_result cancel_result block with_sign nursery_result child handler_result cleanup_result
 end_of ss input = meaning_end (job_of ss) input
 
 -- the tick at which the walk that follows the table of their meaning ends
 unfoldable pub followed_end_of : List Step → List ℕ → ℕ
-unfolding follow meaning walk and_then sleep_result lines_result need_result cancel_result block with_sign nursery_result child handler_result cleanup_result
+unfolding follow meaning walk and_then sleep_result pace_result lines_result raise_result need_result cancel_result block with_sign nursery_result child handler_result cleanup_result
 followed_end_of ss input = (follow (meaning_table (job_of ss) input) (job_of ss) input).end

@@ -6,6 +6,7 @@ use Rattle.job_tree.specs.Names.{GivesNamesOnce}
 use Rattle.job_tree.specs.InRange.{IsInRange}
 use Rattle.exc_groups.specs.Exceptions.{Label, Exc, holds_cancelled}
 use Rattle.cancel_scopes.specs.Sight.{Tick, seen}
+use Rattle.job_meaning.specs.Moments.{by_ticks, Now, only_at}
 use Rattle.job_meaning.specs.Walk.{Stack, Mode, Here, walk}
 use Rattle.job_meaning.specs.Log.{Table, times_given}
 use Rattle.job_meaning.specs.Meaning.{root_walk, root_log, meaning, meaning_table, meaning_records, meaning_end, meaning_froms}
@@ -39,14 +40,19 @@ abbrev pub some_cancelled : Option Exc → Bool
 some_cancelled None = false
 some_cancelled (Some e) = holds_cancelled e
 
--- a walk whose exception holds a `Cancelled` ends in a tick at which its stack is seen
+-- By ticks, a walk whose exception holds a `Cancelled` ends in a tick at which its stack is seen.
+--
+-- By rounds that is false for an arbitrary table. There a task sees at once what it cancels itself, and only in that moment:
+-- later it sees it by the table, and a table may say that the label is never cancelled. In
+-- `scope a { try { scope b after 1 { try { forever; } finally { cancel a; } } } finally { scope c shield { sleep 5; } } }`
+-- the scope b does not catch, since the task has just cancelled a; five ticks later a is not seen, and a does not catch either.
 abbrev pub CancelledIsSeen : Type 0
 CancelledIsSeen =
-    (mode : Mode) (steps : Steps) (here : Here) (stack : Stack) (t : ℕ) →
-    let r = walk mode steps here stack t in
+    (mode : Mode) (steps : Steps) (here : Here) (stack : Stack) (t : ℕ) → here.clock ≡ by_ticks →
+    let r = walk mode steps here stack (only_at t) in
     IsTrue (some_cancelled r.exc) → IsTrue (seen stack r.end)
 
--- so no `Cancelled` leaves a job
+-- So no `Cancelled` leaves a job of format 1 or 2, which go by ticks.
 abbrev pub NoneReachesTheRoot : Type 0
 NoneReachesTheRoot = (mode : Mode) (job : Tree) (input : List ℕ) → some_cancelled (root_walk mode job input).exc ≡ false
 
@@ -54,8 +60,8 @@ NoneReachesTheRoot = (mode : Mode) (job : Tree) (input : List ℕ) → some_canc
 -- c, a walk does the same in all ticks before c.
 abbrev pub NothingBeforeItsCause : Type 0
 NothingBeforeItsCause =
-    (c : ℕ) (mode : Mode) (steps : Steps) (here : Here) (stack other : Stack) (t : ℕ) →
-    Near c stack other → Agree c (walk mode steps here stack t) (walk mode steps here other t)
+    (c : ℕ) (mode : Mode) (steps : Steps) (here : Here) (stack other : Stack) (now : Now) →
+    Near c stack other → Agree c (walk mode steps here stack now) (walk mode steps here other now)
 
 -- where names are given once, following the table of the meaning is the meaning
 abbrev pub FollowingIsMeaning : Type 0

@@ -1,9 +1,11 @@
 pub mod Log
+pub mod Moments
 pub mod Walk
 pub mod Meaning
 pub mod Shown
 pub mod Follow
 pub mod Examples
+pub mod ExamplesRounds
 pub mod ExamplesScopes
 pub mod ExamplesNurseries
 pub mod ExamplesLines

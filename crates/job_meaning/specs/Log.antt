@@ -34,9 +34,11 @@ pub record Member : Type 0 where
   pub end : ℕ
   pub exc : Option Exc
 
--- what a walk results in
+-- what a walk results in: the moment of its end, what the task itself has cancelled in that moment, the exception, the children of
+-- the nursery that is open, and the log
 pub record Result : Type 0 where
   pub end : ℕ
+  pub own : List Label
   pub exc : Option Exc
   pub members : List Member
   pub log : Log

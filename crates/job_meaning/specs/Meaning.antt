@@ -4,6 +4,7 @@ use Rattle.job_tree.specs.Tree.{Tree}
 use Rattle.exc_groups.specs.Exceptions.{Label, Exc}
 use Rattle.cancel_scopes.specs.Sight.{Tick}
 use Rattle.job_meaning.specs.Log.{Entry, Log, nil, entry, sign, entered, task, Result, Table, table_of}
+use Rattle.job_meaning.specs.Moments.{Clock, clock_of, tick_of, only_at}
 use Rattle.job_meaning.specs.Walk.{Mode, two_walks, Here, walk}
 
 -- an entry with its tick
@@ -21,21 +22,22 @@ pub record Record : Type 0 where
   pub entries : List Noted
 
 -- what a task itself noted
-abbrev pub entries_of : Log → List Noted
-entries_of nil = []
-entries_of (entry t e rest) = record { tick = t; entry = e } ∷ entries_of rest
-entries_of (sign l t rest) = entries_of rest
-entries_of (entered l t d rest) = entries_of rest
-entries_of (task l s u e own rest) = entries_of rest
+abbrev pub entries_of : Clock → Log → List Noted
+entries_of clock nil = []
+entries_of clock (entry m e rest) = record { tick = tick_of clock m; entry = e } ∷ entries_of clock rest
+entries_of clock (sign l m rest) = entries_of clock rest
+entries_of clock (entered l m d rest) = entries_of clock rest
+entries_of clock (task l s u e own rest) = entries_of clock rest
 
 -- the records of the tasks in a log: each followed by those of its descendants
-abbrev pub records_of : Log → List Record
-records_of nil = []
-records_of (entry t e rest) = records_of rest
-records_of (sign l t rest) = records_of rest
-records_of (entered l t d rest) = records_of rest
-records_of (task l s u e own rest) =
-    record { label = l; start = s; end = u; exc = e; entries = entries_of own } ∷ (records_of own ++ records_of rest)
+abbrev pub records_of : Clock → Log → List Record
+records_of clock nil = []
+records_of clock (entry m e rest) = records_of clock rest
+records_of clock (sign l m rest) = records_of clock rest
+records_of clock (entered l m d rest) = records_of clock rest
+records_of clock (task l s u e own rest) =
+    record { label = l; start = tick_of clock s; end = tick_of clock u; exc = e; entries = entries_of clock own }
+    ∷ (records_of clock own ++ records_of clock rest)
 
 -- the labels that a task itself entered, in order
 abbrev pub entered_by : Log → List Label
@@ -60,11 +62,11 @@ root_label name = record { name = name; indices = [] }
 -- the whole input is the root's part
 abbrev pub root_here : Tree → List ℕ → Here
 root_here job input =
-    record { input = input; part = record { from = 0; to = length input }; task = root_label job.name; path = [] }
+    record { clock = clock_of job.format; input = input; part = record { from = 0; to = length input }; task = root_label job.name; path = [] }
 
--- the walk of a job from tick 0, enclosed by no scope
+-- the walk of a job from moment 0, enclosed by no scope
 abbrev pub root_walk : Mode → Tree → List ℕ → Result
-root_walk mode job input = walk mode job.steps (root_here job input) [] 0
+root_walk mode job input = walk mode job.steps (root_here job input) [] (only_at 0)
 
 -- a root's result as a log: the root task alone
 abbrev pub root_log : Tree → Result → Log
@@ -76,11 +78,11 @@ meaning job input = root_walk two_walks job input
 
 -- the records of the meaning
 abbrev pub meaning_records : Tree → List ℕ → List Record
-meaning_records job input = records_of (root_log job (meaning job input))
+meaning_records job input = records_of (clock_of job.format) (root_log job (meaning job input))
 
 -- the tick at which a job's root ends
 abbrev pub meaning_end : Tree → List ℕ → ℕ
-meaning_end job input = (meaning job input).end
+meaning_end job input = tick_of (clock_of job.format) (meaning job input).end
 
 -- the table of the meaning: from which tick each label is cancelled
 abbrev pub meaning_table : Tree → List ℕ → Table

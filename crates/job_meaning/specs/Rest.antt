@@ -1,11 +1,12 @@
 -- A task that stopped on its way: what it did so far, what is left of it, what that results in, and how much it is.
-use Rattle.std.specs.Prelude.{ℕ, zero, suc, ◌+◌, ◌*◌, Bool, Option, List, [], ◌∷◌, ◌++◌}
+use Rattle.std.specs.Prelude.{ℕ, zero, suc, ◌+◌, ◌*◌, Bool, true, false, Option, List, [], ◌∷◌, ◌++◌}
 use Rattle.job_tree.specs.Tree.{Steps, Handled, Cleaned}
 use Rattle.job_tree.specs.Names.{size_of, handled_size, cleaned_size}
-use Rattle.exc_groups.specs.Exceptions.{Label, Exc}
+use Rattle.exc_groups.specs.Exceptions.{Label, Exc, cancelled}
 use Rattle.cancel_scopes.specs.Sight.{Tick, Level, catches}
 use Rattle.job_meaning.specs.Log.{Entry, Log, nil, entry, sign, entered, task, followed_by, Member, Result}
-use Rattle.job_meaning.specs.Walk.{label_over, in_pass, passes, Stack, Mode, Here, walk, walk_handler, walk_cleanup, done_at, and_then, sleep_result, Kind, a_scope, a_nursery, left_as, Left, left_with, exc_after, with_sign, nursery_result, handler_exc, outcome_after, with_outcome}
+use Rattle.job_meaning.specs.Moments.{Clock, tick_of, a_round_after, Now, only_at}
+use Rattle.job_meaning.specs.Walk.{label_over, in_pass, passes, Stack, Mode, Here, walk, walk_handler, walk_cleanup, done_at, raised_at, and_then, sleep_result, pace_result, from_for, stack_for, Kind, a_scope, a_nursery, left_as, Left, left_with, exc_after, with_sign, nursery_result, handler_exc, outcome_after, with_outcome}
 use Rattle.job_meaning.specs.Asking.{Kernel, answer_of, Purpose, shows, needs, paces, answer_result}
 
 -- What a task did so far, in order. The children that it started are numbered 0, 1, .. within it, and their results are
@@ -83,8 +84,10 @@ pub data Stopped : Type 0 where
   to_begin : Stopped
   -- it asked for a kernel's answer
   asking : (kernel : Kernel) → (purpose : Purpose) → Stopped
-  -- it sleeps this number of ticks from this tick on
-  asleep : (ticks since : ℕ) → Stopped
+  -- it sleeps this number of ticks from this moment on, by `pace` or not
+  asleep : (paced : Bool) → (ticks since : ℕ) → Stopped
+  -- it was cancelled in this moment at a checkpoint, which raises a round later
+  giving_up : (since : ℕ) → Stopped
   -- it waits for these children of a nursery, its innermost one, whose body ended in this tick with this exception or none
   awaiting : (children : List ℕ) → (ended : ℕ) → (exc : Option Exc) → Stopped
   -- it ended
@@ -96,17 +99,20 @@ pub record Rest : Type 0 where
   pub frames : List Frame
 
 -- a block is left: it catches or not, and notes that
-abbrev pub leaving_log : Kind → Label → Left → Result → Result
-leaving_log kind label left r =
+abbrev pub leaving_log : Clock → Kind → Label → Left → Result → Result
+leaving_log clock kind label left r =
     record {
       end = r.end;
-      exc = exc_after kind label r.end left;
+      own = r.own;
+      exc = exc_after kind label (tick_of clock r.end) left;
       members = [];
       log = followed_by r.log (entry r.end (left_as kind label left.caught) nil);
     }
 
-abbrev pub block_left : Kind → Level Label → Stack → Result → Result
-block_left kind level outer r = leaving_log kind level.label (left_with (catches level.from level.shield outer r.end) r.exc) r
+abbrev pub block_left : Clock → Kind → Level Label → Stack → Result → Result
+block_left clock kind level outer r =
+    leaving_log clock kind level.label
+    (left_with (catches (from_for r.own r.end level.label level.from) level.shield (stack_for r.own r.end outer) r.end) r.exc) r
 
 -- a nursery's body with the children that were started before
 abbrev pub with_children : List Member → Result → Result
@@ -118,11 +124,11 @@ unfoldable pub finish : Mode → ChildOutcomes → List Frame → Here → Stack
 finish m told [] here st r = with_sign st r
 finish m told (steps_left ss ∷ fs) here st r = finish m told fs here st (and_then r (λ u. walk m ss (inside fs here) st u))
 finish m told (in_scope fail ∷ fs) here [] r = finish m told fs here [] r
-finish m told (in_scope fail ∷ fs) here (l ∷ outer) r = finish m told fs here outer (block_left (a_scope fail) l outer r)
+finish m told (in_scope fail ∷ fs) here (l ∷ outer) r = finish m told fs here outer (block_left here.clock (a_scope fail) l outer r)
 finish m told (in_nursery children ∷ fs) here [] r = finish m told fs here [] r
 finish m told (in_nursery children ∷ fs) here (l ∷ outer) r =
     finish m told fs here outer
-    (block_left a_nursery l outer (nursery_result l.label (with_children (told_members told children) (with_sign (l ∷ outer) r))))
+    (block_left here.clock a_nursery l outer (nursery_result here.clock l.label (with_children (told_members told children) (with_sign (l ∷ outer) r))))
 finish m told (in_repeat pass left body ∷ fs) here st r =
     finish m told fs here st (and_then r (λ u. passes (suc pass) left (λ i v. walk m body (in_pass i (inside fs here)) st v) u))
 finish m told (in_try handler cleanup ∷ fs) here st r =
@@ -133,29 +139,32 @@ finish m told (in_cleanup outcome ∷ fs) here st r =
     finish m told fs here st (with_outcome (outcome_after outcome r.exc) r)
 
 -- a nursery whose body ended in tick u with this exception or none, after its children have ended too
-abbrev pub wait_result : List Member → ℕ → Option Exc → Level Label → Stack → Result
-wait_result ms u exc l outer = block_left a_nursery l outer (nursery_result l.label (record { end = u; exc = exc; members = ms; log = nil }))
+abbrev pub wait_result : Clock → List Member → ℕ → Option Exc → Level Label → Stack → Result
+wait_result clock ms u exc l outer =
+    block_left clock a_nursery l outer (nursery_result clock l.label (record { end = u; own = []; exc = exc; members = ms; log = nil }))
 
 -- What the rest of a task that stopped in tick t results in, on its stack. An answer comes in the same tick, a sleep ends
 -- when it is due or cancelled, a wait ends with the last child; and a task that ended has nothing left.
-abbrev pub finished_from : Mode → ChildOutcomes → Stopped → List Frame → Here → Stack → ℕ → Result
-finished_from m told to_begin fs here st t = finish m told fs here st (done_at t)
-finished_from m told (asking kernel purpose) fs here st t =
-    finish m told fs here st (answer_result (answer_of kernel here) purpose here st t)
-finished_from m told (asleep n since) fs here st t = finish m told fs here st (sleep_result st n since)
-finished_from m told (awaiting children u exc) fs here [] t = finish m told fs here [] (done_at t)
-finished_from m told (awaiting children u exc) fs here (l ∷ outer) t =
-    finish m told fs here outer (wait_result (told_members told children) u exc l outer)
-finished_from m told (at_end u e) fs here st t = record { end = u; exc = e; members = []; log = nil }
+abbrev pub finished_from : Mode → ChildOutcomes → Stopped → List Frame → Here → Stack → Now → Result
+finished_from m told to_begin fs here st now = finish m told fs here st (done_at now)
+finished_from m told (asking kernel purpose) fs here st now =
+    finish m told fs here st (answer_result (answer_of kernel here) purpose here st now)
+finished_from m told (asleep false n since) fs here st now = finish m told fs here st (sleep_result here.clock st n since)
+finished_from m told (asleep true n since) fs here st now = finish m told fs here st (pace_result here.clock st n since)
+finished_from m told (giving_up since) fs here st now = finish m told fs here st (raised_at cancelled (only_at (suc since)))
+finished_from m told (awaiting children u exc) fs here [] now = finish m told fs here [] (done_at now)
+finished_from m told (awaiting children u exc) fs here (l ∷ outer) now =
+    finish m told fs here outer (wait_result here.clock (told_members told children) u exc l outer)
+finished_from m told (at_end u e) fs here st now = record { end = u; own = []; exc = e; members = []; log = nil }
 
--- what the rest of a task results in, on its stack in tick t
-abbrev pub rest_comes_to : Mode → ChildOutcomes → Rest → Here → Stack → ℕ → Result
-rest_comes_to m told rest here st t = finished_from m told rest.stopped rest.frames here st t
+-- what the rest of a task results in, on its stack
+abbrev pub rest_comes_to : Mode → ChildOutcomes → Rest → Here → Stack → Now → Result
+rest_comes_to m told rest here st now = finished_from m told rest.stopped rest.frames here st now
 
 -- what the whole task results in, with what it did before
-abbrev pub task_comes_to : Mode → ChildOutcomes → List Event → Rest → Here → Stack → ℕ → Result
-task_comes_to m told made rest here st t =
-    let r = rest_comes_to m told rest here st t in
+abbrev pub task_comes_to : Mode → ChildOutcomes → List Event → Rest → Here → Stack → Now → Result
+task_comes_to m told made rest here st now =
+    let r = rest_comes_to m told rest here st now in
     record r { log = followed_by (fill told made) r.log }
 
 -- the rest of a task that was started and has not begun
@@ -183,10 +192,17 @@ asking_weight shows = 1
 asking_weight (needs name) = 1
 asking_weight (paces k) = 2
 
+-- a checkpoint that is cancelled takes two turns
+abbrev pub sleep_weight : Bool → ℕ → ℕ
+sleep_weight paced (suc n) = 1
+sleep_weight true zero = 1
+sleep_weight false zero = 2
+
 abbrev pub stop_weight : Stopped → ℕ
 stop_weight to_begin = 1
 stop_weight (asking kernel purpose) = asking_weight purpose
-stop_weight (asleep n since) = 1
+stop_weight (asleep paced n since) = sleep_weight paced n
+stop_weight (giving_up since) = 1
 stop_weight (awaiting children ended exc) = 1
 stop_weight (at_end u e) = 0
 

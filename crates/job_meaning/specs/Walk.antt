@@ -1,20 +1,15 @@
 -- The walk of a job's steps. It recurses over the tree: it has no queue, no turns and no other task.
-use Rattle.std.specs.Prelude.{ℕ, zero, suc, ◌+◌, ◌-◌, ◌/◌, Bool, true, false, ◌&&◌, Option, Some, None, List, [], ◌∷◌, ◌++◌, nat_le, max, if◌then◌else◌}
+use Rattle.std.specs.Prelude.{ℕ, zero, suc, ◌+◌, ◌-◌, ◌/◌, Bool, true, false, ◌&&◌, ◌||◌, Option, Some, None, List, [], ◌∷◌, ◌++◌, nat_le, max, if◌then◌else◌}
 use Rattle.std.specs.Str.{bytes_eq}
-use Rattle.job_tree.specs.declared.deadline.Deadline.{Deadline}
-use Rattle.job_tree.specs.declared.deadline.Deadline.TheVariants.{Never, After, At}
 use Rattle.job_tree.specs.Tree.{Step, sleep, checkpoint, forever, pace, find, head, longest, need, raise, cancel, scope, nursery, start, repeat, attempt, Steps, stop, step, Handled, unhandled, except, Cleaned, uncleaned, finally}
 use Rattle.buffer_parts.specs.Lines.{Range, Span}
 use Rattle.buffer_parts.specs.Cuts.{cut_of}
 use Rattle.line_kernels.specs.Kernels.{found_in, head_of, longest_in, needed_in, count_in}
 use Rattle.exc_groups.specs.Exceptions.{Label, by_nursery, by_handler, Exc, cancelled, raised, too_slow, group, no_parts, part, parts_of, group_of, holds_cancelled}
 use Rattle.exc_groups.specs.Split.{Wanted, named, is_cancelled, keep, drop}
-use Rattle.cancel_scopes.specs.Sight.{Tick, Level, sight, catches}
-use Rattle.job_meaning.specs.Log.{Entry, line, scope_left, nursery_left, Log, nil, entry, sign, entered, task, followed_by, Member, Result, least_sign, from_by, Table}
-
--- the tick to which `forever` sleeps
-abbrev pub far : ℕ
-far = 1099511627776
+use Rattle.cancel_scopes.specs.Sight.{Tick, Level, earlier, sight, catches}
+use Rattle.job_meaning.specs.Log.{Entry, line, scope_left, nursery_left, Log, nil, entry, sign, entered, task, followed_by, Member, Result, same_label, least_sign, from_by, Table}
+use Rattle.job_meaning.specs.Moments.{Clock, by_ticks, by_rounds, tick_of, a_round_after, wakes_at, gives_up_at, due, far, Now, only_at}
 
 -- the scopes and nurseries that enclose a task, innermost first
 abbrev pub Stack : Type 0
@@ -28,6 +23,7 @@ pub data Mode : Type 0 where
 
 -- where a walk is: the input, the task's part of it, the task's label, and the path of indices
 pub record Here : Type 0 where
+  pub clock : Clock
   pub input : List ℕ
   pub part : Range
   pub task : Label
@@ -38,36 +34,45 @@ abbrev pub label_here : List ℕ → Here → Label
 label_here name here = record { name = name; indices = here.path }
 
 -- nothing happened
-abbrev pub done_at : ℕ → Result
-done_at t = record { end = t; exc = None; members = []; log = nil }
+abbrev pub done_at : Now → Result
+done_at now = record { end = now.at; own = now.own; exc = None; members = []; log = nil }
 
--- an exception in this tick
-abbrev pub raised_at : Exc → ℕ → Result
-raised_at e t = record { end = t; exc = Some e; members = []; log = nil }
+-- an exception in this moment
+abbrev pub raised_at : Exc → Now → Result
+raised_at e now = record { end = now.at; own = now.own; exc = Some e; members = []; log = nil }
+
+-- where a task is after a result
+abbrev pub now_of : Result → Now
+now_of r = record { at = r.end; own = r.own }
 
 -- one result after another: the end and the exception are those of the second
 abbrev pub in_sequence : Result → Result → Result
-in_sequence r q = record { end = q.end; exc = q.exc; members = r.members ++ q.members; log = followed_by r.log q.log }
+in_sequence r q = record { end = q.end; own = q.own; exc = q.exc; members = r.members ++ q.members; log = followed_by r.log q.log }
 
-abbrev pub then_if : Option Exc → Result → (ℕ → Result) → Result
-then_if None r go = in_sequence r (go r.end)
+abbrev pub then_if : Option Exc → Result → (Now → Result) → Result
+then_if None r go = in_sequence r (go (now_of r))
 then_if (Some e) r go = r
 
 -- continues from where a walk ended without an exception; an exception ends it
-unfoldable pub and_then : Result → (ℕ → Result) → Result
+unfoldable pub and_then : Result → (Now → Result) → Result
 and_then r go = then_if r.exc r go
 
--- A checkpoint at which a cancellation is seen raises `Cancelled`, each time (level-triggered cancellation, as in
--- Trio). A sleeper that is due in the tick of its cancellation is cancelled: this is this language's own choice.
-abbrev pub sleep_by_sight : Tick → ℕ → ℕ → Result
-sleep_by_sight None n t = done_at (t + n)
-sleep_by_sight (Some from) n t =
-    if nat_le from t then raised_at cancelled t
-    else (if nat_le from (t + n) then raised_at cancelled from else done_at (t + n))
+-- A wait that cannot end before a moment. A cancellation that is seen by then ends it with `Cancelled`, each time
+-- (level-triggered cancellation, as in Trio); so does a later one up to its end: a sleeper that is due in the moment of its
+-- cancellation is cancelled.
+abbrev pub wait_by_sight : Tick → (least gives_up end : ℕ) → Result
+wait_by_sight None least gives_up end = done_at (only_at end)
+wait_by_sight (Some from) least gives_up end =
+    if nat_le from least then raised_at cancelled (only_at gives_up)
+    else (if nat_le from end then raised_at cancelled (only_at from) else done_at (only_at end))
 
--- a sleep of n ticks from tick t
-unfoldable pub sleep_result : Stack → ℕ → ℕ → Result
-sleep_result stack n t = sleep_by_sight (sight stack) n t
+-- a sleep of n ticks from moment m
+unfoldable pub sleep_result : Clock → Stack → ℕ → ℕ → Result
+sleep_result clock stack n m = wait_by_sight (sight stack) (a_round_after clock m) (gives_up_at clock n m) (wakes_at clock n m)
+
+-- the same for `pace`, which takes one round where its count is 0
+unfoldable pub pace_result : Clock → Stack → ℕ → ℕ → Result
+pace_result clock stack n m = wait_by_sight (sight stack) (a_round_after clock m) (a_round_after clock m) (wakes_at clock n m)
 
 -- how long `pace` sleeps: the count divided by the lines of a tick, rounded up
 abbrev pub pace_ticks : ℕ → ℕ → ℕ
@@ -80,16 +85,20 @@ log_of_lines t [] = nil
 log_of_lines t (l ∷ ls) = entry t (line l) (log_of_lines t ls)
 
 -- a kernel takes no tick and is no checkpoint
-unfoldable pub lines_result : List Span → ℕ → Result
-lines_result lines t = record { end = t; exc = None; members = []; log = log_of_lines t lines }
+unfoldable pub lines_result : List Span → Now → Result
+lines_result lines now = record { end = now.at; own = now.own; exc = None; members = []; log = log_of_lines now.at lines }
 
-abbrev pub need_if : Option Span → List ℕ → Label → ℕ → Result
-need_if (Some l) name label t = lines_result (l ∷ []) t
-need_if None name label t = raised_at (raised name label t) t
+-- an exception with a name, by the task that is here
+unfoldable pub raise_result : List ℕ → Here → Now → Result
+raise_result name here now = raised_at (raised name here.task (tick_of here.clock now.at)) now
+
+abbrev pub need_if : Option Span → List ℕ → Here → Now → Result
+need_if (Some l) name here now = lines_result (l ∷ []) now
+need_if None name here now = raise_result name here now
 
 -- `need` shows the line, or raises where there is none
-unfoldable pub need_result : Option Span → List ℕ → Label → ℕ → Result
-need_result found name label t = need_if found name label t
+unfoldable pub need_result : Option Span → List ℕ → Here → Now → Result
+need_result found name here now = need_if found name here now
 
 abbrev pub label_if : Bool → Label → Option Label → Option Label
 label_if true l o = Some l
@@ -104,15 +113,16 @@ abbrev pub sign_of : Option Label → ℕ → Log
 sign_of None t = nil
 sign_of (Some l) t = sign l t nil
 
--- `cancel` takes no tick and is no checkpoint
-unfoldable pub cancel_result : Option Label → ℕ → Result
-cancel_result label t = record { end = t; exc = None; members = []; log = sign_of label t }
+-- what a task has cancelled in this moment, of which it sees its own part at once where there are rounds
+abbrev pub with_own : Clock → Option Label → List Label → List Label
+with_own by_ticks label own = own
+with_own by_rounds None own = own
+with_own by_rounds (Some l) own = l ∷ own
 
--- the tick of a deadline for a scope that is entered in tick t
-abbrev pub due : Deadline → ℕ → Tick
-due Never t = None
-due (After n) t = Some (t + n)
-due (At n) t = Some n
+-- `cancel` takes no tick and is no checkpoint
+unfoldable pub cancel_result : Clock → Option Label → Now → Result
+cancel_result clock label now =
+    record { end = now.at; own = with_own clock label now.own; exc = None; members = []; log = sign_of label now.at }
 
 -- the exception that remains after a block is left, and whether a `Cancelled` was caught
 pub record Left : Type 0 where
@@ -144,15 +154,16 @@ abbrev pub exc_after : Kind → Label → ℕ → Left → Option Exc
 exc_after (a_scope fail) label t left = slow_if (fail && left.caught) label t left.exc
 exc_after a_nursery label t left = left.exc
 
--- A block that was entered in tick t is left. No child is still open: a nursery waited for its own, and a child is
+-- A block that was entered in moment m is left. No child is still open: a nursery waited for its own, and a child is
 -- started directly in a nursery.
-abbrev pub exit_result : Kind → Label → ℕ → Tick → Left → Result → Result
-exit_result kind label t deadline left r =
+abbrev pub exit_result : Clock → Kind → Label → ℕ → Tick → Left → Result → Result
+exit_result clock kind label m deadline left r =
     record {
       end = r.end;
-      exc = exc_after kind label r.end left;
+      own = r.own;
+      exc = exc_after kind label (tick_of clock r.end) left;
       members = [];
-      log = entered label t deadline (followed_by r.log (entry r.end (left_as kind label left.caught) nil));
+      log = entered label m deadline (followed_by r.log (entry r.end (left_as kind label left.caught) nil));
     }
 
 -- the from of a block, whose inside is walked at each from
@@ -160,15 +171,30 @@ abbrev pub from_of : Mode → Label → Tick → (Tick → Result) → Tick
 from_of two_walks label deadline inside = from_by deadline (least_sign label (inside deadline).log)
 from_of (by_table table) label deadline inside = table label
 
-abbrev pub exit_with_from : Kind → Label → ℕ → Tick → Bool → Stack → Tick → Result → Result
-exit_with_from kind label t deadline shield stack from r =
-    exit_result kind label t deadline (left_with (catches from shield stack r.end) r.exc) r
+-- whether a label is among some
+abbrev pub is_among : Label → List Label → Bool
+is_among l [] = false
+is_among l (k ∷ ks) = same_label l k || is_among l ks
 
--- A scope or a nursery that is entered in tick t: its inside is walked with the block's from.
-unfoldable pub block : Mode → Kind → Label → ℕ → Tick → Bool → Stack → (Tick → Result) → Result
-block mode kind label t deadline shield stack inside =
+-- the from of a label for a task that has cancelled some labels in this moment
+abbrev pub from_for : List Label → ℕ → Label → Tick → Tick
+from_for own m label from = if is_among label own then earlier from (Some m) else from
+
+-- a stack as the task sees it that has cancelled some labels in this moment
+abbrev pub stack_for : List Label → ℕ → Stack → Stack
+stack_for own m [] = []
+stack_for own m (l ∷ ls) = record { label = l.label; shield = l.shield; from = from_for own m l.label l.from } ∷ stack_for own m ls
+
+abbrev pub exit_with_from : Clock → Kind → Label → ℕ → Tick → Bool → Stack → Tick → Result → Result
+exit_with_from clock kind label m deadline shield stack from r =
+    exit_result clock kind label m deadline
+    (left_with (catches (from_for r.own r.end label from) shield (stack_for r.own r.end stack) r.end) r.exc) r
+
+-- A scope or a nursery that is entered in moment m: its inside is walked with the block's from.
+unfoldable pub block : Clock → Mode → Kind → Label → ℕ → Tick → Bool → Stack → (Tick → Result) → Result
+block clock mode kind label m deadline shield stack inside =
     let from = from_of mode label deadline inside in
-    exit_with_from kind label t deadline shield stack from (inside from)
+    exit_with_from clock kind label m deadline shield stack from (inside from)
 
 -- the stack inside a block
 abbrev pub stack_inside : Label → Bool → Tick → Stack → Stack
@@ -182,9 +208,10 @@ abbrev pub sign_if : Option Exc → Option Label → ℕ → Log
 sign_if None label t = nil
 sign_if (Some e) label t = sign_of label t
 
--- A member that ends with any exception cancels its nursery, at the end of its own log.
+-- A member that ends with any exception cancels its nursery, at the end of its own log. It is at its end, so what it has cancelled
+-- in this moment does not count any more.
 unfoldable pub with_sign : Stack → Result → Result
-with_sign stack r = record r { log = followed_by r.log (sign_if r.exc (home_of stack) r.end) }
+with_sign stack r = record r { own = []; log = followed_by r.log (sign_if r.exc (home_of stack) r.end) }
 
 -- the later of an end and those of members
 abbrev pub latest : ℕ → List Member → ℕ
@@ -200,31 +227,33 @@ abbrev pub excs_of : List Member → List Exc
 excs_of [] = []
 excs_of (m ∷ ms) = with_exc m.exc (excs_of ms)
 
--- A nursery ends with its last member. Its exception is one group: the body's first, then the children's in the order
--- of their starts (strict exception groups, as in Trio; the order is this language's own choice).
-unfoldable pub nursery_result : Label → Result → Result
-nursery_result label r =
+-- A nursery is left after its last member and its body ended. Its exception is one group: the body's first, then the
+-- children's in the order of their starts (strict exception groups, as in Trio; the order is this language's own choice).
+unfoldable pub nursery_result : Clock → Label → Result → Result
+nursery_result clock label r =
     record {
-      end = latest r.end r.members;
+      end = a_round_after clock (latest r.end r.members);
+      own = [];
       exc = group_of (by_nursery label) (parts_of (with_exc r.exc (excs_of r.members)));
       members = [];
       log = r.log;
     }
 
--- what a started task adds to its starter's walk, which continues in the same tick
-unfoldable pub child : Label → ℕ → Result → Result
-child label t r =
+-- what a started task adds to its starter's walk, which continues in the same moment; the child began in moment m
+unfoldable pub child : Label → ℕ → Result → Now → Result
+child label m r now =
     record {
-      end = t;
+      end = now.at;
+      own = now.own;
       exc = None;
       members = record { end = r.end; exc = r.exc } ∷ [];
-      log = task label t r.end r.exc r.log nil;
+      log = task label m r.end r.exc r.log nil;
     }
 
 -- the children 0 to k - 1 of a `start .. over`
-abbrev pub each : ℕ → (ℕ → Result) → ℕ → Result
-each zero go t = done_at t
-each (suc k) go t = in_sequence (each k go t) (go k)
+abbrev pub each : ℕ → (ℕ → Result) → Now → Result
+each zero go now = done_at now
+each (suc k) go now = in_sequence (each k go now) (go k)
 
 -- where a pass of a `repeat` is: its number is one index more
 abbrev pub in_pass : ℕ → Here → Here
@@ -232,13 +261,13 @@ in_pass i here = record here { path = here.path ++ i ∷ [] }
 
 -- the given number of passes, numbered from the given number on, each from where the one before it ended without an
 -- exception
-abbrev pub passes : ℕ → ℕ → (ℕ → ℕ → Result) → ℕ → Result
-passes first zero go t = done_at t
-passes first (suc k) go t = and_then (go first t) (λ u. passes (suc first) k go u)
+abbrev pub passes : ℕ → ℕ → (ℕ → Now → Result) → Now → Result
+passes first zero go now = done_at now
+passes first (suc k) go now = and_then (go first now) (λ later. passes (suc first) k go later)
 
 -- where a child is: with its label, on its part
 abbrev pub here_in : Label → Range → Here → Here
-here_in label lent here = record { input = here.input; part = lent; task = label; path = label.indices }
+here_in label lent here = record { clock = here.clock; input = here.input; part = lent; task = label; path = label.indices }
 
 abbrev pub label_over : List ℕ → Here → ℕ → Label
 label_over name here i = record { name = name; indices = here.path ++ i ∷ [] }
@@ -256,17 +285,17 @@ with_outcome e r = record r { exc = e }
 abbrev pub handler_after : Option Exc → Result → Result → Result
 handler_after rest r q = with_outcome (handler_exc q.exc rest) (in_sequence r q)
 
-abbrev pub handler_if_any : Option Exc → Option Exc → Result → (ℕ → Result) → Result
+abbrev pub handler_if_any : Option Exc → Option Exc → Result → (Now → Result) → Result
 handler_if_any None rest r go = r
-handler_if_any (Some matched) rest r go = handler_after rest r (go r.end)
+handler_if_any (Some matched) rest r go = handler_after rest r (go (now_of r))
 
-abbrev pub handler_for : Option Exc → Wanted → Result → (ℕ → Result) → Result
+abbrev pub handler_for : Option Exc → Wanted → Result → (Now → Result) → Result
 handler_for None wanted r go = r
 handler_for (Some e) wanted r go = handler_if_any (keep wanted e) (drop wanted e) r go
 
 -- `except` runs once, if some leaf matches, at the tick at which the body ended (as `except*` in PEP 654; the
 -- exception that results from a handler that raises is this language's own choice)
-unfoldable pub handler_result : Wanted → Result → (ℕ → Result) → Result
+unfoldable pub handler_result : Wanted → Result → (Now → Result) → Result
 handler_result wanted r go = handler_for r.exc wanted r go
 
 abbrev pub outcome_after : Option Exc → Option Exc → Option Exc
@@ -277,47 +306,49 @@ abbrev pub cleanup_after : Result → Result → Result
 cleanup_after r q = with_outcome (outcome_after r.exc q.exc) (in_sequence r q)
 
 -- `finally` always runs; an exception of its own replaces the earlier one
-unfoldable pub cleanup_result : Result → (ℕ → Result) → Result
-cleanup_result r go = cleanup_after r (go r.end)
+unfoldable pub cleanup_result : Result → (Now → Result) → Result
+cleanup_result r go = cleanup_after r (go (now_of r))
 
 unfoldable mutual
-  -- the steps of a block, from a tick on
-  pub walk : Mode → Steps → Here → Stack → ℕ → Result
-  walk m stop here st t = done_at t
-  walk m (step s ss) here st t = and_then (walk_step m s here st t) (λ u. walk m ss here st u)
+  -- the steps of a block, from a moment on
+  pub walk : Mode → Steps → Here → Stack → Now → Result
+  walk m stop here st now = done_at now
+  walk m (step s ss) here st now = and_then (walk_step m s here st now) (λ later. walk m ss here st later)
 
   -- one step
-  pub walk_step : Mode → Step → Here → Stack → ℕ → Result
-  walk_step m (sleep n) here st t = sleep_result st n t
-  walk_step m checkpoint here st t = sleep_result st 0 t
-  walk_step m forever here st t = sleep_result st (far - t) t
-  walk_step m (pace k) here st t = sleep_result st (pace_ticks (count_in here.input here.part) k) t
-  walk_step m (find text) here st t = lines_result (found_in here.input text here.part) t
-  walk_step m (head n) here st t = lines_result (head_of here.input n here.part) t
-  walk_step m longest here st t = lines_result (longest_in here.input here.part) t
-  walk_step m (need text name) here st t = need_result (needed_in here.input text here.part) name here.task t
-  walk_step m (raise name) here st t = raised_at (raised name here.task t) t
-  walk_step m (cancel name) here st t = cancel_result (label_on name st) t
-  walk_step m (scope name deadline shield fail body) here st t =
-      block m (a_scope fail) (label_here name here) t (due deadline t) shield st
-      (λ from. walk m body here (stack_inside (label_here name here) shield from st) t)
-  walk_step m (nursery name deadline shield body) here st t =
-      block m a_nursery (label_here name here) t (due deadline t) shield st
+  pub walk_step : Mode → Step → Here → Stack → Now → Result
+  walk_step m (sleep n) here st now = sleep_result here.clock st n now.at
+  walk_step m checkpoint here st now = sleep_result here.clock st 0 now.at
+  walk_step m forever here st now = sleep_result here.clock st (far - tick_of here.clock now.at) now.at
+  walk_step m (pace k) here st now = pace_result here.clock st (pace_ticks (count_in here.input here.part) k) now.at
+  walk_step m (find text) here st now = lines_result (found_in here.input text here.part) now
+  walk_step m (head n) here st now = lines_result (head_of here.input n here.part) now
+  walk_step m longest here st now = lines_result (longest_in here.input here.part) now
+  walk_step m (need text name) here st now = need_result (needed_in here.input text here.part) name here now
+  walk_step m (raise name) here st now = raise_result name here now
+  walk_step m (cancel name) here st now = cancel_result here.clock (label_on name st) now
+  walk_step m (scope name deadline shield fail body) here st now =
+      block here.clock m (a_scope fail) (label_here name here) now.at (due here.clock deadline now.at) shield st
+      (λ from. walk m body here (stack_inside (label_here name here) shield from st) now)
+  walk_step m (nursery name deadline shield body) here st now =
+      block here.clock m a_nursery (label_here name here) now.at (due here.clock deadline now.at) shield st
       (λ from. let inner = stack_inside (label_here name here) shield from st in
-      nursery_result (label_here name here) (with_sign inner (walk m body here inner t)))
-  walk_step m (start name None body) here st t =
-      child (label_here name here) t (with_sign st (walk m body (here_in (label_here name here) here.part here) st t))
-  walk_step m (start name (Some k) body) here st t =
-      each k (λ i. child (label_over name here i) t
-      (with_sign st (walk m body (here_in (label_over name here i) (cut_of here.input here.part k i) here) st t))) t
-  walk_step m (repeat count body) here st t = passes 0 count (λ i u. walk m body (in_pass i here) st u) t
-  walk_step m (attempt body handler cleanup) here st t =
-      walk_cleanup m cleanup here st (walk_handler m handler here st (walk m body here st t))
+      nursery_result here.clock (label_here name here) (with_sign inner (walk m body here inner now)))
+  walk_step m (start name None body) here st now =
+      let begins = a_round_after here.clock now.at in
+      child (label_here name here) begins (with_sign st (walk m body (here_in (label_here name here) here.part here) st (only_at begins))) now
+  walk_step m (start name (Some k) body) here st now =
+      let begins = a_round_after here.clock now.at in
+      each k (λ i. child (label_over name here i) begins
+      (with_sign st (walk m body (here_in (label_over name here i) (cut_of here.input here.part k i) here) st (only_at begins))) now) now
+  walk_step m (repeat count body) here st now = passes 0 count (λ i later. walk m body (in_pass i here) st later) now
+  walk_step m (attempt body handler cleanup) here st now =
+      walk_cleanup m cleanup here st (walk_handler m handler here st (walk m body here st now))
 
   pub walk_handler : Mode → Handled → Here → Stack → Result → Result
   walk_handler m unhandled here st r = r
-  walk_handler m (except name body) here st r = handler_result (named name) r (λ u. walk m body here st u)
+  walk_handler m (except name body) here st r = handler_result (named name) r (λ later. walk m body here st later)
 
   pub walk_cleanup : Mode → Cleaned → Here → Stack → Result → Result
   walk_cleanup m uncleaned here st r = r
-  walk_cleanup m (finally body) here st r = cleanup_result r (λ u. walk m body here st u)
+  walk_cleanup m (finally body) here st r = cleanup_result r (λ later. walk m body here st later)

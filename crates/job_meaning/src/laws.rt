@@ -22,8 +22,9 @@ pub fn law_monotone_sight()
     ensures lowered { LoweringShows }
 {}
 
-/// If a walk ends with an exception that holds a `Cancelled`, a cancellation is seen on its stack in that tick. No scope encloses
-/// a job, so no `Cancelled` leaves a job.
+/// If a walk by ticks ends with an exception that holds a `Cancelled`, a cancellation is seen on its stack in that tick. No scope
+/// encloses a job, so no `Cancelled` leaves a job of format 1 or 2. By rounds this is false for an arbitrary table; the definition
+/// has an example.
 pub fn law_root()
     ensures walks { CancelledIsSeen }
     ensures jobs { NoneReachesTheRoot }

@@ -84,7 +84,7 @@ shelved_placed : {r : Runner} (b : Batches) (answers : List Answer) → AreShelv
 shelved_placed {r} b answers s current next =
     record {
       consistent = s.consistent;
-      doze = s.doze;
+      stay = s.stay;
       known = s.known;
       current = rw current (placed_same (IsCalled r.task_table r.world) r.batch.current answers s.current);
       next = rw next s.next;
@@ -114,7 +114,7 @@ module _ {r : Runner} (b : Batches) (place : ℕ) (e : Entry) (s : AreShelved No
   shelved_out =
       record {
         consistent = s.consistent;
-        doze = s.doze;
+        stay = s.stay;
         known = s.known;
         current = rw current (all_without (IsCalledEntry r.task_table r.world) r.batch.current place s.current);
         next = rw next s.next;
@@ -147,7 +147,12 @@ pub commits_first : {r : Runner} (b : Batches) (answers : List Answer) → IsUnd
     AllPlaced b.current → IsCommitting r (record r { batch = b })
 commits_first {r} b answers w are current next all =
     record {
-      going = record { sound = w.going.sound; shelved = shelved_placed b answers w.going.shelved current next; interleaving = w.going.interleaving };
+      going = record {
+        sound = w.going.sound;
+        counts = w.going.counts;
+        shelved = shelved_placed b answers w.going.shelved current next;
+        interleaving = w.going.interleaving;
+      };
       right = rw current (answers_right r.batch.current answers are);
       answered = all;
       same = record { job = refl; input = refl; limit = refl };
@@ -162,6 +167,7 @@ module _ {P : Type 0} {picks : P → ℕ → ℕ → P → Type 0} {was r : Runn
       let its = out.its_task in
       record {
         sound = h.going.sound;
+        counts = h.going.counts;
         shelved = rw its (shelved_out b out.place out.entry h.going.shelved out.at_place out.rest out.added);
         interleaving = h.going.interleaving;
       }
@@ -216,7 +222,12 @@ module _ {was r told : Runner} (left b : Batches) (h : IsCommitting was r) (same
       NonePlaced b.current → IsUnderway (record told { batch = b })
   commits_last going unchanged current next fresh =
       record {
-        going = record { sound = going.sound; shelved = turned_over b going.shelved told_over current next; interleaving = going.interleaving };
+        going = record {
+          sound = going.sound;
+          counts = going.counts;
+          shelved = turned_over b going.shelved told_over current next;
+          interleaving = going.interleaving;
+        };
         unchanged = unchanged;
         unplaced = fresh;
         nothing_added = next;

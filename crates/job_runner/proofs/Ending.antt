@@ -1,17 +1,17 @@
 -- A task has ended: what it was before, and what stays of all others.
-use Rattle.std.proofs.Common.{◌≡◌, ◌≢◌, ℕ, ◌<◌, Option, Some, None, refl, ap, sym, ◌∙◌, subst, arith}
-use Rattle.std.specs.Prelude.{All, slice_get, IsSomeAnd}
+use Rattle.std.proofs.Common.{◌≡◌, ◌≢◌, inl, inr, ℕ, ◌+◌, ◌<◌, Option, Some, None, refl, ap, sym, ◌∙◌, subst, arith}
+use Rattle.std.specs.Prelude.{All, slice_get}
 use Rattle.std.specs.Option.{option_map}
+use Rattle.std.proofs.lemmas.Bool.{cases_eq}
 use Rattle.std.proofs.lemmas.Option.{none-some, same_Some}
-use Rattle.autojump_clock.specs.Clock.{due_of}
 use Rattle.batch_commit.specs.declared.entry.Call.{Call}
 use Rattle.batch_commit.specs.declared.entry.Entry.{Entry}
-use Rattle.batch_commit.specs.Batch.{Batches}
 use Rattle.batch_commit.specs.Entries.{Added}
 use Rattle.exc_groups.specs.Held.{exc_of}
 use Rattle.exc_groups.specs.declared.exc.Exc as held
 use Rattle.job_meaning.specs.Follow.{IsSettled}
 use Rattle.job_meaning.specs.Log.{Table}
+use Rattle.job_meaning.specs.Moments.{tick_of}
 use Rattle.nursery_book.specs.Book.{HasNursery}
 use Rattle.nursery_book.specs.declared.book.NurseryBook.{NurseryBook}
 use Rattle.task_machine.specs.declared.stop.Stop.TheVariants as stops
@@ -24,7 +24,7 @@ use Rattle.run_refinement.specs.RunState.{LivesIn, HasHome, Refines}
 use Rattle.run_refinement.specs.Leaving.{EndIsTold, Leaving}
 use Rattle.run_refinement.specs.Ready.{Keeps, AreHomesOf}
 use Rattle.run_refinement.proofs.Found.{finds, puts}
-use Rattle.run_refinement.proofs.Keeping.{homes_left, goes_left}
+use Rattle.run_refinement.proofs.Keeping.{homes_left, goes_left, settled_same}
 use Rattle.run_refinement.proofs.Left.{state_left}
 use Rattle.run_refinement.proofs.Told.{same_owner}
 use Rattle.task_table.specs.declared.task_table.TaskTable.{TaskTable}
@@ -32,12 +32,13 @@ use Rattle.task_table.specs.declared.task_table.Running.{Running}
 use Rattle.task_table.specs.TaskTable.{running_at, task_of, gone_of, parent_of, task_count, IsTaskTable, Ends}
 use Rattle.task_table.proofs.Times.{all_others}
 use Rattle.job_runner.specs.declared.runner.Runner.{Runner}
-use Rattle.job_runner.specs.Shelves.{GoesBy, IsCalled, IsCalledAdded, IsCalledEntry, Dozes, AreKnown, times_shelved, running_times, state_in, IsConsistent, IsRefined, IsGoing}
+use Rattle.job_runner.specs.Shelves.{GoesBy, IsCalled, IsCalledAdded, IsCalledEntry, Stays, AllStay, AreKnown, times_shelved, running_times, state_in, IsConsistent, IsRefined}
 use Rattle.job_runner.specs.Steps.{IsStopping}
 use Rattle.job_runner.proofs.Known.{slots_kept}
 use Rattle.job_runner.proofs.Lived.{LivesBy, lives_by, task_at}
 use Rattle.job_runner.proofs.Options.{some_kept}
-use Rattle.job_runner.proofs.Shelving.{none_away, timer_else}
+use Rattle.job_runner.proofs.Shelving.{timer_else}
+use Rattle.job_runner.proofs.Staying.{stays_still}
 use Rattle.job_runner.proofs.States.{meaning_of, meaning_settled}
 use Rattle.job_runner.proofs.Stopped.{stopped_task}
 
@@ -67,7 +68,7 @@ pub record HasWaiter (r : Runner) (row : ℕ) (home : Home) : Type 0 where
   pub runs : HasNursery r.world.book home.nursery (λ n. slice_get n.children home.place ≡ Some None)
 
 module _ {r : Runner} {task_table : TaskTable} {id row : ℕ} {exc : Option held.Exc} (h : IsStopping id row (stops.Ended exc) r)
-    (e : Ends r.task_table task_table id r.world.tick exc) where
+    (e : Ends r.task_table task_table id (tick_of r.world.clock r.world.tick) exc) where
   -- the row that gets the end is that of the task that stopped
   pub its_row : e.row ≡ row
   its_row =
@@ -134,17 +135,18 @@ module _ {r : Runner} {task_table : TaskTable} {id row : ℕ} {exc : Option held
 
 -- ---- all others
 
-abbrev pub ended_runner : Runner → TaskTable → NurseryBook → Batches → Runner
-ended_runner r task_table book b = record r { task_table = task_table; world = record r.world { book = book }; batch = b }
+-- the runner after the task has left, and its end is recorded
+abbrev pub ended_runner : Runner → TaskTable → NurseryBook → Runner
+ended_runner r task_table book = record r { task_table = task_table; world = record r.world { book = book } }
 
 module _ {r : Runner} {task_table : TaskTable} {id row : ℕ} {exc : Option held.Exc} (h : IsStopping id row (stops.Ended exc) r)
-    (e : Ends r.task_table task_table id r.world.tick exc) (agree : IsTaskTable task_table) (book : NurseryBook)
-    (told : EndIsTold r.world.book book e.task.home (option_map exc_of exc)) (b : Batches) where
+    (e : Ends r.task_table task_table id (tick_of r.world.clock r.world.tick) exc) (agree : IsTaskTable task_table) (book : NurseryBook)
+    (told : EndIsTold r.world.tick r.world.book book e.task.home (option_map exc_of exc)) where
   abbrev world_after : World
   world_after = record r.world { book = book }
 
   left_by : (k : Table) → (settled : IsSettled k r.job.now r.input.now) →
-      Leaving r.world.tick row (state_in r) (state_in (ended_runner r task_table book b)) ((h.interleaving k settled).is.interleaving.at row) e.task
+      Leaving r.world.tick row (state_in r) (state_in (ended_runner r task_table book)) ((h.interleaving k settled).is.interleaving.at row) e.task
       (option_map exc_of exc)
   left_by k settled =
       record {
@@ -164,25 +166,25 @@ module _ {r : Runner} {task_table : TaskTable} {id row : ℕ} {exc : Option held
       at = its_row h e
 
   -- after its end is recorded, the run is one of the definitions, and no end is left to record
-  pub interleaving_after : IsRefined (ended_runner r task_table book b)
+  pub interleaving_after : IsRefined (ended_runner r task_table book)
   interleaving_after k settled =
       let many = e.same.many in
       rw many (state_left k r.job.now r.input.now r.world.tick (task_count r.task_table) row (state_in r)
-      (state_in (ended_runner r task_table book b)) e.task (option_map exc_of exc) (h.interleaving k settled).is (left_by k settled))
+      (state_in (ended_runner r task_table book)) e.task (option_map exc_of exc) (h.interleaving k settled).is (left_by k settled))
 
-  leaving : Leaving r.world.tick row (state_in r) (state_in (ended_runner r task_table book b)) ((state_before h e).interleaving.at row) e.task
+  leaving : Leaving r.world.tick row (state_in r) (state_in (ended_runner r task_table book)) ((state_before h e).interleaving.at row) e.task
       (option_map exc_of exc)
   unfolding state_before
   leaving = left_by (meaning_of r) (meaning_settled r h.sound)
 
-  homes_after : AreHomesOf (state_in (ended_runner r task_table book b)) (parent_of task_table)
+  homes_after : AreHomesOf (state_in (ended_runner r task_table book)) (parent_of task_table)
   homes_after p x home lives is =
       let parent = e.same.parent p in
       rw parent (homes_left (meaning_of r) r.job.now r.input.now r.world.tick (task_count r.task_table) row (state_in r)
-      (state_in (ended_runner r task_table book b)) e.task (option_map exc_of exc) (state_before h e) leaving (parent_of r.task_table)
+      (state_in (ended_runner r task_table book)) e.task (option_map exc_of exc) (state_before h e) leaving (parent_of r.task_table)
       h.shelved.consistent.homes p x home lives is)
 
-  consistent_after : IsConsistent task_table world_after r.clock r.limit r.turns
+  pub consistent_after : IsConsistent task_table world_after r.clock r.limit r.turns
   consistent_after = record {
     agree = agree;
     homes = homes_after;
@@ -196,7 +198,7 @@ module _ {r : Runner} {task_table : TaskTable} {id row : ℕ} {exc : Option held
   goes_after : (x : Task) (call : Call) → GoesBy r.world x call → GoesBy world_after x call
   goes_after x call goes answer wake right is =
       goes_left (meaning_of r) r.job.now r.input.now r.world.tick (task_count r.task_table) row (state_in r)
-      (state_in (ended_runner r task_table book b)) e.task (option_map exc_of exc) (state_before h e) leaving x wake (goes answer wake right is)
+      (state_in (ended_runner r task_table book)) e.task (option_map exc_of exc) (state_before h e) leaving x wake (goes answer wake right is)
 
   called_after : (key : ℕ) (call : Call) → key ≢ id → IsCalled r.task_table r.world key call → IsCalled task_table world_after key call
   called_after key call differs =
@@ -206,24 +208,17 @@ module _ {r : Runner} {task_table : TaskTable} {id row : ℕ} {exc : Option held
   none : times_shelved r.batch r.clock id ≡ 0
   none = h.shelved.away id refl
 
-  dozes_after : (key due : ℕ) → due_of r.clock key ≡ Some due → IsSomeAnd (running_at task_table key) (λ (y : Running). Dozes world_after due y.task)
-  dozes_after key due f =
-      some_kept (running_at r.task_table key) (running_at task_table key) (λ (y : Running). Dozes r.world due y.task)
-      (λ (y : Running). Dozes world_after due y.task) (λ x is. e.others key (timer_else h.shelved key due f) ∙ is)
-      (λ x is d. record {
-        asleep =
-            record {
-              ticks = d.asleep.ticks;
-              since = d.asleep.since;
-              task_state = d.asleep.task_state;
-              due_is = d.asleep.due_is;
-              began = d.asleep.began;
-              later = d.asleep.later;
-            };
-        unseen = d.unseen;
-      }) (h.shelved.doze key due f)
+  -- each other task that has a timer stays until then
+  pub stay_after : AllStay task_table world_after r.clock
+  stay_after key due f =
+      some_kept (running_at r.task_table key) (running_at task_table key) (λ (y : Running). Stays r.world due y.task)
+      (λ (y : Running). Stays world_after due y.task) (λ x is. e.others key (timer_else h.shelved key due f) ∙ is)
+      (λ x is. stays_still r.world world_after x.task due refl refl refl (λ nursery waits over.
+      settled_same (meaning_of r) r.job.now r.input.now r.world.tick (task_count r.task_table) row (state_in r)
+      (state_in (ended_runner r task_table book)) e.task (option_map exc_of exc) (state_before h e) leaving nursery over))
+      (h.shelved.stay key due f)
 
-  known_after : AreKnown task_table world_after r.clock r.sleepers
+  pub known_after : AreKnown task_table world_after r.clock r.sleepers
   known_after = record {
     sleep_slots = λ key. h.shelved.known.sleep_slots key
         ∙ slots_kept r.task_table task_table r.clock (λ other due f. e.others other (timer_else h.shelved other due f)) key;
@@ -237,28 +232,21 @@ module _ {r : Runner} {task_table : TaskTable} {id row : ℕ} {exc : Option held
       all_others (λ (a : Added). a.0) id r.batch.next (omega (arith, no)) (IsCalledAdded r.task_table r.world)
       (IsCalledAdded task_table world_after) h.shelved.next (λ a differs c. called_after a.0 a.1 differs c)
 
-  entries_after : All (IsCalledEntry task_table world_after) r.batch.current
+  pub entries_after : All (IsCalledEntry task_table world_after) r.batch.current
   entries_after =
       let no = none in
       all_others (λ (x : Entry). x.task) id r.batch.current (omega (arith, no)) (IsCalledEntry r.task_table r.world)
       (IsCalledEntry task_table world_after) h.shelved.current (λ x differs c. called_after x.task x.call differs c)
 
-  -- if those that were added may continue, and each is kept as often as it has to be
-  pub ended_going : b.current ≡ r.batch.current → All (IsCalledAdded task_table world_after) b.next →
-      ((other : ℕ) → times_shelved b r.clock other ≡ running_times book (running_at task_table other)) →
-      IsGoing None (ended_runner r task_table book b)
-  ended_going current next once =
-      record {
-        sound = h.sound;
-        shelved =
-            record {
-              consistent = consistent_after;
-              doze = dozes_after;
-              known = known_after;
-              current = rw current entries_after;
-              next = next;
-              once = λ other any. once other;
-              away = none_away (λ (x : ℕ). times_shelved b r.clock x ≡ 0);
-            };
-        interleaving = interleaving_after;
-      }
+  -- a task that ended is kept nowhere, and how often each other one has to be kept
+  pub once_after : (n : ℕ → ℕ) → n id ≡ 0 →
+      ((other : ℕ) → other ≢ id → times_shelved r.batch r.clock other + n other ≡ running_times book (running_at r.task_table other)) →
+      (other : ℕ) → times_shelved r.batch r.clock other + n other ≡ running_times book (running_at task_table other)
+  once_after n none_more kept other =
+      elim (cases_eq other id) [
+        | inl same ↦
+            let a : times_shelved r.batch r.clock id ≡ 0 = none in
+            let gone : running_times book (running_at task_table id) ≡ 0 = ap (running_times book) e.gone in
+            rw same (omega (arith, a, none_more, gone))
+        | inr differs ↦ kept other differs ∙ sym (ap (running_times book) (e.others other differs))
+      ]

@@ -10,6 +10,7 @@ use Rattle.cancel_scopes.specs.Sight.{Tick}
 use Rattle.exc_groups.specs.Exceptions.{Label}
 use Rattle.job_meaning.specs.Follow.{follow}
 use Rattle.job_meaning.specs.Log.{Result, Table}
+use Rattle.job_meaning.specs.Moments.{Clock, by_ticks, by_rounds, clock_of, tick_of}
 use Rattle.job_meaning.specs.Meaning.{From, meaning, meaning_end, meaning_table, root_log, records_of, all_entered, froms_by}
 use Rattle.job_meaning.specs.Shown.{row_of}
 use Rattle.job_meaning.proofs.Settled.{table_is_settled, settled_is_meaning, one_table_is_settled}
@@ -30,6 +31,7 @@ use Rattle.task_table.specs.declared.rows.Ended.{Ended}
 use Rattle.task_table.specs.declared.rows.TaskRow.{TaskRow}
 use Rattle.job_runner.specs.declared.runner.Phase.TheVariants as phases
 use Rattle.job_runner.specs.declared.runner.Runner.{Runner}
+use Rattle.job_runner.specs.Limits.{last_of}
 use Rattle.job_runner.specs.Phases.{phase_by, phase_of}
 use Rattle.task_table.specs.TaskTable.{children_by, run_state, gone_by, gone_from, gone_of, task_count, row_at, running_at, start_by, task_by, task_in, task_of, task_unless}
 use Rattle.task_table.specs.Rows.{AreShown, EndIsShown, IsShown, ShowRecords}
@@ -92,6 +94,11 @@ froms_alike table other same (l ∷ ls) =
     ap (λ (t : Tick). record { label = l; seen = t } ∷ froms_by table ls) (same l)
     ∙ ap (λ (fs : List From). record { label = l; seen = other l } ∷ fs) (froms_alike table other same ls)
 
+-- a moment by the last one of a tick is in that tick or an earlier one
+by_last : (clock : Clock) (m n : ℕ) → m ≤ last_of clock n → tick_of clock m ≤ n
+by_last by_ticks m n le = le
+by_last by_rounds m n le = omega (arith, le)
+
 -- ---- a run that is over
 
 module _ {r : Runner} (w : IsUnderway r) (over : phase_of r ≡ phases.Over) where
@@ -153,7 +160,7 @@ module _ {r : Runner} (w : IsUnderway r) (over : phase_of r ≡ phases.Over) whe
         let names = w.going.sound.names in
         let same : meaning job input ≡ follow table job input = sym (settled_is_meaning table job input names settled) in
         record {
-          rows = is.rows ∙ ap (λ (x : Result). map (row_of input) (records_of (root_log job x))) same;
+          rows = is.rows ∙ ap (λ (x : Result). map (row_of input) (records_of (clock_of job.format) (root_log job x))) same;
           froms =
               is.froms
               ∙ froms_alike (meaning_table job input) table (one_table_is_settled (meaning_table job input) table job input names
@@ -170,6 +177,8 @@ module _ {r : Runner} (w : IsUnderway r) (over : phase_of r ≡ phases.Over) whe
         let end : shows.gone.end ≡ (is_over.rows 0).end = shows.end in
         let means : (is_over.rows 0).end ≡ meaning_end r.job.now r.input.now = is_over.end told.taken told.order in
         let at : shows.gone.end ≡ ended.0.end = ap (λ (g : Gone). g.end) same in
-        let before : ended.0.end ≤ r.world.tick = ended.2.before in
-        let within : r.world.tick ≤ r.limit = w.going.shelved.consistent.within in
-        omega (arith, end, means, at, before, within)
+        let tick : ended.0.end ≡ tick_of r.world.clock ended.2.end = ended.2.tick in
+        let before : ended.2.end ≤ r.world.tick = ended.2.before in
+        let within : r.world.tick ≤ last_of r.world.clock r.limit = w.going.shelved.consistent.within in
+        let by : tick_of r.world.clock ended.2.end ≤ r.limit = by_last r.world.clock ended.2.end r.limit (omega (arith, before, within)) in
+        omega (arith, end, means, at, tick, by)

@@ -8,6 +8,8 @@ use Rattle.std.proofs.lemmas.Option.{none-some}
 use Rattle.autojump_clock.specs.Clock.{Clock, due_of, Updates}
 use Rattle.cancel_scopes.specs.Sight.{Tick, sight}
 use Rattle.cancel_scopes.specs.Tree.{Stack, Tree, is_changed, outer_of}
+use Rattle.task_machine.specs.declared.stop.TaskState.{TaskState}
+use Rattle.task_machine.specs.declared.stop.TaskState.TheVariants.{ToBegin, Asked, Asleep, GivingUp, Awaits, Over}
 use Rattle.task_machine.specs.declared.world.World.{World}
 use Rattle.task_machine.specs.Tasks.{scope_of}
 use Rattle.run_refinement.specs.Sights.{Shows}
@@ -15,7 +17,8 @@ use Rattle.sleepers.specs.Sleeping.{Sleeping, scope_in, sight_of, Moves, KeepsSi
 use Rattle.task_table.specs.declared.task_table.TaskTable.{TaskTable}
 use Rattle.task_table.specs.declared.task_table.Running.{Running}
 use Rattle.task_table.specs.TaskTable.{running_at}
-use Rattle.job_runner.specs.Shelves.{sleep_slot_of, AreKnown, NoneChanged}
+use Rattle.job_runner.specs.Jumps.{sight_asleep}
+use Rattle.job_runner.specs.Shelves.{sleep_slot_of, sleeps_in, AreKnown, NoneChanged}
 
 -- ---- which tasks are known
 
@@ -25,7 +28,16 @@ pub record SleepsIn (task_table : TaskTable) (clock : Clock) (id key : ℕ) : Ty
   pub running : Running
   pub timer : due_of clock id ≡ Some due
   pub lives : running_at task_table id ≡ Some running
-  pub in_scope : scope_of running.task ≡ Some key
+  pub in_scope : sleeps_in running.task.task_state (scope_of running.task) ≡ Some key
+
+-- the scope in which a task sleeps is the one that encloses it
+pub sleeps_inside : (task_state : TaskState) (scope : Option ℕ) (key : ℕ) → sleeps_in task_state scope ≡ Some key → scope ≡ Some key
+sleeps_inside (ToBegin at) scope key e = absurd (none-some key e)
+sleeps_inside (Asked kernel purpose) scope key e = absurd (none-some key e)
+sleeps_inside (Asleep paced ticks since) scope key e = e
+sleeps_inside (GivingUp since) scope key e = absurd (none-some key e)
+sleeps_inside (Awaits id since) scope key e = absurd (none-some key e)
+sleeps_inside Over scope key e = absurd (none-some key e)
 
 -- the effective deadline that is kept of the scope in which a task sleeps
 abbrev pub kept_sight : Sleeping → Option ℕ → Tick
@@ -43,8 +55,8 @@ shown_sight tree key kept unchanged h = by_known h.known
 
 module _ {task_table : TaskTable} {world : World} {clock : Clock} {sleepers : Sleeping} (k : AreKnown task_table world clock sleepers) where
   -- a task that is kept as sleeping in a scope has a timer, and is in that scope
-  pub sleeps_in : (id key : ℕ) → scope_in sleepers id ≡ Some key → SleepsIn task_table clock id key
-  sleeps_in id key e = by_timer (due_of clock id) refl (running_at task_table id) refl (sym (k.sleep_slots id) ∙ e)
+  pub sleeper_in : (id key : ℕ) → scope_in sleepers id ≡ Some key → SleepsIn task_table clock id key
+  sleeper_in id key e = by_timer (due_of clock id) refl (running_at task_table id) refl (sym (k.sleep_slots id) ∙ e)
     where
       by_timer : (d : Option ℕ) → due_of clock id ≡ d → (o : Option Running) → running_at task_table id ≡ o →
           sleep_slot_of (due_of clock id) (running_at task_table id) ≡ Some key → SleepsIn task_table clock id key
@@ -54,40 +66,44 @@ module _ {task_table : TaskTable} {world : World} {clock : Clock} {sleepers : Sl
 
   -- and vice versa
   pub sleep_slot_is : (id due : ℕ) (x : Running) → due_of clock id ≡ Some due → running_at task_table id ≡ Some x →
-      scope_in sleepers id ≡ scope_of x.task
+      scope_in sleepers id ≡ sleeps_in x.task.task_state (scope_of x.task)
   sleep_slot_is id due x e f = rw (e, f) at (k.sleep_slots id)
 
   -- ---- what a sleeper sees, if no scope is marked as changed
 
   -- its effective deadline is the one that is kept of its scope
   pub known_sight : NoneChanged world → (id due : ℕ) (x : Running) → due_of clock id ≡ Some due → running_at task_table id ≡ Some x →
-      sight (outer_of world.scopes (scope_of x.task)) ≡ kept_sight sleepers (scope_of x.task)
-  known_sight unchanged id due x e f = by_scope (scope_of x.task) refl
+      sight_asleep world (scope_of x.task) x.task.task_state ≡ kept_sight sleepers (sleeps_in x.task.task_state (scope_of x.task))
+  known_sight unchanged id due x e f = by_task_state x.task.task_state (sleep_slot_is id due x e f)
     where
-      by_scope : (o : Option ℕ) → scope_of x.task ≡ o → sight (outer_of world.scopes o) ≡ kept_sight sleepers o
+      by_scope : (o : Option ℕ) → scope_in sleepers id ≡ o → sight (outer_of world.scopes o) ≡ kept_sight sleepers o
       by_scope None h = refl
-      by_scope (Some key) h =
-          shown_sight world.scopes key (sight_of sleepers key) (unchanged key) (k.sights id key (sleep_slot_is id due x e f ∙ h))
+      by_scope (Some key) h = shown_sight world.scopes key (sight_of sleepers key) (unchanged key) (k.sights id key h)
 
-  -- a sleeper that sees a cancellation from a tick on, by its scope
+      by_task_state : (task_state : TaskState) → scope_in sleepers id ≡ sleeps_in task_state (scope_of x.task) →
+          sight_asleep world (scope_of x.task) task_state ≡ kept_sight sleepers (sleeps_in task_state (scope_of x.task))
+      by_task_state (ToBegin at) h = refl
+      by_task_state (Asked kernel purpose) h = refl
+      by_task_state (Asleep paced ticks since) h = by_scope (scope_of x.task) h
+      by_task_state (GivingUp since) h = refl
+      by_task_state (Awaits nursery since) h = refl
+      by_task_state Over h = refl
+
+  -- a sleeper that sees a cancellation from a moment on, by its scope
   pub sees_from : NoneChanged world → (id due : ℕ) (x : Running) (t : ℕ) → due_of clock id ≡ Some due → running_at task_table id ≡ Some x →
-      sight (outer_of world.scopes (scope_of x.task)) ≡ Some t → SeesFrom sleepers id t
-  sees_from unchanged id due x t e f sees = by_scope (scope_of x.task) refl
+      sight_asleep world (scope_of x.task) x.task.task_state ≡ Some t → SeesFrom sleepers id t
+  sees_from unchanged id due x t e f sees =
+      by_scope (sleeps_in x.task.task_state (scope_of x.task)) (sleep_slot_is id due x e f) (sym (known_sight unchanged id due x e f) ∙ sees)
     where
-      by_scope : (o : Option ℕ) → scope_of x.task ≡ o → SeesFrom sleepers id t
-      by_scope None h = absurd (none-some t (ap (λ (o : Option ℕ). sight (outer_of world.scopes o)) (sym h) ∙ sees))
-      by_scope (Some key) h =
-          record {
-            scope = key;
-            sleeps = sleep_slot_is id due x e f ∙ h;
-            sight = sym (known_sight unchanged id due x e f ∙ ap (kept_sight sleepers) h) ∙ sees;
-          }
+      by_scope : (o : Option ℕ) → scope_in sleepers id ≡ o → kept_sight sleepers o ≡ Some t → SeesFrom sleepers id t
+      by_scope None h g = absurd (none-some t g)
+      by_scope (Some key) h g = record { scope = key; sleeps = h; sight = g }
 
-  -- a task that is kept as seeing a cancellation from a tick on has that tick as its effective deadline
+  -- a task that is kept as seeing a cancellation from a moment on has that moment as its effective deadline
   pub seen_by : NoneChanged world → (id t : ℕ) → (s : SeesFrom sleepers id t) →
-      (z : SleepsIn task_table clock id s.scope) × (sight (outer_of world.scopes (scope_of z.running.task)) ≡ Some t)
+      (z : SleepsIn task_table clock id s.scope) × (sight_asleep world (scope_of z.running.task) z.running.task.task_state ≡ Some t)
   seen_by unchanged id t s =
-      let z = sleeps_in id s.scope s.sleeps in (
+      let z = sleeper_in id s.scope s.sleeps in (
         z,
         known_sight unchanged id z.due z.running z.timer z.lives ∙ (ap (kept_sight sleepers) z.in_scope ∙ s.sight),
       )

@@ -1,25 +1,30 @@
--- A runner whose clock jumped: whether it may, and its state when the sleepers that may continue
+-- A runner whose clock jumped: whether it may, and its state when the tasks that may continue
 -- are ready.
-use Rattle.std.proofs.Common.{◌≡◌, ◌≢◌, ℕ, ◌<◌, ◌≤◌, Option, Some, None, List, [], ◌∷◌, map, refl, ap, ◌∙◌, arith}
+use Rattle.std.proofs.Common.{◌≡◌, ◌≢◌, ℕ, suc, ◌<◌, ◌≤◌, ◌^◌, max, Option, Some, None, List, [], ◌∷◌, map, refl, ap, sym, ◌∙◌, arith}
+use Rattle.std.specs.Option.{option_map}
 use Rattle.std.proofs.lemmas.List.Elements.{All-map, All-nil}
-use Rattle.autojump_clock.specs.Clock.{Clock, now_of, limit_of, HasTimer, AllLater, JumpsTo, MeetsLimit}
+use Rattle.autojump_clock.specs.Clock as timers
+use Rattle.autojump_clock.specs.Clock.{now_of, limit_of, HasTimer, AllLater, JumpsTo, MeetsLimit}
 use Rattle.batch_commit.specs.declared.entry.Entry.{Entry}
 use Rattle.batch_commit.specs.Batch.{Batches}
 use Rattle.batch_commit.specs.Entries.{Added, NonePlaced, without_answer}
 use Rattle.cancel_scopes.specs.Sight.{Tick}
 use Rattle.job_meaning.specs.Meaning.{meaning_end}
+use Rattle.job_meaning.specs.Moments.{Clock, by_ticks, by_rounds, clock_of, tick_of}
 use Rattle.task_machine.specs.declared.task.Task.{Task}
 use Rattle.task_machine.specs.declared.world.World.{World}
 use Rattle.run_refinement.specs.RunState.{Gone}
 use Rattle.job_runner.specs.declared.runner.Phase.TheVariants as phases
 use Rattle.sleepers.specs.Sleeping.{IsFirst}
 use Rattle.job_runner.specs.declared.runner.Runner.{Runner}
-use Rattle.job_runner.specs.Jumps.{IsNextTick, IsPast, IsWaking, WakesOnly}
+use Rattle.job_runner.specs.Jumps.{IsNextMoment, IsPast, IsWaking, WakesOnly}
+use Rattle.job_runner.specs.Limits.{last_of}
 use Rattle.job_runner.specs.Phases.{phase_by, phase_of}
 use Rattle.task_table.specs.TaskTable.{running_at, task_of, gone_of}
 use Rattle.task_table.specs.Rows.{times}
 use Rattle.job_runner.specs.Shelves.{IsCalledAdded, IsCalledEntry, AreShelved, IsRefined, IsUnderway, NoneChanged, running_times, times_shelved}
-use Rattle.job_runner.proofs.Jumped.{timers_later, cancel_later, has_timer, root_lives, is_next_tick, next_later, interleaving_jumps, ends_later, has_jumped}
+use Rattle.job_runner.proofs.Jumped.{timers_later, cancel_later, has_timer, root_lives, is_next_moment, next_later, interleaving_jumps, ends_later, later_consistent, has_jumped}
+use Rattle.job_runner.proofs.States.{moment_bounded}
 use Rattle.job_runner.proofs.Shelving.{none_away, times_next, times_now}
 
 -- ---- the batch
@@ -46,7 +51,7 @@ pub turned_over : {r : Runner} (batch : Batches) → AreShelved None r → r.bat
 turned_over {r} batch h none current next =
     record {
       consistent = h.consistent;
-      doze = h.doze;
+      stay = h.stay;
       known = h.known;
       current = rw current (All-map (IsCalledEntry r.task_table r.world) without_answer r.batch.next h.next);
       next = rw next (All-nil (IsCalledAdded r.task_table r.world));
@@ -62,7 +67,14 @@ turned_over {r} batch h none current next =
 
 -- ---- a run that is blocked
 
-module _ {r : Runner} (w : IsUnderway r) (blocked : phase_of r ≡ phases.Blocked) {cancel : Tick} (is_first : IsFirst r.sleepers cancel)
+-- a moment after the last one of a tick is in a later tick
+after_last : (clock : Clock) (n m : ℕ) → last_of clock n < m → n < tick_of clock m
+after_last by_ticks n m late = late
+after_last by_rounds n m late = omega (arith, late)
+
+-- the clock is told the moment in which the first sleeper that sees a cancellation continues
+module _ {r : Runner} (w : IsUnderway r) (blocked : phase_of r ≡ phases.Blocked) {first cancel : Tick} (is_first : IsFirst r.sleepers first)
+    (is_cancel : cancel ≡ option_map (max (suc r.world.tick)) first)
   where
     none : r.batch.current ≡ []
     none = (blocked_none r.batch.current (gone_of r.task_table 0) blocked).0
@@ -74,47 +86,56 @@ module _ {r : Runner} (w : IsUnderway r) (blocked : phase_of r ≡ phases.Blocke
     pub none_due : AllLater r.clock (now_of r.clock)
     none_due = timers_later w none
 
-    -- some task sleeps, so the clock has a tick to jump to
+    -- some task has a timer, so the clock has a moment to jump to
     pub some_timer : HasTimer r.clock
     some_timer = has_timer w none 0 root.0 root.1
 
-    -- and the first cancellation that a sleeper sees is later than the clock's tick
+    -- and that of a sleeper that sees a cancellation is later than the clock's
     pub next_cancel_later : (c : ℕ) → cancel ≡ Some c → now_of r.clock < c
-    next_cancel_later c e = cancel_later w none is_first c e
+    next_cancel_later c e = cancel_later w none is_first is_cancel c e
 
     -- past the limit
-    pub past_limit : {clock : Clock} → MeetsLimit r.clock cancel clock → (r.limit ≡ r.limit) × (r.limit < meaning_end r.job.now r.input.now)
+    pub past_limit : {clock : timers.Clock} → MeetsLimit r.clock cancel clock → (r.limit ≡ r.limit) × (r.limit < meaning_end r.job.now r.input.now)
     past_limit m =
-        let le = ends_later w none is_first m.is_next 0 root.0 root.1 in
+        let le = ends_later w none is_first is_cancel m.is_next 0 root.0 root.1 in
         let late : limit_of r.clock < m.next = m.late in
-        let limit : limit_of r.clock ≡ r.limit = w.going.shelved.consistent.limit in
-        (refl, omega (arith, le, late, limit))
+        let limit : limit_of r.clock ≡ last_of r.world.clock r.limit = w.going.shelved.consistent.limit in
+        let past : last_of (clock_of r.job.now.format) r.limit < m.next =
+        (let same : last_of r.world.clock r.limit ≡ last_of (clock_of r.job.now.format) r.limit =
+        ap (λ (c : Clock). last_of c r.limit) w.going.counts in
+        omega (arith, late, limit, same)) in
+        let after = after_last (clock_of r.job.now.format) r.limit m.next past in
+        (refl, omega (arith, le, after))
 
-    -- which the next tick is, by the limit that the run began with
-    pub past_next : {clock : Clock} (limit : ℕ) → limit ≡ r.limit → MeetsLimit r.clock cancel clock → IsPast r limit
+    -- which the next moment is, by the limit that the run began with
+    pub past_next : {clock : timers.Clock} (limit : ℕ) → limit ≡ r.limit → MeetsLimit r.clock cancel clock → IsPast r limit
     past_next limit is m =
         let late : limit_of r.clock < m.next = m.late in
-        let same : limit_of r.clock ≡ r.limit = w.going.shelved.consistent.limit in
-        record { is = is; next = m.next; is_next = is_next_tick w none is_first m.is_next; late = omega (arith, late, same) }
+        let same : limit_of r.clock ≡ last_of r.world.clock r.limit = w.going.shelved.consistent.limit in
+        record { is = is; next = m.next; is_next = is_next_moment w none is_first is_cancel m.is_next; late = omega (arith, late, same) }
 
-    module _ {clock : Clock} {t : ℕ} (jumps : JumpsTo r.clock cancel t clock) where
-      -- the jump takes the world to no earlier tick
+    module _ {clock : timers.Clock} {t : ℕ} (jumps : JumpsTo r.clock cancel t clock) where
+      -- the jump takes the world to no earlier moment
       pub no_earlier : r.world.tick ≤ t
-      no_earlier = let lt = next_later w none is_first jumps.next in omega (arith, lt)
+      no_earlier = let lt = next_later w none is_first is_cancel jumps.next in omega (arith, lt)
+
+      -- nor to one that is too late
+      pub not_too_late : t ≤ 2 ^ 62
+      not_too_late = moment_bounded (later_consistent w none is_first is_cancel jumps.next clock jumps.within jumps.now jumps.limit jumps.timers)
 
       module _ (world : World) (is_world : world ≡ record r.world { tick = t }) where
-        -- the clock jumped to the next tick
-        pub next_tick : (woken : Runner) → woken.world ≡ world → IsNextTick r woken.world.tick
-        next_tick woken same =
+        -- the clock jumped to the next moment
+        pub next_moment : (woken : Runner) → woken.world ≡ world → IsNextMoment r woken.world.tick
+        next_moment woken same =
             let tick : woken.world.tick ≡ t = ap (λ (v : World). v.tick) (same ∙ is_world) in
-            rw tick (is_next_tick w none is_first jumps.next)
+            rw tick (is_next_moment w none is_first is_cancel jumps.next)
 
-        -- the world has reached the clock's tick, and the sleepers that may continue can be woken
+        -- the world has reached the clock's moment, and the tasks that may continue can be woken
         pub jumped : IsWaking (record r { clock = clock; world = world })
-        jumped = rw is_world (has_jumped w none is_first jumps.next clock jumps.within jumps.now jumps.limit jumps.timers)
+        jumped = rw is_world (has_jumped w none is_first is_cancel jumps.next clock jumps.within jumps.now jumps.limit jumps.timers)
 
         is_refined : IsRefined (record r { clock = clock; world = world })
-        is_refined = rw is_world (interleaving_jumps w none is_first jumps.next)
+        is_refined = rw is_world (interleaving_jumps w none is_first is_cancel jumps.next)
 
         unchanged : NoneChanged world
         unchanged = rw is_world w.unchanged
@@ -128,6 +149,9 @@ module _ {r : Runner} (w : IsUnderway r) (blocked : phase_of r ≡ phases.Blocke
             record {
               going = record {
                 sound = (let job = ap (λ (x : Runner). x.job.now) rest in rw job w.going.sound);
+                counts =
+                    ap (λ (x : Runner). x.world.clock) rest ∙ ap (λ (v : World). v.clock) is_world ∙ w.going.counts
+                    ∙ ap (λ (x : Runner). clock_of x.job.now.format) (sym rest);
                 shelved = turned_over batch shelved over current next;
                 interleaving = rw rest is_refined;
               };
@@ -136,7 +160,7 @@ module _ {r : Runner} (w : IsUnderway r) (blocked : phase_of r ≡ phases.Blocke
               nothing_added = next;
             }
 
-        -- first those that see a cancellation are woken, and then those that are due
+        -- first those that see a cancellation are woken, and then those whose moment has come
         pub both_woken : (seen woken : Runner) → WakesOnly (record r { clock = clock; world = world }) seen → WakesOnly seen woken →
             woken ≡ record r { world = world; clock = woken.clock; sleepers = woken.sleepers; batch = woken.batch }
         both_woken seen woken a b = b ∙ ap (λ (x : Runner). record x

@@ -1,9 +1,11 @@
 pub mod Options
 pub mod Goes
+pub mod Staying
 pub mod States
 pub mod Lived
 pub mod Known
 pub mod Shelving
+pub mod Readied
 pub mod Stopped
 pub mod Counting
 pub mod Waking
@@ -20,3 +22,4 @@ pub mod Committing
 pub mod Finishing
 pub mod Opening
 pub mod Telling
+pub mod Lasting

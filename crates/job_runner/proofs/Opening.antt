@@ -9,6 +9,7 @@ use Rattle.batch_commit.specs.declared.entry.Call.TheVariants.{Begin}
 use Rattle.batch_commit.specs.declared.entry.Entry.{Entry}
 use Rattle.batch_commit.specs.Entries.{Added, NonePlaced, without_answer}
 use Rattle.job_meaning.specs.Log.{Table}
+use Rattle.job_meaning.specs.Moments.{Clock, clock_of}
 use Rattle.job_meaning.specs.declared.limits.TheConstants.{MAX_INPUT}
 use Rattle.task_machine.specs.declared.task.Task.{Task}
 use Rattle.run_refinement.specs.Begun.{IsNewWorld, IsRootTask}
@@ -16,10 +17,10 @@ use Rattle.run_refinement.specs.RunState.{Refines}
 use Rattle.run_refinement.specs.Ready.{AreHomesOf}
 use Rattle.run_refinement.proofs.Begun.{state_begun}
 use Rattle.sleepers.specs.Sleeping.{scope_in}
-use Rattle.job_meaning.specs.declared.limits.TheConstants.{LAST_TICK}
 use Rattle.task_table.specs.declared.task_table.Running.{Running}
 use Rattle.job_runner.specs.declared.runner.Runner.{Runner}
 use Rattle.task_table.specs.TaskTable.{parent_of, running_at, task_of, HasRoot, IsTaskTable}
+use Rattle.job_runner.specs.Limits.{last_tick, last_of}
 use Rattle.job_runner.specs.Shelves.{state_in, task_state_times, running_times, timer_times, times_shelved, AreKnown, IsRefined, sleep_slot_of, GoesBy, IsCalledAdded, IsCalledEntry, IsConsistent, IsSoundJob, IsUnderway, NoneChanged}
 use Rattle.task_table.proofs.Times.{one_if, times_cons}
 use Rattle.job_runner.proofs.Goes.{begin_goes}
@@ -28,7 +29,7 @@ use Rattle.job_runner.proofs.Shelving.{none_away, times_next, times_now}
 use Rattle.job_runner.proofs.States.{run_in}
 
 module _ (r : Runner) {root : Task} {id : ℕ} (sound : IsSoundJob r.job.now) (small : length r.input.now ≤ MAX_INPUT)
-    (world : IsNewWorld r.world) (is_root : IsRootTask r.job.now r.input.now root)
+    (world : IsNewWorld r.job.now r.world) (is_root : IsRootTask r.job.now r.input.now root)
     (has : HasRoot r.task_table root id) (turns : r.turns ≡ 0) where
   begun : (k : Table) → Refines k r.job.now r.input.now 0 1 None (state_in r)
   begun k =
@@ -50,7 +51,8 @@ module _ (r : Runner) {root : Task} {id : ℕ} (sound : IsSoundJob r.job.now) (s
           let more : n + 1 ≡ suc n = omega arith in
           none-some task (sym (has.none n) ∙ ap (task_of r.task_table) more ∙ e)
 
-  module _ (agree : IsTaskTable r.task_table) (now : now_of r.clock ≡ 0) (limit : limit_of r.clock ≡ r.limit) (bounded : r.limit ≤ LAST_TICK)
+  module _ (agree : IsTaskTable r.task_table) (now : now_of r.clock ≡ 0) (limit : limit_of r.clock ≡ last_of (clock_of r.job.now.format) r.limit)
+      (bounded : r.limit ≤ last_tick (clock_of r.job.now.format))
       (timers : (task : ℕ) → due_of r.clock task ≡ None)
       (asleep : (task : ℕ) → scope_in r.sleepers task ≡ None) (unchanged : NoneChanged r.world) (before added : List Added)
       (none_before : before ≡ []) (was_added : added ≡ before ++ (id, Begin) ∷ []) (current : r.batch.current ≡ map without_answer added)
@@ -85,9 +87,9 @@ module _ (r : Runner) {root : Task} {id : ℕ} (sound : IsSoundJob r.job.now) (s
       agree = agree;
       homes = homeless;
       now = now ∙ sym world.tick;
-      limit = limit;
+      limit = limit ∙ ap (λ (c : Clock). last_of c r.limit) (sym world.clock);
       within = let none : r.world.tick ≡ 0 = world.tick in omega (arith, none);
-      bounded = bounded;
+      bounded = (let same : last_tick r.world.clock ≡ last_tick (clock_of r.job.now.format) = ap last_tick world.clock in omega (arith, bounded, same));
       none_started = world.started;
     }
 
@@ -101,7 +103,7 @@ module _ (r : Runner) {root : Task} {id : ℕ} (sound : IsSoundJob r.job.now) (s
     root_called =
         rw one_entry (All-cons (IsCalledEntry r.task_table r.world) its_entry []
         (some_has (running_at r.task_table id) (λ (x : Running). GoesBy r.world x.task Begin) (record { task = root; row = 0 }) has.lives
-        (begin_goes r.world root is_root.task_state))
+        (begin_goes r.world root 0 is_root.task_state (sym world.tick)))
         (All-nil (IsCalledEntry r.task_table r.world)))
 
     -- a run that was just opened is underway, with the root in its first batch, ready to begin
@@ -111,10 +113,11 @@ module _ (r : Runner) {root : Task} {id : ℕ} (sound : IsSoundJob r.job.now) (s
           going =
               record {
                 sound = sound;
+                counts = world.clock;
                 shelved =
                     record {
                       consistent = consistent;
-                      doze = λ task due e. absurd (none-some due (sym (timers task) ∙ e));
+                      stay = λ task due e. absurd (none-some due (sym (timers task) ∙ e));
                       known = none_known;
                       current = root_called;
                       next = rw next (All-nil (IsCalledAdded r.task_table r.world));

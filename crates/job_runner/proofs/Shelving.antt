@@ -96,7 +96,7 @@ pub shelved_next : {r : Runner} {id : ℕ} (b : Batches) (call : Call) → AreSh
 shelved_next {r} {id} b call s current next called one =
     record {
       consistent = s.consistent;
-      doze = s.doze;
+      stay = s.stay;
       known = s.known;
       current = rw current s.current;
       next = rw next (All-push (IsCalledAdded r.task_table r.world) r.batch.next (id, call) s.next called);
@@ -113,7 +113,7 @@ pub shelved_waiting : {r : Runner} {id : ℕ} → AreShelved (Some id) r → run
 shelved_waiting {r} {id} s none =
     record {
       consistent = s.consistent;
-      doze = s.doze;
+      stay = s.stay;
       known = s.known;
       current = s.current;
       next = s.next;

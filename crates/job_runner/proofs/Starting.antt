@@ -1,22 +1,26 @@
--- Tasks that were started are taken one by one: each has the next row and a new id, and is ready to begin.
-use Rattle.std.proofs.Common.{◌≡◌, ◌≢◌, ℕ, zero, suc, ◌+◌, ◌<◌, ◌≤◌, inl, inr, Some, None, List, [], ◌∷◌, ◌++◌, length, refl, ap, sym, ◌∙◌, arith}
-use Rattle.std.specs.Prelude.{◌==◌, slice_get}
+-- Tasks that were started are taken one by one: each has the next row and a new id, and begins a round later.
+use Rattle.std.proofs.Common.{◌≡◌, ◌≢◌, ℕ, zero, suc, ◌+◌, ◌<◌, ◌≤◌, inl, inr, true, false, Option, Some, None, List, [], ◌∷◌, ◌++◌, length, refl, ap, sym, ◌∙◌, subst, arith}
+use Rattle.std.specs.Prelude.{◌==◌, slice_get, IsSome, is_some}
 use Rattle.std.proofs.lemmas.Bool.{cases_eq, cases_lt}
 use Rattle.std.proofs.lemmas.Bool.Decides.{eqb_tells}
-use Rattle.std.proofs.lemmas.List.{append-nil, append_assoc, length_push, map-append}
+use Rattle.std.proofs.lemmas.List.{append-nil, append_assoc, length_push}
 use Rattle.std.proofs.lemmas.Option.{none-some, same_Some, slice_get_past, slice_get_within}
+use Rattle.autojump_clock.specs.Clock.{now_of, due_of}
 use Rattle.batch_commit.specs.declared.entry.Call.TheVariants.{Begin}
-use Rattle.batch_commit.specs.Entries.{Added}
+use Rattle.job_meaning.specs.Moments.{Clock, tick_of, a_round_after}
 use Rattle.task_machine.specs.declared.task.Task.{Task}
 use Rattle.task_machine.specs.declared.world.World.{World}
 use Rattle.run_refinement.specs.Turn.{serials_from}
 use Rattle.task_table.specs.declared.task_table.TaskTable.{TaskTable}
+use Rattle.task_table.specs.declared.task_table.Running.{Running}
 use Rattle.task_table.specs.Rows.{times}
 use Rattle.task_table.specs.TaskTable.{running_at, task_of, task_by, start_of, children_of, parent_of, task_count, IsTaskTable, Starts}
 use Rattle.task_table.proofs.Lists.{Changes, changes_push, value_at}
-use Rattle.task_table.proofs.Times.{one_if, one_same, times_none, times_push, times_there}
+use Rattle.task_table.proofs.Times.{one_else, one_if, one_same, times_none, times_push, times_there}
 use Rattle.job_runner.specs.declared.runner.Runner.{Runner}
-use Rattle.job_runner.specs.Steps.{StartsAll, TakesStarted, begin_calls}
+use Rattle.job_runner.specs.Steps.{StartsAll, IsReadied, TakesStarted}
+use Rattle.job_runner.proofs.Readied.{readied_none, readied_more, readied_there, readied_else}
+use Rattle.job_runner.proofs.Stopped.{once_alone}
 
 -- one more serial number after the given number of consecutive ones
 pub serials_more : (m n : ℕ) → serials_from m n ++ (m + n) ∷ [] ≡ serials_from m (n + 1)
@@ -182,48 +186,79 @@ module _ {old mid new : TaskTable} {parent : ℕ} {tasks : List Task} {tick : �
 
 -- ---- the runner
 
+-- the tick in which tasks begin that are started now
+abbrev pub begin_tick : World → ℕ
+begin_tick world = tick_of world.clock (a_round_after world.clock world.tick)
+
 -- some of the tasks that waited in the world were taken
 pub record Taking (old now : Runner) (parent : ℕ) : Type 0 where
   pub taken : List Task
   pub ids : List ℕ
   pub left : old.world.started.items ≡ taken ++ now.world.started.items
-  pub starts : StartsAll old.task_table now.task_table parent taken old.world.tick ids
+  pub starts : StartsAll old.task_table now.task_table parent taken (begin_tick old.world) ids
   pub agree : IsTaskTable now.task_table
   pub world : now.world ≡ record old.world { started = now.world.started }
-  pub current : now.batch.current ≡ old.batch.current
-  pub next : now.batch.next ≡ old.batch.next ++ begin_calls ids
-  pub rest : now ≡ record old { world = now.world; task_table = now.task_table; batch = now.batch }
+  pub ready : IsReadied ids Begin (record old { task_table = now.task_table; world = now.world }) now
+  -- a task that does not live has no timer
+  pub timers : (id : ℕ) → running_at now.task_table id ≡ None → due_of now.clock id ≡ None
 
--- one task was taken from the world: it has the next row and its id, and is ready to begin
+-- one task was taken from the world: it has the next row and its id, and begins a round later
 pub record TakesOne (old now : Runner) (parent : ℕ) : Type 0 where
   pub task : Task
   pub id : ℕ
-  pub first : old.world.started.items ≡ task ∷ now.world.started.items
-  pub world : now.world ≡ record old.world { started = now.world.started }
-  pub starts : Starts old.task_table now.task_table parent task now.world.tick id
-  pub agree : IsTaskTable now.task_table
-  pub current : now.batch.current ≡ old.batch.current
-  pub next : now.batch.next ≡ old.batch.next ++ (id, Begin) ∷ []
-  pub rest : now ≡ record old { world = now.world; task_table = now.task_table; batch = now.batch }
+  pub task_table : TaskTable
+  pub left : World
+  pub first : old.world.started.items ≡ task ∷ left.started.items
+  pub world : left ≡ record old.world { started = left.started }
+  pub starts : Starts old.task_table task_table parent task (begin_tick old.world) id
+  pub agree : IsTaskTable task_table
+  pub ready : IsReadied (id ∷ []) Begin (record old { task_table = task_table; world = left }) now
 
 -- at first no task that waited in the world was taken
-pub taking_none : (r : Runner) (parent : ℕ) → IsTaskTable r.task_table → Taking r r parent
-taking_none r parent agree = record {
+pub taking_none : (r : Runner) (parent : ℕ) → IsTaskTable r.task_table →
+    ((id due : ℕ) → due_of r.clock id ≡ Some due → IsSome (running_at r.task_table id)) → Taking r r parent
+taking_none r parent agree lives = record {
   taken = [];
   ids = [];
   left = refl;
-  starts = starts_none r.task_table parent r.world.tick;
+  starts = starts_none r.task_table parent (begin_tick r.world);
   agree = agree;
   world = refl;
-  current = refl;
-  next = sym (append-nil r.batch.next);
-  rest = refl;
+  ready = readied_none Begin r;
+  timers = λ id none. by_due id (due_of r.clock id) refl none;
 }
+  where
+    by_due : (id : ℕ) (o : Option ℕ) → due_of r.clock id ≡ o → running_at r.task_table id ≡ None → o ≡ None
+    by_due id None e none = refl
+    by_due id (Some due) e none =
+        absurd (let f : false ≡ true = sym (ap (λ (x : Option Running). is_some x) none) ∙ lives id due e in cc)
 
 -- the starter's row is still one of the table's, after tasks were taken
 pub row_there : {old now : Runner} {parent : ℕ} → Taking old now parent → parent < task_count old.task_table →
     parent < task_count now.task_table
 row_there t lt = let more = t.starts.more in omega (arith, lt, more)
+
+-- the clock still shows the moment, which is the world's
+pub taking_now : {old now : Runner} {parent : ℕ} → Taking old now parent → now_of old.clock ≡ old.world.tick → now_of now.clock ≡ old.world.tick
+taking_now t now = t.ready.time.now ∙ now
+
+pub taking_tick : {old now : Runner} {parent : ℕ} → Taking old now parent → now.world.tick ≡ old.world.tick
+taking_tick t = ap (λ (w : World). w.tick) t.world
+
+pub taking_clock : {old now : Runner} {parent : ℕ} → Taking old now parent → now.world.clock ≡ old.world.clock
+taking_clock t = ap (λ (w : World). w.clock) t.world
+
+-- the tick in which they begin is still the same
+pub taking_begins : {old now : Runner} {parent moment begins tick : ℕ} {clock : Clock} → Taking old now parent → clock ≡ old.world.clock →
+    moment ≡ old.world.tick → begins ≡ a_round_after clock moment → tick ≡ tick_of clock begins → tick ≡ begin_tick now.world
+taking_begins {old} {now} {clock = clock} t clock_is moment_is begins_is tick_is =
+    tick_is ∙ ap (tick_of clock) (begins_is ∙ ap (a_round_after clock) moment_is)
+    ∙ ap (λ (c : Clock). tick_of c (a_round_after c old.world.tick)) clock_is ∙ ap begin_tick (sym t.world)
+
+-- a task that is taken has no timer
+pub taken_awake : {old now : Runner} {task_table : TaskTable} {parent tick id : ℕ} {task : Task} → Taking old now parent →
+    Starts now.task_table task_table parent task tick id → due_of now.clock id ≡ None
+taken_awake {id = id} t starts = t.timers id starts.fresh
 
 -- one more task was taken
 pub taking_more : {old mid now : Runner} {parent : ℕ} → Taking old mid parent → parent < task_count old.task_table →
@@ -231,20 +266,45 @@ pub taking_more : {old mid now : Runner} {parent : ℕ} → Taking old mid paren
 taking_more {old} {mid} {now} {parent} t there one = record {
   taken = t.taken ++ one.task ∷ [];
   ids = t.ids ++ one.id ∷ [];
-  left = t.left ∙ ap (λ (ts : List Task). t.taken ++ ts) one.first ∙ sym (append_assoc t.taken (one.task ∷ []) now.world.started.items);
-  starts =
-      (let tick : now.world.tick ≡ old.world.tick = ap (λ (x : World). x.tick) one.world ∙ ap (λ (x : World). x.tick) t.world in
-      let starts = rw tick at one.starts in
-      starts_more t.starts starts there);
-  agree = one.agree;
-  world = one.world ∙ ap (λ (x : World). record x { started = now.world.started }) t.world;
-  current = one.current ∙ t.current;
-  next =
-      one.next ∙ ap (λ (xs : List Added). xs ++ (one.id, Begin) ∷ []) t.next
-      ∙ append_assoc old.batch.next (begin_calls t.ids) ((one.id, Begin) ∷ [])
-      ∙ ap (λ (xs : List Added). old.batch.next ++ xs) (sym (map-append (λ (x : ℕ). (x, Begin)) t.ids (one.id ∷ [])));
-  rest = one.rest ∙ ap (λ (r : Runner). record r { world = now.world; task_table = now.task_table; batch = now.batch }) t.rest;
+  left =
+      t.left ∙ ap (λ (ts : List Task). t.taken ++ ts) one.first ∙ sym (append_assoc t.taken (one.task ∷ []) one.left.started.items)
+      ∙ ap (λ (w : World). (t.taken ++ one.task ∷ []) ++ w.started.items) (sym world_is);
+  starts = rw table_is (starts_more t.starts started there);
+  agree = rw table_is one.agree;
+  world = world_is ∙ one.world ∙ ap (λ (x : World). record x { started = one.left.started }) t.world
+      ∙ ap (λ (x : World). record old.world { started = x.started }) (sym world_is);
+  ready =
+      readied_more (record old { task_table = mid.task_table; world = mid.world }) mid now.task_table now.world
+      (ap (λ (x : World). x.clock) same) (ap (λ (x : World). x.tick) same) t.ready
+      (readied_there mid one.task_table one.left one.ready);
+  timers = timers;
 }
+  where
+    world_is : now.world ≡ one.left
+    world_is = ap (λ (r : Runner). r.world) one.ready.rest
+
+    table_is : now.task_table ≡ one.task_table
+    table_is = ap (λ (r : Runner). r.task_table) one.ready.rest
+
+    same : now.world ≡ record mid.world { started = one.left.started }
+    same = world_is ∙ one.world
+
+    started : Starts mid.task_table one.task_table parent one.task (begin_tick old.world) one.id
+    started =
+        subst (λ (n : ℕ). Starts mid.task_table one.task_table parent one.task n one.id)
+        (ap (λ (w : World). begin_tick w) t.world) one.starts
+
+    timers : (id : ℕ) → running_at now.task_table id ≡ None → due_of now.clock id ≡ None
+    timers id none =
+        elim (cases_eq id one.id) [
+          | inl e ↦
+              let lives = ap (λ (r : TaskTable). running_at r id) table_is ∙ (ap (running_at one.task_table) e ∙ one.starts.lives) in
+              absurd (none-some _ (sym none ∙ lives))
+          | inr differs ↦
+              let gone : running_at one.task_table id ≡ None = sym (ap (λ (r : TaskTable). running_at r id) table_is) ∙ none in
+              readied_else one.ready id (once_alone one.id id ∙ one_else one.id id (λ f. differs (sym f)))
+              (t.timers id (sym (one.starts.others id differs) ∙ gone))
+        ]
 
 -- once no task waits in the world, all that were started are taken
 pub taking_all : {old now : Runner} {parent : ℕ} (w : World) → Taking old now parent → now.world.started.items ≡ [] → w.started.items ≡ [] →
@@ -257,7 +317,13 @@ taking_all {old} {now} {parent} w t none left world = record {
   agree = t.agree;
   world = world ∙ ap (λ (x : World). record x { started = w.started }) t.world;
   none_left = left;
-  current = t.current;
-  next = t.next;
-  rest = ap (λ (r : Runner). record r { world = w }) t.rest;
+  ready =
+      subst (λ (x : World). IsReadied t.ids Begin (record old { task_table = now.task_table; world = x }) (record now { world = x })) (sym world)
+      (record {
+        next = t.ready.next;
+        timers = t.ready.timers;
+        time = t.ready.time;
+        current = t.ready.current;
+        rest = ap (λ (r : Runner). record r { world = record now.world { started = w.started } }) t.ready.rest;
+      });
 }

@@ -1,16 +1,15 @@
 -- The sleepers are updated with each effective deadline (`sight`) that was lowered: the scope is no longer
 -- marked, and they know what it shows.
 use Rattle.std.proofs.Common.{◌≡◌, inl, inr, ℕ, ◌<◌, Bool, true, false, Option, Some, None, List, length, refl, ap, sym, ◌∙◌, subst}
-use Rattle.std.specs.Prelude.{◌⊎◌, IsSomeAnd}
+use Rattle.std.specs.Prelude.{◌⊎◌}
 use Rattle.std.specs.Option.{ForSome}
-use Rattle.autojump_clock.specs.Clock.{due_of}
 use Rattle.batch_commit.specs.declared.entry.Call.{Call}
 use Rattle.cancel_scopes.specs.Sight.{Tick, sight}
 use Rattle.cancel_scopes.specs.Tree.{Tree, stack_of, is_changed, IsOpen, SameMarks, OtherMarksKeep, TakesChanged}
 use Rattle.std.proofs.lemmas.Bool.{cases_eq}
 use Rattle.std.proofs.lemmas.List.Elements.{All-weaker}
 use Rattle.task_machine.specs.declared.stop.TaskState.{TaskState}
-use Rattle.task_machine.specs.declared.stop.TaskState.TheVariants.{Asleep}
+use Rattle.task_machine.specs.declared.stop.TaskState.TheVariants.{ToBegin, Asleep, GivingUp, Awaits}
 use Rattle.task_machine.specs.declared.stop.Wake.{Wake}
 use Rattle.task_machine.specs.declared.stop.Wake.TheVariants as wakes
 use Rattle.task_machine.specs.declared.task.Task.{Task}
@@ -24,10 +23,11 @@ use Rattle.task_table.specs.declared.task_table.TaskTable.{TaskTable}
 use Rattle.task_table.specs.declared.task_table.Running.{Running}
 use Rattle.task_table.specs.TaskTable.{running_at, task_count}
 use Rattle.job_runner.specs.declared.runner.Runner.{Runner}
-use Rattle.job_runner.specs.Shelves.{GoesBy, IsCalled, IsCalledAdded, IsCalledEntry, IsConsistent, Dozes, AreKnown, NoneChanged, state_in, IsRefined, IsGoing}
+use Rattle.job_runner.specs.Shelves.{GoesBy, IsCalled, IsCalledAdded, IsCalledEntry, IsConsistent, Stays, AllStay, AreKnown, NoneChanged, state_in, IsRefined, IsGoing}
 use Rattle.job_runner.specs.Steps.{SeesOnly}
 use Rattle.job_runner.proofs.Counting.{count_below, fewer_below, found_within}
 use Rattle.job_runner.proofs.Options.{some_kept}
+use Rattle.job_runner.proofs.Staying.{stays_still}
 
 -- a world with other scopes marked
 abbrev pub marked : World → List Bool → World
@@ -37,8 +37,11 @@ marked world changed = record world { scopes = record (world.scopes) { changed =
 
 timely_marked : (w : World) (changed : List Bool) (scope : Option ℕ) (task_state : TaskState) (wake : Wake) → IsTimely w scope task_state wake →
     IsTimely (marked w changed) scope task_state wake
-timely_marked w changed scope (Asleep ticks since) wakes.Due h = h
-timely_marked w changed scope (Asleep ticks since) wakes.Seen h = h
+timely_marked w changed scope (ToBegin at) wake h = h
+timely_marked w changed scope (Asleep paced ticks since) wakes.Due h = h
+timely_marked w changed scope (Asleep paced ticks since) wakes.Seen h = h
+timely_marked w changed scope (GivingUp since) wake h = h
+timely_marked w changed scope (Awaits id since) wake h = h
 timely_marked w changed scope _ _ h = h
 
 goes_marked : (w : World) (changed : List Bool) (task : Task) (call : Call) → GoesBy w task call → GoesBy (marked w changed) task call
@@ -99,32 +102,21 @@ module _ {r : Runner} (going : IsGoing None r) (changed : List Bool) (sleepers :
     none_started = going.shelved.consistent.none_started;
   }
 
-  dozes_told : (key due : ℕ) → due_of r.clock key ≡ Some due →
-      IsSomeAnd (running_at r.task_table key) (λ (x : Running). Dozes (marked r.world changed) due x.task)
-  dozes_told key due e =
-      some_kept (running_at r.task_table key) (running_at r.task_table key) (λ (y : Running). Dozes r.world due y.task)
-      (λ (y : Running). Dozes (marked r.world changed) due y.task) (λ x is. is)
-      (λ x is d. record {
-        asleep =
-            record {
-              ticks = d.asleep.ticks;
-              since = d.asleep.since;
-              task_state = d.asleep.task_state;
-              due_is = d.asleep.due_is;
-              began = d.asleep.began;
-              later = d.asleep.later;
-            };
-        unseen = d.unseen;
-      }) (going.shelved.doze key due e)
+  stay_told : AllStay r.task_table (marked r.world changed) r.clock
+  stay_told key due e =
+      some_kept (running_at r.task_table key) (running_at r.task_table key) (λ (y : Running). Stays r.world due y.task)
+      (λ (y : Running). Stays (marked r.world changed) due y.task) (λ x is. is)
+      (λ x is d. stays_still r.world (marked r.world changed) x.task due refl refl refl (λ id waits over. refl) d) (going.shelved.stay key due e)
 
   going_marked : IsGoing None told
   going_marked =
       record {
         sound = going.sound;
+        counts = going.counts;
         shelved =
             record {
               consistent = consistent_told;
-              doze = dozes_told;
+              stay = stay_told;
               known = known;
               current =
                   All-weaker (IsCalledEntry r.task_table r.world) (IsCalledEntry r.task_table (marked r.world changed))

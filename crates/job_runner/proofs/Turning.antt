@@ -1,12 +1,10 @@
 -- A turn of a task of a runner: afterwards it keeps the tasks of the program, of which that one stopped, and the others
 -- are kept as before.
-use Rattle.std.proofs.Common.{◌≡◌, ◌≢◌, ℕ, zero, suc, ◌+◌, ◌<◌, ◌≤◌, inl, inr, Option, Some, None, List, [], ◌∷◌, ◌++◌, length, refl, ap, sym, ◌∙◌, subst, arith}
-use Rattle.std.specs.Prelude.{All, IsSomeAnd, map, slice_get}
+use Rattle.std.proofs.Common.{◌≡◌, ◌≢◌, ℕ, ◌+◌, ◌<◌, ◌≤◌, ◌^◌, inl, inr, Option, Some, None, List, ◌++◌, length, refl, ap, sym, ◌∙◌, subst, arith}
+use Rattle.std.specs.Prelude.{All, IsSome, is_some, IsSomeAnd, slice_get}
 use Rattle.std.proofs.lemmas.Bool.{cases_eq, cases_lt}
-use Rattle.std.proofs.lemmas.List.{map-append}
-use Rattle.std.proofs.lemmas.List.Elements.{All-append, All-cons, All-nil}
 use Rattle.std.proofs.lemmas.Option.{none-some, same_Some, slice_get_within}
-use Rattle.autojump_clock.specs.Clock.{due_of}
+use Rattle.autojump_clock.specs.Clock.{now_of, due_of}
 use Rattle.batch_commit.specs.declared.entry.Call.{Call}
 use Rattle.batch_commit.specs.declared.entry.Call.TheVariants as calls
 use Rattle.batch_commit.specs.declared.entry.Entry.{Entry}
@@ -19,15 +17,18 @@ use Rattle.job_tree.specs.Names.{size_of}
 use Rattle.job_tree.proofs.Sizes.{few_steps}
 use Rattle.job_meaning.specs.Follow.{IsSettled}
 use Rattle.job_meaning.specs.Log.{Table}
+use Rattle.job_meaning.specs.Moments.{Clock, tick_of, a_round_after}
 use Rattle.task_machine.specs.declared.stop.TaskState.{TaskState}
-use Rattle.task_machine.specs.declared.stop.TaskState.TheVariants.{ToBegin, Asked, Asleep, Awaits, Over}
+use Rattle.task_machine.specs.declared.stop.TaskState.TheVariants.{ToBegin, Asked, Asleep, GivingUp, Awaits, Over}
 use Rattle.task_machine.specs.declared.stop.Stop.{Stop}
-use Rattle.task_machine.specs.declared.stop.Stop.TheVariants.{Ask, Sleep, Wait, Ended}
+use Rattle.task_machine.specs.declared.stop.Stop.TheVariants.{Ask, Sleep, GiveUp, Wait, Ended}
 use Rattle.task_machine.specs.declared.stop.Wake.{Wake}
 use Rattle.task_machine.specs.declared.stop.Wake.TheVariants as wakes
 use Rattle.task_machine.specs.declared.task.Task.{Task}
 use Rattle.task_machine.specs.declared.world.World.{World}
 use Rattle.task_machine.specs.Fitting.{blocks_of, waits_of}
+use Rattle.task_machine.specs.Standing.{now_for}
+use Rattle.task_machine.specs.States.{state_of}
 use Rattle.task_machine.specs.Tasks.{scope_of}
 use Rattle.task_machine.specs.Waking.{wake_in}
 use Rattle.interleavings.specs.Interleaving.{Started}
@@ -53,23 +54,28 @@ use Rattle.task_table.specs.declared.task_table.Running.{Running}
 use Rattle.task_table.specs.Rows.{times}
 use Rattle.task_table.specs.TaskTable.{running_at, task_of, gone_of, start_of, children_of, parent_of, task_count, run_state, MayTurn, HasTurn}
 use Rattle.task_table.proofs.Lists.{value_at}
-use Rattle.task_table.proofs.Times.{all_others, place_of, times_append, times_none}
+use Rattle.task_table.proofs.Times.{all_others, place_of, times_none}
 use Rattle.job_runner.specs.declared.runner.Runner.{Runner}
-use Rattle.job_runner.specs.Shelves.{GoesBy, IsCalled, IsCalledAdded, IsCalledEntry, IsConsistent, Dozes, AreKnown, times_shelved, settled_times, task_state_times, running_times, AreShelved, state_in, IsGoing}
-use Rattle.job_runner.specs.Steps.{StartsAll, begin_calls, TakesStarted, IsStopping}
-use Rattle.job_runner.proofs.Goes.{begin_goes}
-use Rattle.job_runner.proofs.Known.{sleeps_in, slots_kept}
+use Rattle.job_runner.specs.Shelves.{GoesBy, IsCalled, IsCalledAdded, IsCalledEntry, IsConsistent, Stays, AllStay, AreKnown, times_shelved, settled_times, task_state_times, running_times, AreShelved, state_in, IsGoing}
+use Rattle.job_runner.specs.Limits.{last_tick, last_of}
+use Rattle.job_runner.specs.Steps.{StartsAll, IsReadied, TakesStarted, IsStopping}
+use Rattle.job_runner.proofs.Known.{sleeper_in, sleeps_inside, slots_kept}
 use Rattle.job_runner.proofs.Lived.{task_at, row_below, rows_apart}
 use Rattle.job_runner.proofs.Options.{some_has, some_is, some_kept, some_of}
-use Rattle.job_runner.proofs.Shelving.{timer_else, times_next, times_now}
-use Rattle.job_runner.proofs.States.{meaning_of, meaning_run, meaning_settled, turns_bounded}
+use Rattle.job_runner.proofs.Readied.{Continues, begin_continues, shelved_ready}
+use Rattle.job_runner.proofs.Shelving.{timer_else}
+use Rattle.job_runner.proofs.Staying.{stays_still}
+use Rattle.job_runner.proofs.States.{meaning_of, meaning_run, meaning_settled, moment_bounded, turns_bounded}
 
 -- ---- a world from which the started tasks were taken
 
 timely_on : (w : World) (x : World) (scope : Option ℕ) (task_state : TaskState) (wake : Wake) → IsTimely w scope task_state wake →
     IsTimely (record w { started = x.started }) scope task_state wake
-timely_on w x scope (Asleep ticks since) wakes.Due h = h
-timely_on w x scope (Asleep ticks since) wakes.Seen h = h
+timely_on w x scope (ToBegin at) wake h = h
+timely_on w x scope (Asleep paced ticks since) wakes.Due h = h
+timely_on w x scope (Asleep paced ticks since) wakes.Seen h = h
+timely_on w x scope (GivingUp since) wake h = h
+timely_on w x scope (Awaits id since) wake h = h
 timely_on w x scope _ _ h = h
 
 goes_on : (w : World) (x : World) (task : Task) (wake : Wake) → MayGo w task wake → MayGo (record w { started = x.started }) task wake
@@ -78,29 +84,18 @@ goes_on w x task wake h = record { fits = h.fits; timely = timely_on w x (scope_
 says_on : (w : World) (x : World) (task : Task) (stop : Stop) → StopSays w task stop → StopSays (record w { started = x.started }) task stop
 says_on w x task (Ask request) h = h
 says_on w x task (Sleep due) h =
-    record { ticks = h.ticks; task_state = h.task_state; short = h.short; due_is = h.due_is; later = h.later; unseen = h.unseen }
-says_on w x task (Wait id) h = record { since = h.since; task_state = h.task_state; there = h.there }
+    record {
+      paced = h.paced;
+      ticks = h.ticks;
+      task_state = h.task_state;
+      short = h.short;
+      due_is = h.due_is;
+      later = h.later;
+      unseen = h.unseen;
+    }
+says_on w x task (GiveUp due) h = record { task_state = h.task_state; due_is = h.due_is }
+says_on w x task (Wait id) h = record { task_state = h.task_state; last = h.last }
 says_on w x task (Ended exc) h = tt
-
--- ---- lists
-
--- what holds of each number holds of each that has to begin
-pub each_begins : (ids : List ℕ) (Q : Added → Type 0) → ((i id : ℕ) → slice_get ids i ≡ Some id → Q (id, calls.Begin)) →
-    All Q (begin_calls ids)
-each_begins [] Q h = All-nil Q
-each_begins (id ∷ ids) Q h = All-cons Q (id, calls.Begin) (begin_calls ids) (h zero id refl) (each_begins ids Q (λ i x e. h (suc i) x e))
-
--- tasks that are ready to begin have these ids
-begin_ids : (ids : List ℕ) → map (λ (a : Added). a.0) (begin_calls ids) ≡ ids
-begin_ids [] = refl
-begin_ids (id ∷ ids) = ap (λ (xs : List ℕ). id ∷ xs) (begin_ids ids)
-
--- how often an id occurs among what was added, followed by tasks that are ready to begin
-pub times_both : (id : ℕ) (added : List Added) (ids : List ℕ) → times_next id (added ++ begin_calls ids) ≡ times_next id added + times id ids
-times_both id added ids =
-    let key : Added → ℕ = λ a. a.0 in
-    ap (times id) (map-append key added (begin_calls ids) ∙ ap (λ (xs : List ℕ). map key added ++ xs) (begin_ids ids))
-    ∙ times_append id (map key added) ids
 
 -- ---- before the turn
 
@@ -126,7 +121,7 @@ turns_few r going =
     let most : most_steps r.job.now.format ≤ 1000000 = few_steps r.job.now.format in
     omega (arith, few, size, most)
 
--- the tick and the number of tasks may be said otherwise
+-- the moment and the number of tasks may be said otherwise
 stopped_in : {k : Table} {job : Job} {input : List ℕ} {t u m n s : ℕ} {stop : Stop} {state : RunState} → t ≡ u → m ≡ n →
     StoppedIn k job input t m s stop state → StoppedIn k job input u n s stop state
 stopped_in e f h = rw (← e, ← f) h
@@ -151,20 +146,31 @@ module _ {id : ℕ} {wake : Wake} {stop : Stop} {r new : Runner} {ro : TaskTable
     abbrev that : RunState
     that = run_state new.task_table w (r.turns + 1)
 
+    -- where those tasks do not continue yet
+    abbrev mid : Runner
+    mid = record r { world = record w { started = new.world.started }; task_table = new.task_table; turns = r.turns + 1 }
+
     abbrev left : Runner
-    left = record r { world = record w { started = new.world.started }; task_table = new.task_table; batch = new.batch; turns = r.turns + 1 }
+    left = record mid { batch = new.batch; clock = new.clock }
+
+    ready : IsReadied takes.ids calls.Begin mid new
+    ready =
+        subst (λ (x : World). IsReadied takes.ids calls.Begin (record r { world = x; task_table = new.task_table; turns = r.turns + 1 }) new)
+        takes.world takes.ready
 
     new_is : new ≡ left
-    new_is = takes.rest ∙ ap (λ (x : World). record r { world = x; task_table = new.task_table; batch = new.batch; turns = r.turns + 1 })
-        takes.world
+    new_is = ready.rest
 
     tick : w.tick ≡ t
     tick = ap (λ (x : World). x.tick) turn.keeps.world
 
+    clock : w.clock ≡ r.world.clock
+    clock = ap (λ (x : World). x.clock) turn.keeps.world
+
     same_many : task_count ro ≡ m
     same_many = turn.same.many
 
-    started_at : StartsAll ro new.task_table s w.started.items w.tick takes.ids
+    started_at : StartsAll ro new.task_table s w.started.items (tick_of w.clock (a_round_after w.clock w.tick)) takes.ids
     started_at = takes.starts
 
     abbrev its : Running
@@ -206,7 +212,9 @@ module _ {id : ℕ} {wake : Wake} {stop : Stop} {r new : Runner} {ro : TaskTable
       other_after = λ p lt differs. started_at.same_task p (below p lt) ∙ turn.same.task p differs;
       gone_after = gone_same;
       start_after = λ p lt. started_at.same_start p (below p lt) ∙ turn.same.start p;
-      start_child = λ i lt. ap (λ (n : ℕ). start_of new.task_table (n + i)) (sym same_many) ∙ started_at.start i lt ∙ tick;
+      start_child = λ i lt.
+          ap (λ (n : ℕ). start_of new.task_table (n + i)) (sym same_many) ∙ started_at.start i lt
+          ∙ ap (λ (x : World). tick_of x.clock (a_round_after x.clock x.tick)) turn.keeps.world;
       more_children =
           started_at.child ∙ ap (λ (xs : List ℕ). xs ++ serials_from (task_count ro) (length w.started.items)) (turn.same.children s)
           ∙ ap (λ (n : ℕ). children_of r.task_table s ++ serials_from n (length w.started.items)) same_many;
@@ -256,8 +264,9 @@ module _ {id : ℕ} {wake : Wake} {stop : Stop} {r new : Runner} {ro : TaskTable
     state : Refines table r.job.now r.input.now t m None (state_in r)
     state = meaning_run r going
 
-    wakes_so : MayWake state.interleaving.froms state.interleaving.tasks t (state.interleaving.at s) (wake_in r.world.book turn.before.task_state wake)
-        (state.interleaving.at s).rest.stopped
+    wakes_so : MayWake state.interleaving.froms state.interleaving.tasks
+        (record { at = t; own = (now_for wake (state_of turn.before r.world)).own }) (state.interleaving.at s)
+        (wake_in r.world.book turn.before.task_state wake) (state.interleaving.at s).rest.stopped
     wakes_so = may_wake table r.job.now r.input.now t m (state_in r) settled going.sound.names going.sound.starts state s turn.before
         turn_taken.task wake may
 
@@ -310,28 +319,19 @@ module _ {id : ℕ} {wake : Wake} {stop : Stop} {r new : Runner} {ro : TaskTable
           goes_on w new.world y.task v (still_goes settled going.sound.names going.sound.starts state T y.row y_below y_else y.task y_task
           y_follows v h)
 
-      dozes_still : (due : ℕ) → Dozes r.world due y.task → Dozes left.world due y.task
-      dozes_still due h =
-          record {
-            asleep =
-                record {
-                  ticks = h.asleep.ticks;
-                  since = h.asleep.since;
-                  task_state = h.asleep.task_state;
-                  due_is = h.asleep.due_is;
-                  began = (let a = h.asleep.began in let b = tick in omega (arith, a, b));
-                  later = (let a = h.asleep.later in let b = tick in omega (arith, a, b));
-                };
-            unseen =
-                ap (λ (v : ℕ). seen (outer_of w.scopes (scope_of y.task)) v) tick
-                ∙ seen_still settled going.sound.names going.sound.starts state T y.row y_below y_else y.task y_task y_follows ∙ h.unseen;
-          }
+      its_stays : (due : ℕ) → Stays r.world due y.task → Stays left.world due y.task
+      its_stays due h =
+          stays_still r.world left.world y.task due clock tick
+          (ap (λ (v : ℕ). seen (outer_of w.scopes (scope_of y.task)) v) tick
+          ∙ seen_still settled going.sound.names going.sound.starts state T y.row y_below y_else y.task y_task y_follows)
+          (λ nursery waits over. nursery_same state T y.row y.task y_else y_task nursery (inr waits)) h
 
       -- a nursery that it waits for is the same
       by_task_state : (h : TaskState) → y.task.task_state ≡ h → task_state_times w.book h ≡ task_state_times r.world.book h
-      by_task_state ToBegin e = refl
+      by_task_state (ToBegin at) e = refl
       by_task_state (Asked kernel purpose) e = refl
-      by_task_state (Asleep ticks since) e = refl
+      by_task_state (Asleep paced ticks since) e = refl
+      by_task_state (GivingUp since) e = refl
       by_task_state (Awaits nursery since) e =
           ap settled_times
           (nursery_same state T y.row y.task y_else y_task nursery
@@ -354,27 +354,27 @@ module _ {id : ℕ} {wake : Wake} {stop : Stop} {r new : Runner} {ro : TaskTable
         (λ (x : Running). GoesBy left.world x.task call) (λ y lives. lived_still key y differs lives)
         (λ y lives h answer v right e. goes_still key y differs lives v (h answer v right e))
 
-    sleeps_still : (key due : ℕ) → due_of r.clock key ≡ Some due →
-        IsSomeAnd (running_at new.task_table key) (λ (z : Running). Dozes left.world due z.task)
-    sleeps_still key due f =
+    stay_still : AllStay new.task_table left.world r.clock
+    stay_still key due f =
         let differs = timer_else going.shelved key due f in
-        some_kept (running_at r.task_table key) (running_at new.task_table key) (λ (z : Running). Dozes r.world due z.task)
-        (λ (z : Running). Dozes left.world due z.task) (λ y lives. lived_still key y differs lives)
-        (λ y lives h. dozes_still key y differs lives due h) (going.shelved.doze key due f)
+        some_kept (running_at r.task_table key) (running_at new.task_table key) (λ (z : Running). Stays r.world due z.task)
+        (λ (z : Running). Stays left.world due z.task) (λ y lives. lived_still key y differs lives)
+        (λ y lives h. its_stays key y differs lives due h) (going.shelved.stay key due f)
 
-    -- a sleeper lives on as it did
+    -- a task that has a timer lives on as it did
     sleeper_same : (key due : ℕ) → due_of r.clock key ≡ Some due → running_at new.task_table key ≡ running_at r.task_table key
     sleeper_same key due f =
-        let y = some_is (running_at r.task_table key) (λ (z : Running). Dozes r.world due z.task) (going.shelved.doze key due f) in
+        let y = some_is (running_at r.task_table key) (λ (z : Running). Stays r.world due z.task) (going.shelved.stay key due f) in
         lived_still key y.0 (timer_else going.shelved key due f) y.1 ∙ sym y.1
 
     sights_still : (key scope : ℕ) → scope_in r.sleepers key ≡ Some scope → Shows left.world.scopes scope (sight_of r.sleepers scope)
     sights_still key scope f =
-        let z = sleeps_in going.shelved.known key scope f in
+        let z = sleeper_in going.shelved.known key scope f in
         let differs = timer_else going.shelved key z.due z.timer in
         let h = shows_still settled going.sound.names going.sound.starts state T z.running.row (y_below key z.running differs z.lives)
         (y_else key z.running differs z.lives) z.running.task
-        (y_task key z.running differs z.lives) (y_follows key z.running differs z.lives) scope z.in_scope (sight_of r.sleepers scope)
+        (y_task key z.running differs z.lives) (y_follows key z.running differs z.lives) scope
+        (sleeps_inside z.running.task.task_state (scope_of z.running.task) scope z.in_scope) (sight_of r.sleepers scope)
         (going.shelved.known.sights key scope f) in
         record { stack = h.stack; opened = h.opened; known = h.known }
 
@@ -385,47 +385,59 @@ module _ {id : ℕ} {wake : Wake} {stop : Stop} {r new : Runner} {ro : TaskTable
       sights = sights_still;
     }
 
-    -- a task that was started has to begin
-    begins : (i : ℕ) (task : Task) → slice_get w.started.items i ≡ Some task → task.task_state ≡ ToBegin
+    -- a task that was started begins a round later
+    begins : (i : ℕ) (task : Task) → slice_get w.started.items i ≡ Some task → task.task_state ≡ ToBegin (a_round_after r.world.clock t)
     begins i task e =
         let started : w.started.items ≡ T.took.tasks = T.took.started
         ∙ ap (λ (ts : List Task). ts ++ T.took.tasks) going.shelved.consistent.none_started in
-        let b = begun_at T.took.numbers_after w.book (blocks_of turn.after.frames.items)
+        let b = begun_at r.world.clock (a_round_after r.world.clock t) T.took.numbers_after w.book (blocks_of turn.after.frames.items)
         (waits_of turn.after.task_state) T.took.tasks T.move.begun
         T.took.begun i task (sym (ap (λ (ts : List Task). slice_get ts i) started) ∙ e) in
         b.2.task_state
 
     new_task : (i key : ℕ) → slice_get takes.ids i ≡ Some key → (task : Task)
-        × (running_at new.task_table key ≡ Some (record { task = task; row = task_count ro + i })) × (task.task_state ≡ ToBegin)
+        × (running_at new.task_table key ≡ Some (record { task = task; row = task_count ro + i }))
+        × (task.task_state ≡ ToBegin (a_round_after r.world.clock t)) × (running_at ro key ≡ None)
     new_task i key e =
         let task = value_at w.started.items i (id_within i key e) in
-        (task.0, (started_at.lives i key task.0 e task.1).1, begins i task.0 task.1)
+        let lives = started_at.lives i key task.0 e task.1 in
+        (task.0, lives.1, begins i task.0 task.1, lives.0)
 
-    called_new : (i key : ℕ) → slice_get takes.ids i ≡ Some key → IsCalled new.task_table left.world key calls.Begin
-    called_new i key e =
+    each_begins : (i key : ℕ) → slice_get takes.ids i ≡ Some key →
+        IsSomeAnd (running_at new.task_table key) (λ (z : Running). Continues mid.world.clock mid.world z.task calls.Begin)
+    each_begins i key e =
         let x = new_task i key e in
-        some_has (running_at new.task_table key) (λ (z : Running). GoesBy left.world z.task calls.Begin)
-        (record { task = x.0; row = task_count ro + i }) x.1 (begin_goes left.world x.0 x.2)
+        some_has (running_at new.task_table key) (λ (z : Running). Continues mid.world.clock mid.world z.task calls.Begin)
+        (record { task = x.0; row = task_count ro + i }) x.1
+        (begin_continues mid.world x.0 (a_round_after r.world.clock t) x.2
+        (sym (ap (λ (v : World). a_round_after v.clock v.tick) turn.keeps.world)))
+
+    -- a task that has a timer lives
+    timed_lives : (key due : ℕ) → due_of r.clock key ≡ Some due → running_at ro key ≡ None → ⊥
+    timed_lives key due f none =
+        let y = some_is (running_at r.task_table key) (λ (z : Running). Stays r.world due z.task) (going.shelved.stay key due f) in
+        none-some y.0 (sym none ∙ (turn.others key (timer_else going.shelved key due f) ∙ y.1))
+
+    -- so no task that was started has one
+    new_awake : (key : ℕ) → 0 < times key takes.ids → due_of r.clock key ≡ None
+    new_awake key some =
+        let at = place_of key takes.ids some in
+        by_due (due_of r.clock key) refl (new_task at.0 key at.1).3
+      where
+        by_due : (o : Option ℕ) → due_of r.clock key ≡ o → running_at ro key ≡ None → o ≡ None
+        by_due None f none = refl
+        by_due (Some due) f none = absurd (timed_lives key due f none)
 
     -- how often each task is kept
-    more_times : (other : ℕ) → times_shelved left.batch r.clock other ≡ times_shelved r.batch r.clock other + times other takes.ids
-    more_times other =
-        let a : times_now other new.batch.current ≡ times_now other r.batch.current = ap (times_now other) takes.current in
-        let b : times_next other new.batch.next ≡ times_next other r.batch.next + times other takes.ids =
-        ap (times_next other) takes.next ∙ times_both other r.batch.next takes.ids in
-        omega (arith, a, b)
-
     once_of : (other : ℕ) → other ≢ id → (o : Option Running) → running_at r.task_table other ≡ o →
-        times_shelved left.batch r.clock other ≡ running_times left.world.book (running_at new.task_table other)
+        times_shelved r.batch r.clock other + times other takes.ids ≡ running_times left.world.book (running_at new.task_table other)
     once_of other differs (Some y) e =
-        let a = more_times other in
         let b : times other takes.ids ≡ 0 = none_new other y differs e in
         let c : times_shelved r.batch r.clock other ≡ running_times r.world.book (running_at r.task_table other) =
         going.shelved.once other differs in
         let d = same_times other y differs e in
-        omega (arith, a, b, c, d)
+        omega (arith, b, c, d)
     once_of other differs None e =
-        let a = more_times other in
         let b : times_shelved r.batch r.clock other ≡ 0 = going.shelved.once other differs ∙ ap (running_times r.world.book) e in
         elim (cases_lt 0 (times other takes.ids)) [
           | inl some ↦
@@ -434,13 +446,13 @@ module _ {id : ℕ} {wake : Wake} {stop : Stop} {r new : Runner} {ro : TaskTable
               let c : times other takes.ids ≤ 1 = started_at.once other in
               let d : running_times left.world.book (running_at new.task_table other) ≡ 1 =
               ap (running_times w.book) x.1 ∙ ap (task_state_times w.book) x.2 in
-              omega (arith, a, b, c, d, some)
+              omega (arith, b, c, d, some)
           | inr few ↦
               let none : times other takes.ids ≡ 0 = omega (arith, few) in
               let nothing : running_at ro other ≡ None = turn.others other differs ∙ e in
               let d : running_times left.world.book (running_at new.task_table other) ≡ 0 =
               ap (running_times w.book) (started_at.others other none ∙ nothing) in
-              omega (arith, a, b, none, d)
+              omega (arith, b, none, d)
         ]
 
     homes_there : AreHomesOf that (parent_of new.task_table)
@@ -455,45 +467,41 @@ module _ {id : ℕ} {wake : Wake} {stop : Stop} {r new : Runner} {ro : TaskTable
       homes = λ p task home lives at. (let h = homes_there p task home lives at in
           record { task = h.task; lives = h.lives; owned = h.owned });
       now = going.shelved.consistent.now ∙ sym tick;
-      limit = going.shelved.consistent.limit;
-      within = (let a = going.shelved.consistent.within in let b = tick in omega (arith, a, b));
-      bounded = going.shelved.consistent.bounded;
+      limit = going.shelved.consistent.limit ∙ ap (λ (x : Clock). last_of x r.limit) (sym clock);
+      within =
+          (let a = going.shelved.consistent.within in
+          let b = tick in
+          let same : last_of w.clock r.limit ≡ last_of r.world.clock r.limit = ap (λ (x : Clock). last_of x r.limit) clock in
+          omega (arith, a, b, same));
+      bounded =
+          (let a = going.shelved.consistent.bounded in
+          let same : last_tick w.clock ≡ last_tick r.world.clock = ap last_tick clock in
+          omega (arith, a, same));
       none_started = takes.none_left;
     }
 
-    entries_still : All (IsCalledEntry new.task_table left.world) new.batch.current
+    entries_still : All (IsCalledEntry new.task_table left.world) r.batch.current
     entries_still =
-        let current = takes.current in
         let none = none_here in
-        rw current (all_others (λ (e : Entry). e.task) id r.batch.current (omega (arith, none)) (IsCalledEntry r.task_table r.world)
-        (IsCalledEntry new.task_table left.world) going.shelved.current (λ e. called_still e.task e.call))
+        all_others (λ (e : Entry). e.task) id r.batch.current (omega (arith, none)) (IsCalledEntry r.task_table r.world)
+        (IsCalledEntry new.task_table left.world) going.shelved.current (λ e. called_still e.task e.call)
 
-    added_still : All (IsCalledAdded new.task_table left.world) new.batch.next
+    added_still : All (IsCalledAdded new.task_table left.world) r.batch.next
     added_still =
-        let next = takes.next in
         let none = none_here in
-        rw next (All-append (IsCalledAdded new.task_table left.world) r.batch.next (begin_calls takes.ids)
-        (all_others (λ (a : Added). a.0) id r.batch.next (omega (arith, none)) (IsCalledAdded r.task_table r.world)
-        (IsCalledAdded new.task_table left.world) going.shelved.next (λ a. called_still a.0 a.1))
-        (each_begins takes.ids (IsCalledAdded new.task_table left.world) called_new))
+        all_others (λ (a : Added). a.0) id r.batch.next (omega (arith, none)) (IsCalledAdded r.task_table r.world)
+        (IsCalledAdded new.task_table left.world) going.shelved.next (λ a. called_still a.0 a.1)
 
-    none_left : times_shelved left.batch r.clock id ≡ 0
-    none_left =
-        let a = more_times id in
-        let b = none_here in
-        let c = not_new id (record { task = turn.after; row = s }) turn.lives in
-        omega (arith, a, b, c)
-
-    shelved_left : AreShelved (Some id) left
-    shelved_left = record {
-      consistent = consistent_left;
-      doze = sleeps_still;
-      known = known_still;
-      current = entries_still;
-      next = added_still;
-      once = λ other differs. once_of other differs (running_at r.task_table other) refl;
-      away = λ key e. (let same = same_Some id key e in rw (← same) none_left);
-    }
+    shelved_left : AreShelved (Some id) new
+    shelved_left =
+        shelved_ready ready started_at.once new_awake each_begins consistent_left stay_still known_still entries_still added_still (Some id)
+        (λ other differs. once_of other differs (running_at r.task_table other) refl)
+        (λ key e.
+        let none : times_shelved r.batch r.clock key ≡ 0 = going.shelved.away key e in
+        let same : id ≡ key = same_Some id key e in
+        let here : times id takes.ids ≡ 0 = not_new id (record { task = turn.after; row = s }) turn.lives in
+        let there : times key takes.ids ≡ times id takes.ids = ap (λ (n : ℕ). times n takes.ids) (sym same) in
+        omega (arith, none, here, there))
 
     lives_left : IsSomeAnd (running_at new.task_table id) (λ (x : Running). (x.row ≡ s) × StopSays left.world x.task stop)
     lives_left =
@@ -506,11 +514,17 @@ module _ {id : ℕ} {wake : Wake} {stop : Stop} {r new : Runner} {ro : TaskTable
               going.sound.starts state turn_taken wakes_so),
         )
 
-    -- the task has stopped, and those that it started are ready to begin
+    -- the task has stopped, and those that it started begin a round later
     pub is_stopping : IsStopping id s stop new
     is_stopping =
         subst (IsStopping id s stop) (sym new_is)
-        (record { sound = going.sound; shelved = shelved_left; lives = lives_left; interleaving = stopped_interleaving })
+        (record {
+          sound = going.sound;
+          counts = clock ∙ going.counts;
+          shelved = subst (AreShelved (Some id)) new_is shelved_left;
+          lives = lives_left;
+          interleaving = stopped_interleaving;
+        })
 
 -- ---- for the code
 
@@ -531,6 +545,24 @@ row_within {id} {r} {ro} row going is turn =
     row_below r.task_table going.shelved.consistent.agree id (record { task = turn.before; row = turn.row }) turn.lived in
     let same : task_count ro ≡ task_count r.task_table = turn.same.many in
     omega (arith, e, lt, same)
+
+-- after a turn each task that has a timer lives
+pub timers_live : {id : ℕ} {r : Runner} {ro : TaskTable} {w : World} {wake : Wake} {stop : Stop} → IsGoing (Some id) r →
+    HasTurn r.task_table ro r.world w id wake stop → (key due : ℕ) → due_of r.clock key ≡ Some due → IsSome (running_at ro key)
+timers_live {r = r} going turn key due e =
+    let y = some_is (running_at r.task_table key) (λ (z : Running). Stays r.world due z.task) (going.shelved.stay key due e) in
+    ap is_some (turn.others key (timer_else going.shelved key due e) ∙ y.1)
+
+-- and the clock shows the world's moment, which is not too late
+pub turn_now : {id : ℕ} {r : Runner} {ro : TaskTable} {w : World} {wake : Wake} {stop : Stop} → IsGoing (Some id) r →
+    HasTurn r.task_table ro r.world w id wake stop → now_of r.clock ≡ w.tick
+turn_now going turn = going.shelved.consistent.now ∙ sym (ap (λ (x : World). x.tick) turn.keeps.world)
+
+pub turn_bounded : {id : ℕ} {r : Runner} {ro : TaskTable} {w : World} {wake : Wake} {stop : Stop} → IsGoing (Some id) r →
+    HasTurn r.task_table ro r.world w id wake stop → w.tick ≤ 2 ^ 62
+turn_bounded going turn =
+    let same = ap (λ (x : World). x.tick) turn.keeps.world in
+    rw same (moment_bounded going.shelved.consistent)
 
 -- after a turn whose started tasks were taken, its task is one that stopped so
 pub goes_stopping : {id : ℕ} {r new : Runner} {ro : TaskTable} {w : World} {wake : Wake} {stop : Stop} (row : ℕ) → IsGoing (Some id) r →

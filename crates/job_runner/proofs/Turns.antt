@@ -6,7 +6,7 @@ use Rattle.batch_commit.specs.declared.entry.Entry.{Entry}
 use Rattle.batch_commit.specs.Entries.{Added, answers_placed, without_answer}
 use Rattle.line_kernels.specs.declared.answers.Answer.{Answer}
 use Rattle.task_machine.specs.declared.stop.Stop.{Stop}
-use Rattle.task_machine.specs.declared.stop.Stop.TheVariants.{Ask, Sleep, Wait, Ended}
+use Rattle.task_machine.specs.declared.stop.Stop.TheVariants.{Ask, Sleep, GiveUp, Wait, Ended}
 use Rattle.task_machine.specs.declared.stop.Wake.{Wake}
 use Rattle.task_machine.specs.declared.world.World.{World}
 use Rattle.task_table.specs.declared.task_table.TaskTable.{TaskTable}
@@ -25,12 +25,13 @@ goes_on {r = r} {ro = ro} {w = w} row at turn takes =
     let same = row_is r row at turn in
     record { task_table = ro; world = w; turn = turn; started = rw same takes }
 
--- ---- the tick stays
+-- ---- the moment stays
 
--- handling a stop keeps the tick
+-- handling a stop keeps the moment
 comes_tick : (id : ℕ) (stop : Stop) (old new : Runner) → ComesOf id stop old new → new.world.tick ≡ old.world.tick
 comes_tick id (Ask request) old new h = ap (λ (w : World). w.tick) h.1
 comes_tick id (Sleep due) old new h = ap (λ (w : World). w.tick) h.1
+comes_tick id (GiveUp due) old new h = ap (λ (w : World). w.tick) h.1
 comes_tick id (Wait nursery) old new h = ap (λ (w : World). w.tick) h.1
 comes_tick id (Ended exc) old new h = ap (λ (w : World). w.tick) h.1
 
@@ -75,5 +76,5 @@ all_turns {picks = picks} {r = r} {before = before} {after = after} was told ans
       task_table = ap (λ (x : Runner). x.task_table) only;
       world = world;
       ready = current ∙ ap (λ (x : Batches). map without_answer x.next) (ap (λ (x : Runner). x.batch) only ∙ same);
-      tick = ap (λ (w : World). w.tick) world ∙ turns_tick picks (with_answers was answers) r before after turns;
+      moment = ap (λ (w : World). w.tick) world ∙ turns_tick picks (with_answers was answers) r before after turns;
     }

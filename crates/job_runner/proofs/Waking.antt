@@ -1,6 +1,6 @@
--- Sleepers in a new tick: which tasks continue, and that the others continue to sleep.
+-- Tasks with a timer in a new moment: which ones continue, and that the others stay.
 use Rattle.std.proofs.Common.{◌≡◌, ◌≢◌, inl, inr, ℕ, ◌<◌, ◌≤◌, Bool, true, false, Option, Some, None, [], ◌∷◌, ◌++◌, length, refl, ap, sym, ◌∙◌, arith, if◌then◌else◌}
-use Rattle.std.specs.Prelude.{IsSome, IsSomeAnd, is_some, ◌==◌, ◌⊎◌}
+use Rattle.std.specs.Prelude.{IsSome, is_some, ◌==◌, ◌⊎◌}
 use Rattle.std.proofs.lemmas.Bool.{le-leb}
 use Rattle.std.proofs.lemmas.Bool.Decides.{eqb_tells, leb_tells}
 use Rattle.std.proofs.lemmas.List.Elements.{All-nil, All-push}
@@ -8,10 +8,9 @@ use Rattle.std.proofs.lemmas.Option.{same_Some, none-some}
 use Rattle.autojump_clock.specs.Clock.{Clock, now_of, due_of, SameTime, Updates, TakesDue, NoneDue}
 use Rattle.batch_commit.specs.declared.entry.Call.{Call}
 use Rattle.batch_commit.specs.declared.entry.Call.TheVariants as calls
-use Rattle.cancel_scopes.specs.Sight.{Tick, is_reached, sight, seen}
-use Rattle.cancel_scopes.specs.Tree.{outer_of}
+use Rattle.cancel_scopes.specs.Sight.{Tick, is_reached}
 use Rattle.task_machine.specs.declared.stop.TaskState.{TaskState}
-use Rattle.task_machine.specs.declared.stop.TaskState.TheVariants.{ToBegin, Asked, Asleep, Awaits, Over}
+use Rattle.task_machine.specs.declared.stop.TaskState.TheVariants.{ToBegin, Asked, Asleep, GivingUp, Awaits, Over}
 use Rattle.task_machine.specs.declared.world.World.{World}
 use Rattle.task_machine.specs.Tasks.{scope_of}
 use Rattle.nursery_book.specs.Nursery.{Nursery, is_settled}
@@ -24,8 +23,8 @@ use Rattle.task_table.specs.TaskTable.{running_at}
 use Rattle.task_table.proofs.Lists.{push_some}
 use Rattle.task_table.proofs.Times.{one_if}
 use Rattle.job_runner.specs.declared.runner.Runner.{Runner}
-use Rattle.job_runner.specs.Jumps.{sight_by, sight_in, Slept, IsAnyNow, IsWaking, NoneSees, WakesOnly}
-use Rattle.job_runner.specs.Shelves.{GoesBy, IsCalled, IsCalledAdded, IsCalledEntry, IsConsistent, Dozes, sleep_slot_of, timer_times, times_shelved, running_times, task_state_times, settled_times, AreShelved}
+use Rattle.job_runner.specs.Jumps.{sight_asleep, sight_by, sight_in, BeganBefore, Stayed, IsAnyNow, IsWaking, NoneSees, WakesOnly}
+use Rattle.job_runner.specs.Shelves.{GoesBy, IsCalled, IsCalledAdded, IsCalledEntry, IsConsistent, DozesIn, Stays, AllStay, sleep_slot_of, timer_times, times_shelved, running_times, task_state_times, settled_times, AreShelved}
 use Rattle.job_runner.proofs.Counting.{count_below, fewer_below, found_within}
 use Rattle.job_runner.proofs.Goes.{due_goes, seen_goes}
 use Rattle.job_runner.proofs.Known.{SleepsIn, seen_by, known_without, sees_from}
@@ -48,9 +47,10 @@ running_most book (Some x) = by_task_state x.task.task_state
     by_settled (Some n) = once_most (is_settled n)
 
     by_task_state : (task_state : TaskState) → task_state_times book task_state ≤ 1
-    by_task_state ToBegin = omega arith
+    by_task_state (ToBegin at) = omega arith
     by_task_state (Asked kernel purpose) = omega arith
-    by_task_state (Asleep ticks since) = omega arith
+    by_task_state (Asleep paced ticks since) = omega arith
+    by_task_state (GivingUp since) = omega arith
     by_task_state (Awaits id since) = by_settled (nursery_at book id)
     by_task_state Over = omega arith
 
@@ -77,24 +77,24 @@ timed n clock = count_below n (λ id. is_some (due_of clock id))
 abbrev pub most_timed : Runner → ℕ
 most_timed r = length r.task_table.live.slots.slots
 
--- ---- a sleeper
+-- ---- a task with a timer
 
 -- the task of a timer
 sleeper : {r : Runner} → IsWaking r → (id due : ℕ) → due_of r.clock id ≡ Some due →
-    (x : Running) × (running_at r.task_table id ≡ Some x) × Slept r.world due x.task
-sleeper {r} h id due e = some_is (running_at r.task_table id) (λ (x : Running). Slept r.world due x.task) (h.slept id due e)
+    (x : Running) × (running_at r.task_table id ≡ Some x) × Stayed r.world due x.task
+sleeper {r} h id due e = some_is (running_at r.task_table id) (λ (x : Running). Stayed r.world due x.task) (h.stayed id due e)
 
 -- if no sleeper is left that sees a cancellation, it sees none
 unseen_sleeper : {r : Runner} (h : IsWaking r) → NoneSees r → (id due : ℕ) (e : due_of r.clock id ≡ Some due) →
-    seen (outer_of r.world.scopes (scope_of (sleeper h id due e).0.task)) r.world.tick ≡ false
+    is_reached (sight_asleep r.world (scope_of (sleeper h id due e).0.task) (sleeper h id due e).0.task.task_state) r.world.tick ≡ false
 unseen_sleeper {r} h unseen id due e =
     let x = sleeper h id due e in
-    some_of (running_at r.task_table id) (λ (y : Running). seen (outer_of r.world.scopes (scope_of y.task)) r.world.tick ≡ false) x.0 x.1
-    (unseen id due e)
+    some_of (running_at r.task_table id)
+    (λ (y : Running). is_reached (sight_asleep r.world (scope_of y.task) y.task.task_state) r.world.tick ≡ false) x.0 x.1 (unseen id due e)
 
 -- ---- one is woken
 
--- a sleeper has no timer any more, sleeps in no scope, and is ready by this call
+-- a task has no timer any more, sleeps in no scope, and is ready by this call
 pub record WakesOne (old new : Runner) (id : ℕ) (call : Call) : Type 0 where
   pub timers : Updates old.clock new.clock id None
   pub time : SameTime old.clock new.clock
@@ -136,7 +136,7 @@ module _ {old new : Runner} {id : ℕ} {call : Call} (h : IsWaking old) (w : Wak
   waking_more called =
       rw w.only (record {
         consistent = consistent_still h.consistent w.time;
-        slept = λ other tick e. h.slept other tick (left other tick e);
+        stayed = λ other tick e. h.stayed other tick (left other tick e);
         known = known_without h.known w.timers w.scopes w.sights;
         unchanged = h.unchanged;
         none_current = w.current ∙ h.none_current;
@@ -169,7 +169,7 @@ seeing_first r h = record { waking = h; only = refl }
 module _ {was old : Runner} {id : ℕ} {sleepers : Sleeping} (s : IsSeeing was old) (takes : TakesSeen old.sleepers sleepers id old.world.tick)
   where
     seer : (z : SleepsIn old.task_table old.clock id takes.sees.scope)
-        × (sight (outer_of old.world.scopes (scope_of z.running.task)) ≡ Some takes.from)
+        × (sight_asleep old.world (scope_of z.running.task) z.running.task.task_state ≡ Some takes.from)
     seer = seen_by s.waking.known s.waking.unchanged id takes.from takes.sees
 
     -- it has a timer
@@ -180,8 +180,8 @@ module _ {was old : Runner} {id : ℕ} {sleepers : Sleeping} (s : IsSeeing was o
     seer_called =
         let x = sleeper s.waking id seer.0.due seer.0.timer in
         let same : seer.0.running ≡ x.0 = same_Some seer.0.running x.0 (sym seer.0.lives ∙ x.1) in
-        let saw : seen (outer_of old.world.scopes (scope_of x.0.task)) old.world.tick ≡ true =
-        ap (λ (y : Running). seen (outer_of old.world.scopes (scope_of y.task)) old.world.tick) (sym same)
+        let saw : is_reached (sight_asleep old.world (scope_of x.0.task) x.0.task.task_state) old.world.tick ≡ true =
+        ap (λ (y : Running). is_reached (sight_asleep old.world (scope_of y.task) y.task.task_state) old.world.tick) (sym same)
         ∙ (ap (λ (t : Tick). is_reached t old.world.tick) seer.1 ∙ le-leb takes.from old.world.tick takes.come) in
         some_has (running_at old.task_table id) (λ (y : Running). GoesBy old.world y.task calls.Seen) x.0 x.1
         (seen_goes old.world seer.0.due x.0.task x.2 saw)
@@ -206,7 +206,7 @@ module _ {was r : Runner} (sleepers : Sleeping) (s : IsSeeing was r) (none : Non
   pub seen_waking : IsWaking all_seen
   seen_waking = record {
     consistent = s.waking.consistent;
-    slept = s.waking.slept;
+    stayed = s.waking.stayed;
     known =
         record {
           sleep_slots = λ id. none.scopes id ∙ s.waking.known.sleep_slots id;
@@ -224,11 +224,12 @@ module _ {was r : Runner} (sleepers : Sleeping) (s : IsSeeing was r) (none : Non
   pub seen_unseen : NoneSees all_seen
   seen_unseen id due e =
       let x = sleeper s.waking id due e in
-      some_has (running_at r.task_table id) (λ (x : Running). seen (outer_of r.world.scopes (scope_of x.task)) r.world.tick ≡ false) x.0 x.1
-      (by_sight x.0 x.1 (sight (outer_of r.world.scopes (scope_of x.0.task))) refl)
+      some_has (running_at r.task_table id)
+      (λ (x : Running). is_reached (sight_asleep r.world (scope_of x.task) x.task.task_state) r.world.tick ≡ false) x.0 x.1
+      (by_sight x.0 x.1 (sight_asleep r.world (scope_of x.0.task) x.0.task.task_state) refl)
     where
-      by_sight : (x : Running) → running_at r.task_table id ≡ Some x → (t : Tick) → sight (outer_of r.world.scopes (scope_of x.task)) ≡ t →
-          is_reached t r.world.tick ≡ false
+      by_sight : (x : Running) → running_at r.task_table id ≡ Some x → (t : Tick) →
+          sight_asleep r.world (scope_of x.task) x.task.task_state ≡ t → is_reached t r.world.tick ≡ false
       by_sight x lives None f = refl
       by_sight x lives (Some from) f =
           let later : r.world.tick < from =
@@ -275,7 +276,17 @@ module _ {was old : Runner} {id : ℕ} {clock : Clock} (s : IsDue was old) (take
     pub due_fewer : timed (most_timed was) new.clock < timed (most_timed was) old.clock
     due_fewer = fewer s.waking w takes.due takes.had was s.only
 
--- none is left: the others sleep on, and somebody was woken
+-- a sleeper that fell asleep before and sees no cancellation dozes on
+dozes_on : (world : World) (scope : Option ℕ) (task_state : TaskState) → BeganBefore world.tick task_state →
+    is_reached (sight_asleep world scope task_state) world.tick ≡ false → DozesIn world scope task_state
+dozes_on world scope (ToBegin at) began unseen = tt
+dozes_on world scope (Asked kernel purpose) began unseen = tt
+dozes_on world scope (Asleep paced ticks since) began unseen = (let a : since < world.tick = began in omega (arith, a), inl unseen)
+dozes_on world scope (GivingUp since) began unseen = tt
+dozes_on world scope (Awaits id since) began unseen = tt
+dozes_on world scope Over began unseen = tt
+
+-- none is left: the others stay, and somebody was woken
 module _ {was r : Runner} (clock : Clock) (s : IsDue was r) (none : NoneDue r.clock clock) where
   abbrev all_due : Runner
   all_due = record r { clock = clock }
@@ -286,27 +297,20 @@ module _ {was r : Runner} (clock : Clock) (s : IsDue was r) (none : NoneDue r.cl
       let b : now_of r.clock ≡ r.world.tick = s.waking.consistent.now in
       omega (arith, a, b)
 
-  dozes : (id due : ℕ) → due_of r.clock id ≡ Some due → IsSomeAnd (running_at r.task_table id) (λ (x : Running). Dozes r.world due x.task)
-  dozes id due e =
+  stay : AllStay r.task_table r.world r.clock
+  stay id due e =
       let x = sleeper s.waking id due e in
-      some_has (running_at r.task_table id) (λ (y : Running). Dozes r.world due y.task) x.0 x.1
+      some_has (running_at r.task_table id) (λ (y : Running). Stays r.world due y.task) x.0 x.1
       (record {
-        asleep =
-            record {
-              ticks = x.2.ticks;
-              since = x.2.since;
-              task_state = x.2.task_state;
-              due_is = x.2.due_is;
-              began = (let a = x.2.began in omega (arith, a));
-              later = later id due e;
-            };
-        unseen = unseen_sleeper s.waking s.unseen id due e;
+        due_is = x.2.due_is;
+        later = later id due e;
+        dozes = dozes_on r.world (scope_of x.0.task) x.0.task.task_state x.2.began (unseen_sleeper s.waking s.unseen id due e);
       })
 
   pub due_shelved : AreShelved None all_due
   due_shelved = record {
     consistent = consistent_still s.waking.consistent none.unchanged.time;
-    doze = λ id due e. dozes id due (sym (none.unchanged.timers id) ∙ e);
+    stay = λ id due e. stay id due (sym (none.unchanged.timers id) ∙ e);
     known =
         record {
           sleep_slots = λ id. s.waking.known.sleep_slots id ∙ ap (λ (d : Option ℕ). sleep_slot_of d (running_at r.task_table id))

@@ -1,72 +1,97 @@
--- What a jump of the clock does: to which tick, and which tasks continue then.
-use Rattle.std.specs.Prelude.{◌≡◌, ◌≢◌, ◌⊎◌, ℕ, ◌+◌, ◌<◌, ◌≤◌, true, false, Option, Some, None, [], All, IsSomeAnd}
-use Rattle.autojump_clock.specs.Clock.{Clock, due_of}
-use Rattle.cancel_scopes.specs.Sight.{Tick, is_reached, seen, sight}
+-- What a jump of the clock does: to which moment, and which tasks continue then.
+use Rattle.std.specs.Prelude.{◌≡◌, ◌≢◌, ◌⊎◌, ℕ, suc, ◌<◌, ◌≤◌, max, true, false, Option, Some, None, [], All, IsSomeAnd}
+use Rattle.std.specs.Option.{option_map}
+use Rattle.autojump_clock.specs.Clock.{due_of}
+use Rattle.autojump_clock.specs.Clock as timers
+use Rattle.cancel_scopes.specs.Sight.{Tick, is_reached, sight}
 use Rattle.cancel_scopes.specs.Tree.{outer_of}
-use Rattle.task_machine.specs.declared.stop.TaskState.TheVariants.{Asleep}
+use Rattle.task_machine.specs.declared.stop.TaskState.{TaskState}
+use Rattle.task_machine.specs.declared.stop.TaskState.TheVariants.{ToBegin, Asked, Asleep, GivingUp, Awaits, Over}
 use Rattle.task_machine.specs.declared.task.Task.{Task}
 use Rattle.task_machine.specs.declared.world.World.{World}
 use Rattle.task_machine.specs.Tasks.{scope_of}
+use Rattle.sleepers.specs.Sleeping.{IsFirst}
 use Rattle.task_table.specs.TaskTable.{running_at}
 use Rattle.task_table.specs.declared.task_table.TaskTable.{TaskTable}
 use Rattle.task_table.specs.declared.task_table.Running.{Running}
 use Rattle.job_runner.specs.declared.fault.RunFault.{RunFault}
 use Rattle.job_runner.specs.declared.fault.RunFault.TheVariants.{Limit, NoMemory}
 use Rattle.job_runner.specs.declared.runner.Runner.{Runner}
-use Rattle.job_runner.specs.Shelves.{AreKnown, IsCalledAdded, IsConsistent, NoneChanged, times_shelved, running_times}
+use Rattle.job_runner.specs.Limits.{last_of}
+use Rattle.job_runner.specs.Shelves.{moment_of, AreKnown, IsCalledAdded, IsConsistent, NoneChanged, times_shelved, running_times}
 
--- the tick from which the task with an id sees a cancellation
+-- the moment from which a task in a scope sees a cancellation while it sleeps
+abbrev pub sight_asleep : World → Option ℕ → TaskState → Tick
+sight_asleep world scope (ToBegin at) = None
+sight_asleep world scope (Asked kernel purpose) = None
+sight_asleep world scope (Asleep paced ticks since) = sight (outer_of world.scopes scope)
+sight_asleep world scope (GivingUp since) = None
+sight_asleep world scope (Awaits id since) = None
+sight_asleep world scope Over = None
+
+-- that of the task with an id
 abbrev pub sight_by : World → Option Running → Tick
 sight_by world None = None
-sight_by world (Some x) = sight (outer_of world.scopes (scope_of x.task))
+sight_by world (Some x) = sight_asleep world (scope_of x.task) x.task.task_state
 
 abbrev pub sight_in : TaskTable → World → ℕ → Tick
 sight_in task_table world id = sight_by world (running_at task_table id)
 
--- a sleeper continues in this tick: it is due then, or sees a cancellation from then on
+-- The moment in which the first sleeper that sees a cancellation continues, if one does. It is later than this one.
+pub record IsNextCancel (r : Runner) (cancel : Tick) : Type 0 where
+  pub first : Tick
+  pub is_first : IsFirst r.sleepers first
+  pub is : cancel ≡ option_map (max (suc r.world.tick)) first
+
+-- a task continues in this moment: its own has come, or it sleeps and sees a cancellation from then on or since before
 pub record Wakes (r : Runner) (t : ℕ) : Type 0 where
   pub id : ℕ
   pub due : ℕ
   pub timer : due_of r.clock id ≡ Some due
-  pub on : (due ≡ t) ⊎ (sight_in r.task_table r.world id ≡ Some t)
+  pub on : (due ≡ t) ⊎ (option_map (max (suc r.world.tick)) (sight_in r.task_table r.world id) ≡ Some t)
 
--- The tick of the next jump: a sleeper continues in it, and none earlier. There is only one.
-pub record IsNextTick (r : Runner) (t : ℕ) : Type 0 where
+-- The moment of the next jump: a task continues in it, and none earlier. There is only one.
+pub record IsNextMoment (r : Runner) (t : ℕ) : Type 0 where
   pub someone : Wakes r t
   pub first : (u : ℕ) → Wakes r u → t ≤ u
 
--- `Limit` is returned if the next tick is later
+-- `Limit` is returned if the next moment is after the tick of the limit
 pub record IsPast (r : Runner) (limit : ℕ) : Type 0 where
   pub is : limit ≡ r.limit
   pub next : ℕ
-  pub is_next : IsNextTick r next
-  pub late : r.limit < next
+  pub is_next : IsNextMoment r next
+  pub late : last_of r.world.clock r.limit < next
 
 abbrev pub PassesLimit : Runner → RunFault → Type 0
 PassesLimit r (Limit limit) = IsPast r limit
 PassesLimit r NoMemory = Unit {0}
 
--- A task slept to a tick until the clock reached this one, which is not after it.
-pub record Slept (world : World) (due : ℕ) (task : Task) : Type 0 where
-  pub ticks : ℕ
-  pub since : ℕ
-  pub task_state : task.task_state ≡ Asleep ticks since
-  pub due_is : due ≡ since + ticks
-  pub began : since < world.tick
+-- a task that sleeps fell asleep before this moment
+abbrev pub BeganBefore : ℕ → TaskState → Type 0
+BeganBefore t (ToBegin at) = Unit {0}
+BeganBefore t (Asked kernel purpose) = Unit {0}
+BeganBefore t (Asleep paced ticks since) = since < t
+BeganBefore t (GivingUp since) = Unit {0}
+BeganBefore t (Awaits id since) = Unit {0}
+BeganBefore t Over = Unit {0}
+
+-- A task stayed until the clock reached this moment, which is not after the one in which it continues.
+pub record Stayed (world : World) (due : ℕ) (task : Task) : Type 0 where
+  pub due_is : moment_of world.clock world.book task.task_state ≡ Some due
+  pub began : BeganBefore world.tick task.task_state
   pub not_over : world.tick ≤ due
 
--- a sleeper is due in this tick, or sees a cancellation
-pub record IsAnyNow (task_table : TaskTable) (world : World) (clock : Clock) : Type 0 where
+-- the moment of a task has come, or it sleeps and sees a cancellation
+pub record IsAnyNow (task_table : TaskTable) (world : World) (clock : timers.Clock) : Type 0 where
   pub id : ℕ
   pub due : ℕ
   pub timer : due_of clock id ≡ Some due
   pub timely : (due ≤ world.tick) ⊎ (is_reached (sight_in task_table world id) world.tick ≡ true)
 
--- The clock reached a later tick, and so did the world. Sleepers that may continue are being made
--- ready.
+-- The clock reached a later moment, and so did the world. Tasks that may continue are being made ready.
 pub record IsWaking (r : Runner) : Type 0 where
   pub consistent : IsConsistent r.task_table r.world r.clock r.limit r.turns
-  pub slept : (id due : ℕ) → due_of r.clock id ≡ Some due → IsSomeAnd (running_at r.task_table id) (λ (x : Running). Slept r.world due x.task)
+  pub stayed : (id due : ℕ) → due_of r.clock id ≡ Some due → IsSomeAnd (running_at r.task_table id) (λ (x : Running). Stayed r.world due x.task)
   pub known : AreKnown r.task_table r.world r.clock r.sleepers
   pub unchanged : NoneChanged r.world
   pub none_current : r.batch.current ≡ []
@@ -78,8 +103,8 @@ pub record IsWaking (r : Runner) : Type 0 where
 abbrev pub NoneSees : Runner → Type 0
 NoneSees r =
     (id due : ℕ) → due_of r.clock id ≡ Some due → IsSomeAnd (running_at r.task_table id)
-    (λ (x : Running). seen (outer_of r.world.scopes (scope_of x.task)) r.world.tick ≡ false)
+    (λ (x : Running). is_reached (sight_asleep r.world (scope_of x.task) x.task.task_state) r.world.tick ≡ false)
 
--- nothing but the sleepers and the next batch changed
+-- nothing but the timers, the sleepers and the next batch changed
 abbrev pub WakesOnly : Runner → Runner → Type 0
 WakesOnly old new = new ≡ record old { clock = new.clock; sleepers = new.sleepers; batch = new.batch }

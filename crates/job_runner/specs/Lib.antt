@@ -1,4 +1,5 @@
 pub mod Settings
+pub mod Limits
 pub mod Runs
 pub mod Shelves
 pub mod Phases

@@ -2,6 +2,7 @@
 use Rattle.std.specs.Prelude.{◌≡◌, ℕ, ◌<◌, Bool, true, false, List, [], ◌∷◌, map}
 use Rattle.job_tree.specs.Tree.{Tree}
 use Rattle.job_meaning.specs.Log.{Table}
+use Rattle.job_meaning.specs.Moments.{clock_of}
 use Rattle.job_meaning.specs.Meaning.{From, root_log, records_of, all_entered, froms_by, meaning_end, meaning_froms}
 use Rattle.job_meaning.specs.Follow.{follow, IsSettled}
 use Rattle.job_meaning.specs.Shown.{Row, Ending, well, by_cancellation, with_exception, row_of, meaning_rows}
@@ -57,7 +58,7 @@ pub record IsRun (job : Tree) (input : List ℕ) (run : Run) : Type 0 where
 
 -- And it is the result of following a table: its records, and the froms in the table.
 pub record IsFollowed (table : Table) (job : Tree) (input : List ℕ) (run : Run) : Type 0 where
-  pub rows : rows_of run ≡ map (row_of input) (records_of (root_log job (follow table job input)))
+  pub rows : rows_of run ≡ map (row_of input) (records_of (clock_of job.format) (root_log job (follow table job input)))
   pub froms : scope_froms_of run ≡ froms_by table (all_entered (root_log job (follow table job input)))
 
 -- for any settled table

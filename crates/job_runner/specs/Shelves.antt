@@ -1,8 +1,9 @@
--- Where the tasks of a run are kept between their turns: in the current batch or the next one, among the sleepers, or waiting
--- for a nursery of which a member runs.
-use Rattle.std.specs.Prelude.{◌≡◌, ◌≢◌, ℕ, ◌+◌, ◌<◌, ◌≤◌, if◌then◌else◌, false, Option, Some, None, [], map, All, IsSomeAnd}
+-- Where the tasks of a run are kept between their turns: in the current batch or the next one, with a timer, or waiting for a
+-- nursery of which a member runs.
+use Rattle.std.specs.Prelude.{◌≡◌, ◌≢◌, ℕ, ◌⊎◌, ◌+◌, ◌<◌, ◌≤◌, suc, if◌then◌else◌, false, Option, Some, None, [], map, All, IsSomeAnd}
 use Rattle.std.specs.Option.{ForSome}
-use Rattle.autojump_clock.specs.Clock.{Clock, now_of, limit_of, due_of}
+use Rattle.autojump_clock.specs.Clock.{now_of, limit_of, due_of}
+use Rattle.autojump_clock.specs.Clock as timers
 use Rattle.batch_commit.specs.declared.entry.Call.{Call}
 use Rattle.batch_commit.specs.declared.entry.Call.TheVariants.{Ask}
 use Rattle.batch_commit.specs.declared.entry.Entry.{Entry}
@@ -16,13 +17,14 @@ use Rattle.job_tree.specs.Starting.{StartsInNurseries}
 use Rattle.job_tree.specs.InRange.{IsInRange}
 use Rattle.job_meaning.specs.Follow.{IsSettled}
 use Rattle.job_meaning.specs.Log.{Table}
+use Rattle.job_meaning.specs.Moments.{Clock, by_rounds, clock_of, a_round_after, wakes_at}
 use Rattle.line_kernels.specs.Answers.{IsAnswer}
 use Rattle.line_kernels.specs.declared.answers.Answer.{Answer}
 use Rattle.nursery_book.specs.Nursery.{Nursery, is_settled}
 use Rattle.nursery_book.specs.Book.{nursery_at}
 use Rattle.nursery_book.specs.declared.book.NurseryBook.{NurseryBook}
 use Rattle.task_machine.specs.declared.stop.TaskState.{TaskState}
-use Rattle.task_machine.specs.declared.stop.TaskState.TheVariants.{ToBegin, Asked, Asleep, Awaits, Over}
+use Rattle.task_machine.specs.declared.stop.TaskState.TheVariants.{ToBegin, Asked, Asleep, GivingUp, Awaits, Over}
 use Rattle.task_machine.specs.declared.stop.Wake.{Wake}
 use Rattle.task_machine.specs.declared.task.Task.{Task}
 use Rattle.task_machine.specs.declared.world.World.{World}
@@ -31,10 +33,10 @@ use Rattle.run_refinement.specs.RunState.{RunState, Refines}
 use Rattle.run_refinement.specs.Ready.{MayGo, AreHomesOf}
 use Rattle.run_refinement.specs.Sights.{Shows}
 use Rattle.sleepers.specs.Sleeping.{Sleeping, scope_in, sight_of}
-use Rattle.job_meaning.specs.declared.limits.TheConstants.{LAST_TICK}
 use Rattle.task_table.specs.declared.task_table.TaskTable.{TaskTable}
 use Rattle.task_table.specs.declared.task_table.Running.{Running}
 use Rattle.job_runner.specs.declared.runner.Runner.{Runner}
+use Rattle.job_runner.specs.Limits.{last_tick, last_of}
 use Rattle.task_table.specs.Rows.{times}
 use Rattle.task_table.specs.TaskTable.{running_at, parent_of, task_count, run_state, IsTaskTable}
 
@@ -61,36 +63,66 @@ IsCalledEntry task_table world e = IsCalled task_table world e.task e.call
 abbrev pub IsCalledAdded : TaskTable → World → Added → Type 0
 IsCalledAdded task_table world a = IsCalled task_table world a.0 a.1
 
--- ---- sleepers
+-- ---- tasks with a timer
 
--- A task sleeps until this tick. It fell asleep by now, and its sleep is over later.
-pub record IsAsleep (world : World) (due : ℕ) (task : Task) : Type 0 where
-  pub ticks : ℕ
-  pub since : ℕ
-  pub task_state : task.task_state ≡ Asleep ticks since
-  pub due_is : due ≡ since + ticks
-  pub began : since ≤ world.tick
+-- the moment in which a settled nursery is left, or none while a member of it runs
+abbrev pub left_in : Clock → Option Nursery → Option ℕ
+left_in clock None = None
+left_in clock (Some n) = if is_settled n then Some (a_round_after clock n.last) else None
+
+-- The moment in which a task continues if no cancellation wakes it before: it begins, its sleep ends, it gives up, or its nursery is
+-- left. A task that asked a kernel has none, and one that waits for a nursery of which a member runs has none yet.
+abbrev pub moment_of : Clock → NurseryBook → TaskState → Option ℕ
+moment_of clock book (ToBegin at) = Some at
+moment_of clock book (Asked kernel purpose) = None
+moment_of clock book (Asleep paced ticks since) = Some (wakes_at clock ticks since)
+moment_of clock book (GivingUp since) = Some (suc since)
+moment_of clock book (Awaits id since) = left_in clock (nursery_at book id)
+moment_of clock book Over = None
+
+-- A sleeper in this scope does not see a cancellation yet or, where there are rounds, fell asleep in this moment.
+abbrev pub IsAsleepIn : World → Option ℕ → ℕ → Type 0
+IsAsleepIn world scope since =
+    (since ≤ world.tick) × ((seen (outer_of world.scopes scope) world.tick ≡ false) ⊎ ((world.clock ≡ by_rounds) × (since ≡ world.tick)))
+
+-- that of a task that sleeps
+abbrev pub DozesIn : World → Option ℕ → TaskState → Type 0
+DozesIn world scope (ToBegin at) = Unit {0}
+DozesIn world scope (Asked kernel purpose) = Unit {0}
+DozesIn world scope (Asleep paced ticks since) = IsAsleepIn world scope since
+DozesIn world scope (GivingUp since) = Unit {0}
+DozesIn world scope (Awaits id since) = Unit {0}
+DozesIn world scope Over = Unit {0}
+
+-- a task continues in this later moment, if no cancellation wakes it before
+pub record Stays (world : World) (due : ℕ) (task : Task) : Type 0 where
+  pub due_is : moment_of world.clock world.book task.task_state ≡ Some due
   pub later : world.tick < due
+  pub dozes : DozesIn world (scope_of task) task.task_state
 
--- and it sees no cancellation yet
-pub record Dozes (world : World) (due : ℕ) (task : Task) : Type 0 where
-  pub asleep : IsAsleep world due task
-  pub unseen : seen (outer_of world.scopes (scope_of task)) world.tick ≡ false
+-- each task that has a timer has not ended, and stays until it is due
+abbrev pub AllStay : TaskTable → World → timers.Clock → Type 0
+AllStay task_table world clock = (id due : ℕ) → due_of clock id ≡ Some due →
+    IsSomeAnd (running_at task_table id) (λ (x : Running). Stays world due x.task)
 
--- each task that has a timer has not ended, and sleeps without seeing a cancellation until it is due
-abbrev pub AllDoze : TaskTable → World → Clock → Type 0
-AllDoze task_table world clock = (id due : ℕ) → due_of clock id ≡ Some due →
-    IsSomeAnd (running_at task_table id) (λ (x : Running). Dozes world due x.task)
+-- the scope in which a task sleeps, if it does
+abbrev pub sleeps_in : TaskState → Option ℕ → Option ℕ
+sleeps_in (ToBegin at) scope = None
+sleeps_in (Asked kernel purpose) scope = None
+sleeps_in (Asleep paced ticks since) scope = scope
+sleeps_in (GivingUp since) scope = None
+sleeps_in (Awaits id since) scope = None
+sleeps_in Over scope = None
 
 -- the scope in which a task with such a timer sleeps
 abbrev pub sleep_slot_of : Option ℕ → Option Running → Option ℕ
 sleep_slot_of None o = None
 sleep_slot_of (Some due) None = None
-sleep_slot_of (Some due) (Some x) = scope_of x.task
+sleep_slot_of (Some due) (Some x) = sleeps_in x.task.task_state (scope_of x.task)
 
--- Each task that has a timer is known by the scope in which it sleeps, and each such scope by its effective deadline (`sight`),
+-- Each task that sleeps is known by the scope in which it does, and each such scope by its effective deadline (`sight`),
 -- unless that was lowered and the scope is still marked as changed.
-pub record AreKnown (task_table : TaskTable) (world : World) (clock : Clock) (sleepers : Sleeping) : Type 0 where
+pub record AreKnown (task_table : TaskTable) (world : World) (clock : timers.Clock) (sleepers : Sleeping) : Type 0 where
   pub sleep_slots : (id : ℕ) → scope_in sleepers id ≡ sleep_slot_of (due_of clock id) (running_at task_table id)
   pub sights : (id key : ℕ) → scope_in sleepers id ≡ Some key → Shows world.scopes key (sight_of sleepers key)
 
@@ -100,13 +132,13 @@ NoneChanged world = (key : ℕ) → is_changed world.scopes key ≡ false
 
 -- ---- each task is kept once
 
--- how often the task of a timer is among the sleepers
+-- how often a task with this timer has one
 abbrev pub timer_times : Option ℕ → ℕ
 timer_times None = 0
 timer_times (Some due) = 1
 
--- how often an id is among entries, what was added, and sleepers
-abbrev pub times_shelved : Batches → Clock → ℕ → ℕ
+-- how often an id is among entries, what was added, and those with a timer
+abbrev pub times_shelved : Batches → timers.Clock → ℕ → ℕ
 times_shelved batch clock id =
     times id (map (λ (e : Entry). e.task) batch.current) + times id (map (λ (a : Added). a.0) batch.next) + timer_times (due_of clock id)
 
@@ -117,9 +149,10 @@ settled_times (Some n) = if is_settled n then 1 else 0
 
 -- and a task, by its blocked state: once, except for one that waits for a nursery of which a member runs
 abbrev pub task_state_times : NurseryBook → TaskState → ℕ
-task_state_times book ToBegin = 1
+task_state_times book (ToBegin at) = 1
 task_state_times book (Asked kernel purpose) = 1
-task_state_times book (Asleep ticks since) = 1
+task_state_times book (Asleep paced ticks since) = 1
+task_state_times book (GivingUp since) = 1
 task_state_times book (Awaits id since) = settled_times (nursery_at book id)
 task_state_times book Over = 0
 
@@ -134,21 +167,21 @@ IsElse (Some away) id = id ≢ away
 
 -- ---- a run between turns
 
--- The tasks, what they share and the clock are consistent, for a run up to `last` after the given number of turns, and no started
+-- The tasks, what they share and the clock are consistent, for a run up to tick `last` after the given number of turns, and no started
 -- task waits in the world.
-pub record IsConsistent (task_table : TaskTable) (world : World) (clock : Clock) (last turns : ℕ) : Type 0 where
+pub record IsConsistent (task_table : TaskTable) (world : World) (clock : timers.Clock) (last turns : ℕ) : Type 0 where
   pub agree : IsTaskTable task_table
   pub homes : AreHomesOf (run_state task_table world turns) (parent_of task_table)
   pub now : now_of clock ≡ world.tick
-  pub limit : limit_of clock ≡ last
-  pub within : world.tick ≤ last
-  pub bounded : last ≤ LAST_TICK
+  pub limit : limit_of clock ≡ last_of world.clock last
+  pub within : world.tick ≤ last_of world.clock last
+  pub bounded : last ≤ last_tick world.clock
   pub none_started : world.started.items ≡ []
 
 -- What the runner keeps is consistent. The task with one id may be missing: it is having its turn.
 pub record AreShelved (turning : Option ℕ) (r : Runner) : Type 0 where
   pub consistent : IsConsistent r.task_table r.world r.clock r.limit r.turns
-  pub doze : AllDoze r.task_table r.world r.clock
+  pub stay : AllStay r.task_table r.world r.clock
   pub known : AreKnown r.task_table r.world r.clock r.sleepers
   pub current : All (IsCalledEntry r.task_table r.world) r.batch.current
   pub next : All (IsCalledAdded r.task_table r.world) r.batch.next
@@ -179,6 +212,7 @@ pub record IsSoundJob (job : Tree) : Type 0 where
 -- A run between two turns, or during the turn of the task with this id.
 pub record IsGoing (away : Option ℕ) (r : Runner) : Type 0 where
   pub sound : IsSoundJob r.job.now
+  pub counts : r.world.clock ≡ clock_of r.job.now.format
   pub shelved : AreShelved away r
   pub interleaving : IsRefined r
 

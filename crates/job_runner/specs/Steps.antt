@@ -1,10 +1,13 @@
 -- The state after each step of a turn.
-use Rattle.std.specs.Prelude.{◌≡◌, ◌≢◌, ℕ, ◌+◌, ◌<◌, ◌≤◌, Bool, true, false, Option, Some, None, List, [], ◌∷◌, ◌++◌, length, map, slice_get, IsSomeAnd}
+use Rattle.std.specs.Prelude.{◌≡◌, ◌≢◌, ℕ, zero, suc, ◌+◌, ◌<◌, ◌≤◌, Bool, true, false, Option, Some, None, List, [], ◌∷◌, ◌++◌, length, map, slice_get, IsSomeAnd}
 use Rattle.exc_groups.specs.Exceptions.{Exc}
+use Rattle.autojump_clock.specs.Clock.{due_of, SameTime}
+use Rattle.batch_commit.specs.declared.entry.Call.{Call}
 use Rattle.batch_commit.specs.declared.entry.Call.TheVariants.{Begin, Settled}
 use Rattle.batch_commit.specs.Entries.{Added}
 use Rattle.job_meaning.specs.Follow.{IsSettled}
 use Rattle.job_meaning.specs.Log.{Table}
+use Rattle.job_meaning.specs.Moments.{Clock, by_ticks, by_rounds, clock_of, tick_of, a_round_after}
 use Rattle.nursery_book.specs.Nursery.{Nursery, is_settled, with_child}
 use Rattle.nursery_book.specs.Book.{HasNursery, Changes}
 use Rattle.task_machine.specs.declared.stop.Stop.{Stop}
@@ -42,25 +45,49 @@ pub record StartsAll (old new : TaskTable) (parent : ℕ) (tasks : List Task) (t
   pub same_parent : (p : ℕ) → p < task_count old → parent_of new p ≡ parent_of old p
   pub same_id : (p : ℕ) → p < task_count old → id_of new p ≡ id_of old p
 
-abbrev pub begin_calls : List ℕ → List Added
-begin_calls ids = map (λ (id : ℕ). (id, Begin)) ids
+-- ---- tasks that continue a round later
 
--- The tasks that waited in the world were taken, and are ready to begin.
+-- what is added to the next batch: where a moment is a tick, all of them
+abbrev pub calls_in : Clock → List ℕ → Call → List Added
+calls_in by_ticks ids call = map (λ (id : ℕ). (id, call)) ids
+calls_in by_rounds ids call = []
+
+-- the timer of a task that is so often among some which have this moment, and had this timer
+abbrev pub timer_among : ℕ → ℕ → Option ℕ → Option ℕ
+timer_among zero moment due = due
+timer_among (suc n) moment due = Some moment
+
+-- the timer of a task afterwards: where there are rounds, each of them has one
+abbrev pub timer_in : Clock → List ℕ → ℕ → ℕ → Option ℕ → Option ℕ
+timer_in by_ticks ids moment id due = due
+timer_in by_rounds ids moment id due = timer_among (times id ids) moment due
+
+-- The tasks with these ids continue a round later: where a moment is a tick, they were added to the next batch with this call, and
+-- otherwise each has a timer.
+pub record IsReadied (ids : List ℕ) (call : Call) (old new : Runner) : Type 0 where
+  pub next : new.batch.next ≡ old.batch.next ++ calls_in old.world.clock ids call
+  pub timers : (id : ℕ) → due_of new.clock id ≡ timer_in old.world.clock ids (suc old.world.tick) id (due_of old.clock id)
+  pub time : SameTime old.clock new.clock
+  pub current : new.batch.current ≡ old.batch.current
+  pub rest : new ≡ record old { batch = new.batch; clock = new.clock }
+
+-- The tasks that waited in the world were taken, and begin a round later.
 pub record TakesStarted (old new : Runner) (parent : ℕ) : Type 0 where
   pub ids : List ℕ
-  pub starts : StartsAll old.task_table new.task_table parent old.world.started.items old.world.tick ids
+  pub starts :
+      StartsAll old.task_table new.task_table parent old.world.started.items
+      (tick_of old.world.clock (a_round_after old.world.clock old.world.tick)) ids
   pub agree : IsTaskTable new.task_table
   pub world : new.world ≡ record old.world { started = new.world.started }
   pub none_left : new.world.started.items ≡ []
-  pub current : new.batch.current ≡ old.batch.current
-  pub next : new.batch.next ≡ old.batch.next ++ begin_calls ids
-  pub rest : new ≡ record old { world = new.world; task_table = new.task_table; batch = new.batch }
+  pub ready : IsReadied ids Begin (record old { world = new.world; task_table = new.task_table }) new
 
 -- ---- a task that stopped
 
 -- The task with an id and a row stopped so in its turn, and the runner has not handled the stop yet.
 pub record IsStopping (id row : ℕ) (stop : Stop) (r : Runner) : Type 0 where
   pub sound : IsSoundJob r.job.now
+  pub counts : r.world.clock ≡ clock_of r.job.now.format
   pub shelved : AreShelved (Some id) r
   pub lives : IsSomeAnd (running_at r.task_table id) (λ (x : Running). (x.row ≡ row) × StopSays r.world x.task stop)
   pub interleaving : (k : Table) → IsSettled k r.job.now r.input.now →
@@ -76,17 +103,17 @@ pub record IsSameTurn (old new : Runner) : Type 0 where
 
 -- ---- the end of a child is recorded
 
-abbrev pub call_if : Bool → ℕ → List Added
-call_if true id = (id, Settled) ∷ []
-call_if false id = []
+abbrev pub waiter_if : Bool → ℕ → List ℕ
+waiter_if true id = id ∷ []
+waiter_if false id = []
 
--- The end of the child at that place was recorded in the nursery, and the task with an id, which waits for it, is ready if it
--- is settled now.
+-- The end of the child at that place was recorded in the nursery, and the task with an id, which waits for it, continues a round
+-- later if it is settled now.
 pub record TellsEnd (old new : Runner) (nursery place : ℕ) (exc : Option Exc) (waiter : ℕ) : Type 0 where
-  pub book : Changes old.world.book new.world.book nursery (with_child place exc)
-  pub next : HasNursery new.world.book nursery (λ (n : Nursery). new.batch.next ≡ old.batch.next ++ call_if (is_settled n) waiter)
-  pub current : new.batch.current ≡ old.batch.current
-  pub rest : new ≡ record old { world = record old.world { book = new.world.book }; batch = new.batch }
+  pub book : Changes old.world.book new.world.book nursery (with_child place exc old.world.tick)
+  pub ready :
+      HasNursery new.world.book nursery (λ (n : Nursery). IsReadied (waiter_if (is_settled n) waiter) Settled
+      (record old { world = record old.world { book = new.world.book } }) new)
 
 -- ---- effective deadlines that were lowered
 

@@ -3,8 +3,9 @@ use Rattle.std.specs.Prelude.{◌≡◌, ℕ, ◌+◌, List, [], map}
 use Rattle.batch_commit.specs.Batch.{Batches, HandsOut}
 use Rattle.batch_commit.specs.Entries.{answers_placed, without_answer}
 use Rattle.line_kernels.specs.declared.answers.Answer.{Answer}
+use Rattle.job_meaning.specs.Moments.{tick_of}
 use Rattle.task_machine.specs.declared.stop.Stop.{Stop}
-use Rattle.task_machine.specs.declared.stop.Stop.TheVariants.{Ask, Sleep, Wait, Ended}
+use Rattle.task_machine.specs.declared.stop.Stop.TheVariants.{Ask, Sleep, GiveUp, Wait, Ended}
 use Rattle.task_machine.specs.declared.stop.Wake.{Wake}
 use Rattle.task_machine.specs.declared.world.World.{World}
 use Rattle.task_table.specs.declared.task_table.TaskTable.{TaskTable}
@@ -28,9 +29,10 @@ IsSameRunState old new = (new.task_table ≡ old.task_table) × (new.world ≡ o
 abbrev pub ComesOf : ℕ → Stop → Runner → Runner → Type 0
 ComesOf id (Ask request) old new = IsSameRunState old new
 ComesOf id (Sleep due) old new = IsSameRunState old new
+ComesOf id (GiveUp due) old new = IsSameRunState old new
 ComesOf id (Wait nursery) old new = IsSameRunState old new
 ComesOf id (Ended exc) old new =
-    Ends old.task_table new.task_table id old.world.tick exc × (new.world ≡ record old.world { book = new.world.book })
+    Ends old.task_table new.task_table id (tick_of old.world.clock old.world.tick) exc × (new.world ≡ record old.world { book = new.world.book })
 
 -- the task with an id had one turn, and no other task had
 pub record TakesTurn (id : ℕ) (wake : Wake) (old new : Runner) : Type 0 where
@@ -52,7 +54,7 @@ pub data TakesTurns {P : Type 0} (picks : P → ℕ → ℕ → P → Type 0) : 
 abbrev pub with_answers : Runner → List Answer → Runner
 with_answers r answers = record r { batch = record { current = answers_placed r.batch.current answers; next = r.batch.next } }
 
--- Every entry of the current batch had its turn, in the order of the picks, in the same tick. What the turns added is the current
+-- Every entry of the current batch had its turn, in the order of the picks, in the same moment. What the turns added is the current
 -- batch now, and the sleepers were updated with the effective deadlines that were lowered.
 pub record Commits {P : Type 0} (picks : P → ℕ → ℕ → P → Type 0) (old new : Runner) (answers : List Answer) (before after : P) : Type 0 where
   pub last : Runner
@@ -61,4 +63,4 @@ pub record Commits {P : Type 0} (picks : P → ℕ → ℕ → P → Type 0) (ol
   pub task_table : new.task_table ≡ last.task_table
   pub world : new.world ≡ record last.world { scopes = record (last.world.scopes) { changed = new.world.scopes.changed } }
   pub ready : new.batch.current ≡ map without_answer last.batch.next
-  pub tick : new.world.tick ≡ old.world.tick
+  pub moment : new.world.tick ≡ old.world.tick

@@ -1,6 +1,6 @@
-ghost use Rattle.std.specs.Prelude.{◌≡◌, ◌≢◌, [], None, IfOk, IfErr, OnOk};
+ghost use Rattle.std.specs.Prelude.{◌≡◌, ◌≢◌, ◌≤◌, ◌^◌, [], None, IfOk, IfErr, OnOk};
 ghost use Rattle.job_runner.specs.declared.runner.Phase.TheVariants.{Ready, Blocked};
-ghost use Rattle.job_runner.specs.Jumps.{IsNextTick, IsWaking, PassesLimit, NoneSees, WakesOnly};
+ghost use Rattle.job_runner.specs.Jumps.{IsNextCancel, IsNextMoment, IsWaking, PassesLimit, NoneSees, WakesOnly};
 ghost use Rattle.job_runner.specs.Phases.{phase_of};
 ghost use Rattle.job_runner.specs.Runs.{IsLate};
 ghost use Rattle.job_runner.specs.Shelves.{AreShelved, IsSameJob, IsUnderway};
@@ -12,10 +12,10 @@ use batch_commit::Call;
 use std::alloc::AllocError;
 
 impl<'a> Runner<'a> {
-    /// Lets the clock jump to the next tick in which a task continues: the first in which a sleeper is due, or sees a
-    /// cancellation. Those sleepers are ready then. The caller must ensure that every task is blocked (`Phase::Blocked`). The
-    /// errors are `Limit`, exactly if that tick is after the limit, and then the job's meaning ends later than the limit; or
-    /// that memory was refused.
+    /// Lets the clock jump to the next moment in which a task continues: the first in which the moment of a task has come, or
+    /// a sleeper sees a cancellation. Those tasks are ready then. The caller must ensure that every task is blocked
+    /// (`Phase::Blocked`). The errors are `Limit`, exactly if that moment is after the tick of the limit, and then the job's
+    /// meaning ends later than the limit; or that the allocator is out of memory.
     pub fn jump(self) -> Result<Runner<'a>, RunFault>
         requires underway { IsUnderway self }
         requires blocked { phase_of self ≡ Blocked }
@@ -23,24 +23,34 @@ impl<'a> Runner<'a> {
         ensures ready { IfOk result (λ r. phase_of r ≡ Ready) }
         ensures same { IfOk result (IsSameJob self.entry) }
         ensures turns { IfOk result (λ r. r.turns ≡ self.entry.turns) }
-        ensures tick { IfOk result (λ r. IsNextTick self.entry r.world.tick) }
+        ensures moment { IfOk result (λ r. IsNextMoment self.entry r.world.tick) }
         ensures limit { IfErr result (PassesLimit self.entry) }
         ensures late { IfErr result (IsLate self.entry.job.now self.entry.input.now self.entry.limit) }
     {
         let mut runner = self;
-        let next_cancel = runner.sleepers.first();
-        match runner.clock.jump(next_cancel) {
+        let cancel = runner.next_cancel();
+        match runner.clock.jump(cancel) {
             Jump::Limit => Err(RunFault::Limit {
                 limit: runner.limit,
             }),
-            Jump::To(tick) => {
-                runner.world.set_now(tick);
+            Jump::To(moment) => {
+                runner.world.set_now(moment);
                 runner.wake_seen()?;
                 runner.wake_due()?;
                 runner.batch.turn_over();
                 Ok(runner)
             }
         }
+    }
+
+    // Returns the moment in which the first sleeper that sees a cancellation continues, or `None` if none does.
+    fn next_cancel(&self) -> Option<u64>
+        requires { self.now.world.tick ≤ 2 ^ 62 }
+        ensures { IsNextCancel self.now result }
+    {
+        let next = self.world.now() + 1;
+        let sight = self.sleepers.first()?;
+        Some(sight.max(next))
     }
 
     // Each sleeper that sees a cancellation now is ready.
@@ -57,7 +67,7 @@ impl<'a> Runner<'a> {
         Ok(())
     }
 
-    // Each sleeper that is due now is ready. The others continue to sleep.
+    // Each task whose moment has come is ready. The others stay.
     fn wake_due(&mut self) -> Result<(), AllocError>
         requires waking { IsWaking self.old }
         requires unseen { NoneSees self.old }

@@ -1,5 +1,32 @@
+ghost use Rattle.std.specs.Prelude.{◌≡◌, ◌≤◌};
+ghost use Rattle.job_runner.specs.Limits.{last_tick, last_of};
+
+use job_meaning::LAST_TICK;
+use moments::{Clock, FAR, ROUNDS_IN_A_TICK};
+
 /// The maximum number of workers of a run.
 pub const MAX_WORKERS: usize = 64;
 
 /// The maximum limit of a run, in ticks.
 pub const MAX_LIMIT: u64 = 4_294_967_295;
+
+// The last tick to which a run may go: no job ends later.
+pub(crate) fn last_tick(clock: Clock) -> u64
+    ensures { result ≡ last_tick clock }
+{
+    match clock {
+        Clock::ByTicks => LAST_TICK,
+        Clock::ByRounds => FAR,
+    }
+}
+
+// The last moment of a tick.
+pub(crate) fn last_of(clock: Clock, tick: u64) -> u64
+    requires { tick ≤ last_tick clock }
+    ensures { result ≡ last_of clock tick }
+{
+    match clock {
+        Clock::ByTicks => tick,
+        Clock::ByRounds => tick * ROUNDS_IN_A_TICK + (ROUNDS_IN_A_TICK - 1),
+    }
+}

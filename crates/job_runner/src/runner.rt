@@ -1,24 +1,29 @@
-ghost use Rattle.std.specs.Prelude.{◌≡◌, ◌+◌, ◌≤◌, ◌<◌, None, Some, IsSomeAnd, IfOk, OnOk, length};
+ghost use Rattle.std.specs.Prelude.{◌≡◌, ℕ, ◌+◌, ◌≤◌, ◌<◌, ◌^◌, None, Some, [], ◌∷◌, IsSome, IsSomeAnd, IfOk, OnOk, length};
+ghost use Rattle.autojump_clock.specs.Clock.{now_of, due_of};
 ghost use Rattle.batch_commit.specs.Entries.{requests_of};
-ghost use Rattle.job_meaning.specs.declared.limits.TheConstants.{LAST_TICK, MAX_INPUT};
+ghost use Rattle.job_meaning.specs.declared.limits.TheConstants.{MAX_INPUT};
+ghost use Rattle.moments.specs.Moments.{clock_of};
 ghost use Rattle.job_meaning.specs.Meaning.{meaning_end};
 ghost use Rattle.run_refinement.specs.Ready.{MayGo};
 ghost use Rattle.scoped_workers.specs.Slots.{AreAnswers};
 ghost use Rattle.task_table.specs.TaskTable.{running_at, task_count, IsTaskTable};
 ghost use Rattle.job_runner.specs.declared.runner.Phase.TheVariants.{Ready, Over};
+ghost use Rattle.job_runner.specs.Limits.{last_tick};
 ghost use Rattle.job_runner.specs.Phases.{phase_of};
 ghost use Rattle.job_runner.specs.Runs.{IsRun, FollowsEach, turns_of};
 ghost use Rattle.job_runner.specs.Shelves.{IsGoing, IsSameJob, IsUnderway, NoneChanged};
-ghost use Rattle.job_runner.specs.Steps.{SeesOnly, TakesStarted, IsStopping};
+ghost use Rattle.job_runner.specs.Steps.{SeesOnly, TakesStarted, IsReadied, IsStopping};
 ghost use Rattle.job_runner.specs.Turns.{GoesOn, TakesTurn, Commits};
 
 use crate::finished::Run;
+use crate::limits::last_of;
 use autojump_clock::{MockClock, TaskId};
 use batch_commit::{Call, Pick, ReadyBatch};
 use buffer_parts::Part;
 use cancel_scopes::stacks_are_chains;
 use job_grammar::{Job, spelled_jobs_are_sound};
 use line_kernels::{Answer, Request};
+use moments::Clock;
 use sleepers::Sleepers;
 use std::alloc::{AllocError, Global};
 use task_machine::{Stop, Task, Wake, World};
@@ -35,7 +40,7 @@ pub enum Phase {
     Over,
 }
 
-/// A run of a job, one batch of ready tasks after another, and one tick after another.
+/// A run of a job, one batch of ready tasks after another, and one moment after another.
 #[derive(Drop)]
 pub struct Runner<'a> {
     pub(crate) alloc: Global,
@@ -43,6 +48,7 @@ pub struct Runner<'a> {
     pub(crate) input: &'a [u8],
     pub(crate) limit: u64,
     pub(crate) world: World<'a>,
+    // Its ticks are moments.
     pub(crate) clock: MockClock,
     pub(crate) task_table: TaskTable<'a>,
     // The tasks that sleep in a cancel scope.
@@ -53,7 +59,8 @@ pub struct Runner<'a> {
 
 impl<'a> Runner<'a> {
     /// Returns a run at tick 0, whose root is ready to begin. The input has at most `MAX_INPUT` bytes. The limit is the
-    /// last tick to which the clock may jump, at most `LAST_TICK`. The only error is that memory was refused.
+    /// last tick to which the clock may jump, and no later than the last tick in which a job ends. The only error is that
+    /// the allocator is out of memory.
     pub fn open(
         alloc: Global,
         job: &'a Job,
@@ -61,7 +68,7 @@ impl<'a> Runner<'a> {
         limit: u64,
     ) -> Result<Runner<'a>, AllocError>
         requires small { length input.now ≤ MAX_INPUT }
-        requires bounded { limit ≤ LAST_TICK }
+        requires bounded { limit ≤ last_tick (clock_of job.now.format) }
         ensures underway { IfOk result IsUnderway }
         ensures ready { IfOk result (λ r. phase_of r ≡ Ready) }
         ensures job { IfOk result (λ r. r.job.now ≡ job.now) }
@@ -71,6 +78,7 @@ impl<'a> Runner<'a> {
     {
         spelled_jobs_are_sound();
         let _steps = job.steps();
+        let clock = Clock::of(job.text_format());
         let task = Task::root(alloc, job, Part::whole(input))?;
         let (task_table, root) = TaskTable::of_root(alloc, task)?;
         let mut batch = ReadyBatch::new(alloc);
@@ -81,8 +89,8 @@ impl<'a> Runner<'a> {
             job,
             input,
             limit,
-            world: World::new(alloc),
-            clock: MockClock::new(alloc, limit),
+            world: World::new(alloc, clock),
+            clock: MockClock::new(alloc, last_of(clock, limit)),
             task_table,
             sleepers: Sleepers::new(alloc),
             batch,
@@ -118,7 +126,7 @@ impl<'a> Runner<'a> {
         self.batch.requests()
     }
 
-    /// Executes one turn of each ready task, in the order that the picker picks. The tick stays the same. The caller must
+    /// Executes one turn of each ready task, in the order that the picker picks. The moment stays the same. The caller must
     /// ensure that each answer is that of the request at the same place. The only error is that memory was refused.
     pub fn commit<P: Pick>(
         self,
@@ -192,15 +200,35 @@ impl<'a> Runner<'a> {
         Ok(stop)
     }
 
-    // The tasks that the one of this row started are ready to begin.
+    // The tasks that the one of this row started begin a round later.
     fn take_started(&mut self, row: usize) -> Result<(), AllocError>
         requires agree { IsTaskTable self.old.task_table }
         requires row { row < task_count self.old.task_table }
+        requires timers { (id due : ℕ) → due_of self.old.clock id ≡ Some due → IsSome (running_at self.old.task_table id) }
+        requires now { now_of self.old.clock ≡ self.old.world.tick }
+        requires bounded { self.old.world.tick ≤ 2 ^ 62 }
         ensures { OnOk result (TakesStarted self.old self.new row) }
     {
+        let clock = self.world.clock();
+        let begins = clock.a_round_after(self.world.now());
         'started: while let Some(task) = self.world.take_started() {
-            let id = self.task_table.start(row, task, self.world.now())?;
-            self.batch.add(id, Call::Begin)?;
+            let id = self.task_table.start(row, task, clock.tick_of(begins))?;
+            self.ready(id, Call::Begin)?;
+        }
+        Ok(())
+    }
+
+    // A task that continues a round later is ready. Where a moment is a tick, it is added to the next batch with this call, and
+    // otherwise it has a timer.
+    pub(crate) fn ready(&mut self, id: TaskId, call: Call<'a>) -> Result<(), AllocError>
+        requires awake { due_of self.old.clock id ≡ None }
+        requires now { now_of self.old.clock ≡ self.old.world.tick }
+        requires bounded { self.old.world.tick ≤ 2 ^ 62 }
+        ensures { OnOk result (IsReadied (id ∷ []) call.entry self.old self.new) }
+    {
+        match self.world.clock() {
+            Clock::ByTicks => self.batch.add(id, call)?,
+            Clock::ByRounds => self.clock.sleep_until(id, self.world.now() + 1)?,
         }
         Ok(())
     }

@@ -1,10 +1,12 @@
 ghost use Rattle.std.specs.Prelude.{◌≡◌, ◌+◌, ◌*◌, ◌<◌, ◌≤◌, IfOk, IfErr, length};
-ghost use Rattle.job_meaning.specs.declared.limits.TheConstants.{LAST_TICK, MAX_INPUT};
+ghost use Rattle.job_meaning.specs.declared.limits.TheConstants.{MAX_INPUT};
+ghost use Rattle.moments.specs.Moments.{clock_of};
 ghost use Rattle.job_meaning.specs.Meaning.{meaning_end, meaning_froms};
 ghost use Rattle.job_meaning.specs.Shown.{meaning_rows};
 ghost use Rattle.job_tree.specs.Names.{size_of};
 ghost use Rattle.task_table.specs.Records.{AreSlices};
 ghost use Rattle.job_runner.specs.declared.runner.Phase.TheVariants.{Ready};
+ghost use Rattle.job_runner.specs.Limits.{last_tick};
 ghost use Rattle.job_runner.specs.Phases.{phase_of};
 ghost use Rattle.job_runner.specs.declared.limits.TheConstants.{MAX_WORKERS};
 ghost use Rattle.job_runner.specs.Runs.{IsRun, name_of, rows_of, records_in, scope_froms_of, turns_of, IsLate};
@@ -12,16 +14,17 @@ ghost use Rattle.job_runner.specs.Shelves.{IsSameJob, IsUnderway};
 
 use crate::fault::RunFault;
 use crate::finished::Run;
+use crate::limits::last_tick;
 use crate::runner::{Phase, Runner};
 use crate::settings::Settings;
 use batch_commit::Pick;
 use job_grammar::{Job, spelled_jobs_are_sound};
-use job_meaning::{LAST_TICK, law_end};
+use moments::Clock;
 use scoped_workers::{Gate, work};
 use std::alloc::{AllocError, Global};
 use std::thread::Threads;
 
-/// Runs a job over an input of at most `MAX_INPUT` bytes, in turns of its tasks, one tick after another. The result is that of
+/// Runs a job over an input of at most `MAX_INPUT` bytes, in turns of its tasks, one moment after another. The result is that of
 /// the job's one-thread meaning, whatever the number of workers, the order of picks and the gate: its records, or `Limit` exactly
 /// if the meaning ends later than the limit. Instead of either it may return that memory was refused. The picker picks each turn.
 /// The workers compute the answers to the requests of all tasks that are ready together, and call the gate before and after each.
@@ -78,16 +81,16 @@ pub fn run_to_end<'a, R: Threads + Sync, P: Pick, G: Gate + Sync>(
     ensures froms { IfOk result (λ run. scope_froms_of run ≡ meaning_froms job.now input.now) }
 {
     spelled_jobs_are_sound();
-    law_end();
     let _steps = job.steps();
-    match run_until(rt, alloc, job, input, workers, LAST_TICK, picker, gate) {
+    let last = last_tick(Clock::of(job.text_format()));
+    match run_until(rt, alloc, job, input, workers, last, picker, gate) {
         Ok(run) => Ok(run),
         Err(RunFault::Limit { .. }) => unreachable!(),
         Err(RunFault::NoMemory) => Err(AllocError),
     }
 }
 
-// Runs a job in turns of its tasks, one tick after another, up to a limit.
+// Runs a job in turns of its tasks, one moment after another, up to a limit.
 fn run_until<'a, R: Threads + Sync, P: Pick, G: Gate + Sync>(
     rt: &R,
     alloc: Global,
@@ -101,7 +104,7 @@ fn run_until<'a, R: Threads + Sync, P: Pick, G: Gate + Sync>(
     requires small { length input.now ≤ MAX_INPUT }
     requires some_workers { 1 ≤ workers }
     requires few_workers { workers ≤ MAX_WORKERS }
-    requires bounded { limit ≤ LAST_TICK }
+    requires bounded { limit ≤ last_tick (clock_of job.now.format) }
     ensures run { IfOk result (IsRun job.now input.now) }
     ensures turns { IfOk result (λ run. turns_of run ≤ 2 * size_of job.now.steps + 1) }
     ensures in_time { IfOk result (λ _. meaning_end job.now input.now ≤ limit) }

@@ -1,8 +1,10 @@
-ghost use Rattle.std.specs.Prelude.{◌≡◌, ◌<◌, None, Some, IfOk, OnOk, slice_get};
+ghost use Rattle.std.specs.Prelude.{◌≡◌, ◌<◌, ◌≤◌, ◌^◌, true, None, Some, IfOk, OnOk, slice_get};
+ghost use Rattle.autojump_clock.specs.Clock.{now_of, due_of};
 ghost use Rattle.std.specs.Option.{option_map};
 ghost use Rattle.exc_groups.specs.Held.{exc_of};
+ghost use Rattle.nursery_book.specs.Nursery.{is_settled, with_child};
 ghost use Rattle.nursery_book.specs.Book.{HasNursery};
-ghost use Rattle.task_machine.specs.declared.stop.Stop.TheVariants.{Ask, Sleep, Wait, Ended};
+ghost use Rattle.task_machine.specs.declared.stop.Stop.TheVariants.{Ask, Sleep, GiveUp, Wait, Ended};
 ghost use Rattle.task_table.specs.TaskTable.{parent_of, id_of, task_count};
 ghost use Rattle.job_runner.specs.Shelves.{IsGoing};
 ghost use Rattle.job_runner.specs.Steps.{IsStopping, IsSameTurn, TellsEnd};
@@ -33,6 +35,7 @@ impl<'a> Runner<'a> {
         match stop {
             Stop::Ask(request) => self.handle_ask(id, row, request)?,
             Stop::Sleep(due) => self.handle_sleep(id, row, due)?,
+            Stop::GiveUp(due) => self.handle_give_up(id, row, due)?,
             Stop::Wait(nursery) => self.handle_wait(id, row, nursery)?,
             Stop::Ended(exc) => self.handle_end(id, row, exc)?,
         }
@@ -67,7 +70,19 @@ impl<'a> Runner<'a> {
         Ok(())
     }
 
-    // The task is added to the next batch if its nursery is settled already, and waits otherwise.
+    // The task was cancelled at a checkpoint, and continues at its moment.
+    fn handle_give_up(&mut self, id: TaskId, row: usize, due: u64) -> Result<(), AllocError>
+        requires { IsStopping id row (GiveUp due) self.old }
+        ensures going { OnOk result (IsGoing None self.new) }
+        ensures comes { OnOk result (ComesOf id (GiveUp due) self.old self.new) }
+        ensures same { OnOk result (IsSameTurn self.old self.new) }
+    {
+        let _row = row;
+        self.clock.sleep_until(id, due)?;
+        Ok(())
+    }
+
+    // The task continues a round later if its nursery is settled already, and waits otherwise.
     fn handle_wait(&mut self, id: TaskId, row: usize, nursery: NurseryId) -> Result<(), AllocError>
         requires { IsStopping id row (Wait nursery) self.old }
         ensures going { OnOk result (IsGoing None self.new) }
@@ -76,7 +91,7 @@ impl<'a> Runner<'a> {
     {
         let _row = row;
         if self.world.book().settled(nursery) {
-            self.batch.add(id, Call::Settled)?;
+            self.ready(id, Call::Settled)?;
         }
         Ok(())
     }
@@ -92,18 +107,19 @@ impl<'a> Runner<'a> {
         ensures same { OnOk result (IsSameTurn self.old self.new) }
     {
         match self.task_table.home(id) {
-            None => self.task_table.end(id, self.world.now(), exc)?,
+            None => self.task_table.end(id, self.world.tick(), exc)?,
             Some(home) => {
                 let (nursery, place) = home;
                 let copy = copy_of(self.alloc, &exc)?;
-                self.task_table.end(id, self.world.now(), exc)?;
+                self.task_table.end(id, self.world.tick(), exc)?;
                 self.tell(row, nursery, place, copy)?;
             }
         }
         Ok(())
     }
 
-    // Records in a nursery how its child at that place ended, which is the task of that row.
+    // Records in a nursery how its child at that place ended, which is the task of that row. The task that waits for the nursery
+    // continues a round later, if it is settled now.
     fn tell(
         &mut self,
         row: usize,
@@ -112,15 +128,21 @@ impl<'a> Runner<'a> {
         exc: Option<Exc>,
     ) -> Result<(), AllocError>
         requires runs { HasNursery self.old.world.book nursery (λ n. slice_get n.children place ≡ Some None) }
+        requires awake { HasNursery self.old.world.book nursery
+            (λ n. is_settled (with_child place (option_map exc_of exc) self.old.world.tick n) ≡ true →
+            due_of self.old.clock (id_of self.old.task_table (parent_of self.old.task_table row)) ≡ None) }
+        requires now { now_of self.old.clock ≡ self.old.world.tick }
+        requires bounded { self.old.world.tick ≤ 2 ^ 62 }
         requires row { row < task_count self.old.task_table }
         requires parent { parent_of self.old.task_table row < task_count self.old.task_table }
         ensures { OnOk result (TellsEnd self.old self.new nursery place (option_map exc_of exc)
             (id_of self.old.task_table (parent_of self.old.task_table row))) }
     {
-        self.world.book_mut().child_ended(nursery, place, exc);
+        let now = self.world.now();
+        self.world.book_mut().child_ended(nursery, place, exc, now);
         if self.world.book().settled(nursery) {
             let waiter = self.task_table.parent(row);
-            self.batch.add(waiter, Call::Settled)?;
+            self.ready(waiter, Call::Settled)?;
         }
         Ok(())
     }

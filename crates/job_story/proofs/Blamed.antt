@@ -5,6 +5,7 @@ use Rattle.std.specs.Prelude.{nat_lt, if◌then◌else◌}
 use Rattle.exc_groups.specs.Exceptions.{Label}
 use Rattle.cancel_scopes.specs.Sight.{Tick, earlier, sight}
 use Rattle.job_meaning.specs.Log.{Table}
+use Rattle.job_meaning.specs.Moments.{Clock, Now, only_at}
 use Rattle.job_meaning.specs.Walk.{Stack}
 use Rattle.job_story.specs.Story.{Happening, finds, misses, raises, handles, cleans, replaces, Story, happened, then_story}
 use Rattle.job_story.specs.Tell.{is_from, seer, story_of_one, root_scene, tale_by}
@@ -74,32 +75,37 @@ blamed table st t from since of e when =
 -- ---- the stories of a walk
 
 -- a story whose cancellations name what they should, before any rest whose cancellations do
-abbrev Leads : Table → Stack → ℕ → ℕ → Story → Type 0
-Leads table st t u a = IsOf table st → (rest : Story) → AllBlamed table st rest → AllBlamed table st (then_story a rest)
+abbrev Leads : Table → Stack → Now → Now → Story → Type 0
+Leads table st now last a = IsOf table st → (rest : Story) → AllBlamed table st rest → AllBlamed table st (then_story a rest)
 
-leads_plain : (table : Table) (st : Stack) (t : ℕ) (what : Happening) → IsPlain what → Leads table st t t (story_of_one t what)
-leads_plain table st t (finds lines) plain of rest h = (tt, h)
-leads_plain table st t (misses name) plain of rest h = (tt, h)
-leads_plain table st t (raises name) plain of rest h = (tt, h)
-leads_plain table st t (handles matched left) plain of rest h = (tt, h)
-leads_plain table st t (cleans exc) plain of rest h = (tt, h)
-leads_plain table st t (replaces lost fresh) plain of rest h = (tt, h)
-leads_plain table st t _ plain of rest h = absurd plain
+leads_plain : (table : Table) (st : Stack) (now : Now) (what : Happening) → IsPlain what → Leads table st now now (story_of_one now.at what)
+leads_plain table st now (finds lines) plain of rest h = (tt, h)
+leads_plain table st now (misses name) plain of rest h = (tt, h)
+leads_plain table st now (raises name) plain of rest h = (tt, h)
+leads_plain table st now (handles matched left) plain of rest h = (tt, h)
+leads_plain table st now (cleans exc) plain of rest h = (tt, h)
+leads_plain table st now (replaces lost fresh) plain of rest h = (tt, h)
+leads_plain table st now _ plain of rest h = absurd plain
 
-leads : (table : Table) → IsKept table (Leads table)
-leads table =
+leads : (table : Table) (clock : Clock) → IsKept clock table (Leads table)
+leads table clock =
     record {
-      nothing = λ st t of rest h. h;
-      joined = λ st t u v a b f g of rest h. subst (AllBlamed table st) (sym (then_assoc a b rest)) (f of (then_story b rest) (g of rest h));
+      nothing = λ st now of rest h. h;
+      joined = λ st now later last a b f g of rest h.
+          subst (AllBlamed table st) (sym (then_assoc a b rest)) (f of (then_story b rest) (g of rest h));
+      passed = λ st now t passes of rest h. h;
       plain = leads_plain table;
-      waited = λ st t u label exc le home of rest h. (tt, h);
-      signed = λ st t name of rest h. (tt, h);
-      slept = λ st t n until e of rest h. (tt, h);
-      seen = λ st t from c e le of rest h. (blamed table st t from None of e le, h);
-      cut = λ st t from until c e lt le of rest h. (tt, (blamed table st from from (Some t) of e (lt, refl), h));
-      blocked = λ st t u kind label d shield inside a f of rest h.
-          (tt, subst (AllBlamed table _) (sym (then_assoc a _ rest)) (f (refl, of) (happened u (left_in table st u kind label shield inside) rest) (tt, h)));
-      child = λ st t u label part exc a f of rest h.
+      waited = λ st now u label exc le home of rest h. (tt, h);
+      signed = λ st now name of rest h. (tt, h);
+      slept = λ st now u until e le of rest h. (tt, h);
+      seen = λ st now from c e le of rest h. (blamed table st now.at from None of e le, h);
+      cut = λ st now from until c e lt le of rest h. (tt, (blamed table st from from (Some now.at) of e (lt, refl), h));
+      blocked = λ st now last kind label d shield inside a f of rest h. (
+        tt,
+        subst (AllBlamed table _) (sym (then_assoc a _ rest))
+            (f (refl, of) (happened last.at (left_in clock table st last kind label shield inside) rest) (tt, h)),
+      );
+      child = λ st now last label part exc a f of rest h.
           (subst (AllBlamed table st) (then_no_more a) (f of _ tt), h);
     }
 
@@ -107,6 +113,6 @@ pub cancellations_are_seen : CancellationsAreSeen
 unfolding tale_by
 cancellations_are_seen table job input = (
   subst (AllBlamed table []) (then_no_more (tale_by table job input).story)
-      (kept_tell table (Leads table) (leads table) job.steps (root_scene job input) [] 0 tt _ tt),
+      (kept_tell table (λ c. Leads table) (leads table) job.steps (root_scene job input) [] (only_at 0) tt _ tt),
   tt,
 )

@@ -191,7 +191,7 @@ deadline_event me (started m home part s u exc own rest) l d h =
 
 -- ---- the events of a sign
 
--- an event of this tick is a cause for the label
+-- an event of this moment is a cause for the label
 abbrev Signed : Label → ℕ → List Event → Type 0
 Signed l u es = (x : Event) × IsIn x es × (x.tick ≡ u) × (c : Cause) × (cause_in l x.tick x.task x.what ≡ Some c)
 
@@ -396,7 +396,7 @@ module _ (table : Table) (job : Tree) (input : List ℕ) where
           (root_entered l x.deadline e.tick e.task e.kind e.shield (within _ e.entered)))
           ∙ is)
 
-      -- A label that is cancelled has a cause in these events, if they have all of the tick before, and the entering of the label if that has
+      -- A label that is cancelled has a cause in these events, if they have all of the moment before, and the entering of the label if that has
       -- a deadline which cancels it.
       pub cause_among : (l : Label) (from : ℕ) → table l ≡ Some from → ((x : Event) → IsIn x walked → x.tick + 1 ≡ from → IsIn x es) →
           (deadline_of l own_log ≡ Some (Some from) → is_some (entering_of l es) ≡ true) → is_some (cause_of table es l) ≡ true

@@ -1,22 +1,25 @@
 -- A story with everything erased that a log does not contain is the log of following the table.
-use Rattle.std.proofs.Common.{◌≡◌, ℕ, zero, suc, ◌+◌, ◌-◌, Bool, true, false, Option, Some, None, List, [], refl, ap, sym, ◌∙◌}
+use Rattle.std.proofs.Common.{◌≡◌, ℕ, zero, suc, ◌-◌, ◌≤◌, true≢false, Bool, true, false, Option, Some, None, List, [], refl, ap, sym, ◌∙◌, arith}
+use Rattle.std.proofs.lemmas.Bool.Decides.{nat_tests}
 use Rattle.std.specs.Prelude.{nat_le, if◌then◌else◌}
 use Rattle.job_tree.specs.Tree.{Step, sleep, checkpoint, forever, pace, find, head, longest, need, raise, cancel, scope, nursery, start, repeat, attempt, Steps, stop, step, Handled, unhandled, except, Cleaned, uncleaned, finally}
 use Rattle.buffer_parts.specs.Lines.{Span}
 use Rattle.buffer_parts.specs.Cuts.{cut_of}
-use Rattle.exc_groups.specs.Exceptions.{Label, Exc, cancelled, raised}
+use Rattle.exc_groups.specs.Exceptions.{Label, Exc, cancelled}
 use Rattle.exc_groups.specs.Split.{Wanted, named, keep, drop}
 use Rattle.cancel_scopes.specs.Sight.{Tick, sight, catches}
 use Rattle.job_meaning.specs.Log.{Log, nil, entered, task, followed_by, Result, Table}
 use Rattle.job_meaning.specs.Follow.{follow}
 use Rattle.job_meaning.specs.Meaning.{root_log, root_label}
-use Rattle.job_meaning.specs.Walk.{far, Stack, by_table, Here, walk, walk_step, walk_handler, walk_cleanup, in_sequence, then_if, and_then, done_at, raised_at, sleep_by_sight, sleep_result, log_of_lines, lines_result, need_result, sign_of, cancel_result, Kind, exit_with_from, left_with, block, sign_if, home_of, with_sign, nursery_result, child, each, passes, handler_result, cleanup_result, with_outcome, handler_exc, label_here, label_over, stack_inside, here_in, in_pass}
+use Rattle.job_meaning.specs.Moments.{Clock, tick_of, a_round_after, wakes_at, gives_up_at, Now, only_at, far}
+use Rattle.job_meaning.specs.Walk.{Stack, by_table, Here, walk, walk_step, walk_handler, walk_cleanup, in_sequence, then_if, and_then, done_at, raised_at, wait_by_sight, sleep_result, pace_result, log_of_lines, lines_result, raise_result, need_result, sign_of, cancel_result, Kind, from_for, stack_for, exit_with_from, left_with, block, sign_if, home_of, with_sign, nursery_result, child, each, passes, handler_result, cleanup_result, with_outcome, handler_exc, label_here, label_over, stack_inside, here_in, in_pass}
 use Rattle.job_meaning.specs.Walk as walks
+use Rattle.job_meaning.proofs.MomentLemmas.{round_after}
 use Rattle.job_meaning.proofs.Finish.{followed_assoc}
 use Rattle.job_meaning.proofs.Clips.{followed_nil}
 use Rattle.job_meaning.proofs.Settled.{settled_is_meaning}
 use Rattle.job_story.specs.Story.{Happening, enters, sleeps, is_cancelled, finds, misses, raises, cancels, handles, cleans, replaces, waits, leaves, Story, no_more, happened, started, then_story, erased_one, erased_log, Tale, result_of}
-use Rattle.job_story.specs.Tell.{Scene, told_at, story_of_one, and_tale, tale_if, then_tale, failed_at, after_this, seer, asleep_for, tell_slept, tell_sleep, tell_lines, tell_need, tell_raise, tell_cancel, tell_left, tell_block, tell_wait, tell_gathered, tell_child, tell_each, tell_passes, handled_if, handled_exc, tell_handled, replacement, cleaned_by, tell_cleaned, at_place, tell, tell_step, tell_handler, tell_cleanup, root_scene, tale_by}
+use Rattle.job_story.specs.Tell.{Scene, told_at, now_of, story_of_one, and_tale, tale_if, then_tale, failed_at, after_this, seer, asleep_for, slept_since, tell_slept, tell_sleep, tell_pace, tell_lines, tell_need, tell_raise, tell_cancel, tell_left, tell_block, tell_wait, tell_gathered, tell_child, tell_each, tell_passes, handled_if, handled_exc, tell_handled, replacement, cleaned_by, tell_cleaned, at_place, tell, tell_step, tell_handler, tell_cleanup, root_scene, tale_by}
 use Rattle.job_story.specs.Laws.{TellingIsFollowing, StoriesAreTrue}
 
 -- ---- stories, one after another
@@ -44,80 +47,105 @@ erased_then (started l home part s u e own rest) b =
     ap (λ (x : Log). task l s u e (followed_by (erased_log own) (sign_if e home u)) x) (erased_then rest b)
 
 -- a tale whose story has this log is the result with it
-with_log : (a : Tale) (l : Log) → erased_log a.story ≡ l → result_of a ≡ record { end = a.end; exc = a.exc; members = a.members; log = l }
-with_log a l e = ap (λ (x : Log). record { end = a.end; exc = a.exc; members = a.members; log = x }) e
+with_log : (a : Tale) (l : Log) → erased_log a.story ≡ l → result_of a ≡ record { end = a.end; own = a.own; exc = a.exc; members = a.members; log = l }
+with_log a l e = ap (λ (x : Log). record { end = a.end; own = a.own; exc = a.exc; members = a.members; log = x }) e
 
 joined_is : (a b : Tale) → result_of (and_tale a b) ≡ in_sequence (result_of a) (result_of b)
 joined_is a b = with_log (and_tale a b) (followed_by (erased_log a.story) (erased_log b.story)) (erased_then a.story b.story)
 
 -- one tale and then another, from the results of both
-then_is : (a : Tale) (r : Result) (go : ℕ → Tale) (walked : ℕ → Result) → result_of a ≡ r → ((u : ℕ) → result_of (go u) ≡ walked u) →
-    result_of (then_tale a go) ≡ and_then r walked
+then_is : (a : Tale) (r : Result) (go : Now → Tale) (walked : Now → Result) → result_of a ≡ r →
+    ((later : Now) → result_of (go later) ≡ walked later) → result_of (then_tale a go) ≡ and_then r walked
 unfolding then_tale and_then
 then_is a r go walked e h = by_outcome a.exc ∙ ap (λ (x : Result). then_if x.exc x walked) e
   where
     by_outcome : (o : Option Exc) → result_of (tale_if o a go) ≡ then_if o (result_of a) walked
-    by_outcome None = joined_is a (go a.end) ∙ ap (λ (x : Result). in_sequence (result_of a) x) (h a.end)
+    by_outcome None = joined_is a (go (now_of a)) ∙ ap (λ (x : Result). in_sequence (result_of a) x) (h (now_of a))
     by_outcome (Some x) = refl
 
 -- ---- steps that take time, and others
 
-asleep_erased : (n t : ℕ) (until : Tick) (b : Story) → erased_log (then_story (asleep_for n t until) b) ≡ erased_log b
-asleep_erased zero t until b = refl
-asleep_erased (suc n) t until b = refl
+asleep_erased : (n m : ℕ) (until : Tick) (b : Story) → erased_log (then_story (asleep_for n m until) b) ≡ erased_log b
+asleep_erased zero m until b = refl
+asleep_erased (suc n) m until b = refl
 
-asleep_nothing : (n t : ℕ) (until : Tick) → erased_log (asleep_for n t until) ≡ nil
-asleep_nothing zero t until = refl
-asleep_nothing (suc n) t until = refl
+asleep_nothing : (n m : ℕ) (until : Tick) → erased_log (asleep_for n m until) ≡ nil
+asleep_nothing zero m until = refl
+asleep_nothing (suc n) m until = refl
 
-slept_is : (from : Tick) (n t : ℕ) (st : Stack) (c : Bool) (until : Tick) → result_of (tell_slept from n t st c until) ≡ sleep_by_sight from n t
-slept_is None n t st c until = with_log (told_at (t + n) (asleep_for n t until)) nil (asleep_nothing n t until)
-slept_is (Some from) n t st c until = by_now (nat_le from t) (nat_le from (t + n))
+slept_is : (from : Tick) (n m least gives_up end : ℕ) (st : Stack) (c : Bool) (until : Tick) → m ≤ least →
+    result_of (tell_slept from n m least gives_up end st c until) ≡ wait_by_sight from least gives_up end
+slept_is None n m least gives_up end st c until le = with_log (told_at (only_at end) (asleep_for n m until)) nil (asleep_nothing n m until)
+slept_is (Some from) n m least gives_up end st c until le = by_now (nat_le from m) (nat_le from least) (nat_le from end) seen_by_then
   where
-    by_now : (b d : Bool) →
-        result_of (if b then failed_at cancelled t (story_of_one t (is_cancelled (seer st from) None c))
-        else (if d then failed_at cancelled from (then_story (asleep_for n t until) (story_of_one from (is_cancelled (seer st from) (Some t) c)))
-        else told_at (t + n) (asleep_for n t until)))
-        ≡ (if b then raised_at cancelled t else (if d then raised_at cancelled from else done_at (t + n)))
-    by_now true d = refl
-    by_now false true = (
-        let b = story_of_one from (is_cancelled (seer st from) (Some t) c) in
-        with_log (failed_at cancelled from (then_story (asleep_for n t until) b)) nil (asleep_erased n t until b))
-    by_now false false = with_log (told_at (t + n) (asleep_for n t until)) nil (asleep_nothing n t until)
+    seen_by_then : nat_le from m ≡ true → nat_le from least ≡ true
+    seen_by_then at = grind (arith, nat_tests)
 
-sleep_is : (st : Stack) (c : Bool) (until : Tick) (n t : ℕ) → result_of (tell_sleep st c until n t) ≡ sleep_result st n t
+    while_asleep : ℕ → Tale
+    while_asleep t =
+        failed_at cancelled (only_at t)
+        (then_story (asleep_for n m until) (story_of_one t (is_cancelled (seer st from) (slept_since n m) c)))
+
+    asleep_is : (t : ℕ) → result_of (while_asleep t) ≡ raised_at cancelled (only_at t)
+    asleep_is t =
+        with_log (while_asleep t) nil (asleep_erased n m until (story_of_one t (is_cancelled (seer st from) (slept_since n m) c)))
+
+    by_now : (b d w : Bool) → (b ≡ true → d ≡ true) →
+        result_of (if b then failed_at cancelled (only_at gives_up) (story_of_one gives_up (is_cancelled (seer st from) None c))
+        else (if d then while_asleep gives_up
+        else (if w then while_asleep from else told_at (only_at end) (asleep_for n m until))))
+        ≡ (if d then raised_at cancelled (only_at gives_up)
+        else (if w then raised_at cancelled (only_at from) else done_at (only_at end)))
+    by_now true true w least_too = refl
+    by_now true false w least_too = absurd (true≢false (sym (least_too refl)))
+    by_now false true w least_too = asleep_is gives_up
+    by_now false false true least_too = asleep_is from
+    by_now false false false least_too = with_log (told_at (only_at end) (asleep_for n m until)) nil (asleep_nothing n m until)
+
+sleep_is : (clock : Clock) (st : Stack) (c : Bool) (until : Tick) (n m : ℕ) →
+    result_of (tell_sleep clock st c until n m) ≡ sleep_result clock st n m
 unfolding tell_sleep sleep_result
-sleep_is st c until n t = slept_is (sight st) n t st c until
+sleep_is clock st c until n m =
+    slept_is (sight st) n m (a_round_after clock m) (gives_up_at clock n m) (wakes_at clock n m) st c until (round_after clock m)
 
-lines_is : (lines : List Span) (t : ℕ) → result_of (tell_lines lines t) ≡ lines_result lines t
+pace_is : (clock : Clock) (st : Stack) (c : Bool) (until : Tick) (n m : ℕ) →
+    result_of (tell_pace clock st c until n m) ≡ pace_result clock st n m
+unfolding tell_pace pace_result
+pace_is clock st c until n m =
+    slept_is (sight st) n m (a_round_after clock m) (a_round_after clock m) (wakes_at clock n m) st c until (round_after clock m)
+
+lines_is : (lines : List Span) (now : Now) → result_of (tell_lines lines now) ≡ lines_result lines now
 unfolding tell_lines lines_result
-lines_is lines t = with_log (tell_lines lines t) (log_of_lines t lines) (followed_nil (log_of_lines t lines))
+lines_is lines now = with_log (tell_lines lines now) (log_of_lines now.at lines) (followed_nil (log_of_lines now.at lines))
 
-need_is : (found : Option Span) (name : List ℕ) (label : Label) (t : ℕ) → result_of (tell_need found name label t) ≡ need_result found name label t
-unfolding tell_need need_result lines_result
-need_is None name label t = refl
-need_is (Some l) name label t = refl
+need_is : (found : Option Span) (name : List ℕ) (here : Here) (now : Now) →
+    result_of (tell_need found name here now) ≡ need_result found name here now
+unfolding tell_need need_result lines_result raise_result
+need_is None name here now = refl
+need_is (Some l) name here now = refl
 
-raise_is : (name : List ℕ) (label : Label) (t : ℕ) → result_of (tell_raise name label t) ≡ raised_at (raised name label t) t
-unfolding tell_raise
-raise_is name label t = refl
+raise_is : (name : List ℕ) (here : Here) (now : Now) → result_of (tell_raise name here now) ≡ raise_result name here now
+unfolding tell_raise raise_result
+raise_is name here now = refl
 
-cancel_is : (label : Option Label) (t : ℕ) → result_of (tell_cancel label t) ≡ cancel_result label t
+cancel_is : (clock : Clock) (label : Option Label) (now : Now) → result_of (tell_cancel clock label now) ≡ cancel_result clock label now
 unfolding tell_cancel cancel_result
-cancel_is None t = refl
-cancel_is (Some l) t = refl
+cancel_is clock None now = refl
+cancel_is clock (Some l) now = refl
 
 -- ---- blocks
 
-block_is : (table : Table) (kind : Kind) (label : Label) (t : ℕ) (d : Tick) (shield : Bool) (st : Stack) (inside : Tick → Tale)
+block_is : (clock : Clock) (table : Table) (kind : Kind) (label : Label) (m : ℕ) (d : Tick) (shield : Bool) (st : Stack) (inside : Tick → Tale)
     (walked : Tick → Result) → ((f : Tick) → result_of (inside f) ≡ walked f) →
-    result_of (tell_block table kind label t d shield st inside) ≡ block (by_table table) kind label t d shield st walked
+    result_of (tell_block clock table kind label m d shield st inside) ≡ block clock (by_table table) kind label m d shield st walked
 unfolding tell_block block
-block_is table kind label t d shield st inside walked h =
+block_is clock table kind label m d shield st inside walked h =
     let a = inside (table label) in
-    with_log (tell_left kind label t d shield (left_with (catches (table label) shield st a.end) a.exc) a) _
-    (ap (λ (x : Log). entered label t d x) (erased_then a.story _))
-    ∙ ap (λ (r : Result). exit_with_from kind label t d shield st (table label) r) (h (table label))
+    with_log
+    (tell_left clock kind label m d shield
+    (left_with (catches (from_for a.own a.end label (table label)) shield (stack_for a.own a.end st) a.end) a.exc) a) _
+    (ap (λ (x : Log). entered label m d x) (erased_then a.story _))
+    ∙ ap (λ (r : Result). exit_with_from clock kind label m d shield st (table label) r) (h (table label))
 
 wait_is : (label : Label) (shield : Bool) (from : Tick) (st : Stack) (a : Tale) (r : Result) → result_of a ≡ r →
     result_of (tell_wait label a) ≡ with_sign (stack_inside label shield from st) r
@@ -128,33 +156,35 @@ wait_is label shield from st a r e =
     ∙ ap (λ (x : Log). followed_by (erased_log a.story) x) (followed_nil (sign_if a.exc (Some label) a.end)))
     ∙ ap (λ (x : Result). with_sign (stack_inside label shield from st) x) e
 
-gathered_is : (label : Label) (a : Tale) (r : Result) → result_of a ≡ r → result_of (tell_gathered label a) ≡ nursery_result label r
+gathered_is : (clock : Clock) (label : Label) (a : Tale) (r : Result) → result_of a ≡ r →
+    result_of (tell_gathered clock label a) ≡ nursery_result clock label r
 unfolding tell_gathered nursery_result
-gathered_is label a r e = ap (λ (x : Result). nursery_result label x) e
+gathered_is clock label a r e = ap (λ (x : Result). nursery_result clock label x) e
 
-child_is : (label : Label) (st : Stack) (scene : Scene) (t : ℕ) (a : Tale) (r : Result) → result_of a ≡ r →
-    result_of (tell_child label (home_of st) scene t a) ≡ child label t (with_sign st r)
+child_is : (label : Label) (st : Stack) (scene : Scene) (begins : ℕ) (a : Tale) (r : Result) (now : Now) → result_of a ≡ r →
+    result_of (tell_child label (home_of st) scene begins a now) ≡ child label begins (with_sign st r) now
 unfolding tell_child child with_sign
-child_is label st scene t a r e = ap (λ (x : Result). child label t (with_sign st x)) e
+child_is label st scene begins a r now e = ap (λ (x : Result). child label begins (with_sign st x) now) e
 
-each_is : (k : ℕ) (go : ℕ → Tale) (walked : ℕ → Result) (t : ℕ) → ((i : ℕ) → result_of (go i) ≡ walked i) →
-    result_of (tell_each k go t) ≡ each k walked t
-each_is zero go walked t h = refl
-each_is (suc k) go walked t h =
-    joined_is (tell_each k go t) (go k)
-    ∙ (ap (λ (x : Result). in_sequence x (result_of (go k))) (each_is k go walked t h) ∙ ap (λ (x : Result). in_sequence (each k walked t) x) (h k))
+each_is : (k : ℕ) (go : ℕ → Tale) (walked : ℕ → Result) (now : Now) → ((i : ℕ) → result_of (go i) ≡ walked i) →
+    result_of (tell_each k go now) ≡ each k walked now
+each_is zero go walked now h = refl
+each_is (suc k) go walked now h =
+    joined_is (tell_each k go now) (go k)
+    ∙ (ap (λ (x : Result). in_sequence x (result_of (go k))) (each_is k go walked now h)
+    ∙ ap (λ (x : Result). in_sequence (each k walked now) x) (h k))
 
-passes_is : (first k : ℕ) (go : ℕ → ℕ → Tale) (walked : ℕ → ℕ → Result) (t : ℕ) → ((i u : ℕ) → result_of (go i u) ≡ walked i u) →
-    result_of (tell_passes first k go t) ≡ passes first k walked t
-passes_is first zero go walked t h = refl
-passes_is first (suc k) go walked t h =
-    then_is (go first t) (walked first t) (λ u. tell_passes (suc first) k go u) (λ u. passes (suc first) k walked u) (h first t)
-    (λ u. passes_is (suc first) k go walked u h)
+passes_is : (first k : ℕ) (go : ℕ → Now → Tale) (walked : ℕ → Now → Result) (now : Now) →
+    ((i : ℕ) (later : Now) → result_of (go i later) ≡ walked i later) → result_of (tell_passes first k go now) ≡ passes first k walked now
+passes_is first zero go walked now h = refl
+passes_is first (suc k) go walked now h =
+    then_is (go first now) (walked first now) (λ later. tell_passes (suc first) k go later) (λ later. passes (suc first) k walked later)
+    (h first now) (λ later. passes_is (suc first) k go walked later h)
 
 -- ---- handlers and cleanups
 
-handled_is : (wanted : Wanted) (a : Tale) (r : Result) (go : ℕ → Tale) (walked : ℕ → Result) → result_of a ≡ r →
-    ((u : ℕ) → result_of (go u) ≡ walked u) → result_of (tell_handled wanted a go) ≡ handler_result wanted r walked
+handled_is : (wanted : Wanted) (a : Tale) (r : Result) (go : Now → Tale) (walked : Now → Result) → result_of a ≡ r →
+    ((later : Now) → result_of (go later) ≡ walked later) → result_of (tell_handled wanted a go) ≡ handler_result wanted r walked
 unfolding tell_handled handler_result
 handled_is wanted a r go walked e h =
     by_outcome a.exc ∙ ap (λ (x : Result). walks.handler_for x.exc wanted x walked) e
@@ -162,9 +192,9 @@ handled_is wanted a r go walked e h =
     by_match : (o rest : Option Exc) → result_of (handled_if o rest a go) ≡ walks.handler_if_any o rest (result_of a) walked
     by_match None rest = refl
     by_match (Some m) rest =
-        ap (λ (x : Result). with_outcome (handler_exc (go a.end).exc rest) x)
-        (joined_is a (after_this a.end (handles m rest) (go a.end)))
-        ∙ ap (λ (x : Result). walks.handler_after rest (result_of a) x) (h a.end)
+        ap (λ (x : Result). with_outcome (handler_exc (go (now_of a)).exc rest) x)
+        (joined_is a (after_this a.end (handles m rest) (go (now_of a))))
+        ∙ ap (λ (x : Result). walks.handler_after rest (result_of a) x) (h (now_of a))
 
     by_outcome : (o : Option Exc) → result_of (handled_exc o wanted a go) ≡ walks.handler_for o wanted (result_of a) walked
     by_outcome None = refl
@@ -175,8 +205,8 @@ replaced_nothing None fresh t = refl
 replaced_nothing (Some l) None t = refl
 replaced_nothing (Some l) (Some f) t = refl
 
-cleaned_is : (a : Tale) (r : Result) (go : ℕ → Tale) (walked : ℕ → Result) → result_of a ≡ r →
-    ((u : ℕ) → result_of (go u) ≡ walked u) → result_of (tell_cleaned a go) ≡ cleanup_result r walked
+cleaned_is : (a : Tale) (r : Result) (go : Now → Tale) (walked : Now → Result) → result_of a ≡ r →
+    ((later : Now) → result_of (go later) ≡ walked later) → result_of (tell_cleaned a go) ≡ cleanup_result r walked
 unfolding tell_cleaned cleanup_result
 cleaned_is a r go walked e h =
     with_log (cleaned_by a b) _
@@ -184,10 +214,11 @@ cleaned_is a r go walked e h =
     ∙ ap (λ (x : Log). followed_by (erased_log a.story) x)
     (erased_then b.story (replacement a.exc b.exc b.end)
     ∙ (ap (λ (x : Log). followed_by (erased_log b.story) x) (replaced_nothing a.exc b.exc b.end) ∙ followed_nil (erased_log b.story))))
-    ∙ (ap (λ (x : Result). walks.cleanup_after (result_of a) x) (h a.end) ∙ ap (λ (x : Result). walks.cleanup_after x (walked x.end)) e)
+    ∙ (ap (λ (x : Result). walks.cleanup_after (result_of a) x) (h (now_of a))
+    ∙ ap (λ (x : Result). walks.cleanup_after x (walked (walks.now_of x))) e)
   where
     b : Tale
-    b = go a.end
+    b = go (now_of a)
 
 -- ---- the walk
 
@@ -195,61 +226,64 @@ mutual
   unfolding tell walk
 
   -- the story of the steps of a block is the log of walking them
-  pub tell_is : (k : Table) (b : Steps) (scene : Scene) (st : Stack) (t : ℕ) →
-      result_of (tell k b scene st t) ≡ walk (by_table k) b scene.here st t
-  tell_is k stop scene st t = refl
-  tell_is k (step s ss) scene st t =
-      then_is (tell_step k s scene st t) (walk_step (by_table k) s scene.here st t) (λ u. tell k ss scene st u)
-      (λ u. walk (by_table k) ss scene.here st u) (step_is k s scene st t) (λ u. tell_is k ss scene st u)
+  pub tell_is : (k : Table) (b : Steps) (scene : Scene) (st : Stack) (now : Now) →
+      result_of (tell k b scene st now) ≡ walk (by_table k) b scene.here st now
+  tell_is k stop scene st now = refl
+  tell_is k (step s ss) scene st now =
+      then_is (tell_step k s scene st now) (walk_step (by_table k) s scene.here st now) (λ later. tell k ss scene st later)
+      (λ later. walk (by_table k) ss scene.here st later) (step_is k s scene st now) (λ later. tell_is k ss scene st later)
 
-  pub step_is : (k : Table) (s : Step) (scene : Scene) (st : Stack) (t : ℕ) →
-      result_of (tell_step k s scene st t) ≡ walk_step (by_table k) s scene.here st t
-  step_is k (sleep n) scene st t = sleep_is st scene.in_cleanup _ n t
-  step_is k checkpoint scene st t = sleep_is st scene.in_cleanup _ 0 t
-  step_is k forever scene st t = sleep_is st scene.in_cleanup None (far - t) t
-  step_is k (pace n) scene st t = sleep_is st scene.in_cleanup _ _ t
-  step_is k (find text) scene st t = lines_is _ t
-  step_is k (head n) scene st t = lines_is _ t
-  step_is k longest scene st t = lines_is _ t
-  step_is k (need text name) scene st t = need_is _ name scene.here.task t
-  step_is k (raise name) scene st t = raise_is name scene.here.task t
-  step_is k (cancel name) scene st t = cancel_is _ t
-  step_is k (scope name d shield fail body) scene st t =
-      block_is k _ (label_here name scene.here) t _ shield st _ _
-      (λ f. tell_is k body scene (stack_inside (label_here name scene.here) shield f st) t)
-  step_is k (nursery name d shield body) scene st t =
-      block_is k _ (label_here name scene.here) t _ shield st _ _
-      (λ f. gathered_is (label_here name scene.here) _ _
+  pub step_is : (k : Table) (s : Step) (scene : Scene) (st : Stack) (now : Now) →
+      result_of (tell_step k s scene st now) ≡ walk_step (by_table k) s scene.here st now
+  step_is k (sleep n) scene st now = sleep_is scene.here.clock st scene.in_cleanup _ n now.at
+  step_is k checkpoint scene st now = sleep_is scene.here.clock st scene.in_cleanup _ 0 now.at
+  step_is k forever scene st now =
+      sleep_is scene.here.clock st scene.in_cleanup None (far - tick_of scene.here.clock now.at) now.at
+  step_is k (pace n) scene st now = pace_is scene.here.clock st scene.in_cleanup _ _ now.at
+  step_is k (find text) scene st now = lines_is _ now
+  step_is k (head n) scene st now = lines_is _ now
+  step_is k longest scene st now = lines_is _ now
+  step_is k (need text name) scene st now = need_is _ name scene.here now
+  step_is k (raise name) scene st now = raise_is name scene.here now
+  step_is k (cancel name) scene st now = cancel_is scene.here.clock _ now
+  step_is k (scope name d shield fail body) scene st now =
+      block_is scene.here.clock k _ (label_here name scene.here) now.at _ shield st _ _
+      (λ f. tell_is k body scene (stack_inside (label_here name scene.here) shield f st) now)
+  step_is k (nursery name d shield body) scene st now =
+      block_is scene.here.clock k _ (label_here name scene.here) now.at _ shield st _ _
+      (λ f. gathered_is scene.here.clock (label_here name scene.here) _ _
       (wait_is (label_here name scene.here) shield f st _ _
-      (tell_is k body scene (stack_inside (label_here name scene.here) shield f st) t)))
-  step_is k (start name None body) scene st t =
+      (tell_is k body scene (stack_inside (label_here name scene.here) shield f st) now)))
+  step_is k (start name None body) scene st now =
       let inner = at_place (here_in (label_here name scene.here) scene.here.part scene.here) scene in
-      child_is (label_here name scene.here) st inner t _ _ (tell_is k body inner st t)
-  step_is k (start name (Some copies) body) scene st t =
-      each_is copies _ _ t (λ i.
+      let begins = a_round_after scene.here.clock now.at in
+      child_is (label_here name scene.here) st inner begins _ _ now (tell_is k body inner st (only_at begins))
+  step_is k (start name (Some copies) body) scene st now =
+      let begins = a_round_after scene.here.clock now.at in
+      each_is copies _ _ now (λ i.
       let inner = at_place (here_in (label_over name scene.here i) (cut_of scene.here.input scene.here.part copies i) scene.here) scene in
-      child_is (label_over name scene.here i) st inner t _ _ (tell_is k body inner st t))
-  step_is k (repeat count body) scene st t =
-      passes_is 0 count _ _ t (λ i u. tell_is k body (at_place (in_pass i scene.here) scene) st u)
-  step_is k (attempt body handler cleanup) scene st t =
-      cleanup_is k cleanup scene st _ _ (handler_is k handler scene st _ _ (tell_is k body scene st t))
+      child_is (label_over name scene.here i) st inner begins _ _ now (tell_is k body inner st (only_at begins)))
+  step_is k (repeat count body) scene st now =
+      passes_is 0 count _ _ now (λ i later. tell_is k body (at_place (in_pass i scene.here) scene) st later)
+  step_is k (attempt body handler cleanup) scene st now =
+      cleanup_is k cleanup scene st _ _ (handler_is k handler scene st _ _ (tell_is k body scene st now))
 
   pub handler_is : (k : Table) (x : Handled) (scene : Scene) (st : Stack) (a : Tale) (r : Result) → result_of a ≡ r →
       result_of (tell_handler k x scene st a) ≡ walk_handler (by_table k) x scene.here st r
   handler_is k unhandled scene st a r e = e
-  handler_is k (except name body) scene st a r e = handled_is (named name) a r _ _ e (λ u. tell_is k body scene st u)
+  handler_is k (except name body) scene st a r e = handled_is (named name) a r _ _ e (λ later. tell_is k body scene st later)
 
   cleanup_is : (k : Table) (x : Cleaned) (scene : Scene) (st : Stack) (a : Tale) (r : Result) → result_of a ≡ r →
       result_of (tell_cleanup k x scene st a) ≡ walk_cleanup (by_table k) x scene.here st r
   cleanup_is k uncleaned scene st a r e = e
   cleanup_is k (finally body) scene st a r e =
-      cleaned_is a r _ _ e (λ u. tell_is k body (record scene { in_cleanup = true }) st u)
+      cleaned_is a r _ _ e (λ later. tell_is k body (record scene { in_cleanup = true }) st later)
 
 -- ---- the laws
 
 pub telling_is_following : TellingIsFollowing
 unfolding tale_by follow
-telling_is_following table job input = tell_is table job.steps (root_scene job input) [] 0
+telling_is_following table job input = tell_is table job.steps (root_scene job input) [] (only_at 0)
 
 -- so the story by a settled table is the log of the meaning
 pub stories_are_true : StoriesAreTrue

@@ -6,9 +6,11 @@ use Rattle.job_tree.specs.Tree.{Tree}
 use Rattle.exc_groups.specs.Exceptions.{Label}
 use Rattle.cancel_scopes.specs.Sight.{Tick, sight}
 use Rattle.job_meaning.specs.Log.{Table}
+use Rattle.job_meaning.specs.Moments.{Clock, by_ticks, by_rounds, clock_of, tick_of, a_round_after, Now, only_at}
 use Rattle.job_meaning.specs.Walk.{Stack, Kind, stack_inside}
 use Rattle.job_meaning.specs.Meaning.{root_label}
 use Rattle.job_meaning.proofs.Distinct.{OnStack}
+use Rattle.job_meaning.proofs.MomentLemmas.{round_after}
 use Rattle.job_story.specs.Story.{Happening, enters, sleeps, is_cancelled, finds, misses, raises, handles, cleans, replaces, Story, no_more, happened, started, then_story}
 use Rattle.job_story.specs.Tell.{story_of_one, seer, root_scene, tale_by, story_by}
 use Rattle.job_story.specs.Events.{What, starts, happens, ends, Event, event, events_of, in_order}
@@ -17,42 +19,53 @@ use Rattle.job_story.specs.Limit.{by_limit, walked_to}
 use Rattle.job_story.specs.Blame.{IsInnermost}
 use Rattle.job_story.specs.Shown.{IsIn, HasACause}
 use Rattle.job_story.specs.LawsOfCauses.{CancellationsHaveCausesByLimit}
-use Rattle.job_story.proofs.Telling.{IsPlain, left_in, IsKept, kept_tell}
+use Rattle.job_story.proofs.Telling.{IsPlain, left_in, Passes, IsKept, kept_tell}
 use Rattle.job_story.proofs.Blamed.{IsOf, seer_is}
 use Rattle.job_story.proofs.Members.{in_append, append_left, append_right, from_order, to_order}
 use Rattle.job_story.proofs.Caused.{walked, entering_found, cause_among}
 
 -- ---- the events up to a limit
 
-in_limit : (limit : ℕ) (x : Event) (es : List Event) → IsIn x es → x.tick ≤ limit → IsIn x (by_limit limit es)
-in_limit limit x [] i le = i
-in_limit limit x (e ∷ es) (inl same) le =
-    by_test (nat_le e.tick limit) (is_true e.tick (subst (λ (y : Event). y.tick ≤ limit) same le))
+in_limit : (clock : Clock) (limit : ℕ) (x : Event) (es : List Event) → IsIn x es → tick_of clock x.tick ≤ limit → IsIn x (by_limit clock limit es)
+in_limit clock limit x [] i le = i
+in_limit clock limit x (e ∷ es) (inl same) le =
+    by_test (nat_le (tick_of clock e.tick) limit) (is_true (tick_of clock e.tick) (subst (λ (y : Event). tick_of clock y.tick ≤ limit) same le))
   where
     is_true : (t : ℕ) → t ≤ limit → nat_le t limit ≡ true
     is_true t h = grind (arith, nat_tests)
 
-    by_test : (b : Bool) → b ≡ true → IsIn x (if b then e ∷ by_limit limit es else by_limit limit es)
+    by_test : (b : Bool) → b ≡ true → IsIn x (if b then e ∷ by_limit clock limit es else by_limit clock limit es)
     by_test true h = inl same
     by_test false h = absurd (true≢false (sym h))
-in_limit limit x (e ∷ es) (inr i) le = by_test (nat_le e.tick limit) (in_limit limit x es i le)
+in_limit clock limit x (e ∷ es) (inr i) le = by_test (nat_le (tick_of clock e.tick) limit) (in_limit clock limit x es i le)
   where
-    by_test : (b : Bool) → IsIn x (by_limit limit es) → IsIn x (if b then e ∷ by_limit limit es else by_limit limit es)
+    by_test : (b : Bool) → IsIn x (by_limit clock limit es) → IsIn x (if b then e ∷ by_limit clock limit es else by_limit clock limit es)
     by_test true j = inr j
     by_test false j = j
 
-limit_in : (limit : ℕ) (x : Event) (es : List Event) → IsIn x (by_limit limit es) → IsIn x es × (x.tick ≤ limit)
-limit_in limit x [] i = absurd i
-limit_in limit x (e ∷ es) i = by_test (nat_le e.tick limit) refl i (limit_in limit x es)
+limit_in : (clock : Clock) (limit : ℕ) (x : Event) (es : List Event) → IsIn x (by_limit clock limit es) → IsIn x es × (tick_of clock x.tick ≤ limit)
+limit_in clock limit x [] i = absurd i
+limit_in clock limit x (e ∷ es) i = by_test (nat_le (tick_of clock e.tick) limit) refl i (limit_in clock limit x es)
   where
     is_le : (t : ℕ) → nat_le t limit ≡ true → t ≤ limit
     is_le t h = grind (arith, nat_tests)
 
-    by_test : (b : Bool) → nat_le e.tick limit ≡ b → IsIn x (if b then e ∷ by_limit limit es else by_limit limit es) →
-        (IsIn x (by_limit limit es) → IsIn x es × (x.tick ≤ limit)) → IsIn x (e ∷ es) × (x.tick ≤ limit)
-    by_test true le (inl same) f = (inl same, subst (λ (y : Event). y.tick ≤ limit) (sym same) (is_le e.tick le))
+    by_test : (b : Bool) → nat_le (tick_of clock e.tick) limit ≡ b → IsIn x (if b then e ∷ by_limit clock limit es else by_limit clock limit es) →
+        (IsIn x (by_limit clock limit es) → IsIn x es × (tick_of clock x.tick ≤ limit)) → IsIn x (e ∷ es) × (tick_of clock x.tick ≤ limit)
+    by_test true le (inl same) f =
+        (inl same, subst (λ (y : Event). tick_of clock y.tick ≤ limit) (sym same) (is_le (tick_of clock e.tick) le))
     by_test true le (inr j) f = let h = f j in (inr h.0, h.1)
     by_test false le j f = let h = f j in (inr h.0, h.1)
+
+-- an earlier moment is of no later tick
+earlier_tick : (clock : Clock) (m t : ℕ) → m ≤ t → tick_of clock m ≤ tick_of clock t
+earlier_tick by_ticks m t le = le
+earlier_tick by_rounds m t le = omega arith
+
+-- so it is up to the limit, where the later one is
+by_then : (clock : Clock) (limit m t : ℕ) → m ≤ t → tick_of clock t ≤ limit → tick_of clock m ≤ limit
+by_then clock limit m t le most =
+    let first : tick_of clock m ≤ tick_of clock t = earlier_tick clock m t le in omega arith
 
 -- ---- a label that cancels a task was entered before
 
@@ -95,7 +108,7 @@ on_stack l from [] h = h
 on_stack l from (k ∷ ks) (inl h) = inl h.0
 on_stack l from (k ∷ ks) (inr h) = inr (on_stack l from ks h.2)
 
--- a cancellation in tick t names a label that is cancelled from then on or before, and was entered by then
+-- a cancellation in moment t names a label that is cancelled from then on or before, and was entered by then
 abbrev IsCovered : Table → List Event → ℕ → What → Type 0
 IsCovered table all t (happens (is_cancelled by since in_cleanup)) =
     (l : Label) × (by ≡ Some l) × (from : ℕ) × (table l ≡ Some from) × (from ≤ t) × BeganBy l t all
@@ -124,10 +137,10 @@ more_covered table all t who w es h k x (inr i) = k x i
 abbrev Known : Stack → ℕ → List Event → Type 0
 Known st t all = (l : Label) → OnStack l st → BeganBy l t all
 
-abbrev Covers : Table → Stack → ℕ → ℕ → Story → Type 0
-Covers table st t u a =
-    (all : List Event) (me : Label) → IsOf table st → Known st t all → ((x : Event) → IsIn x (events_of me a) → IsIn x all) →
-    (t ≤ u) × AllCovered table all (events_of me a)
+abbrev Covers : Table → Stack → Now → Now → Story → Type 0
+Covers table st now last a =
+    (all : List Event) (me : Label) → IsOf table st → Known st now.at all → ((x : Event) → IsIn x (events_of me a) → IsIn x all) →
+    (now.at ≤ last.at) × AllCovered table all (events_of me a)
 
 seen_covered : (table : Table) (all : List Event) (st : Stack) (t u from : ℕ) (since : Tick) (c : Bool) → IsOf table st → Known st t all →
     t ≤ u → sight st ≡ Some from → from ≤ u → IsCovered table all u (happens (is_cancelled (seer st from) since c))
@@ -138,11 +151,11 @@ seen_covered table all st t u from since c of known le e at =
 none_covered : (table : Table) (all : List Event) → AllCovered table all []
 none_covered table all x i = absurd i
 
-covers_joined : (table : Table) (st : Stack) (t u v : ℕ) (a b : Story) → Covers table st t u a → Covers table st u v b →
-    Covers table st t v (then_story a b)
-covers_joined table st t u v a b f g all me of known within =
-    let le : t ≤ u = first.0 in
-    let le₂ : u ≤ v = second.0 in (
+covers_joined : (table : Table) (st : Stack) (now mid last : Now) (a b : Story) → Covers table st now mid a → Covers table st mid last b →
+    Covers table st now last (then_story a b)
+covers_joined table st now mid last a b f g all me of known within =
+    let le : now.at ≤ mid.at = first.0 in
+    let le₂ : mid.at ≤ last.at = second.0 in (
       omega arith,
       subst (AllCovered table all) (sym (events_then me a b))
           (both_covered table all (events_of me a) (events_of me b) first.1 second.1),
@@ -151,73 +164,88 @@ covers_joined table st t u v a b f g all me of known within =
     within_both : (x : Event) → IsIn x (events_of me a ++ events_of me b) → IsIn x all
     within_both x i = within x (subst (λ (es : List Event). IsIn x es) (sym (events_then me a b)) i)
 
-    first : (t ≤ u) × AllCovered table all (events_of me a)
+    first : (now.at ≤ mid.at) × AllCovered table all (events_of me a)
     first = f all me of known (λ x i. within_both x (append_left x (events_of me a) (events_of me b) i))
 
-    second : (u ≤ v) × AllCovered table all (events_of me b)
-    second = g all me of (λ l i. later l t u all first.0 (known l i)) (λ x i. within_both x (append_right x (events_of me a) (events_of me b) i))
+    second : (mid.at ≤ last.at) × AllCovered table all (events_of me b)
+    second =
+        g all me of (λ l i. later l now.at mid.at all first.0 (known l i))
+        (λ x i. within_both x (append_right x (events_of me a) (events_of me b) i))
 
-covers_plain : (table : Table) (st : Stack) (t : ℕ) (what : Happening) → IsPlain what → Covers table st t t (story_of_one t what)
-covers_plain table st t (finds lines) plain all me of known within = (omega arith, more_covered table all t me _ [] tt (none_covered table all))
-covers_plain table st t (misses name) plain all me of known within = (omega arith, more_covered table all t me _ [] tt (none_covered table all))
-covers_plain table st t (raises name) plain all me of known within = (omega arith, more_covered table all t me _ [] tt (none_covered table all))
-covers_plain table st t (handles matched left) plain all me of known within = (omega arith, more_covered table all t me _ [] tt (none_covered table all))
-covers_plain table st t (cleans exc) plain all me of known within = (omega arith, more_covered table all t me _ [] tt (none_covered table all))
-covers_plain table st t (replaces lost fresh) plain all me of known within = (omega arith, more_covered table all t me _ [] tt (none_covered table all))
-covers_plain table st t _ plain all me of known within = absurd plain
+covers_plain : (table : Table) (st : Stack) (now : Now) (what : Happening) → IsPlain what → Covers table st now now (story_of_one now.at what)
+covers_plain table st now (finds lines) plain all me of known within = (omega arith, more_covered table all now.at me _ [] tt (none_covered table all))
+covers_plain table st now (misses name) plain all me of known within = (omega arith, more_covered table all now.at me _ [] tt (none_covered table all))
+covers_plain table st now (raises name) plain all me of known within = (omega arith, more_covered table all now.at me _ [] tt (none_covered table all))
+covers_plain table st now (handles matched left) plain all me of known within = (omega arith, more_covered table all now.at me _ [] tt (none_covered table all))
+covers_plain table st now (cleans exc) plain all me of known within = (omega arith, more_covered table all now.at me _ [] tt (none_covered table all))
+covers_plain table st now (replaces lost fresh) plain all me of known within = (omega arith, more_covered table all now.at me _ [] tt (none_covered table all))
+covers_plain table st now _ plain all me of known within = absurd plain
 
-covers_blocked : (table : Table) (st : Stack) (t u : ℕ) (kind : Kind) (label : Label) (d : Tick) (shield : Bool) (left : Happening)
-    (a : Story) → ((all : List Event) → IsCovered table all u (happens left)) → Covers table (stack_inside label shield (table label) st) t u a →
-    Covers table st t u (happened t (enters kind label d shield) (then_story a (story_of_one u left)))
-covers_blocked table st t u kind label d shield left a plain f all me of known within = (
+covers_blocked : (table : Table) (st : Stack) (now last : Now) (kind : Kind) (label : Label) (d : Tick) (shield : Bool) (left : Happening)
+    (a : Story) → ((all : List Event) → IsCovered table all last.at (happens left)) →
+    Covers table (stack_inside label shield (table label) st) now last a →
+    Covers table st now last (happened now.at (enters kind label d shield) (then_story a (story_of_one last.at left)))
+covers_blocked table st now last kind label d shield left a plain f all me of known within = (
   inner.0,
-  more_covered table all t me (happens (enters kind label d shield)) (events_of me (then_story a (story_of_one u left))) tt
-      (subst (AllCovered table all) (sym (events_then me a (story_of_one u left)))
-      (both_covered table all (events_of me a) (event u me (happens left) ∷ []) inner.1
-      (more_covered table all u me (happens left) [] (plain all) (none_covered table all)))),
+  more_covered table all now.at me (happens (enters kind label d shield)) (events_of me (then_story a (story_of_one last.at left))) tt
+      (subst (AllCovered table all) (sym (events_then me a (story_of_one last.at left)))
+      (both_covered table all (events_of me a) (event last.at me (happens left) ∷ []) inner.1
+      (more_covered table all last.at me (happens left) [] (plain all) (none_covered table all)))),
 )
   where
-    inside : (l : Label) → OnStack l (stack_inside label shield (table label) st) → BeganBy l t all
+    inside : (l : Label) → OnStack l (stack_inside label shield (table label) st) → BeganBy l now.at all
     inside l (inl e) =
-        subst (λ (m : Label). BeganBy m t all) (sym e)
-        (record { tick = t; task = me; kind = kind; deadline = d; shield = shield; by = omega arith; entered = within _ (inl refl) })
+        subst (λ (m : Label). BeganBy m now.at all) (sym e)
+        (record { tick = now.at; task = me; kind = kind; deadline = d; shield = shield; by = omega arith; entered = within _ (inl refl) })
     inside l (inr i) = known l i
 
-    inner : (t ≤ u) × AllCovered table all (events_of me a)
+    inner : (now.at ≤ last.at) × AllCovered table all (events_of me a)
     inner =
         f all me (refl, of) inside
-        (λ x i. within x (inr (subst (λ (es : List Event). IsIn x es) (sym (events_then me a (story_of_one u left)))
-        (append_left x (events_of me a) (event u me (happens left) ∷ []) i))))
+        (λ x i. within x (inr (subst (λ (es : List Event). IsIn x es) (sym (events_then me a (story_of_one last.at left)))
+        (append_left x (events_of me a) (event last.at me (happens left) ∷ []) i))))
 
-covers : (table : Table) → IsKept table (Covers table)
-covers table =
+after_time : (clock : Clock) (m t : ℕ) → Passes clock m t → m ≤ t
+after_time by_ticks m t passes = omega arith
+after_time by_rounds m t passes = omega arith
+
+after_a_round : (clock : Clock) (m t : ℕ) → a_round_after clock m ≤ t → m ≤ t
+after_a_round by_ticks m t le = le
+after_a_round by_rounds m t le = omega arith
+
+covers : (table : Table) (clock : Clock) → IsKept clock table (Covers table)
+covers table clock =
     record {
-      nothing = λ st t all me of known within. (omega arith, none_covered table all);
+      nothing = λ st now all me of known within. (omega arith, none_covered table all);
       joined = covers_joined table;
+      passed = λ st now t passes all me of known within. (after_time clock now.at t passes, none_covered table all);
       plain = covers_plain table;
-      waited = λ st t u label exc le home all me of known within. (le, more_covered table all t me _ [] tt (none_covered table all));
-      signed = λ st t name all me of known within. (omega arith, more_covered table all t me _ [] tt (none_covered table all));
-      slept = λ st t n until e all me of known within. (omega arith, more_covered table all t me _ [] tt (none_covered table all));
-      seen = λ st t from c e le all me of known within. (
+      waited = λ st now u label exc le home all me of known within.
+          (after_a_round clock now.at u le, more_covered table all now.at me _ [] tt (none_covered table all));
+      signed = λ st now name all me of known within. (omega arith, more_covered table all now.at me _ [] tt (none_covered table all));
+      slept = λ st now u until e le all me of known within.
+          (after_a_round clock now.at u le, more_covered table all now.at me _ [] tt (none_covered table all));
+      seen = λ st now from c e le all me of known within. (
         omega arith,
-        more_covered table all t me (happens (is_cancelled (seer st from) None c)) [] (seen_covered table all st t t from None c of known (omega arith) e le)
-            (none_covered table all),
+        more_covered table all now.at me (happens (is_cancelled (seer st from) None c)) []
+            (seen_covered table all st now.at now.at from None c of known (omega arith) e le) (none_covered table all),
       );
-      cut = λ st t from until c e lt le all me of known within. (
+      cut = λ st now from until c e lt le all me of known within. (
         omega arith,
-        more_covered table all t me (happens (sleeps until))
-            (event from me (happens (is_cancelled (seer st from) (Some t) c)) ∷ []) tt
-            (more_covered table all from me (happens (is_cancelled (seer st from) (Some t) c)) []
-            (seen_covered table all st t from from (Some t) c of known (omega arith) e (omega arith)) (none_covered table all)),
+        more_covered table all now.at me (happens (sleeps until))
+            (event from me (happens (is_cancelled (seer st from) (Some now.at) c)) ∷ []) tt
+            (more_covered table all from me (happens (is_cancelled (seer st from) (Some now.at) c)) []
+            (seen_covered table all st now.at from from (Some now.at) c of known (omega arith) e (omega arith)) (none_covered table all)),
       );
-      blocked = λ st t u kind label d shield inside a f.
-          covers_blocked table st t u kind label d shield (left_in table st u kind label shield inside) a (λ all. tt) f;
-      child = λ st t u label part exc a f all me of known within. (
+      blocked = λ st now last kind label d shield inside a f.
+          covers_blocked table st now last kind label d shield (left_in clock table st last kind label shield inside) a (λ all. tt) f;
+      child = λ st now last label part exc a f all me of known within. (
         omega arith,
-        more_covered table all t label _ _ tt
+        more_covered table all (a_round_after clock now.at) label _ _ tt
             (both_covered table all (events_of label a) _
-            ((f all label of known (λ x i. within x (inr (append_left x (events_of label a) _ i)))).1)
-            (more_covered table all u label _ [] tt (none_covered table all))),
+            ((f all label of (λ l i. later l now.at (a_round_after clock now.at) all (round_after clock now.at) (known l i))
+            (λ x i. within x (inr (append_left x (events_of label a) _ i)))).1)
+            (more_covered table all last.at label _ [] tt (none_covered table all))),
       );
     }
 
@@ -229,7 +257,7 @@ module _ (table : Table) (job : Tree) (input : List ℕ) where
   all_covered =
       let a = tale_by table job input in
       let own = events_of (root_label job.name) a.story in
-      let inner = kept_tell table (Covers table) (covers table) job.steps (root_scene job input) [] 0 (walked table job input)
+      let inner = kept_tell table (λ c. Covers table) (covers table) job.steps (root_scene job input) [] (only_at 0) (walked table job input)
       (root_label job.name) tt (λ l i. absurd i) (λ x i. inr (append_left x own _ i)) in
       more_covered table (walked table job input) 0 (root_label job.name) _ _ tt
       (both_covered table (walked table job input) own _ inner.1
@@ -239,25 +267,25 @@ pub cancellations_have_causes_by_limit : CancellationsHaveCausesByLimit
 cancellations_have_causes_by_limit table limit job input once settled e i =
     by_what e.what (limited e i).1 (all_covered table job input e (limited e i).0)
   where
-    limited : (x : Event) → IsIn x (walked_to table limit job input) → IsIn x (events_of (root_label job.name) (story_by table job input)) × (x.tick ≤ limit)
-    limited x j = limit_in limit x (events_of (root_label job.name) (story_by table job input)) j
+    limited : (x : Event) → IsIn x (walked_to table limit job input) → IsIn x (events_of (root_label job.name) (story_by table job input)) × (tick_of (clock_of job.format) x.tick ≤ limit)
+    limited x j = limit_in (clock_of job.format) limit x (events_of (root_label job.name) (story_by table job input)) j
 
-    to_limit : (x : Event) → IsIn x (events_of (root_label job.name) (story_by table job input)) → x.tick ≤ limit →
+    to_limit : (x : Event) → IsIn x (events_of (root_label job.name) (story_by table job input)) → tick_of (clock_of job.format) x.tick ≤ limit →
         IsIn x (in_order (walked_to table limit job input))
     to_limit x j le =
-        to_order x (walked_to table limit job input) (in_limit limit x (events_of (root_label job.name) (story_by table job input)) j le)
+        to_order x (walked_to table limit job input) (in_limit (clock_of job.format) limit x (events_of (root_label job.name) (story_by table job input)) j le)
 
-    there : (l : Label) (from : ℕ) → table l ≡ Some from → from ≤ e.tick → e.tick ≤ limit →
+    there : (l : Label) (from : ℕ) → table l ≡ Some from → from ≤ e.tick → tick_of (clock_of job.format) e.tick ≤ limit →
         BeganBy l e.tick (events_of (root_label job.name) (story_by table job input)) →
         is_some (cause_of table (in_order (walked_to table limit job input)) l) ≡ true
     there l from told le most began =
         cause_among table job input once settled (in_order (walked_to table limit job input))
-        (λ x j. (limited x (from_order x (walked_to table limit job input) j)).0) l from told (λ x j at. to_limit x j (omega arith))
-        (λ is. let first : began.tick ≤ e.tick = began.by in
-        entering_found l (in_order (walked_to table limit job input)) _ began.kind began.deadline began.shield
-        (to_limit _ began.entered (omega arith)) refl)
+        (λ x j. (limited x (from_order x (walked_to table limit job input) j)).0) l from told
+        (λ x j at. to_limit x j (by_then (clock_of job.format) limit x.tick e.tick (omega arith) most))
+        (λ is. entering_found l (in_order (walked_to table limit job input)) _ began.kind began.deadline began.shield
+        (to_limit _ began.entered (by_then (clock_of job.format) limit began.tick e.tick began.by most)) refl)
 
-    by_what : (w : What) → e.tick ≤ limit → IsCovered table (events_of (root_label job.name) (story_by table job input)) e.tick w →
+    by_what : (w : What) → tick_of (clock_of job.format) e.tick ≤ limit → IsCovered table (events_of (root_label job.name) (story_by table job input)) e.tick w →
         HasACause table (in_order (walked_to table limit job input)) w
     by_what (happens (is_cancelled by since in_cleanup)) most h = (h.0, h.1, there h.0 h.2 h.3 h.4 most h.5)
     by_what _ most h = tt

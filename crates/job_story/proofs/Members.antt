@@ -5,7 +5,7 @@ use Rattle.stable_sort.specs.Sorting.{put_by}
 use Rattle.buffer_parts.specs.Lines.{Range}
 use Rattle.exc_groups.specs.Exceptions.{Label, Exc}
 use Rattle.job_story.specs.Story.{Happening}
-use Rattle.job_story.specs.Events.{starts, happens, ends, Event, tick_of, in_order}
+use Rattle.job_story.specs.Events.{starts, happens, ends, Event, moment_of, in_order}
 use Rattle.job_story.specs.Shown.{IsIn}
 
 -- ---- one list after another
@@ -30,7 +30,7 @@ append_right x (e ∷ es) fs i = inr (append_right x es fs i)
 
 -- ---- in order
 
-in_put : (x e : Event) (es : List Event) → IsIn x (put_by tick_of e es) → IsIn x (e ∷ es)
+in_put : (x e : Event) (es : List Event) → IsIn x (put_by moment_of e es) → IsIn x (e ∷ es)
 in_put x e [] i = i
 in_put x e (y ∷ ys) i = by_test (nat_le e.tick y.tick) i (in_put x e ys)
   where
@@ -38,18 +38,18 @@ in_put x e (y ∷ ys) i = by_test (nat_le e.tick y.tick) i (in_put x e ys)
     after (inl same) = inl same
     after (inr j) = inr (inr j)
 
-    by_test : (b : Bool) → IsIn x (if b then e ∷ y ∷ ys else y ∷ put_by tick_of e ys) → (IsIn x (put_by tick_of e ys) → IsIn x (e ∷ ys)) →
+    by_test : (b : Bool) → IsIn x (if b then e ∷ y ∷ ys else y ∷ put_by moment_of e ys) → (IsIn x (put_by moment_of e ys) → IsIn x (e ∷ ys)) →
         IsIn x (e ∷ y ∷ ys)
     by_test true j f = j
     by_test false (inl same) f = inr (inl same)
     by_test false (inr j) f = after (f j)
 
-put_in : (x e : Event) (es : List Event) → IsIn x (e ∷ es) → IsIn x (put_by tick_of e es)
+put_in : (x e : Event) (es : List Event) → IsIn x (e ∷ es) → IsIn x (put_by moment_of e es)
 put_in x e [] i = i
 put_in x e (y ∷ ys) i = by_test (nat_le e.tick y.tick) i (put_in x e ys)
   where
-    by_test : (b : Bool) → IsIn x (e ∷ y ∷ ys) → (IsIn x (e ∷ ys) → IsIn x (put_by tick_of e ys)) →
-        IsIn x (if b then e ∷ y ∷ ys else y ∷ put_by tick_of e ys)
+    by_test : (b : Bool) → IsIn x (e ∷ y ∷ ys) → (IsIn x (e ∷ ys) → IsIn x (put_by moment_of e ys)) →
+        IsIn x (if b then e ∷ y ∷ ys else y ∷ put_by moment_of e ys)
     by_test true j f = j
     by_test false (inl same) f = inr (f (inl same))
     by_test false (inr (inl same)) f = inl same

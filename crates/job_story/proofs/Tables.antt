@@ -1,4 +1,4 @@
--- The table of a meaning, made from the ticks from which its scopes and nurseries are cancelled.
+-- The table of a meaning, made from the moments from which its scopes and nurseries are cancelled.
 use Rattle.std.proofs.Common.{◌≡◌, ℕ, true≢false, Bool, true, false, ◌||◌, Option, None, List, [], ◌∷◌, ◌++◌, refl, sym, ap, ◌∙◌, subst, if◌then◌else◌}
 use std.Path.{fun_ext}
 use Rattle.job_tree.specs.Tree.{Tree}
@@ -40,7 +40,7 @@ no_deadline l (task m s u e mine rest) own all =
     let second = not_in_both l (all_entered mine) (all_entered rest) first.1 in
     ap (λ (o : Option Tick). either o (deadline_of l rest)) (no_deadline l mine first.0 second.0) ∙ no_deadline l rest own second.1
 
--- after the ticks that a table has for some labels are set, each of these has its tick, and every other what it had
+-- after the moments that a table has for some labels are set, each of these has its moment, and every other what it had
 set_is : (table before : Table) (ls : List Label) (l : Label) →
     set_in before (froms_by table ls) l ≡ (if is_one l ls then table l else before l)
 set_is table before [] l = refl

@@ -1,5 +1,5 @@
 -- What holds of each story that a walk tells, by induction over the job's tree.
-use Rattle.std.proofs.Common.{◌≡◌, ℕ, zero, suc, ◌+◌, ◌-◌, ◌<◌, ◌≤◌, Bool, true, false, Option, Some, None, List, refl, ap, sym, subst, arith}
+use Rattle.std.proofs.Common.{◌≡◌, ℕ, zero, suc, ◌+◌, ◌-◌, ◌*◌, ◌/◌, min, max, ◌<◌, ◌≤◌, Bool, true, false, Option, Some, None, List, refl, ap, sym, subst, arith}
 use Rattle.std.proofs.lemmas.Bool.Decides.{nat_tests}
 use Rattle.std.specs.Prelude.{nat_le, if◌then◌else◌}
 use Rattle.job_tree.specs.Tree.{Step, sleep, checkpoint, forever, pace, find, head, longest, need, raise, cancel, scope, nursery, start, repeat, attempt, Steps, stop, step, Handled, unhandled, except, Cleaned, uncleaned, finally}
@@ -9,10 +9,12 @@ use Rattle.exc_groups.specs.Exceptions.{Label, Exc, cancelled}
 use Rattle.exc_groups.specs.Split.{Wanted, named, keep, drop}
 use Rattle.cancel_scopes.specs.Sight.{Tick, sight, catches}
 use Rattle.job_meaning.specs.Log.{Table}
-use Rattle.job_meaning.specs.Walk.{far, Stack, Kind, home_of, label_on, left_with, exc_after, latest, label_here, label_over, stack_inside, here_in, in_pass}
+use Rattle.job_meaning.specs.Moments.{Clock, by_ticks, by_rounds, tick_of, start_of, a_round_after, wakes_at, gives_up_at, Now, only_at, far}
+use Rattle.job_meaning.specs.Walk.{Stack, Here, Kind, home_of, label_on, with_own, from_for, stack_for, left_with, exc_after, latest, label_here, label_over, stack_inside, here_in, in_pass}
 use Rattle.job_meaning.proofs.Late.{latest_ends}
+use Rattle.job_meaning.proofs.MomentLemmas.{round_after, wakes_after, gives_up_after}
 use Rattle.job_story.specs.Story.{Happening, enters, sleeps, is_cancelled, finds, misses, raises, cancels, handles, cleans, replaces, waits, leaves, Story, no_more, happened, started, then_story, Tale}
-use Rattle.job_story.specs.Tell.{Scene, told_at, story_of_one, tale_if, then_tale, failed_at, seer, asleep_for, tell_slept, tell_sleep, tell_lines, tell_need, tell_raise, tell_cancel, tell_block, tell_wait, tell_gathered, tell_child, tell_each, tell_passes, handled_if, handled_exc, tell_handled, replacement, tell_cleaned, at_place, tell, tell_step, tell_handler, tell_cleanup}
+use Rattle.job_story.specs.Tell.{Scene, told_at, now_of, story_of_one, tale_if, then_tale, failed_at, seer, tell_slept, tell_sleep, tell_pace, tell_lines, tell_need, tell_raise, tell_cancel, tell_block, tell_wait, tell_gathered, tell_child, tell_each, tell_passes, handled_if, handled_exc, tell_handled, replacement, tell_cleaned, at_place, tell, tell_step, tell_handler, tell_cleanup}
 use Rattle.job_story.specs.Waking.{until_tick}
 
 -- ---- stories, one after another
@@ -40,233 +42,358 @@ IsPlain (replaces lost fresh) = Unit {0}
 IsPlain _ = ⊥
 
 -- how a block is left
-abbrev pub left_in : Table → Stack → ℕ → Kind → Label → Bool → Option Exc → Happening
-left_in k st u kind label shield inside =
-    let left = left_with (catches (k label) shield st u) inside in
-    leaves kind label inside left.caught (exc_after kind label u left)
+abbrev pub left_in : Clock → Table → Stack → Now → Kind → Label → Bool → Option Exc → Happening
+left_in clock k st last kind label shield inside =
+    let left = left_with (catches (from_for last.own last.at label (k label)) shield (stack_for last.own last.at st) last.at) inside in
+    leaves kind label inside left.caught (exc_after kind label (tick_of clock last.at) left)
 
--- A claim on the stories that are told inside the scopes and nurseries of a stack, from a tick to a tick: it holds of each part that a
--- walk tells, and where it holds of two stories it holds of one after the other.
-pub record IsKept (k : Table) (P : Stack → ℕ → ℕ → Story → Type 0) : Type 0 where
-  pub nothing : (st : Stack) (t : ℕ) → P st t t no_more
-  pub joined : (st : Stack) (t u v : ℕ) (a b : Story) → P st t u a → P st u v b → P st t v (then_story a b)
-  pub plain : (st : Stack) (t : ℕ) (what : Happening) → IsPlain what → P st t t (story_of_one t what)
-  pub waited : (st : Stack) (t u : ℕ) (label : Label) (exc : Option Exc) → t ≤ u → home_of st ≡ Some label →
-      P st t u (story_of_one t (waits label exc))
-  pub signed : (st : Stack) (t : ℕ) (name : List ℕ) → P st t t (story_of_one t (cancels (label_on name st)))
-  pub slept : (st : Stack) (t n : ℕ) (until : Tick) → until_tick until ≡ t + suc n → P st t (t + suc n) (story_of_one t (sleeps until))
-  pub seen : (st : Stack) (t from : ℕ) (c : Bool) → sight st ≡ Some from → from ≤ t →
-      P st t t (story_of_one t (is_cancelled (seer st from) None c))
-  pub cut : (st : Stack) (t from : ℕ) (until : Tick) (c : Bool) → sight st ≡ Some from → t < from → from ≤ until_tick until →
-      P st t from (happened t (sleeps until) (story_of_one from (is_cancelled (seer st from) (Some t) c)))
-  pub blocked : (st : Stack) (t u : ℕ) (kind : Kind) (label : Label) (d : Tick) (shield : Bool) (inside : Option Exc) (a : Story) →
-      P (stack_inside label shield (k label) st) t u a →
-      P st t u (happened t (enters kind label d shield) (then_story a (story_of_one u (left_in k st u kind label shield inside))))
-  pub child : (st : Stack) (t u : ℕ) (label : Label) (part : Range) (exc : Option Exc) (a : Story) → P st t u a →
-      P st t t (started label (home_of st) part t u exc a no_more)
+-- what passes until a checkpoint ends: no time by ticks, and at least a round by rounds
+abbrev pub Passes : Clock → ℕ → ℕ → Type 0
+Passes by_ticks m t = t ≡ m
+Passes by_rounds m t = m + 1 ≤ t
 
-module _ (k : Table) (P : Stack → ℕ → ℕ → Story → Type 0) (kept : IsKept k P) where
-  abbrev Keeps : Stack → ℕ → Tale → Type 0
-  Keeps st t a = P st t a.end a.story
+-- A claim on the stories that are told inside the scopes and nurseries of a stack, from one place in time to another: it holds of each part
+-- that a walk tells, and where it holds of two stories it holds of one after the other.
+pub record IsKept (clock : Clock) (k : Table) (P : Stack → Now → Now → Story → Type 0) : Type 0 where
+  pub nothing : (st : Stack) (now : Now) → P st now now no_more
+  pub joined : (st : Stack) (now later last : Now) (a b : Story) → P st now later a → P st later last b → P st now last (then_story a b)
+  pub passed : (st : Stack) (now : Now) (t : ℕ) → Passes clock now.at t → P st now (only_at t) no_more
+  pub plain : (st : Stack) (now : Now) (what : Happening) → IsPlain what → P st now now (story_of_one now.at what)
+  pub waited : (st : Stack) (now : Now) (u : ℕ) (label : Label) (exc : Option Exc) → a_round_after clock now.at ≤ u → home_of st ≡ Some label →
+      P st now (only_at u) (story_of_one now.at (waits label exc))
+  pub signed : (st : Stack) (now : Now) (name : List ℕ) →
+      P st now (let own = with_own clock (label_on name st) now.own in record { at = now.at; own = own }) (story_of_one now.at (cancels (label_on name st)))
+  pub slept : (st : Stack) (now : Now) (u : ℕ) (until : Tick) → until_tick clock until ≡ u → a_round_after clock now.at ≤ u →
+      P st now (only_at u) (story_of_one now.at (sleeps until))
+  pub seen : (st : Stack) (now : Now) (from : ℕ) (c : Bool) → sight st ≡ Some from → from ≤ now.at →
+      P st now now (story_of_one now.at (is_cancelled (seer st from) None c))
+  pub cut : (st : Stack) (now : Now) (from : ℕ) (until : Tick) (c : Bool) → sight st ≡ Some from → now.at < from → from ≤ until_tick clock until →
+      P st now (only_at from) (happened now.at (sleeps until) (story_of_one from (is_cancelled (seer st from) (Some now.at) c)))
+  pub blocked : (st : Stack) (now last : Now) (kind : Kind) (label : Label) (d : Tick) (shield : Bool) (inside : Option Exc) (a : Story) →
+      P (stack_inside label shield (k label) st) now last a →
+      P st now last
+      (happened now.at (enters kind label d shield) (then_story a (story_of_one last.at (left_in clock k st last kind label shield inside))))
+  pub child : (st : Stack) (now last : Now) (label : Label) (part : Range) (exc : Option Exc) (a : Story) →
+      P st (only_at (a_round_after clock now.at)) last a →
+      P st now now (started label (home_of st) part (a_round_after clock now.at) last.at exc a no_more)
 
-  kept_then : (st : Stack) (t : ℕ) (a : Tale) (go : ℕ → Tale) → Keeps st t a → ((u : ℕ) → Keeps st u (go u)) → Keeps st t (then_tale a go)
+-- ---- when waits end
+
+round_passes : (clock : Clock) (m : ℕ) → Passes clock m (a_round_after clock m)
+round_passes by_ticks m = refl
+round_passes by_rounds m = omega arith
+
+checkpoint_passes : (clock : Clock) (m : ℕ) → Passes clock m (wakes_at clock 0 m)
+checkpoint_passes by_ticks m = omega arith
+checkpoint_passes by_rounds m = omega arith
+
+checkpoint_wakes : (clock : Clock) (m : ℕ) → wakes_at clock 0 m ≤ a_round_after clock m
+checkpoint_wakes by_ticks m = omega arith
+checkpoint_wakes by_rounds m = omega arith
+
+giving_up_passes : (clock : Clock) (m : ℕ) → Passes clock m (gives_up_at clock 0 m)
+giving_up_passes by_ticks m = refl
+giving_up_passes by_rounds m = omega arith
+
+sleep_gives_up : (clock : Clock) (n m : ℕ) → gives_up_at clock (suc n) m ≡ a_round_after clock m
+sleep_gives_up by_ticks n m = refl
+sleep_gives_up by_rounds n m = refl
+
+-- the moment after m is the first after it that is not after a round
+next_is_first : (clock : Clock) (m from : ℕ) → m < from → from ≤ a_round_after clock m → a_round_after clock m ≡ from
+next_is_first by_ticks m from lt le = omega arith
+next_is_first by_rounds m from lt le = omega arith
+
+round_after_both : (clock : Clock) (m t : ℕ) → m ≤ t → a_round_after clock m ≤ a_round_after clock t
+round_after_both by_ticks m t le = le
+round_after_both by_rounds m t le = omega arith
+
+-- `forever` ends with the start of tick `far`
+until_forever : (clock : Clock) (n m : ℕ) → far - tick_of clock m ≡ suc n → until_tick clock None ≡ wakes_at clock (suc n) m
+until_forever by_ticks n m e = omega arith
+until_forever by_rounds n m e = in_rounds e
+  where
+    in_rounds : 1099511627776 - m / 2097152 ≡ suc n →
+        2305843009213693952 ≡ max (m + 1) (min 1099511627776 (m / 2097152 + suc n) * 2097152)
+    in_rounds h = omega arith
+
+-- a sleep of so many ticks is due after them
+some_ticks : (clock : Clock) (n : ℕ) (now : Now) (m : ℕ) → n ≡ suc m → wakes_at clock n now.at ≡ wakes_at clock (suc m) now.at
+some_ticks clock n now m e = ap (λ (x : ℕ). wakes_at clock x now.at) e
+
+child_end : (label : Label) (home : Option Label) (scene : Scene) (begins : ℕ) (a : Tale) (now : Now) →
+    now_of (tell_child label home scene begins a now) ≡ now
+unfolding tell_child
+child_end label home scene begins a now = refl
+
+each_end : (n : ℕ) (go : ℕ → Tale) (now : Now) → ((i : ℕ) → now_of (go i) ≡ now) → now_of (tell_each n go now) ≡ now
+each_end zero go now e = refl
+each_end (suc n) go now e = e n
+
+module _ (clock : Clock) (k : Table) (P : Stack → Now → Now → Story → Type 0) (kept : IsKept clock k P) where
+  abbrev Keeps : Stack → Now → Tale → Type 0
+  Keeps st now a = P st now (now_of a) a.story
+
+  kept_then : (st : Stack) (now : Now) (a : Tale) (go : Now → Tale) → Keeps st now a → ((later : Now) → Keeps st later (go later)) →
+      Keeps st now (then_tale a go)
   unfolding then_tale
-  kept_then st t a go h f = by_exc a.exc
+  kept_then st now a go h f = by_exc a.exc
     where
-      by_exc : (o : Option Exc) → Keeps st t (tale_if o a go)
-      by_exc None = kept.joined st t a.end (go a.end).end a.story (go a.end).story h (f a.end)
+      by_exc : (o : Option Exc) → Keeps st now (tale_if o a go)
+      by_exc None = kept.joined st now (now_of a) (now_of (go (now_of a))) a.story (go (now_of a)).story h (f (now_of a))
       by_exc (Some e) = h
 
   -- ---- steps that take time, and others
 
-  kept_asleep : (st : Stack) (n t : ℕ) (until : Tick) → ((m : ℕ) → n ≡ suc m → until_tick until ≡ t + suc m) →
-      P st t (t + n) (asleep_for n t until)
-  kept_asleep st zero t until h =
-      let e : t ≡ t + 0 = omega arith in
-      subst (λ (u : ℕ). P st t u no_more) e (kept.nothing st t)
-  kept_asleep st (suc m) t until h = kept.slept st t m until (h m refl)
+  -- a cancellation at a checkpoint, from a moment that has passed
+  kept_seen : (st : Stack) (now : Now) (t from : ℕ) (c : Bool) → Passes clock now.at t → sight st ≡ Some from → from ≤ t →
+      P st now (only_at t) (story_of_one t (is_cancelled (seer st from) None c))
+  kept_seen st now t from c passes e le =
+      kept.joined st now (only_at t) (only_at t) no_more (story_of_one t (is_cancelled (seer st from) None c)) (kept.passed st now t passes)
+      (kept.seen st (only_at t) from c e le)
 
-  kept_cut : (st : Stack) (n t from : ℕ) (until : Tick) (c : Bool) → ((m : ℕ) → n ≡ suc m → until_tick until ≡ t + suc m) →
-      sight st ≡ Some from → t < from → from ≤ t + n →
-      P st t from (then_story (asleep_for n t until) (story_of_one from (is_cancelled (seer st from) (Some t) c)))
-  kept_cut st zero t from until c h e lt le = absurd (omega arith)
-  kept_cut st (suc m) t from until c h e lt le =
-      let due : until_tick until ≡ t + suc m = h m refl in
-      kept.cut st t from until c e lt (omega arith)
+  reached : (from u : ℕ) → nat_le from u ≡ true → from ≤ u
+  reached from u is = grind (arith, nat_tests)
 
-  kept_slept : (from : Tick) (st : Stack) (n t : ℕ) (c : Bool) (until : Tick) →
-      ((m : ℕ) → n ≡ suc m → until_tick until ≡ t + suc m) → sight st ≡ from → Keeps st t (tell_slept from n t st c until)
-  kept_slept None st n t c until h e = kept_asleep st n t until h
-  kept_slept (Some from) st n t c until h e = by_now (nat_le from t) (nat_le from (t + n)) refl refl
+  missed : (from u : ℕ) → nat_le from u ≡ false → u < from
+  missed from u is = grind (arith, nat_tests)
+
+  -- a sleep of no tick, which is a checkpoint
+  kept_checked : (from : Tick) (st : Stack) (now : Now) (gives_up : ℕ) (c : Bool) (until : Tick) → Passes clock now.at gives_up →
+      a_round_after clock now.at ≤ gives_up → sight st ≡ from →
+      Keeps st now (tell_slept from 0 now.at (a_round_after clock now.at) gives_up (wakes_at clock 0 now.at) st c until)
+  kept_checked None st now gives_up c until passes late e = kept.passed st now (wakes_at clock 0 now.at) (checkpoint_passes clock now.at)
+  kept_checked (Some from) st now gives_up c until passes late e =
+      by_now (nat_le from now.at) (nat_le from (a_round_after clock now.at)) (nat_le from (wakes_at clock 0 now.at)) refl refl refl
     where
-      reached : (u : ℕ) → nat_le from u ≡ true → from ≤ u
-      reached u is = grind (arith, nat_tests)
+      by_now : (b d w : Bool) → nat_le from now.at ≡ b → nat_le from (a_round_after clock now.at) ≡ d → nat_le from (wakes_at clock 0 now.at) ≡ w →
+          Keeps st now (if b then failed_at cancelled (only_at gives_up) (story_of_one gives_up (is_cancelled (seer st from) None c))
+          else (if d then failed_at cancelled (only_at gives_up) (story_of_one gives_up (is_cancelled (seer st from) None c))
+          else (if w then failed_at cancelled (only_at from) (story_of_one from (is_cancelled (seer st from) None c))
+          else told_at (only_at (wakes_at clock 0 now.at)) no_more)))
+      by_now true d w at least due =
+          let le : from ≤ now.at = reached from now.at at in
+          let first : now.at ≤ a_round_after clock now.at = round_after clock now.at in
+          kept_seen st now gives_up from c passes e (omega arith)
+      by_now false true w at least due =
+          let le : from ≤ a_round_after clock now.at = reached from (a_round_after clock now.at) least in
+          kept_seen st now gives_up from c passes e (omega arith)
+      by_now false false true at least due =
+          let lt : a_round_after clock now.at < from = missed from (a_round_after clock now.at) least in
+          let le : from ≤ wakes_at clock 0 now.at = reached from (wakes_at clock 0 now.at) due in
+          let last : wakes_at clock 0 now.at ≤ a_round_after clock now.at = checkpoint_wakes clock now.at in
+          absurd (omega arith)
+      by_now false false false at least due = kept.passed st now (wakes_at clock 0 now.at) (checkpoint_passes clock now.at)
 
-      later : nat_le from t ≡ false → t < from
-      later is = grind (arith, nat_tests)
+  -- a sleep of some ticks
+  kept_dozed : (from : Tick) (st : Stack) (now : Now) (n : ℕ) (c : Bool) (until : Tick) → until_tick clock until ≡ wakes_at clock (suc n) now.at →
+      sight st ≡ from →
+      Keeps st now (tell_slept from (suc n) now.at (a_round_after clock now.at) (a_round_after clock now.at) (wakes_at clock (suc n) now.at) st c until)
+  kept_dozed None st now n c until until_is e = kept.slept st now (wakes_at clock (suc n) now.at) until until_is (wakes_after clock (suc n) now.at)
+  kept_dozed (Some from) st now n c until until_is e =
+      by_now (nat_le from now.at) (nat_le from (a_round_after clock now.at)) (nat_le from (wakes_at clock (suc n) now.at)) refl refl refl
+    where
+      cut_at : (t : ℕ) → t ≡ from → now.at < from → from ≤ wakes_at clock (suc n) now.at →
+          P st now (only_at t) (happened now.at (sleeps until) (story_of_one t (is_cancelled (seer st from) (Some now.at) c)))
+      cut_at t same lt le =
+          subst (λ (u : ℕ). P st now (only_at u) (happened now.at (sleeps until) (story_of_one u (is_cancelled (seer st from) (Some now.at) c))))
+          (sym same) (kept.cut st now from until c e lt (subst (λ (u : ℕ). from ≤ u) (sym until_is) le))
 
-      by_now : (b d : Bool) → nat_le from t ≡ b → nat_le from (t + n) ≡ d →
-          Keeps st t (if b then failed_at cancelled t (story_of_one t (is_cancelled (seer st from) None c))
-          else (if d then failed_at cancelled from (then_story (asleep_for n t until) (story_of_one from (is_cancelled (seer st from) (Some t) c)))
-          else told_at (t + n) (asleep_for n t until)))
-      by_now true d now due = kept.seen st t from c e (reached t now)
-      by_now false true now due = kept_cut st n t from until c h e (later now) (reached (t + n) due)
-      by_now false false now due = kept_asleep st n t until h
+      by_now : (b d w : Bool) → nat_le from now.at ≡ b → nat_le from (a_round_after clock now.at) ≡ d →
+          nat_le from (wakes_at clock (suc n) now.at) ≡ w →
+          Keeps st now (if b then failed_at cancelled (only_at (a_round_after clock now.at))
+          (story_of_one (a_round_after clock now.at) (is_cancelled (seer st from) None c))
+          else (if d then failed_at cancelled (only_at (a_round_after clock now.at))
+          (happened now.at (sleeps until) (story_of_one (a_round_after clock now.at) (is_cancelled (seer st from) (Some now.at) c)))
+          else (if w then failed_at cancelled (only_at from)
+          (happened now.at (sleeps until) (story_of_one from (is_cancelled (seer st from) (Some now.at) c)))
+          else told_at (only_at (wakes_at clock (suc n) now.at)) (story_of_one now.at (sleeps until)))))
+      by_now true d w at least due =
+          let le : from ≤ now.at = reached from now.at at in
+          let first : now.at ≤ a_round_after clock now.at = round_after clock now.at in
+          kept_seen st now (a_round_after clock now.at) from c (round_passes clock now.at) e (omega arith)
+      by_now false true w at least due =
+          let lt : now.at < from = missed from now.at at in
+          let le : from ≤ a_round_after clock now.at = reached from (a_round_after clock now.at) least in
+          let last : a_round_after clock now.at ≤ wakes_at clock (suc n) now.at = wakes_after clock (suc n) now.at in
+          cut_at (a_round_after clock now.at) (next_is_first clock now.at from lt le) lt (omega arith)
+      by_now false false true at least due = cut_at from refl (missed from now.at at) (reached from (wakes_at clock (suc n) now.at) due)
+      by_now false false false at least due =
+          kept.slept st now (wakes_at clock (suc n) now.at) until until_is (wakes_after clock (suc n) now.at)
 
-  kept_sleep : (st : Stack) (c : Bool) (until : Tick) (n t : ℕ) → ((m : ℕ) → n ≡ suc m → until_tick until ≡ t + suc m) →
-      Keeps st t (tell_sleep st c until n t)
+  kept_sleep : (st : Stack) (c : Bool) (until : Tick) (n : ℕ) (now : Now) →
+      ((m : ℕ) → n ≡ suc m → until_tick clock until ≡ wakes_at clock (suc m) now.at) → Keeps st now (tell_sleep clock st c until n now.at)
   unfolding tell_sleep
-  kept_sleep st c until n t h = kept_slept (sight st) st n t c until h refl
+  kept_sleep st c until zero now h =
+      kept_checked (sight st) st now (gives_up_at clock 0 now.at) c until (giving_up_passes clock now.at) (gives_up_after clock 0 now.at) refl
+  kept_sleep st c until (suc m) now h =
+      subst (λ (g : ℕ). Keeps st now (tell_slept (sight st) (suc m) now.at (a_round_after clock now.at) g (wakes_at clock (suc m) now.at) st c until))
+      (sym (sleep_gives_up clock m now.at)) (kept_dozed (sight st) st now m c until (h m refl) refl)
 
-  -- a sleep of so many ticks is due after them
-  some_ticks : (n t m : ℕ) → n ≡ suc m → t + n ≡ t + suc m
-  some_ticks n t m e = omega arith
+  kept_pace : (st : Stack) (c : Bool) (until : Tick) (n : ℕ) (now : Now) →
+      ((m : ℕ) → n ≡ suc m → until_tick clock until ≡ wakes_at clock (suc m) now.at) → Keeps st now (tell_pace clock st c until n now.at)
+  unfolding tell_pace
+  kept_pace st c until zero now h =
+      kept_checked (sight st) st now (a_round_after clock now.at) c until (round_passes clock now.at) (omega arith) refl
+  kept_pace st c until (suc m) now h = kept_dozed (sight st) st now m c until (h m refl) refl
 
-  -- and one that is forever, at `far`
-  forever_ticks : (t m : ℕ) → far - t ≡ suc m → far ≡ t + suc m
-  forever_ticks t m e = omega arith
-
-  kept_lines : (st : Stack) (lines : List Span) (t : ℕ) → Keeps st t (tell_lines lines t)
+  kept_lines : (st : Stack) (lines : List Span) (now : Now) → Keeps st now (tell_lines lines now)
   unfolding tell_lines
-  kept_lines st lines t = kept.plain st t (finds lines) tt
+  kept_lines st lines now = kept.plain st now (finds lines) tt
 
-  kept_need : (st : Stack) (found : Option Span) (name : List ℕ) (label : Label) (t : ℕ) → Keeps st t (tell_need found name label t)
+  kept_need : (st : Stack) (found : Option Span) (name : List ℕ) (here : Here) (now : Now) → Keeps st now (tell_need found name here now)
   unfolding tell_need
-  kept_need st None name label t = kept.plain st t (misses name) tt
-  kept_need st (Some l) name label t = kept.plain st t (finds _) tt
+  kept_need st None name here now = kept.plain st now (misses name) tt
+  kept_need st (Some l) name here now = kept.plain st now (finds _) tt
 
-  kept_raise : (st : Stack) (name : List ℕ) (label : Label) (t : ℕ) → Keeps st t (tell_raise name label t)
+  kept_raise : (st : Stack) (name : List ℕ) (here : Here) (now : Now) → Keeps st now (tell_raise name here now)
   unfolding tell_raise
-  kept_raise st name label t = kept.plain st t (raises name) tt
+  kept_raise st name here now = kept.plain st now (raises name) tt
 
-  kept_cancel : (st : Stack) (name : List ℕ) (t : ℕ) → Keeps st t (tell_cancel (label_on name st) t)
+  kept_cancel : (st : Stack) (name : List ℕ) (now : Now) → Keeps st now (tell_cancel clock (label_on name st) now)
   unfolding tell_cancel
-  kept_cancel st name t = kept.signed st t name
+  kept_cancel st name now = kept.signed st now name
 
   -- ---- blocks
 
-  kept_block : (kind : Kind) (label : Label) (t : ℕ) (d : Tick) (shield : Bool) (st : Stack) (inside : Tick → Tale) →
-      ((f : Tick) → f ≡ k label → Keeps (stack_inside label shield f st) t (inside f)) →
-      Keeps st t (tell_block k kind label t d shield st inside)
+  kept_block : (kind : Kind) (label : Label) (now : Now) (d : Tick) (shield : Bool) (st : Stack) (inside : Tick → Tale) →
+      ((f : Tick) → f ≡ k label → Keeps (stack_inside label shield f st) now (inside f)) →
+      Keeps st now (tell_block clock k kind label now.at d shield st inside)
   unfolding tell_block
-  kept_block kind label t d shield st inside h =
+  kept_block kind label now d shield st inside h =
       let a = inside (k label) in
-      kept.blocked st t a.end kind label d shield a.exc a.story (h (k label) refl)
+      kept.blocked st now (now_of a) kind label d shield a.exc a.story (h (k label) refl)
 
-  kept_gathered : (st : Stack) (t : ℕ) (label : Label) (a : Tale) → home_of st ≡ Some label → Keeps st t a → Keeps st t (tell_gathered label (tell_wait label a))
+  kept_gathered : (st : Stack) (now : Now) (label : Label) (a : Tale) → home_of st ≡ Some label → Keeps st now a →
+      Keeps st now (tell_gathered clock label (tell_wait label a))
   unfolding tell_wait tell_gathered
-  kept_gathered st t label a home h =
-      kept.joined st t a.end (latest a.end a.members) a.story (story_of_one a.end (waits label a.exc)) h
-      (kept.waited st a.end (latest a.end a.members) label a.exc (latest_ends a.end a.members) home)
+  kept_gathered st now label a home h =
+      kept.joined st now (now_of a) (only_at (a_round_after clock (latest a.end a.members))) a.story (story_of_one a.end (waits label a.exc)) h
+      (kept.waited st (now_of a) (a_round_after clock (latest a.end a.members)) label a.exc
+      (round_after_both clock a.end (latest a.end a.members) (latest_ends a.end a.members)) home)
 
-  kept_child : (label : Label) (st : Stack) (scene : Scene) (t : ℕ) (a : Tale) → Keeps st t a →
-      Keeps st t (tell_child label (home_of st) scene t a)
+  kept_child : (label : Label) (st : Stack) (scene : Scene) (now : Now) (a : Tale) → Keeps st (only_at (a_round_after clock now.at)) a →
+      Keeps st now (tell_child label (home_of st) scene (a_round_after clock now.at) a now)
   unfolding tell_child
-  kept_child label st scene t a h = kept.child st t a.end label scene.here.part a.exc a.story h
+  kept_child label st scene now a h = kept.child st now (now_of a) label scene.here.part a.exc a.story h
 
-  child_end : (label : Label) (home : Option Label) (scene : Scene) (t : ℕ) (a : Tale) → (tell_child label home scene t a).end ≡ t
-  unfolding tell_child
-  child_end label home scene t a = refl
+  kept_each : (n : ℕ) (go : ℕ → Tale) (now : Now) (st : Stack) → ((i : ℕ) → now_of (go i) ≡ now) → ((i : ℕ) → Keeps st now (go i)) →
+      Keeps st now (tell_each n go now)
+  kept_each zero go now st e h = kept.nothing st now
+  kept_each (suc n) go now st e h =
+      kept.joined st now (now_of (tell_each n go now)) (now_of (go n)) (tell_each n go now).story (go n).story (kept_each n go now st e h)
+      (subst (λ (u : Now). P st u (now_of (go n)) (go n).story) (sym (each_end n go now e)) (h n))
 
-  each_end : (n : ℕ) (go : ℕ → Tale) (t : ℕ) → ((i : ℕ) → (go i).end ≡ t) → (tell_each n go t).end ≡ t
-  each_end zero go t e = refl
-  each_end (suc n) go t e = e n
-
-  kept_each : (n : ℕ) (go : ℕ → Tale) (t : ℕ) (st : Stack) → ((i : ℕ) → (go i).end ≡ t) → ((i : ℕ) → Keeps st t (go i)) →
-      Keeps st t (tell_each n go t)
-  kept_each zero go t st e h = kept.nothing st t
-  kept_each (suc n) go t st e h =
-      kept.joined st t (tell_each n go t).end (go n).end (tell_each n go t).story (go n).story (kept_each n go t st e h)
-      (subst (λ (u : ℕ). P st u (go n).end (go n).story) (sym (each_end n go t e)) (h n))
-
-  kept_passes : (first n : ℕ) (go : ℕ → ℕ → Tale) (t : ℕ) (st : Stack) → ((i u : ℕ) → Keeps st u (go i u)) →
-      Keeps st t (tell_passes first n go t)
-  kept_passes first zero go t st h = kept.nothing st t
-  kept_passes first (suc n) go t st h =
-      kept_then st t (go first t) (λ u. tell_passes (suc first) n go u) (h first t) (λ u. kept_passes (suc first) n go u st h)
+  kept_passes : (first n : ℕ) (go : ℕ → Now → Tale) (now : Now) (st : Stack) → ((i : ℕ) (later : Now) → Keeps st later (go i later)) →
+      Keeps st now (tell_passes first n go now)
+  kept_passes first zero go now st h = kept.nothing st now
+  kept_passes first (suc n) go now st h =
+      kept_then st now (go first now) (λ later. tell_passes (suc first) n go later) (h first now)
+      (λ later. kept_passes (suc first) n go later st h)
 
   -- ---- handlers and cleanups
 
   -- a story after one more event
-  kept_after : (st : Stack) (t u : ℕ) (what : Happening) (a : Story) → IsPlain what → P st t u a → P st t u (happened t what a)
-  kept_after st t u what a plain h = kept.joined st t t u (story_of_one t what) a (kept.plain st t what plain) h
+  kept_after : (st : Stack) (now last : Now) (what : Happening) (a : Story) → IsPlain what → P st now last a → P st now last (happened now.at what a)
+  kept_after st now last what a plain h = kept.joined st now now last (story_of_one now.at what) a (kept.plain st now what plain) h
 
-  kept_handled : (st : Stack) (t : ℕ) (wanted : Wanted) (a : Tale) (go : ℕ → Tale) → Keeps st t a → ((u : ℕ) → Keeps st u (go u)) →
-      Keeps st t (tell_handled wanted a go)
+  kept_handled : (st : Stack) (now : Now) (wanted : Wanted) (a : Tale) (go : Now → Tale) → Keeps st now a →
+      ((later : Now) → Keeps st later (go later)) → Keeps st now (tell_handled wanted a go)
   unfolding tell_handled
-  kept_handled st t wanted a go h f = by_outcome a.exc
+  kept_handled st now wanted a go h f = by_outcome a.exc
     where
-      by_match : (o rest : Option Exc) → Keeps st t (handled_if o rest a go)
+      by_match : (o rest : Option Exc) → Keeps st now (handled_if o rest a go)
       by_match None rest = h
       by_match (Some m) rest =
-          let b = go a.end in
-          kept.joined st t a.end b.end a.story (happened a.end (handles m rest) b.story) h
-          (kept_after st a.end b.end (handles m rest) b.story tt (f a.end))
+          let b = go (now_of a) in
+          kept.joined st now (now_of a) (now_of b) a.story (happened a.end (handles m rest) b.story) h
+          (kept_after st (now_of a) (now_of b) (handles m rest) b.story tt (f (now_of a)))
 
-      by_outcome : (o : Option Exc) → Keeps st t (handled_exc o wanted a go)
+      by_outcome : (o : Option Exc) → Keeps st now (handled_exc o wanted a go)
       by_outcome None = h
       by_outcome (Some x) = by_match (keep wanted x) (drop wanted x)
 
-  kept_replaced : (st : Stack) (lost fresh : Option Exc) (t : ℕ) → P st t t (replacement lost fresh t)
-  kept_replaced st None fresh t = kept.nothing st t
-  kept_replaced st (Some l) None t = kept.nothing st t
-  kept_replaced st (Some l) (Some f) t = kept.plain st t (replaces l f) tt
+  kept_replaced : (st : Stack) (lost fresh : Option Exc) (now : Now) → P st now now (replacement lost fresh now.at)
+  kept_replaced st None fresh now = kept.nothing st now
+  kept_replaced st (Some l) None now = kept.nothing st now
+  kept_replaced st (Some l) (Some f) now = kept.plain st now (replaces l f) tt
 
-  kept_cleaned : (st : Stack) (t : ℕ) (a : Tale) (go : ℕ → Tale) → Keeps st t a → ((u : ℕ) → Keeps st u (go u)) →
-      Keeps st t (tell_cleaned a go)
+  kept_cleaned : (st : Stack) (now : Now) (a : Tale) (go : Now → Tale) → Keeps st now a → ((later : Now) → Keeps st later (go later)) →
+      Keeps st now (tell_cleaned a go)
   unfolding tell_cleaned
-  kept_cleaned st t a go h f =
-      let b = go a.end in
-      kept.joined st t a.end b.end a.story (happened a.end (cleans a.exc) (then_story b.story (replacement a.exc b.exc b.end))) h
-      (kept_after st a.end b.end (cleans a.exc) (then_story b.story (replacement a.exc b.exc b.end)) tt
-      (kept.joined st a.end b.end b.end b.story (replacement a.exc b.exc b.end) (f a.end) (kept_replaced st a.exc b.exc b.end)))
+  kept_cleaned st now a go h f =
+      let b = go (now_of a) in
+      kept.joined st now (now_of a) (now_of b) a.story (happened a.end (cleans a.exc) (then_story b.story (replacement a.exc b.exc b.end))) h
+      (kept_after st (now_of a) (now_of b) (cleans a.exc) (then_story b.story (replacement a.exc b.exc b.end)) tt
+      (kept.joined st (now_of a) (now_of b) (now_of b) b.story (replacement a.exc b.exc b.end) (f (now_of a))
+      (kept_replaced st a.exc b.exc (now_of b))))
 
-  -- ---- the walk
+-- ---- the walk
+
+module _ (k : Table) (P : Clock → Stack → Now → Now → Story → Type 0) (kept : (clock : Clock) → IsKept clock k (P clock)) where
+  abbrev KeepsIn : Scene → Stack → Now → Tale → Type 0
+  KeepsIn scene st now a = P scene.here.clock st now (now_of a) a.story
 
   mutual
     unfolding tell
 
     -- what is kept holds of the story of each block of steps
-    pub kept_tell : (b : Steps) (scene : Scene) (st : Stack) (t : ℕ) → Keeps st t (tell k b scene st t)
-    kept_tell stop scene st t = kept.nothing st t
-    kept_tell (step s ss) scene st t =
-        kept_then st t (tell_step k s scene st t) (λ u. tell k ss scene st u) (kept_step s scene st t) (λ u. kept_tell ss scene st u)
+    pub kept_tell : (b : Steps) (scene : Scene) (st : Stack) (now : Now) → KeepsIn scene st now (tell k b scene st now)
+    kept_tell stop scene st now = (kept scene.here.clock).nothing st now
+    kept_tell (step s ss) scene st now =
+        let c = scene.here.clock in
+        kept_then c k (P c) (kept c) st now (tell_step k s scene st now) (λ later. tell k ss scene st later) (kept_step s scene st now)
+        (λ later. kept_tell ss scene st later)
 
-    kept_step : (s : Step) (scene : Scene) (st : Stack) (t : ℕ) → Keeps st t (tell_step k s scene st t)
-    kept_step (sleep n) scene st t = kept_sleep st scene.in_cleanup _ n t (λ m e. some_ticks n t m e)
-    kept_step checkpoint scene st t = kept_sleep st scene.in_cleanup _ 0 t (λ m e. absurd (cc))
-    kept_step forever scene st t = kept_sleep st scene.in_cleanup None (far - t) t (λ m e. forever_ticks t m e)
-    kept_step (pace n) scene st t = kept_sleep st scene.in_cleanup _ _ t (λ m e. some_ticks _ t m e)
-    kept_step (find text) scene st t = kept_lines st _ t
-    kept_step (head n) scene st t = kept_lines st _ t
-    kept_step longest scene st t = kept_lines st _ t
-    kept_step (need text name) scene st t = kept_need st _ name scene.here.task t
-    kept_step (raise name) scene st t = kept_raise st name scene.here.task t
-    kept_step (cancel name) scene st t = kept_cancel st name t
-    kept_step (scope name d shield fail body) scene st t =
-        kept_block _ (label_here name scene.here) t _ shield st _
-        (λ f e. kept_tell body scene (stack_inside (label_here name scene.here) shield f st) t)
-    kept_step (nursery name d shield body) scene st t =
-        kept_block _ (label_here name scene.here) t _ shield st _
-        (λ f e. kept_gathered (stack_inside (label_here name scene.here) shield f st) t (label_here name scene.here) _ refl
-        (kept_tell body scene (stack_inside (label_here name scene.here) shield f st) t))
-    kept_step (start name None body) scene st t =
+    kept_step : (s : Step) (scene : Scene) (st : Stack) (now : Now) → KeepsIn scene st now (tell_step k s scene st now)
+    kept_step (sleep n) scene st now =
+        let c = scene.here.clock in kept_sleep c k (P c) (kept c) st scene.in_cleanup _ n now (λ m e. some_ticks c n now m e)
+    kept_step checkpoint scene st now =
+        let c = scene.here.clock in kept_sleep c k (P c) (kept c) st scene.in_cleanup _ 0 now (λ m e. absurd (cc))
+    kept_step forever scene st now =
+        let c = scene.here.clock in
+        kept_sleep c k (P c) (kept c) st scene.in_cleanup None (far - tick_of c now.at) now (λ m e. until_forever c m now.at e)
+    kept_step (pace n) scene st now =
+        let c = scene.here.clock in kept_pace c k (P c) (kept c) st scene.in_cleanup _ _ now (λ m e. some_ticks c _ now m e)
+    kept_step (find text) scene st now = let c = scene.here.clock in kept_lines c k (P c) (kept c) st _ now
+    kept_step (head n) scene st now = let c = scene.here.clock in kept_lines c k (P c) (kept c) st _ now
+    kept_step longest scene st now = let c = scene.here.clock in kept_lines c k (P c) (kept c) st _ now
+    kept_step (need text name) scene st now = let c = scene.here.clock in kept_need c k (P c) (kept c) st _ name scene.here now
+    kept_step (raise name) scene st now = let c = scene.here.clock in kept_raise c k (P c) (kept c) st name scene.here now
+    kept_step (cancel name) scene st now = let c = scene.here.clock in kept_cancel c k (P c) (kept c) st name now
+    kept_step (scope name d shield fail body) scene st now =
+        let c = scene.here.clock in
+        kept_block c k (P c) (kept c) _ (label_here name scene.here) now _ shield st _
+        (λ f e. kept_tell body scene (stack_inside (label_here name scene.here) shield f st) now)
+    kept_step (nursery name d shield body) scene st now =
+        let c = scene.here.clock in
+        kept_block c k (P c) (kept c) _ (label_here name scene.here) now _ shield st _
+        (λ f e. kept_gathered c k (P c) (kept c) (stack_inside (label_here name scene.here) shield f st) now (label_here name scene.here) _ refl
+        (kept_tell body scene (stack_inside (label_here name scene.here) shield f st) now))
+    kept_step (start name None body) scene st now =
+        let c = scene.here.clock in
         let inner = at_place (here_in (label_here name scene.here) scene.here.part scene.here) scene in
-        kept_child (label_here name scene.here) st inner t _ (kept_tell body inner st t)
-    kept_step (start name (Some copies) body) scene st t =
-        kept_each copies _ t st (λ i. child_end _ _ _ t _) (λ i.
+        kept_child c k (P c) (kept c) (label_here name scene.here) st inner now _ (kept_tell body inner st (only_at (a_round_after c now.at)))
+    kept_step (start name (Some copies) body) scene st now =
+        let c = scene.here.clock in
+        kept_each c k (P c) (kept c) copies _ now st (λ i. child_end _ _ _ _ _ now) (λ i.
         let inner = at_place (here_in (label_over name scene.here i) (cut_of scene.here.input scene.here.part copies i) scene.here) scene in
-        kept_child (label_over name scene.here i) st inner t _ (kept_tell body inner st t))
-    kept_step (repeat count body) scene st t =
-        kept_passes 0 count _ t st (λ i u. kept_tell body (at_place (in_pass i scene.here) scene) st u)
-    kept_step (attempt body handler cleanup) scene st t =
-        kept_cleanup cleanup scene st t _ (kept_handler handler scene st t _ (kept_tell body scene st t))
+        kept_child c k (P c) (kept c) (label_over name scene.here i) st inner now _ (kept_tell body inner st (only_at (a_round_after c now.at))))
+    kept_step (repeat count body) scene st now =
+        let c = scene.here.clock in
+        kept_passes c k (P c) (kept c) 0 count _ now st (λ i later. kept_tell body (at_place (in_pass i scene.here) scene) st later)
+    kept_step (attempt body handler cleanup) scene st now =
+        kept_cleanup cleanup scene st now _ (kept_handler handler scene st now _ (kept_tell body scene st now))
 
-    kept_handler : (x : Handled) (scene : Scene) (st : Stack) (t : ℕ) (a : Tale) → Keeps st t a → Keeps st t (tell_handler k x scene st a)
-    kept_handler unhandled scene st t a h = h
-    kept_handler (except name body) scene st t a h = kept_handled st t (named name) a _ h (λ u. kept_tell body scene st u)
+    kept_handler : (x : Handled) (scene : Scene) (st : Stack) (now : Now) (a : Tale) → KeepsIn scene st now a →
+        KeepsIn scene st now (tell_handler k x scene st a)
+    kept_handler unhandled scene st now a h = h
+    kept_handler (except name body) scene st now a h =
+        let c = scene.here.clock in kept_handled c k (P c) (kept c) st now (named name) a _ h (λ later. kept_tell body scene st later)
 
-    kept_cleanup : (x : Cleaned) (scene : Scene) (st : Stack) (t : ℕ) (a : Tale) → Keeps st t a → Keeps st t (tell_cleanup k x scene st a)
-    kept_cleanup uncleaned scene st t a h = h
-    kept_cleanup (finally body) scene st t a h =
-        kept_cleaned st t a _ h (λ u. kept_tell body (record scene { in_cleanup = true }) st u)
+    kept_cleanup : (x : Cleaned) (scene : Scene) (st : Stack) (now : Now) (a : Tale) → KeepsIn scene st now a →
+        KeepsIn scene st now (tell_cleanup k x scene st a)
+    kept_cleanup uncleaned scene st now a h = h
+    kept_cleanup (finally body) scene st now a h =
+        let c = scene.here.clock in
+        kept_cleaned c k (P c) (kept c) st now a _ h (λ later. kept_tell body (record scene { in_cleanup = true }) st later)

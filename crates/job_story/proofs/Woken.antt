@@ -1,59 +1,109 @@
--- The time of a task of a story passes only while it sleeps or waits.
-use Rattle.std.proofs.Common.{ℕ, refl, sym, subst, []}
+-- The time of a task of a story passes only while it sleeps or waits, and by rounds at a checkpoint too.
+use Rattle.std.proofs.Common.{◌≡◌, ℕ, ◌≤◌, refl, sym, ◌∙◌, subst, [], arith}
 use Rattle.job_meaning.specs.Log.{Table}
+use Rattle.job_meaning.specs.Moments.{Clock, by_ticks, by_rounds, clock_of, a_round_after, Now, only_at}
 use Rattle.job_meaning.specs.Walk.{Stack}
+use Rattle.job_meaning.proofs.MomentLemmas.{round_after}
 use Rattle.job_story.specs.Story.{Happening, finds, misses, raises, handles, cleans, replaces, Story, no_more, happened, then_story}
 use Rattle.job_story.specs.Tell.{story_of_one, root_scene, tale_by}
-use Rattle.job_story.specs.Waking.{until_tick, Doing, awake, asleep, waiting, IsNext, AllInTime}
+use Rattle.job_story.specs.Waking.{until_tick, Doing, awake, asleep, waiting, GoesOnIn, IsNext, starter_at, AllInTime}
 use Rattle.job_story.specs.LawsOfCauses.{TimePassesAsleep}
-use Rattle.job_story.proofs.Telling.{then_assoc, then_no_more, IsPlain, left_in, IsKept, kept_tell}
+use Rattle.job_story.proofs.Telling.{then_assoc, then_no_more, IsPlain, left_in, Passes, IsKept, kept_tell}
 
--- a story is in time from a tick on, whatever the task did before, if the tick is next for it
-abbrev GoesOn : ℕ → ℕ → Story → Type 0
-GoesOn t end a = (doing : Doing) → IsNext doing t → AllInTime doing end a
+-- ---- when a task goes on
 
--- where any rest goes on from the second tick, the story and the rest go on from the first
-abbrev Leads : Stack → ℕ → ℕ → Story → Type 0
-Leads st t u a = (end : ℕ) (rest : Story) → GoesOn u end rest → GoesOn t end (then_story a rest)
+goes_on : (clock : Clock) (t : ℕ) → GoesOnIn clock t t
+goes_on by_ticks t = refl
+goes_on by_rounds t = omega arith
 
-leads_plain : (st : Stack) (t : ℕ) (what : Happening) → IsPlain what → Leads st t t (story_of_one t what)
-leads_plain st t (finds lines) plain end rest h doing at = (at, h (awake t) refl)
-leads_plain st t (misses name) plain end rest h doing at = (at, h (awake t) refl)
-leads_plain st t (raises name) plain end rest h doing at = (at, h (awake t) refl)
-leads_plain st t (handles matched left) plain end rest h doing at = (at, h (awake t) refl)
-leads_plain st t (cleans exc) plain end rest h doing at = (at, h (awake t) refl)
-leads_plain st t (replaces lost fresh) plain end rest h doing at = (at, h (awake t) refl)
-leads_plain st t _ plain end rest h doing at = absurd plain
+goes_on_at : (clock : Clock) (m t : ℕ) → m ≡ t → GoesOnIn clock m t
+goes_on_at clock m t e = subst (λ (u : ℕ). GoesOnIn clock m u) e (goes_on clock m)
+
+-- and after a checkpoint
+goes_on_past : (clock : Clock) (m t u : ℕ) → GoesOnIn clock m t → Passes clock t u → GoesOnIn clock m u
+goes_on_past by_ticks m t u e passes = passes ∙ e
+goes_on_past by_rounds m t u le passes = omega arith
+
+waited_past : (clock : Clock) (m t u : ℕ) → m ≤ t → Passes clock t u → m ≤ u
+waited_past by_ticks m t u le passes = omega arith
+waited_past by_rounds m t u le passes = omega arith
+
+next_past : (clock : Clock) (doing : Doing) (t u : ℕ) → IsNext clock doing t → Passes clock t u → IsNext clock doing u
+next_past clock (awake at) t u next passes = goes_on_past clock at t u next passes
+next_past clock (asleep since due) t u next passes = goes_on_past clock due t u next passes
+next_past clock (waiting since) t u next passes = waited_past clock since t u next passes
+
+-- a task is started in the moment of its starter
+starter_is : (clock : Clock) (t : ℕ) → starter_at clock (a_round_after clock t) ≡ t
+starter_is by_ticks t = refl
+starter_is by_rounds t = omega arith
+
+root_starts : (clock : Clock) → starter_at clock 0 ≡ 0
+root_starts by_ticks = refl
+root_starts by_rounds = refl
+
+-- ---- the stories of a walk
+
+-- a story is in time from a moment on, whatever the task did before, if the moment is next for it
+abbrev GoesOn : Clock → ℕ → ℕ → Story → Type 0
+GoesOn clock t end a = (doing : Doing) → IsNext clock doing t → AllInTime clock doing end a
+
+-- where any rest goes on from the second moment, the story and the rest go on from the first
+abbrev Leads : Clock → Stack → Now → Now → Story → Type 0
+Leads clock st now last a = (end : ℕ) (rest : Story) → GoesOn clock last.at end rest → GoesOn clock now.at end (then_story a rest)
+
+leads_plain : (clock : Clock) (st : Stack) (now : Now) (what : Happening) → IsPlain what → Leads clock st now now (story_of_one now.at what)
+leads_plain clock st now (finds lines) plain end rest h doing at = (at, h (awake now.at) (goes_on clock now.at))
+leads_plain clock st now (misses name) plain end rest h doing at = (at, h (awake now.at) (goes_on clock now.at))
+leads_plain clock st now (raises name) plain end rest h doing at = (at, h (awake now.at) (goes_on clock now.at))
+leads_plain clock st now (handles matched left) plain end rest h doing at = (at, h (awake now.at) (goes_on clock now.at))
+leads_plain clock st now (cleans exc) plain end rest h doing at = (at, h (awake now.at) (goes_on clock now.at))
+leads_plain clock st now (replaces lost fresh) plain end rest h doing at = (at, h (awake now.at) (goes_on clock now.at))
+leads_plain clock st now _ plain end rest h doing at = absurd plain
 
 -- the own story of a task, from its start to its end
-own_story : (st : Stack) (t u : ℕ) (a : Story) → Leads st t u a → AllInTime (awake t) u a
-own_story st t u a f = subst (AllInTime (awake t) u) (then_no_more a) (f u no_more (λ doing at. at) (awake t) refl)
+own_story : (clock : Clock) (st : Stack) (t : ℕ) (last : Now) (a : Story) → Leads clock st (only_at t) last a → AllInTime clock (awake t) last.at a
+own_story clock st t last a f =
+    subst (AllInTime clock (awake t) last.at) (then_no_more a) (f last.at no_more (λ doing at. at) (awake t) (goes_on clock t))
 
-leads : (table : Table) → IsKept table Leads
-leads table =
+waits_until : (clock : Clock) (t u : ℕ) → a_round_after clock t ≤ u → t ≤ u
+waits_until clock t u le = let first : t ≤ a_round_after clock t = round_after clock t in omega arith
+
+leads : (table : Table) (clock : Clock) → IsKept clock table (Leads clock)
+leads table clock =
     record {
-      nothing = λ st t end rest h. h;
-      joined = λ st t u v a b f g end rest h.
-          subst (GoesOn t end) (sym (then_assoc a b rest)) (f end (then_story b rest) (g end rest h));
-      plain = leads_plain;
-      waited = λ st t u label exc le home end rest h doing at. (at, h (waiting t) le);
-      signed = λ st t name end rest h doing at. (at, h (awake t) refl);
-      slept = λ st t n until e end rest h doing at. (at, h (asleep t (until_tick until)) (sym e));
-      seen = λ st t from c e le end rest h doing at. (at, h (awake t) refl);
-      cut = λ st t from until c e lt le end rest h doing at. (at, ((refl, lt, le), h (awake from) refl));
-      blocked = λ st t u kind label d shield inside a f end rest h doing at. (
+      nothing = λ st now end rest h. h;
+      joined = λ st now later last a b f g end rest h.
+          subst (GoesOn clock now.at end) (sym (then_assoc a b rest)) (f end (then_story b rest) (g end rest h));
+      passed = λ st now t passes end rest h doing at. h doing (next_past clock doing now.at t at passes);
+      plain = leads_plain clock;
+      waited = λ st now u label exc le home end rest h doing at. (at, h (waiting now.at) (waits_until clock now.at u le));
+      signed = λ st now name end rest h doing at. (at, h (awake now.at) (goes_on clock now.at));
+      slept = λ st now u until e le end rest h doing at.
+          (at, h (asleep now.at (until_tick clock until)) (goes_on_at clock (until_tick clock until) u e));
+      seen = λ st now from c e le end rest h doing at. (at, h (awake now.at) (goes_on clock now.at));
+      cut = λ st now from until c e lt le end rest h doing at. (at, ((refl, lt, le), h (awake from) (goes_on clock from)));
+      blocked = λ st now last kind label d shield inside a f end rest h doing at. (
         at,
-        subst (AllInTime (awake t) end) (sym (then_assoc a _ rest))
-            (f end (happened u (left_in table st u kind label shield inside) rest) (λ before then. (then, h (awake u) refl)) (awake t) refl),
+        subst (AllInTime clock (awake now.at) end) (sym (then_assoc a _ rest))
+            (f end (happened last.at (left_in clock table st last kind label shield inside) rest)
+            (λ before then. (then, h (awake last.at) (goes_on clock last.at))) (awake now.at) (goes_on clock now.at)),
       );
-      child = λ st t u label part exc a f end rest h doing at. (at, own_story st t u a f, h (awake t) refl);
+      child = λ st now last label part exc a f end rest h doing at.
+          let same = starter_is clock now.at in (
+            subst (IsNext clock doing) (sym same) at,
+            own_story clock st (a_round_after clock now.at) last a f,
+            h (awake (starter_at clock (a_round_after clock now.at))) (goes_on_at clock (starter_at clock (a_round_after clock now.at)) now.at same),
+          );
     }
 
 pub time_passes_asleep : TimePassesAsleep
 unfolding tale_by
-time_passes_asleep table job input = (
-  refl,
-  own_story [] 0 (tale_by table job input).end (tale_by table job input).story
-      (kept_tell table Leads (leads table) job.steps (root_scene job input) [] 0),
-  refl,
-)
+time_passes_asleep table job input =
+    let clock = clock_of job.format in
+    let same = root_starts clock in (
+      goes_on_at clock 0 (starter_at clock 0) (sym same),
+      own_story clock [] 0 (let a = tale_by table job input in record { at = a.end; own = a.own }) (tale_by table job input).story
+          (kept_tell table Leads (leads table) job.steps (root_scene job input) [] (only_at 0)),
+      goes_on_at clock (starter_at clock 0) 0 same,
+    )

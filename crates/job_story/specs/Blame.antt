@@ -20,15 +20,15 @@ open_after table _ stack = stack
 
 -- ---- one cancellation
 
--- The label is that of a level of the stack that is cancelled from this tick on, and no level inside it is shielded or is cancelled
--- from the same tick on.
+-- The label is that of a level of the stack that is cancelled from this moment on, and no level inside it is shielded or is cancelled
+-- from the same moment on.
 abbrev pub IsInnermost : Label → ℕ → Stack → Type 0
 IsInnermost l from [] = ⊥
 IsInnermost l from (k ∷ ks) =
     ((l ≡ k.label) × (k.from ≡ Some from)) ⊎ ((k.shield ≡ false) × (k.from ≢ Some from) × IsInnermost l from ks)
 
--- When `Cancelled` is raised at tick t: a task that slept since s is cancelled in the first tick of the cancellation, which is after
--- s; at a checkpoint the cancellation began before, or in the same tick.
+-- When `Cancelled` is raised in moment t: a task that slept since s is cancelled in the first moment of the cancellation, which is after
+-- s; at a checkpoint the cancellation began before, or by that moment.
 abbrev pub IsRaisedAt : ℕ → ℕ → Tick → Type 0
 IsRaisedAt from t None = from ≤ t
 IsRaisedAt from t (Some s) = (s < from) × (t ≡ from)

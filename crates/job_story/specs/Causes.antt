@@ -59,13 +59,13 @@ abbrev pub or_later : Option Cause → Option Cause → Option Cause
 or_later None other = other
 or_later (Some c) other = Some c
 
--- the first event that cancelled the label in the tick before the one from which it is cancelled
+-- the first event that cancelled the label in the moment before the one from which it is cancelled
 abbrev pub signed_by : Label → ℕ → List Event → Option Cause
 signed_by l from [] = None
 signed_by l from (e ∷ es) =
     or_later (if e.tick + 1 == from then cause_in l e.tick e.task e.what else None) (signed_by l from es)
 
--- the deadline, if the label is cancelled from that tick on, and the event otherwise
+-- the deadline, if the label is cancelled from that moment on, and the event otherwise
 abbrev pub cause_by_entering : Option Entering → Label → ℕ → List Event → Option Cause
 cause_by_entering None l from es = signed_by l from es
 cause_by_entering (Some entered) l from es = if is_from entered.deadline from then Some by_deadline else signed_by l from es

@@ -11,6 +11,7 @@ pub data What : Type 0 where
   happens : (what : Happening) → What
   ends : (home : Option Label) → (exc : Option Exc) → What
 
+-- an event of a task; its `tick` is a moment
 pub record Event : Type 0 where
   pub tick : ℕ
   pub task : Label
@@ -26,9 +27,10 @@ events_of me (happened t what rest) = event t me (happens what) ∷ events_of me
 events_of me (started l home part s u e own rest) =
     event s l (starts home part) ∷ (events_of l own ++ event u l (ends home e) ∷ events_of me rest)
 
-abbrev pub tick_of : Event → ℕ
-tick_of e = e.tick
+-- when an event happened
+abbrev pub moment_of : Event → ℕ
+moment_of e = e.tick
 
--- the events sorted by tick, and within a tick in the order of the walk
+-- the events sorted by moment, and within a moment in the order of the walk
 abbrev pub in_order : List Event → List Event
-in_order events = sorted_by tick_of events
+in_order events = sorted_by moment_of events

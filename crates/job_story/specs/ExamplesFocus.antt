@@ -5,7 +5,7 @@ use Rattle.job_tree.specs.Tree.{Tree}
 use Rattle.exc_groups.specs.Exceptions.{Label}
 use Rattle.job_meaning.specs.Examples.{label_named}
 use Rattle.job_meaning.specs.Meaning.{meaning, meaning_table}
-use Rattle.job_meaning.specs.Walk.{walk, and_then, sleep_result, lines_result, need_result, cancel_result, block, with_sign, nursery_result, child, handler_result, cleanup_result}
+use Rattle.job_meaning.specs.Walk.{walk, and_then, sleep_result, lines_result, raise_result, need_result, cancel_result, block, with_sign, nursery_result, child, handler_result, cleanup_result}
 use Rattle.job_story.specs.Examples.{lines_of}
 use Rattle.job_story.specs.ExamplesCauses.{race}
 use Rattle.job_story.specs.Focus.{story_of_task}
@@ -13,7 +13,7 @@ use Rattle.job_story.specs.Tell.{tell, then_tale, tell_sleep, tell_lines, tell_n
 
 -- the events of the meaning that concern a task
 unfoldable pub told_for : Tree → List ℕ → Label → List ℕ
-unfolding meaning walk and_then sleep_result lines_result need_result cancel_result block with_sign nursery_result child handler_result cleanup_result tell then_tale tell_sleep tell_lines tell_need tell_raise tell_cancel tell_block tell_wait tell_gathered tell_child tell_handled tell_cleaned tale_by
+unfolding meaning walk and_then sleep_result lines_result raise_result need_result cancel_result block with_sign nursery_result child handler_result cleanup_result tell then_tale tell_sleep tell_lines tell_need tell_raise tell_cancel tell_block tell_wait tell_gathered tell_child tell_handled tell_cleaned tale_by
 told_for job input task =
     story_of_task (meaning_table job input) job input task
 

@@ -4,6 +4,7 @@ use Rattle.std.specs.Str.{bytes_eq}
 use Rattle.job_tree.specs.Tree.{Tree}
 use Rattle.exc_groups.specs.Exceptions.{Label}
 use Rattle.job_meaning.specs.Log.{Table, same_label}
+use Rattle.job_meaning.specs.Moments.{clock_of}
 use Rattle.job_story.specs.Story.{is_cancelled}
 use Rattle.job_story.specs.Events.{What, starts, happens, ends, Event, in_order}
 use Rattle.job_story.specs.Causes.{Cause, by_deadline, by_task, by_failure, by_cancellation, cause_of}
@@ -74,7 +75,7 @@ concerned_tasks table all l = causers_in (length all) table all (l ∷ [])
 abbrev pub story_of_task : Table → Tree → List ℕ → Label → List ℕ
 story_of_task table job input l =
     let all = job_events table job input in
-    kept_text table all (of_tasks (concerned_tasks table all l) all)
+    kept_text (clock_of job.format) table all (of_tasks (concerned_tasks table all l) all)
 
 -- the same up to a limit, with what the tasks do that have not ended by then
 abbrev pub story_of_task_to : Table → ℕ → Tree → List ℕ → Label → List ℕ
@@ -82,7 +83,7 @@ story_of_task_to table limit job input l =
     let walked = walked_to table limit job input in
     let all = in_order walked in
     let tasks = concerned_tasks table all l in
-    kept_text_to table limit all (of_tasks tasks all) (of_tasks tasks walked)
+    kept_text_to (clock_of job.format) table limit all (of_tasks tasks all) (of_tasks tasks walked)
 
 -- ---- a task by its label's text
 

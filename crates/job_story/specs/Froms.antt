@@ -1,4 +1,4 @@
--- What contracts see of the table with the ticks from which scopes and nurseries are cancelled.
+-- What contracts see of the table with the moments from which scopes and nurseries are cancelled.
 use Rattle.std.specs.Prelude.{Option, Some, None, List, [], ◌∷◌, if◌then◌else◌}
 use Rattle.indexmap.specs.IndexMap.{get}
 use Rattle.cancel_scopes.specs.Sight.{Tick}
@@ -6,7 +6,7 @@ use Rattle.job_meaning.specs.Log.{Table, same_label}
 use Rattle.job_meaning.specs.Meaning.{From}
 use Rattle.job_story.specs.declared.froms.Froms.{Froms}
 
--- the tick of an entry, or never where there is none
+-- the moment of an entry, or never where there is none
 abbrev pub or_never : Option Tick → Tick
 or_never None = None
 or_never (Some from) = from

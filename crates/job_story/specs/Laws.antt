@@ -20,6 +20,6 @@ StoriesAreTrue =
     (table : Table) (job : Tree) (input : List ℕ) → GivesNamesOnce job → IsSettled table job input →
     erased_log (story_by table job input) ≡ root_log job (meaning job input)
 
--- The ticks from which the scopes and nurseries of a meaning are cancelled, set in an empty table, make the table of the meaning.
+-- The moments from which the scopes and nurseries of a meaning are cancelled, set in an empty table, make the table of the meaning.
 abbrev pub FromsGiveTheTable : Type 0
 FromsGiveTheTable = (job : Tree) (input : List ℕ) → set_in never (meaning_froms job input) ≡ meaning_table job input

@@ -4,6 +4,7 @@ use Rattle.job_tree.specs.Tree.{Tree}
 use Rattle.job_tree.specs.Names.{GivesNamesOnce}
 use Rattle.exc_groups.specs.Exceptions.{Label}
 use Rattle.job_meaning.specs.Log.{Table}
+use Rattle.job_meaning.specs.Moments.{clock_of, only_at}
 use Rattle.job_meaning.specs.Follow.{IsSettled}
 use Rattle.job_story.specs.Tell.{story_by}
 use Rattle.job_story.specs.Events.{Event, in_order}
@@ -25,14 +26,14 @@ CancellationsAreSeen = (table : Table) (job : Tree) (input : List ℕ) → AllBl
 -- The scopes and nurseries of a story are nested, and are left as the language says. So the stack by which `AllBlamed` reads a
 -- cancellation is that of the scopes and nurseries that enclose the task.
 abbrev pub BlocksAreNested : Type 0
-BlocksAreNested = (table : Table) (job : Tree) (input : List ℕ) → AllNested table [] [] (story_by table job input)
+BlocksAreNested = (table : Table) (job : Tree) (input : List ℕ) → AllNested (clock_of job.format) table (only_at 0) [] [] (story_by table job input)
 
--- The time of a task passes only while it sleeps or waits for a nursery. So a task that falls asleep until a tick goes on in that tick,
--- or is cancelled by then. The root task is started in tick 0, and nothing follows it.
+-- The time of a task passes only while it sleeps or waits for a nursery, and by rounds at a checkpoint too. So a task that falls asleep
+-- until a moment goes on in that moment, or is cancelled by then. The root task is started in moment 0, and nothing follows it.
 abbrev pub TimePassesAsleep : Type 0
-TimePassesAsleep = (table : Table) (job : Tree) (input : List ℕ) → AllInTime (awake 0) 0 (story_by table job input)
+TimePassesAsleep = (table : Table) (job : Tree) (input : List ℕ) → AllInTime (clock_of job.format) (awake 0) 0 (story_by table job input)
 
--- The cause of a cancellation that a story names is in its events: the deadline, or an event of the tick before.
+-- The cause of a cancellation that a story names is in its events: the deadline, or an event of the moment before.
 abbrev pub CausesAreShown : Type 0
 CausesAreShown = (table : Table) (all : List Event) (l : Label) (c : Cause) → cause_of table all l ≡ Some c → IsShown table all l c
 

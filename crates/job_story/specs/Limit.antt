@@ -4,6 +4,7 @@ use Rattle.exc_groups.specs.Exceptions.{Label}
 use Rattle.job_tree.specs.Tree.{Tree}
 use Rattle.job_meaning.specs.Log.{Table, same_label}
 use Rattle.job_meaning.specs.Meaning.{root_label}
+use Rattle.job_meaning.specs.Moments.{Clock, clock_of, tick_of}
 use Rattle.job_story.specs.Story.{sleeps, waits}
 use Rattle.job_story.specs.Tell.{story_by}
 use Rattle.job_story.specs.Events.{What, starts, happens, ends, Event, events_of, in_order}
@@ -11,9 +12,9 @@ use Rattle.job_story.specs.Sentences.{until_text, padded_text, label_width, kept
 use Rattle.exc_text.specs.Texts.{label_text}
 
 -- the events up to a tick
-abbrev pub by_limit : ℕ → List Event → List Event
-by_limit limit [] = []
-by_limit limit (e ∷ es) = if nat_le e.tick limit then e ∷ by_limit limit es else by_limit limit es
+abbrev pub by_limit : Clock → ℕ → List Event → List Event
+by_limit clock limit [] = []
+by_limit clock limit (e ∷ es) = if nat_le (tick_of clock e.tick) limit then e ∷ by_limit clock limit es else by_limit clock limit es
 
 -- ---- which tasks still run
 
@@ -44,10 +45,10 @@ running_in all (e ∷ es) = start_if (is_start e.what && not (has_ended e.task a
 -- ---- what they do
 
 -- What a task does after this event: a task that has not ended sleeps, or waits for a nursery.
-abbrev pub doing_text : ℕ → What → List ℕ
-doing_text t (happens (sleeps until)) = codes "sleeping " ++ until_text until ++ codes " since " ++ decimal t
-doing_text t (happens (waits nursery exc)) = codes "waiting for nursery " ++ label_text nursery ++ codes " since " ++ decimal t
-doing_text t _ = []
+abbrev pub doing_text : Clock → ℕ → What → List ℕ
+doing_text clock t (happens (sleeps until)) = codes "sleeping " ++ until_text clock until ++ codes " since " ++ decimal (tick_of clock t)
+doing_text clock t (happens (waits nursery exc)) = codes "waiting for nursery " ++ label_text nursery ++ codes " since " ++ decimal (tick_of clock t)
+doing_text clock t _ = []
 
 -- the last of these events that is one of a task, or the given event if there is none
 abbrev pub last_event : Label → List Event → Option Event → Option Event
@@ -55,29 +56,29 @@ last_event l [] found = found
 last_event l (e ∷ es) found = last_event l es (if same_label l e.task then Some e else found)
 
 -- what a task does after the last event of its own
-abbrev pub last_text : Option Event → List ℕ
-last_text None = []
-last_text (Some e) = doing_text e.tick e.what
+abbrev pub last_text : Clock → Option Event → List ℕ
+last_text clock None = []
+last_text clock (Some e) = doing_text clock e.tick e.what
 
-abbrev pub running_text : ℕ → List Event → List Label → List ℕ
-running_text width es [] = []
-running_text width es (l ∷ ls) =
-    codes "  " ++ padded_text width (label_text l) ++ codes "  " ++ last_text (last_event l es None) ++ codes "\n" ++ running_text width es ls
+abbrev pub running_text : Clock → ℕ → List Event → List Label → List ℕ
+running_text clock width es [] = []
+running_text clock width es (l ∷ ls) =
+    codes "  " ++ padded_text width (label_text l) ++ codes "  " ++ last_text clock (last_event l es None) ++ codes "\n" ++ running_text clock width es ls
 
 -- ---- the text
 
 -- the text of selected events of a story up to a limit, given in order and in the order of the walk; `all` has all events up to it
-abbrev pub kept_text_to : Table → ℕ → List Event → List Event → List Event → List ℕ
-kept_text_to table limit all sorted walked =
-    kept_text table all sorted ++ codes "limit " ++ decimal limit ++ codes "\n"
-    ++ running_text (label_width sorted) sorted (running_in walked walked)
+abbrev pub kept_text_to : Clock → Table → ℕ → List Event → List Event → List Event → List ℕ
+kept_text_to clock table limit all sorted walked =
+    kept_text clock table all sorted ++ codes "limit " ++ decimal limit ++ codes "\n"
+    ++ running_text clock (label_width sorted) sorted (running_in walked walked)
 
 -- the events of a job by a table up to a limit, in the order of the walk
 abbrev pub walked_to : Table → ℕ → Tree → List ℕ → List Event
-walked_to table limit job input = by_limit limit (events_of (root_label job.name) (story_by table job input))
+walked_to table limit job input = by_limit (clock_of job.format) limit (events_of (root_label job.name) (story_by table job input))
 
 -- the text of the story of a job by a table up to a limit, and what the tasks do that have not ended by then
 abbrev pub story_to : Table → ℕ → Tree → List ℕ → List ℕ
 story_to table limit job input =
     let walked = walked_to table limit job input in
-    kept_text_to table limit (in_order walked) (in_order walked) walked
+    kept_text_to (clock_of job.format) table limit (in_order walked) (in_order walked) walked

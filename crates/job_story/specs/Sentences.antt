@@ -7,13 +7,14 @@ use Rattle.cancel_scopes.specs.Sight.{Tick}
 use Rattle.job_tree.specs.Tree.{Tree}
 use Rattle.job_meaning.specs.Log.{Table}
 use Rattle.job_meaning.specs.Meaning.{root_label}
+use Rattle.job_meaning.specs.Moments.{Clock, clock_of, tick_of}
 use Rattle.job_meaning.specs.Walk.{Kind, a_scope, a_nursery}
 use Rattle.job_story.specs.Story.{Happening, enters, sleeps, is_cancelled, finds, misses, raises, cancels, handles, cleans, replaces, waits, leaves}
 use Rattle.job_story.specs.Tell.{is_from, story_by}
 use Rattle.job_story.specs.Events.{What, starts, happens, ends, Event, events_of, in_order}
 use Rattle.job_story.specs.Causes.{Cause, by_deadline, by_task, by_failure, by_cancellation, Entering, entering_of, cause_of}
 
--- ---- sentences
+-- ---- sentences, in which each number is a tick
 
 abbrev pub kind_text : Kind → List ℕ
 kind_text (a_scope fail) = codes "scope "
@@ -24,30 +25,30 @@ abbrev pub with_exc : List ℕ → Option Exc → List ℕ → List ℕ
 with_exc before None after = []
 with_exc before (Some e) after = before ++ exc_text e ++ after
 
-abbrev pub entering_text : Tick → Bool → List ℕ
-entering_text None false = []
-entering_text None true = codes " (shielded)"
-entering_text (Some d) false = codes " (deadline " ++ decimal d ++ codes ")"
-entering_text (Some d) true = codes " (deadline " ++ decimal d ++ codes ", shielded)"
+abbrev pub entering_text : Clock → Tick → Bool → List ℕ
+entering_text clock None false = []
+entering_text clock None true = codes " (shielded)"
+entering_text clock (Some d) false = codes " (deadline " ++ decimal (tick_of clock d) ++ codes ")"
+entering_text clock (Some d) true = codes " (deadline " ++ decimal (tick_of clock d) ++ codes ", shielded)"
 
-abbrev pub until_text : Tick → List ℕ
-until_text None = codes "forever"
-until_text (Some t) = codes "until " ++ decimal t
+abbrev pub until_text : Clock → Tick → List ℕ
+until_text clock None = codes "forever"
+until_text clock (Some t) = codes "until " ++ decimal (tick_of clock t)
 
-abbrev pub since_text : Tick → List ℕ
-since_text None = codes " at a checkpoint"
-since_text (Some t) = codes " while sleeping since " ++ decimal t
+abbrev pub since_text : Clock → Tick → List ℕ
+since_text clock None = codes " at a checkpoint"
+since_text clock (Some t) = codes " while sleeping since " ++ decimal (tick_of clock t)
 
 abbrev pub cleanup_text : Bool → List ℕ
 cleanup_text true = codes " during cleanup"
 cleanup_text false = []
 
-abbrev pub cause_text : Option Cause → List ℕ
-cause_text None = []
-cause_text (Some by_deadline) = codes " (deadline)"
-cause_text (Some (by_task task t)) = codes " (cancelled by " ++ label_text task ++ codes " at " ++ decimal t ++ codes ")"
-cause_text (Some (by_failure task t)) = codes " (" ++ label_text task ++ codes " failed at " ++ decimal t ++ codes ")"
-cause_text (Some (by_cancellation task t)) = codes " (" ++ label_text task ++ codes " was cancelled at " ++ decimal t ++ codes ")"
+abbrev pub cause_text : Clock → Option Cause → List ℕ
+cause_text clock None = []
+cause_text clock (Some by_deadline) = codes " (deadline)"
+cause_text clock (Some (by_task task t)) = codes " (cancelled by " ++ label_text task ++ codes " at " ++ decimal (tick_of clock t) ++ codes ")"
+cause_text clock (Some (by_failure task t)) = codes " (" ++ label_text task ++ codes " failed at " ++ decimal (tick_of clock t) ++ codes ")"
+cause_text clock (Some (by_cancellation task t)) = codes " (" ++ label_text task ++ codes " was cancelled at " ++ decimal (tick_of clock t) ++ codes ")"
 
 -- the label of a scope or nursery, after the word for its kind
 abbrev pub entered_text : Option Entering → Label → List ℕ
@@ -69,49 +70,49 @@ leaving_text (Some e) false outside = exc_text e ++ codes " propagates"
 leaving_text (Some e) true outside = codes "cancellation caught" ++ caught_text (drop by_cancelled e) outside
 
 -- a task that ends with an exception cancels its nursery from the next tick on, if the table says so
-abbrev pub sign_text : Table → Option Label → Option Exc → ℕ → List ℕ
-sign_text table None e t = []
-sign_text table (Some l) None t = []
-sign_text table (Some l) (Some e) t =
-    if is_from (table l) (t + 1) then codes "; nursery " ++ label_text l ++ codes " is cancelled from " ++ decimal (t + 1) else []
+abbrev pub sign_text : Clock → Table → Option Label → Option Exc → ℕ → List ℕ
+sign_text clock table None e t = []
+sign_text clock table (Some l) None t = []
+sign_text clock table (Some l) (Some e) t =
+    if is_from (table l) (t + 1) then codes "; nursery " ++ label_text l ++ codes " is cancelled from " ++ decimal (tick_of clock (t + 1)) else []
 
 -- a `cancel` of a scope or nursery that is already cancelled changes nothing
-abbrev pub cancel_text : Table → List Event → Option Label → ℕ → List ℕ
-cancel_text table es None t = []
-cancel_text table es (Some l) t =
+abbrev pub cancel_text : Clock → Table → List Event → Option Label → ℕ → List ℕ
+cancel_text clock table es None t = []
+cancel_text clock table es (Some l) t =
     codes "cancels " ++ entered_text (entering_of l es) l
-    ++ (if is_from (table l) (t + 1) then codes " from " ++ decimal (t + 1) else codes ", which is cancelled already")
+    ++ (if is_from (table l) (t + 1) then codes " from " ++ decimal (tick_of clock (t + 1)) else codes ", which is cancelled already")
 
-abbrev pub cancelled_text : Table → List Event → Option Label → List ℕ
-cancelled_text table es None = []
-cancelled_text table es (Some l) = codes " by " ++ entered_text (entering_of l es) l ++ cause_text (cause_of table es l)
+abbrev pub cancelled_text : Clock → Table → List Event → Option Label → List ℕ
+cancelled_text clock table es None = []
+cancelled_text clock table es (Some l) = codes " by " ++ entered_text (entering_of l es) l ++ cause_text clock (cause_of table es l)
 
-abbrev pub happening_text : Table → List Event → ℕ → Happening → List ℕ
-happening_text table es t (enters kind label deadline shield) =
-    codes "enters " ++ kind_text kind ++ label_text label ++ entering_text deadline shield
-happening_text table es t (sleeps until) = codes "sleeps " ++ until_text until
-happening_text table es t (is_cancelled by since in_cleanup) =
-    codes "is cancelled" ++ cleanup_text in_cleanup ++ since_text since ++ cancelled_text table es by
-happening_text table es t (finds lines) = codes "finds " ++ count_text (length lines)
-happening_text table es t (misses name) = codes "misses " ++ name
-happening_text table es t (raises name) = codes "raises " ++ name
-happening_text table es t (cancels label) = cancel_text table es label t
-happening_text table es t (handles matched rest) = codes "handles " ++ exc_text matched ++ with_exc (codes ", ") rest (codes " propagates")
-happening_text table es t (cleans exc) = codes "runs cleanup" ++ with_exc (codes " after ") exc []
-happening_text table es t (replaces lost fresh) = codes "replaces " ++ exc_text lost ++ codes " with " ++ exc_text fresh
-happening_text table es t (waits nursery exc) =
-    codes "waits for nursery " ++ label_text nursery ++ with_exc (codes " after ") exc [] ++ sign_text table (Some nursery) exc t
-happening_text table es t (leaves kind label inside caught outside) =
+abbrev pub happening_text : Clock → Table → List Event → ℕ → Happening → List ℕ
+happening_text clock table es t (enters kind label deadline shield) =
+    codes "enters " ++ kind_text kind ++ label_text label ++ entering_text clock deadline shield
+happening_text clock table es t (sleeps until) = codes "sleeps " ++ until_text clock until
+happening_text clock table es t (is_cancelled by since in_cleanup) =
+    codes "is cancelled" ++ cleanup_text in_cleanup ++ since_text clock since ++ cancelled_text clock table es by
+happening_text clock table es t (finds lines) = codes "finds " ++ count_text (length lines)
+happening_text clock table es t (misses name) = codes "misses " ++ name
+happening_text clock table es t (raises name) = codes "raises " ++ name
+happening_text clock table es t (cancels label) = cancel_text clock table es label t
+happening_text clock table es t (handles matched rest) = codes "handles " ++ exc_text matched ++ with_exc (codes ", ") rest (codes " propagates")
+happening_text clock table es t (cleans exc) = codes "runs cleanup" ++ with_exc (codes " after ") exc []
+happening_text clock table es t (replaces lost fresh) = codes "replaces " ++ exc_text lost ++ codes " with " ++ exc_text fresh
+happening_text clock table es t (waits nursery exc) =
+    codes "waits for nursery " ++ label_text nursery ++ with_exc (codes " after ") exc [] ++ sign_text clock table (Some nursery) exc t
+happening_text clock table es t (leaves kind label inside caught outside) =
     codes "leaves " ++ kind_text kind ++ label_text label ++ codes ": " ++ leaving_text inside caught outside
 
 abbrev pub home_text : Option Label → List ℕ
 home_text None = []
 home_text (Some l) = codes " in nursery " ++ label_text l
 
-abbrev pub what_text : Table → List Event → ℕ → What → List ℕ
-what_text table es t (starts home lent) = codes "starts" ++ home_text home
-what_text table es t (happens what) = happening_text table es t what
-what_text table es t (ends home exc) = codes "ends: " ++ end_text exc ++ sign_text table home exc t
+abbrev pub what_text : Clock → Table → List Event → ℕ → What → List ℕ
+what_text clock table es t (starts home lent) = codes "starts" ++ home_text home
+what_text clock table es t (happens what) = happening_text clock table es t what
+what_text clock table es t (ends home exc) = codes "ends: " ++ end_text exc ++ sign_text clock table home exc t
 
 -- ---- lines
 
@@ -123,30 +124,30 @@ label_width (e ∷ es) = max (length (label_text e.task)) (label_width es)
 abbrev pub padded_text : ℕ → List ℕ → List ℕ
 padded_text width text = text ++ replicate (width - length text) 32
 
-abbrev pub line_text : Table → List Event → ℕ → Event → List ℕ
-line_text table es width e =
-    codes "  " ++ padded_text width (label_text e.task) ++ codes "  " ++ what_text table es e.tick e.what ++ codes "\n"
+abbrev pub line_text : Clock → Table → List Event → ℕ → Event → List ℕ
+line_text clock table es width e =
+    codes "  " ++ padded_text width (label_text e.task) ++ codes "  " ++ what_text clock table es e.tick e.what ++ codes "\n"
 
--- a line for a tick, where the event before is of another tick; a line for each event of the tick follows
-abbrev pub tick_text : Tick → ℕ → List ℕ
-tick_text before t = if is_from before t then [] else codes "tick " ++ decimal t ++ codes "\n"
+-- a line for a tick, where the event before is of another tick, which is given; a line for each event of the tick follows
+abbrev pub tick_text : Clock → Tick → ℕ → List ℕ
+tick_text clock before t = if is_from before (tick_of clock t) then [] else codes "tick " ++ decimal (tick_of clock t) ++ codes "\n"
 
-abbrev pub lines_text : Table → List Event → ℕ → Tick → List Event → List ℕ
-lines_text table es width before [] = []
-lines_text table es width before (e ∷ rest) =
-    tick_text before e.tick ++ line_text table es width e ++ lines_text table es width (Some e.tick) rest
+abbrev pub lines_text : Clock → Table → List Event → ℕ → Tick → List Event → List ℕ
+lines_text clock table es width before [] = []
+lines_text clock table es width before (e ∷ rest) =
+    tick_text clock before e.tick ++ line_text clock table es width e ++ lines_text clock table es width (Some (tick_of clock e.tick)) rest
 
 -- the events of a job by a table, in order
 abbrev pub job_events : Table → Tree → List ℕ → List Event
 job_events table job input = in_order (events_of (root_label job.name) (story_by table job input))
 
 -- the text of selected events of a story, of which `all` has all events
-abbrev pub kept_text : Table → List Event → List Event → List ℕ
-kept_text table all kept = lines_text table all (label_width kept) None kept
+abbrev pub kept_text : Clock → Table → List Event → List Event → List ℕ
+kept_text clock table all kept = lines_text clock table all (label_width kept) None kept
 
-abbrev pub events_text : Table → List Event → List ℕ
-events_text table es = kept_text table es es
+abbrev pub events_text : Clock → Table → List Event → List ℕ
+events_text clock table es = kept_text clock table es es
 
 -- the text of a job's story by a table
 abbrev pub story_text : Table → Tree → List ℕ → List ℕ
-story_text table job input = events_text table (job_events table job input)
+story_text table job input = events_text (clock_of job.format) table (job_events table job input)

@@ -26,8 +26,8 @@ pub record IsEntered (l : Label) (deadline : Tick) (all : List Event) : Type 0 w
 abbrev pub IsEndIn : Label → ℕ → Label → Exc → List Event → Type 0
 IsEndIn l t task e all = IsIn (event t task (happens (waits l (Some e)))) all ⊎ IsIn (event t task (ends (Some l) (Some e))) all
 
--- An event of the tick before the one from which the label is cancelled is what the cause says. A deadline is the one with which the
--- label was entered, and is exactly the tick from which it is cancelled. The exception of a member that failed has a leaf that is not
+-- An event of the moment before the one from which the label is cancelled is what the cause says. A deadline is the one with which the
+-- label was entered, and is exactly the moment from which it is cancelled. The exception of a member that failed has a leaf that is not
 -- `Cancelled`, and that of a member that was cancelled has none.
 abbrev pub IsShownFrom : ℕ → Label → List Event → Cause → Type 0
 IsShownFrom from l all by_deadline = IsEntered l (Some from) all

@@ -10,7 +10,7 @@ use Rattle.job_meaning.specs.Walk.{Kind, left_as, log_of_lines, sign_if, sign_of
 pub data Happening : Type 0 where
   -- the task entered a scope or a nursery
   enters : (kind : Kind) → (label : Label) → (deadline : Tick) → (shield : Bool) → Happening
-  -- it fell asleep until a tick, or forever; a sleep that takes no time does not count
+  -- it fell asleep until a moment, or forever; a sleep that takes no tick does not count
   sleeps : (until : Tick) → Happening
   -- `Cancelled` was raised: by which scope or nursery; since when it slept, or at a checkpoint; in a `finally` block or not
   is_cancelled : (by : Option Label) → (since : Tick) → (in_cleanup : Bool) → Happening
@@ -32,11 +32,11 @@ pub data Happening : Type 0 where
   -- it left a scope or nursery: the exception inside, whether a cancellation was caught, and the exception that propagates
   leaves : (kind : Kind) → (label : Label) → (inside : Option Exc) → (caught : Bool) → (outside : Option Exc) → Happening
 
--- What happened to a task, each with its tick, and the tasks that it started. A started task has the nursery in which it was started
--- (`None` for the root), its part of the input, the ticks of its start and end, how it ended, and its own story.
+-- What happened to a task, each with its moment, and the tasks that it started. A started task has the nursery in which it was started
+-- (`None` for the root), its part of the input, the moments of its start and end, how it ended, and its own story.
 pub data Story : Type 0 where
   no_more : Story
-  happened : (tick : ℕ) → (what : Happening) → (rest : Story) → Story
+  happened : (at : ℕ) → (what : Happening) → (rest : Story) → Story
   started : (label : Label) → (home : Option Label) → (part : Range) → (start end : ℕ) → (exc : Option Exc) → (own rest : Story) → Story
 
 -- one story after another
@@ -69,9 +69,10 @@ erased_log (started l home part s u e own rest) = task l s u e (followed_by (era
 -- the result of a walk that makes a story: like a `Result`, with a story in place of the log
 pub record Tale : Type 0 where
   pub end : ℕ
+  pub own : List Label
   pub exc : Option Exc
   pub members : List Member
   pub story : Story
 
 abbrev pub result_of : Tale → Result
-result_of tale = record { end = tale.end; exc = tale.exc; members = tale.members; log = erased_log tale.story }
+result_of tale = record { end = tale.end; own = tale.own; exc = tale.exc; members = tale.members; log = erased_log tale.story }

@@ -1,5 +1,6 @@
 pub mod Adding
 pub mod Telling
+pub mod Owned
 pub mod Slept
 pub mod Blocks
 pub mod Trying

@@ -12,71 +12,78 @@ use Rattle.line_kernels.specs.declared.kernel.Kernel.TheVariants.{Find, Head, Lo
 use Rattle.line_kernels.specs.declared.answers.Answer.{Answer}
 use Rattle.line_kernels.specs.declared.answers.Answer.TheVariants as answers
 use Rattle.exc_groups.specs.Exceptions.{Label, raised}
-use Rattle.job_meaning.specs.Walk.{pace_ticks}
+use Rattle.job_meaning.specs.Moments.{tick_of, Now}
+use Rattle.job_meaning.specs.Walk.{Here, pace_ticks}
 use Rattle.job_story.specs.Story.{misses}
 use Rattle.job_story.specs.Tell.{failed_at, story_of_one, tell_lines, tell_need}
 use Rattle.job_story.specs.declared.event.Event as held
+use Rattle.job_teller.specs.declared.progress.Progress.{Progress}
 use Rattle.job_teller.specs.declared.told.Told.{Told}
 use Rattle.job_teller.specs.Tales.{Tells}
 use Rattle.job_meaning.proofs.Ends.{count_le}
 
 -- a `find` shows its lines, by the answer of the kernel
-pub shows_found : (me : Label) (before after : List held.Event) (part : Part) (needle : Bor (List ℕ)) (text : List ℕ) (a : Answer)
-    (lines : List Line) (w : Told) (t : ℕ) →
+pub shows_found : (me : Label) (before : List held.Event) (after : Progress) (part : Part) (needle : Bor (List ℕ)) (text : List ℕ)
+    (a : Answer)
+    (lines : List Line) (w : Told) (now : Now) →
     IsAnswer (Find needle) part a → a ≡ answers.Lines lines → needle.now ≡ text →
-    Tells me before w after (tell_lines (map span_of lines) t) →
-    Tells me before w after (tell_lines (found_in (buffer_of part) text (range_of part)) t)
-shows_found me before after part needle text a lines w t is lines_is needle_is h =
+    Tells me before w after (tell_lines (map span_of lines) now) →
+    Tells me before w after (tell_lines (found_in (buffer_of part) text (range_of part)) now)
+shows_found me before after part needle text a lines w now is lines_is needle_is h =
     let at : AreLinesAt (buffer_of part) (found_in (buffer_of part) needle.now (range_of part)) lines = subst (IsAnswer
     (Find needle) part) lines_is is in
-    subst (λ (x : List ℕ). Tells me before w after (tell_lines (found_in (buffer_of part) x (range_of part)) t)) needle_is
-    (subst (λ (ls : List Span). Tells me before w after (tell_lines ls t)) at.places h)
+    subst (λ (x : List ℕ). Tells me before w after (tell_lines (found_in (buffer_of part) x (range_of part)) now)) needle_is
+    (subst (λ (ls : List Span). Tells me before w after (tell_lines ls now)) at.places h)
 
-pub shows_head : (me : Label) (before after : List held.Event) (part : Part) (count : ℕ) (a : Answer) (lines : List Line) (w : Told)
-    (t : ℕ) →
-    IsAnswer (Head count) part a → a ≡ answers.Lines lines → Tells me before w after (tell_lines (map span_of lines) t) →
-    Tells me before w after (tell_lines (head_of (buffer_of part) count (range_of part)) t)
-shows_head me before after part count a lines w t is lines_is h =
+pub shows_head : (me : Label) (before : List held.Event) (after : Progress) (part : Part) (count : ℕ) (a : Answer) (lines : List Line)
+    (w : Told)
+    (now : Now) →
+    IsAnswer (Head count) part a → a ≡ answers.Lines lines → Tells me before w after (tell_lines (map span_of lines) now) →
+    Tells me before w after (tell_lines (head_of (buffer_of part) count (range_of part)) now)
+shows_head me before after part count a lines w now is lines_is h =
     let at : AreLinesAt (buffer_of part) (head_of (buffer_of part) count (range_of part)) lines = subst (IsAnswer
     (Head count) part) lines_is is in
-    subst (λ (ls : List Span). Tells me before w after (tell_lines ls t)) at.places h
+    subst (λ (ls : List Span). Tells me before w after (tell_lines ls now)) at.places h
 
-pub shows_longest : (me : Label) (before after : List held.Event) (part : Part) (a : Answer) (lines : List Line) (w : Told) (t : ℕ) →
-    IsAnswer Longest part a → a ≡ answers.Lines lines → Tells me before w after (tell_lines (map span_of lines) t) →
-    Tells me before w after (tell_lines (longest_in (buffer_of part) (range_of part)) t)
-shows_longest me before after part a lines w t is lines_is h =
+pub shows_longest : (me : Label) (before : List held.Event) (after : Progress) (part : Part) (a : Answer) (lines : List Line) (w : Told)
+    (now : Now) →
+    IsAnswer Longest part a → a ≡ answers.Lines lines → Tells me before w after (tell_lines (map span_of lines) now) →
+    Tells me before w after (tell_lines (longest_in (buffer_of part) (range_of part)) now)
+shows_longest me before after part a lines w now is lines_is h =
     let at : AreLinesAt (buffer_of part) (longest_in (buffer_of part) (range_of part)) lines = subst (IsAnswer Longest part) lines_is is in
-    subst (λ (ls : List Span). Tells me before w after (tell_lines ls t)) at.places h
+    subst (λ (ls : List Span). Tells me before w after (tell_lines ls now)) at.places h
 
-shows_needed_if : (me : Label) (before after : List held.Event) (buffer : List ℕ) (found : Option Span) (lines : List Line)
-    (name : List ℕ) (label : Label) (w : Told) (t : ℕ) →
-    MatchOption found ⊥ (λ l. AreLinesAt buffer (l ∷ []) lines) → Tells me before w after (tell_lines (map span_of lines) t) →
-    Tells me before w after (tell_need found name label t)
+shows_needed_if : (me : Label) (before : List held.Event) (after : Progress) (buffer : List ℕ) (found : Option Span) (lines : List Line)
+    (name : List ℕ) (here : Here) (w : Told) (now : Now) →
+    MatchOption found ⊥ (λ l. AreLinesAt buffer (l ∷ []) lines) → Tells me before w after (tell_lines (map span_of lines) now) →
+    Tells me before w after (tell_need found name here now)
 unfolding tell_need tell_lines
-shows_needed_if me before after buffer None lines name label w t at h = absurd at
-shows_needed_if me before after buffer (Some l) lines name label w t at h =
-    subst (λ (ls : List Span). Tells me before w after (tell_lines ls t)) at.places h
+shows_needed_if me before after buffer None lines name here w now at h = absurd at
+shows_needed_if me before after buffer (Some l) lines name here w now at h =
+    subst (λ (ls : List Span). Tells me before w after (tell_lines ls now)) at.places h
 
 -- a `need` that has its line shows it, by the answer of the kernel
-pub shows_needed : (me : Label) (before after : List held.Event) (part : Part) (needle : Bor (List ℕ)) (text : List ℕ) (a : Answer)
-    (lines : List Line) (name : List ℕ) (label : Label) (w : Told) (t : ℕ) →
+pub shows_needed : (me : Label) (before : List held.Event) (after : Progress) (part : Part) (needle : Bor (List ℕ)) (text : List ℕ)
+    (a : Answer)
+    (lines : List Line) (name : List ℕ) (here : Here) (w : Told) (now : Now) →
     IsAnswer (Need needle) part a → a ≡ answers.Lines lines → needle.now ≡ text →
-    Tells me before w after (tell_lines (map span_of lines) t) →
-    Tells me before w after (tell_need (needed_in (buffer_of part) text (range_of part)) name label t)
-shows_needed me before after part needle text a lines name label w t is lines_is needle_is h =
-    subst (λ (x : List ℕ). Tells me before w after (tell_need (needed_in (buffer_of part) x (range_of part)) name label t)) needle_is
-    (shows_needed_if me before after (buffer_of part) (needed_in (buffer_of part) needle.now (range_of part)) lines name label w t (subst
+    Tells me before w after (tell_lines (map span_of lines) now) →
+    Tells me before w after (tell_need (needed_in (buffer_of part) text (range_of part)) name here now)
+shows_needed me before after part needle text a lines name here w now is lines_is needle_is h =
+    subst (λ (x : List ℕ). Tells me before w after (tell_need (needed_in (buffer_of part) x (range_of part)) name here now)) needle_is
+    (shows_needed_if me before after (buffer_of part) (needed_in (buffer_of part) needle.now (range_of part)) lines name here w now (subst
     (IsAnswer (Need needle) part) lines_is is) h)
 
 -- a `need` that has no line raises its name, by the answer of the kernel
-pub misses_needed : (me : Label) (before after : List held.Event) (part : Part) (needle : Bor (List ℕ)) (text : List ℕ) (a : Answer)
-    (name : List ℕ) (label : Label) (w : Told) (t : ℕ) →
+pub misses_needed : (me : Label) (before : List held.Event) (after : Progress) (part : Part) (needle : Bor (List ℕ)) (text : List ℕ)
+    (a : Answer)
+    (name : List ℕ) (here : Here) (w : Told) (now : Now) →
     IsAnswer (Need needle) part a → ((lines : List Line) → a ≡ answers.Lines lines → ⊥) → needle.now ≡ text →
-    Tells me before w after (failed_at (raised name label t) t (story_of_one t (misses name))) →
-    Tells me before w after (tell_need (needed_in (buffer_of part) text (range_of part)) name label t)
+    Tells me before w after (failed_at (raised name here.task (tick_of here.clock now.at)) now (story_of_one now.at (misses name))) →
+    Tells me before w after (tell_need (needed_in (buffer_of part) text (range_of part)) name here now)
 unfolding tell_need
-misses_needed me before after part needle text a name label w t is no_lines needle_is h =
-    subst (λ (x : List ℕ). Tells me before w after (tell_need (needed_in (buffer_of part) x (range_of part)) name label t)) needle_is
+misses_needed me before after part needle text a name here w now is no_lines needle_is h =
+    subst (λ (x : List ℕ). Tells me before w after (tell_need (needed_in (buffer_of part) x (range_of part)) name here now)) needle_is
     (rw (none a is no_lines) h)
   where
     none : (b : Answer) → IsAnswer (Need needle) part b → ((lines : List Line) → b ≡ answers.Lines lines → ⊥) →

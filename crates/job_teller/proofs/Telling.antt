@@ -7,10 +7,12 @@ use Rattle.exc_groups.specs.Exceptions.{Label, Exc, Excs, part, parts_of, group_
 use Rattle.exc_groups.specs.Held as held
 use Rattle.exc_groups.specs.declared.exc.Exc as held_exc
 use Rattle.job_meaning.specs.Log.{Member}
+use Rattle.job_meaning.specs.Moments.{Clock, a_round_after}
 use Rattle.job_meaning.specs.Walk.{latest, with_exc, excs_of}
 use Rattle.job_story.specs.Story.{Story, Tale}
 use Rattle.job_story.specs.Tell.{Scene, told_at, failed_at, and_tale, with_exc_of, tell_gathered, tell_child}
 use Rattle.job_story.specs.declared.event.Event as held_event
+use Rattle.job_teller.specs.declared.progress.Progress.{Progress}
 use Rattle.job_teller.specs.declared.told.Told.{Told}
 use Rattle.job_teller.specs.Tales.{IsTold, Tells}
 use Rattle.job_teller.proofs.Adding.{adds_then}
@@ -26,8 +28,9 @@ told_like w a b h e x m =
     }
 
 -- nothing is open
-pub is_at : (w : Told) (t : ℕ) (s : Story) → w.end ≡ t → w.exc ≡ None → w.open_until ≡ 0 → w.open_excs.items ≡ [] → IsTold w (told_at t s)
-is_at w t s end exc until excs =
+pub is_at : (w : Told) (t : ℕ) (own : List Label) (s : Story) → w.end ≡ t → w.exc ≡ None → w.open_until ≡ 0 → w.open_excs.items ≡ [] →
+    IsTold w (told_at (record { at = t; own = own }) s)
+is_at w t own s end exc until excs =
     record {
       end = end;
       exc = ap (option_map held.exc_of) exc;
@@ -36,9 +39,9 @@ is_at w t s end exc until excs =
           (map held.exc_of) excs;
     }
 
-pub is_failed : (w : Told) (e : held_exc.Exc) (t : ℕ) (s : Story) → w.end ≡ t → w.exc ≡ Some e → w.open_until ≡ 0 → w.open_excs.items ≡ [] →
-    IsTold w (failed_at (held.exc_of e) t s)
-is_failed w e t s end exc until excs =
+pub is_failed : (w : Told) (e : held_exc.Exc) (t : ℕ) (own : List Label) (s : Story) → w.end ≡ t → w.exc ≡ Some e → w.open_until ≡ 0 →
+    w.open_excs.items ≡ [] → IsTold w (failed_at (held.exc_of e) (record { at = t; own = own }) s)
+is_failed w e t own s end exc until excs =
     record {
       end = end;
       exc = ap (option_map held.exc_of) exc;
@@ -91,14 +94,15 @@ held_parts : (es : List held_exc.Exc) → held.excs_of es ≡ parts_of (map held
 held_parts [] = refl
 held_parts (e ∷ es) = ap (λ (x : Excs). part (held.exc_of e) x) (held_parts es)
 
-pub is_gathered : (w x : Told) (label : Label) (a : Tale) (all : List held_exc.Exc) → IsTold w a → x.end ≡ max w.end w.open_until →
+pub is_gathered : (clock : Clock) (w x : Told) (label : Label) (a : Tale) (all : List held_exc.Exc) → IsTold w a →
+    x.end ≡ a_round_after clock (max w.end w.open_until) →
     option_map held.exc_of x.exc ≡ group_of (by_nursery label) (held.excs_of all) →
     map held.exc_of all ≡ with_exc (option_map held.exc_of w.exc) (map held.exc_of w.open_excs.items) →
-    x.open_until ≡ 0 → x.open_excs.items ≡ [] → IsTold x (tell_gathered label a)
+    x.open_until ≡ 0 → x.open_excs.items ≡ [] → IsTold x (tell_gathered clock label a)
 unfolding tell_gathered
-is_gathered w x label a all h end exc parts until excs =
+is_gathered clock w x label a all h end exc parts until excs =
     record {
-      end = end ∙ ap (λ (t : ℕ). max t w.open_until) h.end ∙ sym (h.open_until a.end);
+      end = end ∙ ap (a_round_after clock) (ap (λ (t : ℕ). max t w.open_until) h.end ∙ sym (h.open_until a.end));
       exc =
           exc ∙ ap (group_of (by_nursery label)) (held_parts all
           ∙ ap parts_of (parts ∙ ap (λ (o : Option Exc). with_exc o (map held.exc_of w.open_excs.items)) h.exc
@@ -107,11 +111,12 @@ is_gathered w x label a all h end exc parts until excs =
       open_excs = ap (map held.exc_of) excs;
     }
 
-pub is_child : (w x : Told) (label : Label) (home : Option Label) (scene : Scene) (t : ℕ) (a : Tale) → IsTold w a → x.end ≡ t →
-    x.exc ≡ None → x.open_until ≡ w.end → map held.exc_of x.open_excs.items ≡ with_exc (option_map held.exc_of w.exc) [] →
-    IsTold x (tell_child label home scene t a)
+pub is_child : (w x : Told) (label : Label) (home : Option Label) (scene : Scene) (begins t : ℕ) (own : List Label) (a : Tale) →
+    IsTold w a →
+    x.end ≡ t → x.exc ≡ None → x.open_until ≡ w.end → map held.exc_of x.open_excs.items ≡ with_exc (option_map held.exc_of w.exc) [] →
+    IsTold x (tell_child label home scene begins a (record { at = t; own = own }))
 unfolding tell_child
-is_child w x label home scene t a h end exc until excs =
+is_child w x label home scene begins t own a h end exc until excs =
     record {
       end = end;
       exc = ap (option_map held.exc_of) exc;
@@ -120,10 +125,15 @@ is_child w x label home scene t a h end exc until excs =
     }
 
 -- a tale and then another
-pub tells_joined : (me : Label) (start mid now : List held_event.Event) (w v x : Told) (a b : Tale) → Tells me start w mid a →
-    Tells me mid v now b → ((p q : Tale) → IsTold w p → IsTold v q → IsTold x (and_tale p q)) → Tells me start x now (and_tale a b)
+pub tells_joined : (me : Label) (start : List held_event.Event) (mid now : Progress) (w v x : Told) (a b : Tale) → Tells me start w mid a →
+    Tells me mid.events.items v now b → ((p q : Tale) → IsTold w p → IsTold v q → IsTold x (and_tale p q)) →
+    Tells me start x now (and_tale a b)
 tells_joined me start mid now w v x a b h k join =
-    record { told = join a b h.told k.told; events = adds_then me start mid now a.story b.story h.events k.events }
+    record {
+      told = join a b h.told k.told;
+      events = adds_then me start mid.events.items now.events.items a.story b.story h.events k.events;
+      own = k.own;
+    }
 
 pub none_fails : (o : Option held_exc.Exc) → option_map held.exc_of o ≡ None → is_some o ≡ true → ⊥
 none_fails None e f = cc

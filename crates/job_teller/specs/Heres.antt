@@ -8,21 +8,23 @@ use Rattle.exc_groups.specs.Exceptions.{Label}
 use Rattle.job_tree.specs.Tree.{Step, scope, nursery, start, repeat, attempt, Steps}
 use Rattle.job_meaning.specs.declared.limits.TheConstants.{MAX_INPUT}
 use Rattle.job_meaning.specs.Log.{Table}
+use Rattle.job_meaning.specs.Moments.{Now, only_at, a_round_after, wakes_at}
 use Rattle.job_meaning.specs.Walk as meaning
 use Rattle.job_meaning.specs.Walk.{Kind, a_scope, a_nursery, stack_inside, here_in, home_of, in_pass, label_here, label_over}
 use Rattle.job_story.specs.Froms.{table_in}
 use Rattle.job_story.specs.Story.{Tale}
 use Rattle.block_exits.specs.declared.kind.Kind as held
-use Rattle.job_story.specs.Tell.{Scene, at_place, tell, tell_child, tell_each, tell_gathered, tell_wait}
+use Rattle.job_story.specs.Tell.{Scene, at_place, tell, tell_child, tell_each, tell_gathered, tell_pace, tell_wait}
 use Rattle.job_teller.specs.declared.block.Block.{Block}
 use Rattle.job_teller.specs.declared.here.Here.{Here}
+use Rattle.job_teller.specs.Rooms.{reach, span}
 use Rattle.job_teller.specs.Stacks.{stack_of}
 
 abbrev pub input_of : Here → List ℕ
 input_of h = buffer_of h.part
 
 abbrev pub here_of : Here → meaning.Here
-here_of h = record { input = input_of h; part = range_of h.part; task = h.task.now; path = h.place.now.indices }
+here_of h = record { clock = h.clock; input = input_of h; part = range_of h.part; task = h.task.now; path = h.place.now.indices }
 
 abbrev pub scene_of : Here → Scene
 scene_of h = record { here = here_of h; in_cleanup = h.in_cleanup }
@@ -48,38 +50,45 @@ block_in kind name deadline shield h =
       from = table_of h (label_in name h);
     }
 
--- the inside of a block that is cancelled from a tick on
-abbrev pub inside : Kind → Label → Bool → Steps → Here → ℕ → Tick → Tale
-inside (a_scope fail) label shield body h t from = tell (table_of h) body (scene_of h) (stack_inside label shield from (scopes_of h)) t
-inside a_nursery label shield body h t from =
-    tell_gathered label (tell_wait label (tell (table_of h) body (scene_of h) (stack_inside label shield from (scopes_of h)) t))
+-- the inside of a block that is cancelled from a moment on
+abbrev pub inside : Kind → Label → Bool → Steps → Here → Now → Tick → Tale
+inside (a_scope fail) label shield body h now from =
+    tell (table_of h) body (scene_of h) (stack_inside label shield from (scopes_of h)) now
+inside a_nursery label shield body h now from =
+    tell_gathered h.clock label
+    (tell_wait label (tell (table_of h) body (scene_of h) (stack_inside label shield from (scopes_of h)) now))
 
 -- where a child is that is started with a label on a range
 abbrev pub scene_in : Label → Range → Here → Scene
 scene_in label lent h = at_place (here_in label lent (here_of h)) (scene_of h)
 
--- and its tale
-abbrev pub started_tale : Label → Range → Steps → Here → ℕ → Tale
-started_tale label lent body h t =
-    tell_child label (home_of (scopes_of h)) (scene_in label lent h) t (tell (table_of h) body (scene_in label lent h) (scopes_of h) t)
+-- and its tale, if it begins in a moment
+abbrev pub started_tale : Label → Range → Steps → Here → ℕ → Now → Tale
+started_tale label lent body h begins now =
+    tell_child label (home_of (scopes_of h)) (scene_in label lent h) begins
+    (tell (table_of h) body (scene_in label lent h) (scopes_of h) (only_at begins)) now
 
 -- one of the children of a `start .. over`
-abbrev pub started_over : List ℕ → ℕ → Steps → Here → ℕ → ℕ → Tale
-started_over name k body h t i = started_tale (label_over name (here_of h) i) (cut_of (input_of h) (range_of h.part) k i) body h t
+abbrev pub started_over : List ℕ → ℕ → Steps → Here → ℕ → Now → ℕ → Tale
+started_over name k body h begins now i =
+    started_tale (label_over name (here_of h) i) (cut_of (input_of h) (range_of h.part) k i) body h begins now
 
 -- what a `start` starts
-abbrev pub started_by : List ℕ → Option ℕ → Steps → Here → ℕ → Tale
-started_by name None body h t = started_tale (label_in name h) (range_of h.part) body h t
-started_by name (Some k) body h t = tell_each k (started_over name k body h t) t
+abbrev pub started_by : List ℕ → Option ℕ → Steps → Here → Now → Tale
+started_by name None body h now = started_tale (label_in name h) (range_of h.part) body h (a_round_after h.clock now.at) now
+started_by name (Some k) body h now = tell_each k (started_over name k body h (a_round_after h.clock now.at) now) now
 
 -- a pass of a `repeat`
-abbrev pub pass : Steps → Here → ℕ → ℕ → Tale
-pass body h i t = tell (table_of h) body (at_place (in_pass i (here_of h)) (scene_of h)) (scopes_of h) t
+abbrev pub pass : Steps → Here → ℕ → Now → Tale
+pass body h i now = tell (table_of h) body (at_place (in_pass i (here_of h)) (scene_of h)) (scopes_of h) now
 
--- The given number of step instances is walked before any tick is too large: each takes at most 2 ^
--- 40 ticks.
-pub record HasRoom (size : ℕ) (h : Here) (t : ℕ) : Type 0 where
-  pub room : t + size * 1099511627776 ≤ 4611686018427387904
+-- a `pace` of so many ticks
+abbrev pub tell_paced : Here → ℕ → ℕ → Tale
+tell_paced h n m = tell_pace h.clock (scopes_of h) h.in_cleanup (Some (wakes_at h.clock n m)) n m
+
+-- The given number of step instances is walked before any moment is too large: each ends at most `span` beyond the reach of its start.
+pub record HasRoom (size : ℕ) (h : Here) (m : ℕ) : Type 0 where
+  pub room : reach h.clock m + size * span h.clock ≤ 4611686018427387904
   pub small : length (input_of h) ≤ MAX_INPUT
 
 -- a step with no block of steps in it

@@ -1,3 +1,4 @@
+pub mod Rooms
 pub mod Stacks
 pub mod Heres
 pub mod Tales

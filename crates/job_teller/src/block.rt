@@ -8,10 +8,10 @@ pub struct Block {
     pub kind: Kind,
     /// Its label.
     pub label: Label,
-    /// The tick from which its deadline cancels it, or `None` for never.
+    /// The moment from which its deadline cancels it, or `None` for never.
     pub deadline: Option<u64>,
     /// Whether it hides the cancellations of the levels that enclose it.
     pub shield: bool,
-    /// The tick from which it is cancelled, or `None` for never.
+    /// The moment from which it is cancelled, or `None` for never.
     pub from: Option<u64>,
 }

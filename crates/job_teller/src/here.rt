@@ -7,6 +7,7 @@ use buffer_parts::Part;
 use exc_groups::Label;
 use job_story::{Froms, Kind};
 use job_tree::Name;
+use moments::Clock;
 use std::alloc::{AllocError, Global};
 
 /// A point of the walk: the task, its part of the input, and the scopes and nurseries that enclose it. It is copied, and changed
@@ -15,7 +16,9 @@ use std::alloc::{AllocError, Global};
 pub struct Here<'a, 's> {
     /// The allocator for events, labels and exceptions.
     pub alloc: Global,
-    /// The tick from which each scope and nursery is cancelled.
+    /// How the job's time is counted.
+    pub clock: Clock,
+    /// The moment from which each scope and nursery is cancelled.
     pub froms: &'s Froms,
     /// The task's part of the input.
     pub part: Part<'a>,
@@ -37,7 +40,7 @@ impl<'a, 's> Here<'a, 's> {
     {
         self.place.with_name(self.alloc, name)
     }
-    // Returns the scope or nursery of that name that is entered here, with its label and the tick from which it is cancelled.
+    // Returns the scope or nursery of that name that is entered here, with its label and the moment from which it is cancelled.
     #[inline(never)]
     pub(crate) fn block(
         &self,

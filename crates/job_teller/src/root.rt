@@ -7,18 +7,20 @@ ghost use Rattle.job_story.specs.Held.{event_of};
 ghost use Rattle.job_story.specs.Tell.{story_by};
 
 use crate::here::Here;
+use crate::progress::Progress;
 use crate::stack::Stack;
 use crate::walk::tell_child;
 use buffer_parts::Part;
 use exc_groups::Label;
 use job_grammar::Job;
 use job_story::{Event, Froms};
+use moments::Clock;
 use std::alloc::{AllocError, Global};
 
-/// Returns the events of a job's run over an input, where `froms` maps each scope and nursery to the tick from which it is
-/// cancelled.
+/// Returns the events of a job's run over an input, where `froms` maps each scope and nursery to the moment from which it is
+/// cancelled. What is called a tick of an event is its moment.
 ///
-/// The events are in the order of the walk and not sorted by tick: all events of a started task, from its start to its end, are
+/// The events are in the order of the walk and not sorted by moment: all events of a started task, from its start to its end, are
 /// at the point where the task was started. The input has at most `MAX_INPUT` bytes. The only error is a failed allocation.
 pub fn tell<'a>(
     alloc: Global,
@@ -34,6 +36,7 @@ pub fn tell<'a>(
     let stack = Stack::Empty;
     let here = Here {
         alloc,
+        clock: Clock::of(job.text_format()),
         froms,
         part: Part::whole(input),
         task: &outside,
@@ -42,7 +45,10 @@ pub fn tell<'a>(
         in_cleanup: false,
     };
     let root = Label::new(alloc, job.name());
-    let mut events = Vec::new(alloc);
-    tell_child(root, here.part, job.steps(), here, 0, &mut events)?;
-    Ok(events)
+    let mut progress = Progress {
+        events: Vec::new(alloc),
+        cancelled: Vec::new(alloc),
+    };
+    tell_child(root, here.part, job.steps(), here, 0, 0, &mut progress)?;
+    Ok(progress.events)
 }

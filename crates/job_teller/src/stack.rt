@@ -1,10 +1,11 @@
-ghost use Rattle.std.specs.Prelude.{◌≡◌, Option, ◌&&◌};
+ghost use Rattle.std.specs.Prelude.{◌≡◌, Option, ◌&&◌, reverse};
 ghost use Rattle.std.specs.Option.{option_copied};
 ghost use Rattle.cancel_scopes.specs.Sight.{sight, catches};
-ghost use Rattle.job_meaning.specs.Walk.{label_on, home_of};
+ghost use Rattle.job_meaning.specs.Walk.{label_on, home_of, stack_for};
 ghost use Rattle.job_story.specs.Tell.{is_from, seer};
 ghost use Rattle.job_teller.specs.Stacks.{stack_of};
 
+use crate::own::from_for;
 use cancel_scopes::{earlier, is_reached};
 use exc_groups::Label;
 use job_tree::Name;
@@ -16,7 +17,7 @@ pub struct Level {
     pub label: Label,
     /// Whether it hides the cancellations of the levels that enclose it.
     pub shield: bool,
-    /// The tick from which it is cancelled, or `None` for never.
+    /// The moment from which it is cancelled, or `None` for never.
     pub from: Option<u64>,
 }
 
@@ -30,8 +31,8 @@ pub enum Stack<'s> {
 }
 
 impl<'s> Stack<'s> {
-    // Returns the effective deadline (`sight`): the earliest tick from which a cancellation is seen inside this stack, or `None`
-    // for never. Levels outside the first shielded one do not count.
+    // Returns the effective deadline (`sight`): the earliest moment from which a cancellation is seen inside this stack, or
+    // `None` for never. Levels outside the first shielded one do not count.
     pub(crate) fn sight(&self) -> Option<u64>
         ensures { result ≡ sight (stack_of self.now) }
     {
@@ -39,6 +40,22 @@ impl<'s> Stack<'s> {
             Stack::Empty => None,
             Stack::Within(level, _) if level.shield => level.from,
             Stack::Within(level, outer) => earlier(level.from, outer.sight()),
+        }
+    }
+
+    // Returns the same for a task that has cancelled some labels itself in this moment.
+    pub(crate) fn sight_for(&self, cancelled: &[Label], moment: u64) -> Option<u64>
+        ensures { result ≡ sight (stack_for (reverse cancelled.now) moment (stack_of self.now)) }
+    {
+        match self {
+            Stack::Empty => None,
+            Stack::Within(level, _) if level.shield => {
+                from_for(cancelled, moment, &level.label, level.from)
+            }
+            Stack::Within(level, outer) => {
+                let from = from_for(cancelled, moment, &level.label, level.from);
+                earlier(from, outer.sight_for(cancelled, moment))
+            }
         }
     }
 
@@ -63,7 +80,7 @@ impl<'s> Stack<'s> {
         }
     }
 
-    // Returns the label of the innermost level that is cancelled from exactly that tick, if there is one. Levels outside the
+    // Returns the label of the innermost level that is cancelled from exactly that moment, if there is one. Levels outside the
     // first shielded one do not count.
     pub(crate) fn seer(&self, from: u64) -> Option<&Label>
         ensures { option_copied result ≡ seer (stack_of self.now) from }
@@ -76,21 +93,29 @@ impl<'s> Stack<'s> {
         }
     }
 
-    // Returns whether a scope or nursery directly inside this stack that is left in a tick catches `Cancelled`: it is itself
-    // cancelled by then, and no cancellation of the stack is seen through it.
-    pub(crate) fn catches(&self, from: Option<u64>, shield: bool, tick: u64) -> bool
-        ensures { result ≡ catches from shield (stack_of self.now) tick }
+    // Returns whether a scope or nursery directly inside this stack that is left in a moment catches `Cancelled`: it is itself
+    // cancelled by then, and no cancellation of the stack is seen through it. The task has cancelled some labels itself in that
+    // moment.
+    pub(crate) fn catches(
+        &self,
+        from: Option<u64>,
+        shield: bool,
+        cancelled: &[Label],
+        moment: u64,
+    ) -> bool
+        ensures { result ≡ catches from shield (stack_for (reverse cancelled.now) moment (stack_of self.now)) moment }
     {
-        is_reached(from, tick) && (shield || !is_reached(self.sight(), tick))
+        is_reached(from, moment)
+            && (shield || !is_reached(self.sight_for(cancelled, moment), moment))
     }
 }
 
-// Whether a level is cancelled from exactly this tick.
-fn is_from(from: Option<u64>, tick: u64) -> bool
-    ensures { result ≡ is_from from tick }
+// Whether a level is cancelled from exactly this moment.
+fn is_from(from: Option<u64>, moment: u64) -> bool
+    ensures { result ≡ is_from from moment }
 {
     match from {
         None => false,
-        Some(from) => from == tick,
+        Some(from) => from == moment,
     }
 }

@@ -1,4 +1,4 @@
-ghost use Rattle.std.specs.Prelude.{◌≡◌, ◌++◌, Bool, Option, IfOk, OnOk, map};
+ghost use Rattle.std.specs.Prelude.{◌≡◌, ◌<◌, ◌++◌, ◌^◌, ℕ, Bool, List, Option, IfOk, OnOk, map, max};
 ghost use Rattle.std.specs.Option.{option_map, is_some};
 ghost use Rattle.exc_groups.specs.Exceptions.{Label as TreeLabel, Exc as TreeExc};
 ghost use Rattle.exc_groups.specs.Held.{exc_of};
@@ -10,23 +10,24 @@ ghost use Rattle.job_teller.specs.Tales.{IsTold};
 use crate::excs::{boxed_copy, copy_of, move_all, with_exc};
 use block_exits::{handler_exc, outcome_after};
 use exc_groups::{Exc, Label, Whose, group};
+use moments::Clock;
 use std::alloc::{AllocError, Global};
 
 /// How a stretch of the walk ended, and what is recorded of the children that it started in a nursery that is still open.
 #[derive(Drop)]
 pub struct Told {
-    /// The tick in which it ended.
+    /// The moment in which it ended.
     pub end: u64,
     /// The exception with which it ended, or `None`.
     pub exc: Option<Exc>,
-    /// The tick in which the last of those children ended, or 0 if there are none.
+    /// The moment in which the last of those children ended, or 0 if there are none.
     pub open_until: u64,
     /// The exceptions of those children, in the order of their starts.
     pub open_excs: Vec<Exc>,
 }
 
 impl Told {
-    // Returns the tick in which it ended.
+    // Returns the moment in which it ended.
     pub(crate) fn end(&self) -> u64
         ensures { result ≡ self.now.end }
     {
@@ -54,24 +55,25 @@ impl Told {
         boxed_copy(alloc, &self.exc)
     }
 
-    // Returns a stretch that ended in this tick without an exception, and started no child.
-    pub(crate) fn at(alloc: Global, tick: u64) -> Told
-        ensures { (story : Story) → IsTold result (told_at tick story) }
+    // Returns a stretch that ended in this moment without an exception, and started no child.
+    pub(crate) fn at(alloc: Global, moment: u64) -> Told
+        ensures { (own : List TreeLabel) (story : Story) → IsTold result (told_at (record { at = moment; own = own }) story) }
     {
         Told {
-            end: tick,
+            end: moment,
             exc: None,
             open_until: 0,
             open_excs: Vec::new(alloc),
         }
     }
 
-    // Returns a stretch that ended in this tick with an exception, and started no child.
-    pub(crate) fn failure(alloc: Global, exc: Exc, tick: u64) -> Told
-        ensures { (story : Story) → IsTold result (failed_at (exc_of exc) tick story) }
+    // Returns a stretch that ended in this moment with an exception, and started no child.
+    pub(crate) fn failure(alloc: Global, exc: Exc, moment: u64) -> Told
+        ensures { (own : List TreeLabel) (story : Story) →
+            IsTold result (failed_at (exc_of exc) (record { at = moment; own = own }) story) }
     {
         Told {
-            end: tick,
+            end: moment,
             exc: Some(exc),
             open_until: 0,
             open_excs: Vec::new(alloc),
@@ -131,11 +133,17 @@ impl Told {
         Ok(told)
     }
 
-    // Ends a nursery whose body is this stretch: it ends with its last member, and the exceptions of the body and the children
+    // Ends a nursery whose body is this stretch: it ends after its last member, and the exceptions of the body and the children
     // are one group.
     #[inline(never)]
-    pub(crate) fn gather(self, alloc: Global, label: &Label) -> Result<Told, AllocError>
-        ensures { IfOk result (λ w. (a : Tale) → IsTold self a → IsTold w (tell_gathered label.now a)) }
+    pub(crate) fn gather(
+        self,
+        alloc: Global,
+        clock: Clock,
+        label: &Label,
+    ) -> Result<Told, AllocError>
+        requires { max self.end self.open_until < 2 ^ 63 }
+        ensures { IfOk result (λ w. (a : Tale) → IsTold self a → IsTold w (tell_gathered clock label.now a)) }
     {
         let Told {
             end,
@@ -145,24 +153,24 @@ impl Told {
         } = self;
         let parts = with_exc(alloc, exc, open_excs)?;
         Ok(Told {
-            end: end.max(open_until),
+            end: clock.a_round_after(end.max(open_until)),
             exc: group(Whose::Nursery(label.copy(alloc)?), parts),
             open_until: 0,
             open_excs: Vec::new(alloc),
         })
     }
 
-    // Returns the walk of a started task as the task that started it sees it: that one continues in the tick of the start, with
+    // Returns the walk of a started task as the task that started it sees it: that one continues in the moment of the start, with
     // one more child.
     #[inline(never)]
-    pub(crate) fn into_child(self, alloc: Global, tick: u64) -> Result<Told, AllocError>
-        ensures { IfOk result (λ w. (label : TreeLabel) (home : Option TreeLabel) (scene : Scene) (a : Tale) → IsTold self a
-            → IsTold w (tell_child label home scene tick a)) }
+    pub(crate) fn into_child(self, alloc: Global, moment: u64) -> Result<Told, AllocError>
+        ensures { IfOk result (λ w. (label : TreeLabel) (home : Option TreeLabel) (scene : Scene) (begins : ℕ) (own : List TreeLabel)
+            (a : Tale) → IsTold self a → IsTold w (tell_child label home scene begins a (record { at = moment; own = own }))) }
     {
         let Told { end, exc, .. } = self;
         let open_excs = with_exc(alloc, exc, Vec::new(alloc))?;
         Ok(Told {
-            end: tick,
+            end: moment,
             exc: None,
             open_until: end,
             open_excs,

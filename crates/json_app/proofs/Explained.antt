@@ -17,6 +17,7 @@ use Rattle.story_app.specs.declared.verdict.StoryVerdict.{StoryVerdict}
 use Rattle.story_app.specs.declared.verdict.StoryVerdict.TheVariants as story
 use Rattle.story_app.specs.Stories.{story_events, label_or_nothing, IsAbout}
 use Rattle.story_app.specs.Tellings.{IsEnding, verdict_of, until_of, events_until}
+use Rattle.job_meaning.specs.Moments.{Clock, clock_of}
 use Rattle.story_app.proofs.Told.{told_is, cut_is}
 use Rattle.json_report.specs.Values.{document}
 use Rattle.json_story.specs.Stories.{story_json}
@@ -24,38 +25,38 @@ use Rattle.json_app.specs.Explaining.{meaning_story, IsStoryVerdict, IsStory, Is
 
 -- ---- which task was asked for
 
-pub told_of_all : (name : List ℕ) (table : Table) (until : Tick) (ending : Ending) (asked : Option (List ℕ)) (walked : List Event)
+pub told_of_all : (clock : Clock) (name : List ℕ) (table : Table) (until : Tick) (ending : Ending) (asked : Option (List ℕ)) (walked : List Event)
     (given : StoryVerdict) (bytes : List ℕ) → asked ≡ None → given ≡ verdict_of ending →
-    bytes ≡ document (story_json name until table None walked) → IsTold name table until ending asked walked given bytes
-told_of_all name table until ending None walked given bytes e is text = inl (None, refl, is, text)
-told_of_all name table until ending (Some asked) walked given bytes e is text = absurd (let f : Some asked ≡ None = e in cc)
+    bytes ≡ document (story_json clock name until table None walked) → IsTold clock name table until ending asked walked given bytes
+told_of_all clock name table until ending None walked given bytes e is text = inl (None, refl, is, text)
+told_of_all clock name table until ending (Some asked) walked given bytes e is text = absurd (let f : Some asked ≡ None = e in cc)
 
-pub told_of_task : (name : List ℕ) (table : Table) (until : Tick) (ending : Ending) (asked : List ℕ) (walked : List Event)
+pub told_of_task : (clock : Clock) (name : List ℕ) (table : Table) (until : Tick) (ending : Ending) (asked : List ℕ) (walked : List Event)
     (label : Label) (given : StoryVerdict) (bytes : List ℕ) → task_named asked walked ≡ Some label → given ≡ verdict_of ending →
-    bytes ≡ document (story_json name until table (Some label) walked) → IsTold name table until ending (Some asked) walked given bytes
-told_of_task name table until ending asked walked label given bytes found is text = inl (Some label, (refl, sym found), is, text)
+    bytes ≡ document (story_json clock name until table (Some label) walked) → IsTold clock name table until ending (Some asked) walked given bytes
+told_of_task clock name table until ending asked walked label given bytes found is text = inl (Some label, (refl, sym found), is, text)
 
 -- the verdict and the bytes if a task was asked for that the story does not have
-pub told_of_none : (name : List ℕ) (table : Table) (until : Tick) (ending : Ending) (asked : List ℕ) (walked : List Event)
+pub told_of_none : (clock : Clock) (name : List ℕ) (table : Table) (until : Tick) (ending : Ending) (asked : List ℕ) (walked : List Event)
     (nearest : Vec ℕ) (given : StoryVerdict) (bytes : List ℕ) → task_named asked walked ≡ None →
     nearest.items ≡ label_or_nothing (nearest_in asked walked) → given ≡ story.NoTask nearest → bytes ≡ [] →
-    IsTold name table until ending (Some asked) walked given bytes
-told_of_none name table until ending asked walked nearest given bytes none is told text = inr (nearest, (none, is), told, text)
+    IsTold clock name table until ending (Some asked) walked given bytes
+told_of_none clock name table until ending asked walked nearest given bytes none is told text = inr (nearest, (none, is), told, text)
 
-pub told_of_some : (name : List ℕ) (table : Table) (until : Tick) (ending : Ending) (asked : Option (List ℕ)) (text : List ℕ)
+pub told_of_some : (clock : Clock) (name : List ℕ) (table : Table) (until : Tick) (ending : Ending) (asked : Option (List ℕ)) (text : List ℕ)
     (walked : List Event) (given : StoryVerdict) (bytes : List ℕ) → asked ≡ Some text →
-    IsTold name table until ending (Some text) walked given bytes → IsTold name table until ending asked walked given bytes
-told_of_some name table until ending asked text walked given bytes is =
-    subst (λ (o : Option (List ℕ)). IsTold name table until ending o walked given bytes) (sym is)
+    IsTold clock name table until ending (Some text) walked given bytes → IsTold clock name table until ending asked walked given bytes
+told_of_some clock name table until ending asked text walked given bytes is =
+    subst (λ (o : Option (List ℕ)). IsTold clock name table until ending o walked given bytes) (sym is)
 
 -- ---- the verdict on a job
 
 -- the document of the events that are written is that of the meaning's story
 story_is : (job : Tree) (input : List ℕ) (limit : ℕ) (ending : Ending) (task : Option Label) → IsEnding job input limit ending →
-    document (story_json job.name (until_of ending limit) (meaning_table job input) task (story_events limit job input))
+    document (story_json (clock_of job.format) job.name (until_of ending limit) (meaning_table job input) task (story_events limit job input))
     ≡ meaning_story limit job input task
 story_is job input limit ending task h =
-    ap (λ (u : Tick). document (story_json job.name u (meaning_table job input) task (story_events limit job input)))
+    ap (λ (u : Tick). document (story_json (clock_of job.format) job.name u (meaning_table job input) task (story_events limit job input)))
     (cut_is job input limit ending h)
 
 verdict_is : (job : Tree) (input : List ℕ) (limit : ℕ) (asked : Option (List ℕ)) (ending : Ending) (task : Option Label)
@@ -67,7 +68,7 @@ verdict_is job input limit asked Late task bytes h about is = (record { task = t
 
 by_told : (job : Tree) (input : List ℕ) (limit : ℕ) (asked : Option (List ℕ)) (ending : Ending) (given : StoryVerdict)
     (bytes : List ℕ) → IsEnding job input limit ending →
-    IsTold job.name (meaning_table job input) (until_of ending limit) ending asked (story_events limit job input) given bytes →
+    IsTold (clock_of job.format) job.name (meaning_table job input) (until_of ending limit) ending asked (story_events limit job input) given bytes →
     IsStoryVerdict job input limit asked given bytes
 by_told job input limit asked ending given bytes h (inl t) =
     subst (λ (v : StoryVerdict). IsStoryVerdict job input limit asked v bytes) (sym t.2)
@@ -76,21 +77,25 @@ by_told job input limit asked ending given bytes h (inr t) =
     subst (λ (v : StoryVerdict). IsStoryVerdict job input limit asked v bytes) (sym t.2) (t.1, t.3)
 
 -- the verdict and the document for a job that was read: that of the story by the table of its meaning, up to the limit
-pub job_explained : (job : Tree) (input : List ℕ) (limit : ℕ) (asked : Option (List ℕ)) (ending : Ending) (table : Table) (until : Tick)
-    (events walked : List Event) (given : StoryVerdict) (bytes : List ℕ) → IsEnding job input limit ending →
-    table ≡ meaning_table job input → until ≡ until_of ending limit →
-    events ≡ events_of (root_label job.name) (story_by table job input) → walked ≡ events_until until events →
-    IsTold job.name table until ending asked walked given bytes → IsStoryVerdict job input limit asked given bytes
-job_explained job input limit asked ending table until events walked given bytes h same until_is events_are walked_is t =
+pub job_explained : (job : Tree) (input : List ℕ) (limit : ℕ) (asked : Option (List ℕ)) (ending : Ending) (clock : Clock) (table : Table)
+    (until : Tick) (events walked : List Event) (given : StoryVerdict) (bytes : List ℕ) → IsEnding job input limit ending →
+    clock ≡ clock_of job.format → table ≡ meaning_table job input → until ≡ until_of ending limit →
+    events ≡ events_of (root_label job.name) (story_by table job input) → walked ≡ events_until clock until events →
+    IsTold clock job.name table until ending asked walked given bytes → IsStoryVerdict job input limit asked given bytes
+job_explained job input limit asked ending clock table until events walked given bytes h counts same until_is events_are walked_is t =
     by_told job input limit asked ending given bytes h
-    (subst (λ (es : List Event). IsTold job.name (meaning_table job input) (until_of ending limit) ending asked es given bytes) all
-    (subst (λ (u : Tick). IsTold job.name (meaning_table job input) u ending asked walked given bytes) until_is
-    (subst (λ (k : Table). IsTold job.name k until ending asked walked given bytes) same t)))
+    (subst (λ (es : List Event). IsTold (clock_of job.format) job.name (meaning_table job input) (until_of ending limit) ending asked es given bytes)
+    all
+    (subst (λ (u : Tick). IsTold (clock_of job.format) job.name (meaning_table job input) u ending asked walked given bytes) until_is
+    (subst (λ (k : Table). IsTold (clock_of job.format) job.name k until ending asked walked given bytes) same
+    (subst (λ (c : Clock). IsTold c job.name table until ending asked walked given bytes) counts t))))
   where
     all : walked ≡ story_events limit job input
     all =
-        walked_is ∙ ap (events_until until) (events_are ∙ ap (λ (k : Table). events_of (root_label job.name) (story_by k job input)) same)
-        ∙ ap (λ (u : Tick). events_until u (events_of (root_label job.name) (story_by (meaning_table job input) job input))) until_is
+        walked_is ∙ ap (λ (c : Clock). events_until c until events) counts
+        ∙ ap (events_until (clock_of job.format) until)
+        (events_are ∙ ap (λ (k : Table). events_of (root_label job.name) (story_by k job input)) same)
+        ∙ ap (λ (u : Tick). events_until (clock_of job.format) u (events_of (root_label job.name) (story_by (meaning_table job input) job input))) until_is
         ∙ told_is job input limit ending h
 
 -- ---- the verdict on a text

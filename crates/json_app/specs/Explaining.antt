@@ -5,6 +5,7 @@ use Rattle.job_tree.specs.Tree.{Tree}
 use Rattle.exc_groups.specs.Exceptions.{Label}
 use Rattle.cancel_scopes.specs.Sight.{Tick}
 use Rattle.job_meaning.specs.Log.{Table}
+use Rattle.job_meaning.specs.Moments.{Clock, clock_of}
 use Rattle.job_grammar.specs.Refusals.{Spells, IsRefused}
 use Rattle.job_meaning.specs.Meaning.{meaning, meaning_end, meaning_table}
 use Rattle.job_story.specs.Events.{Event}
@@ -21,7 +22,7 @@ use Rattle.json_app.specs.Answers.{refusal_json}
 -- the limit
 abbrev pub meaning_story : ℕ → Tree → List ℕ → Option Label → List ℕ
 meaning_story limit job input task =
-    document (story_json job.name (until_if (nat_le (meaning_end job input) limit) limit) (meaning_table job input) task
+    document (story_json (clock_of job.format) job.name (until_if (nat_le (meaning_end job input) limit) limit) (meaning_table job input) task
     (story_events limit job input))
 
 -- ---- verdicts
@@ -53,8 +54,8 @@ IsStory text input limit asked verdict bytes = (job : Tree) × Spells text job �
 
 -- a verdict on a story with these events, and its bytes: of all tasks, or of those that concern one; nothing if no task has the
 -- label
-abbrev pub IsTold : List ℕ → Table → Tick → Ending → Option (List ℕ) → List Event → StoryVerdict → List ℕ → Type 0
-IsTold name table until ending asked walked given bytes =
+abbrev pub IsTold : Clock → List ℕ → Table → Tick → Ending → Option (List ℕ) → List Event → StoryVerdict → List ℕ → Type 0
+IsTold clock name table until ending asked walked given bytes =
     ((task : Option Label) × IsAbout asked walked task × (given ≡ verdict_of ending)
-    × (bytes ≡ document (story_json name until table task walked)))
+    × (bytes ≡ document (story_json clock name until table task walked)))
     ⊎ ((nearest : Vec ℕ) × IsAboutNone asked walked nearest.items × (given ≡ story.NoTask nearest) × (bytes ≡ []))

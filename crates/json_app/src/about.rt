@@ -27,11 +27,19 @@ pub(crate) fn story_about(
     until: Option<u64>,
     task: Option<&[u8]>,
 ) -> Result<(StoryVerdict, Vec<u8>), AllocError>
-    ensures { IfOk result (λ r. IsTold job.now.name (table_in meaning.now.table) until meaning.now.ending
+    ensures { IfOk result (λ r. IsTold meaning.now.clock job.now.name (table_in meaning.now.table) until meaning.now.ending
         (option_copied task.entry) (map event_in walked.now) r.0 r.1.items) }
 {
     let Some(text) = task else {
-        let bytes = story_json(alloc, job.name(), until, walked, &meaning.table, None)?;
+        let bytes = story_json(
+            alloc,
+            meaning.clock,
+            job.name(),
+            until,
+            walked,
+            &meaning.table,
+            None,
+        )?;
         return Ok((meaning.ending.verdict(), bytes));
     };
     let answer = story_about_task(alloc, job, walked, meaning, until, text)?;
@@ -48,7 +56,7 @@ fn story_about_task(
     until: Option<u64>,
     text: &[u8],
 ) -> Result<(StoryVerdict, Vec<u8>), AllocError>
-    ensures { IfOk result (λ r. IsTold job.now.name (table_in meaning.now.table) until meaning.now.ending
+    ensures { IfOk result (λ r. IsTold meaning.now.clock job.now.name (table_in meaning.now.table) until meaning.now.ending
         (Some text.now) (map event_in walked.now) r.0 r.1.items) }
 {
     let named = task_named(alloc, walked, text)?;
@@ -58,6 +66,7 @@ fn story_about_task(
     };
     let bytes = story_json(
         alloc,
+        meaning.clock,
         job.name(),
         until,
         walked,

@@ -95,7 +95,7 @@ fn job_story<R: Threads + Sync, P: Pick, G: Gate + Sync>(
     let meaning = meaning_of(rt, alloc, job, input, settings, picker, gate)?;
     let last = meaning.ending.until(settings.limit());
     let events = tell(alloc, job, input, &meaning.table)?;
-    let walked = events_until(alloc, events.as_slice(), last)?;
+    let walked = events_until(alloc, meaning.clock, events.as_slice(), last)?;
     let answer = story_about(alloc, job, walked.as_slice(), &meaning, last, task)?;
     Ok(answer)
 }

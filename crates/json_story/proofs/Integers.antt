@@ -10,13 +10,14 @@ use Rattle.buffer_parts.specs.Lines.{Span}
 use Rattle.exc_groups.specs.Exceptions.{Label, Exc}
 use Rattle.cancel_scopes.specs.Sight.{Tick}
 use Rattle.job_meaning.specs.Log.{Table}
+use Rattle.job_meaning.specs.Moments.{Clock, tick_of}
 use Rattle.job_story.specs.Story.{Happening, enters, sleeps, is_cancelled, finds, misses, raises, cancels, handles, cleans, replaces, waits, leaves}
 use Rattle.job_story.specs.Events.{What, starts, happens, ends, Event}
 use Rattle.job_story.specs.Limit.{running_in, last_event}
 use Rattle.job_story.specs.Causes.{Cause, by_deadline, by_task, by_failure, by_cancellation, cause_of}
 use Rattle.json_report.specs.Values.{integer, word, list_of, text_json, label_json, exc_json}
 use Rattle.json_report.proofs.Integers.{exc_without_float}
-use Rattle.json_story.specs.Events.{tick_json, label_or_null, exc_or_null, cause_json, why_json, cancel_from, failure_from, kind_key, span_json, with_happening, with_what, event_head, event_json}
+use Rattle.json_story.specs.Events.{tick_json, moment_json, label_or_null, exc_or_null, cause_json, why_json, cancel_from, failure_from, kind_key, span_json, with_happening, with_what, event_head, event_json}
 use Rattle.json_story.specs.Running.{with_idle, with_doing, with_last, task_json}
 use Rattle.json_story.specs.Stories.{running_json}
 
@@ -61,6 +62,10 @@ tick_has_none : (t : Tick) → has_float (tick_json t) ≡ false
 tick_has_none None = refl
 tick_has_none (Some t) = refl
 
+moment_has_none : (clock : Clock) (m : Tick) → has_float (moment_json clock m) ≡ false
+moment_has_none clock None = refl
+moment_has_none clock (Some m) = refl
+
 label_has_none : (l : Option Label) → has_float (label_or_null l) ≡ false
 label_has_none None = refl
 label_has_none (Some l) = refl
@@ -69,16 +74,16 @@ exc_has_none : (e : Option Exc) → has_float (exc_or_null e) ≡ false
 exc_has_none None = refl
 exc_has_none (Some e) = exc_without_float e
 
-cause_has_none : (c : Option Cause) → has_float (cause_json c) ≡ false
-cause_has_none None = refl
-cause_has_none (Some by_deadline) = refl
-cause_has_none (Some (by_task task t)) = refl
-cause_has_none (Some (by_failure task t)) = refl
-cause_has_none (Some (by_cancellation task t)) = refl
+cause_has_none : (clock : Clock) (c : Option Cause) → has_float (cause_json clock c) ≡ false
+cause_has_none clock None = refl
+cause_has_none clock (Some by_deadline) = refl
+cause_has_none clock (Some (by_task task t)) = refl
+cause_has_none clock (Some (by_failure task t)) = refl
+cause_has_none clock (Some (by_cancellation task t)) = refl
 
-why_has_none : (table : Table) (es : List Event) (l : Option Label) → has_float (why_json table es l) ≡ false
-why_has_none table es None = refl
-why_has_none table es (Some l) = cause_has_none (cause_of table es l)
+why_has_none : (clock : Clock) (table : Table) (es : List Event) (l : Option Label) → has_float (why_json clock table es l) ≡ false
+why_has_none clock table es None = refl
+why_has_none clock table es (Some l) = cause_has_none clock (cause_of table es l)
 
 spans_have_none : (ss : List Span) → items_have_float (items_of (map span_json ss)) ≡ false
 spans_have_none [] = refl
@@ -86,95 +91,103 @@ spans_have_none (s ∷ ss) = spans_have_none ss
 
 -- ---- events
 
-happening_has_none : (table : Table) (es : List Event) (t : ℕ) (h : Happening) (ms : Members) → members_have_float ms ≡ false →
-    members_have_float (with_happening table es t h ms) ≡ false
-happening_has_none table es t (enters kind label deadline shield) ms hm =
-    put_three (codes "shield") (codes "deadline") (kind_key kind) (boolean shield) (tick_json deadline) (label_json label) ms refl
-    (tick_has_none deadline) refl hm
-happening_has_none table es t (sleeps until) ms hm = with_put (codes "until") (tick_json until) ms (tick_has_none until) hm
-happening_has_none table es t (is_cancelled by since in_cleanup) ms hm =
-    put_four (codes "in_cleanup") (codes "since") (codes "why") (codes "by") (boolean in_cleanup) (tick_json since)
-    (why_json table es by) (label_or_null by) ms refl (tick_has_none since) (why_has_none table es by) (label_has_none by) hm
-happening_has_none table es t (finds lines) ms hm =
+happening_has_none : (clock : Clock) (table : Table) (es : List Event) (t : ℕ) (h : Happening) (ms : Members) →
+    members_have_float ms ≡ false →
+    members_have_float (with_happening clock table es t h ms) ≡ false
+happening_has_none clock table es t (enters kind label deadline shield) ms hm =
+    put_three (codes "shield") (codes "deadline") (kind_key kind) (boolean shield) (moment_json clock deadline) (label_json label) ms refl
+    (moment_has_none clock deadline) refl hm
+happening_has_none clock table es t (sleeps until) ms hm =
+    with_put (codes "until") (moment_json clock until) ms (moment_has_none clock until) hm
+happening_has_none clock table es t (is_cancelled by since in_cleanup) ms hm =
+    put_four (codes "in_cleanup") (codes "since") (codes "why") (codes "by") (boolean in_cleanup) (moment_json clock since)
+    (why_json clock table es by) (label_or_null by) ms refl (moment_has_none clock since)
+    (why_has_none clock table es by) (label_has_none by) hm
+happening_has_none clock table es t (finds lines) ms hm =
     with_put (codes "lines") (list_of (map span_json lines)) ms (spans_have_none lines) hm
-happening_has_none table es t (misses name) ms hm = with_put (codes "name") (text_json name) ms refl hm
-happening_has_none table es t (raises name) ms hm = with_put (codes "name") (text_json name) ms refl hm
-happening_has_none table es t (cancels label) ms hm =
-    put_two (codes "from") (codes "label") (tick_json (cancel_from table label t)) (label_or_null label) ms
-    (tick_has_none (cancel_from table label t)) (label_has_none label) hm
-happening_has_none table es t (handles matched rest) ms hm =
+happening_has_none clock table es t (misses name) ms hm = with_put (codes "name") (text_json name) ms refl hm
+happening_has_none clock table es t (raises name) ms hm = with_put (codes "name") (text_json name) ms refl hm
+happening_has_none clock table es t (cancels label) ms hm =
+    put_two (codes "from") (codes "label") (moment_json clock (cancel_from table label t)) (label_or_null label) ms
+    (moment_has_none clock (cancel_from table label t)) (label_has_none label) hm
+happening_has_none clock table es t (handles matched rest) ms hm =
     put_two (codes "rest") (codes "matched") (exc_or_null rest) (exc_json matched) ms (exc_has_none rest) (exc_without_float matched) hm
-happening_has_none table es t (cleans exc) ms hm = with_put (codes "exception") (exc_or_null exc) ms (exc_has_none exc) hm
-happening_has_none table es t (replaces lost fresh) ms hm =
+happening_has_none clock table es t (cleans exc) ms hm = with_put (codes "exception") (exc_or_null exc) ms (exc_has_none exc) hm
+happening_has_none clock table es t (replaces lost fresh) ms hm =
     put_two (codes "fresh") (codes "lost") (exc_json fresh) (exc_json lost) ms (exc_without_float fresh) (exc_without_float lost) hm
-happening_has_none table es t (waits nursery exc) ms hm =
-    put_three (codes "from") (codes "exception") (codes "nursery") (tick_json (failure_from table (Some nursery) exc t)) (exc_or_null exc)
-    (label_json nursery) ms (tick_has_none (failure_from table (Some nursery) exc t)) (exc_has_none exc) refl hm
-happening_has_none table es t (leaves kind label inside caught outside) ms hm =
+happening_has_none clock table es t (waits nursery exc) ms hm =
+    put_three (codes "from") (codes "exception") (codes "nursery") (moment_json clock (failure_from table (Some nursery) exc t))
+    (exc_or_null exc) (label_json nursery) ms (moment_has_none clock (failure_from table (Some nursery) exc t)) (exc_has_none exc) refl hm
+happening_has_none clock table es t (leaves kind label inside caught outside) ms hm =
     put_four (codes "outside") (codes "caught") (codes "inside") (kind_key kind) (exc_or_null outside) (boolean caught)
     (exc_or_null inside) (label_json label) ms (exc_has_none outside) refl (exc_has_none inside) refl hm
 
-what_has_none : (table : Table) (es : List Event) (t : ℕ) (w : What) (ms : Members) → members_have_float ms ≡ false →
-    members_have_float (with_what table es t w ms) ≡ false
-what_has_none table es t (starts home part) ms hm = with_put (codes "nursery") (label_or_null home) ms (label_has_none home) hm
-what_has_none table es t (happens what) ms hm = happening_has_none table es t what ms hm
-what_has_none table es t (ends home exc) ms hm =
-    put_three (codes "from") (codes "exception") (codes "nursery") (tick_json (failure_from table home exc t)) (exc_or_null exc)
-    (label_or_null home) ms (tick_has_none (failure_from table home exc t)) (exc_has_none exc) (label_has_none home) hm
+what_has_none : (clock : Clock) (table : Table) (es : List Event) (t : ℕ) (w : What) (ms : Members) → members_have_float ms ≡ false →
+    members_have_float (with_what clock table es t w ms) ≡ false
+what_has_none clock table es t (starts home part) ms hm = with_put (codes "nursery") (label_or_null home) ms (label_has_none home) hm
+what_has_none clock table es t (happens what) ms hm = happening_has_none clock table es t what ms hm
+what_has_none clock table es t (ends home exc) ms hm =
+    put_three (codes "from") (codes "exception") (codes "nursery") (moment_json clock (failure_from table home exc t)) (exc_or_null exc)
+    (label_or_null home) ms (moment_has_none clock (failure_from table home exc t)) (exc_has_none exc) (label_has_none home) hm
 
-event_has_none : (table : Table) (es : List Event) (e : Event) → has_float (event_json table es e) ≡ false
-event_has_none table es e = what_has_none table es e.tick e.what (event_head e) refl
+event_has_none : (clock : Clock) (table : Table) (es : List Event) (e : Event) → has_float (event_json clock table es e) ≡ false
+event_has_none clock table es e = what_has_none clock table es e.tick e.what (event_head clock e) refl
 
 -- ---- tasks that have not ended
 
 idle_has_none : (ms : Members) → members_have_float ms ≡ false → members_have_float (with_idle ms) ≡ false
 idle_has_none ms hm = with_put (codes "doing") null ms refl hm
 
-doing_in_has_none : (t : ℕ) (h : Happening) (ms : Members) → members_have_float ms ≡ false →
-    members_have_float (with_doing t (happens h) ms) ≡ false
-doing_in_has_none t (enters kind label deadline shield) ms hm = idle_has_none ms hm
-doing_in_has_none t (sleeps until) ms hm =
-    put_three (codes "until") (codes "since") (codes "doing") (tick_json until) (integer t) (word (codes "sleeping")) ms
-    (tick_has_none until) refl refl hm
-doing_in_has_none t (is_cancelled by since in_cleanup) ms hm = idle_has_none ms hm
-doing_in_has_none t (finds lines) ms hm = idle_has_none ms hm
-doing_in_has_none t (misses name) ms hm = idle_has_none ms hm
-doing_in_has_none t (raises name) ms hm = idle_has_none ms hm
-doing_in_has_none t (cancels label) ms hm = idle_has_none ms hm
-doing_in_has_none t (handles matched rest) ms hm = idle_has_none ms hm
-doing_in_has_none t (cleans exc) ms hm = idle_has_none ms hm
-doing_in_has_none t (replaces lost fresh) ms hm = idle_has_none ms hm
-doing_in_has_none t (waits nursery exc) ms hm =
-    put_three (codes "nursery") (codes "since") (codes "doing") (label_json nursery) (integer t) (word (codes "waiting")) ms
+doing_in_has_none : (clock : Clock) (t : ℕ) (h : Happening) (ms : Members) → members_have_float ms ≡ false →
+    members_have_float (with_doing clock t (happens h) ms) ≡ false
+doing_in_has_none clock t (enters kind label deadline shield) ms hm = idle_has_none ms hm
+doing_in_has_none clock t (sleeps until) ms hm =
+    put_three (codes "until") (codes "since") (codes "doing") (moment_json clock until) (integer (tick_of clock t))
+    (word (codes "sleeping")) ms (moment_has_none clock until) refl refl hm
+doing_in_has_none clock t (is_cancelled by since in_cleanup) ms hm = idle_has_none ms hm
+doing_in_has_none clock t (finds lines) ms hm = idle_has_none ms hm
+doing_in_has_none clock t (misses name) ms hm = idle_has_none ms hm
+doing_in_has_none clock t (raises name) ms hm = idle_has_none ms hm
+doing_in_has_none clock t (cancels label) ms hm = idle_has_none ms hm
+doing_in_has_none clock t (handles matched rest) ms hm = idle_has_none ms hm
+doing_in_has_none clock t (cleans exc) ms hm = idle_has_none ms hm
+doing_in_has_none clock t (replaces lost fresh) ms hm = idle_has_none ms hm
+doing_in_has_none clock t (waits nursery exc) ms hm =
+    put_three (codes "nursery") (codes "since") (codes "doing") (label_json nursery) (integer (tick_of clock t)) (word (codes "waiting")) ms
     refl refl refl hm
-doing_in_has_none t (leaves kind label inside caught outside) ms hm = idle_has_none ms hm
+doing_in_has_none clock t (leaves kind label inside caught outside) ms hm = idle_has_none ms hm
 
-doing_has_none : (t : ℕ) (w : What) (ms : Members) → members_have_float ms ≡ false → members_have_float (with_doing t w ms) ≡ false
-doing_has_none t (starts home part) ms hm = idle_has_none ms hm
-doing_has_none t (happens what) ms hm = doing_in_has_none t what ms hm
-doing_has_none t (ends home exc) ms hm = idle_has_none ms hm
+doing_has_none : (clock : Clock) (t : ℕ) (w : What) (ms : Members) → members_have_float ms ≡ false →
+    members_have_float (with_doing clock t w ms) ≡ false
+doing_has_none clock t (starts home part) ms hm = idle_has_none ms hm
+doing_has_none clock t (happens what) ms hm = doing_in_has_none clock t what ms hm
+doing_has_none clock t (ends home exc) ms hm = idle_has_none ms hm
 
-last_has_none : (e : Option Event) (ms : Members) → members_have_float ms ≡ false → members_have_float (with_last e ms) ≡ false
-last_has_none None ms hm = idle_has_none ms hm
-last_has_none (Some e) ms hm = doing_has_none e.tick e.what ms hm
+last_has_none : (clock : Clock) (e : Option Event) (ms : Members) → members_have_float ms ≡ false →
+    members_have_float (with_last clock e ms) ≡ false
+last_has_none clock None ms hm = idle_has_none ms hm
+last_has_none clock (Some e) ms hm = doing_has_none clock e.tick e.what ms hm
 
-tasks_have_none : (es : List Event) (ls : List Label) → items_have_float (items_of (map (task_json es) ls)) ≡ false
-tasks_have_none es [] = refl
-tasks_have_none es (l ∷ ls) =
-    let here : has_float (task_json es l) ≡ false = last_has_none (last_event l es None) (put (codes "task") (label_json l) no_members) refl in
-    rw (here, tasks_have_none es ls) refl
+tasks_have_none : (clock : Clock) (es : List Event) (ls : List Label) → items_have_float (items_of (map (task_json clock es) ls)) ≡ false
+tasks_have_none clock es [] = refl
+tasks_have_none clock es (l ∷ ls) =
+    let here : has_float (task_json clock es l) ≡ false =
+    last_has_none clock (last_event l es None) (put (codes "task") (label_json l) no_members) refl in
+    rw (here, tasks_have_none clock es ls) refl
 
-running_has_none : (until : Tick) (sorted walked : List Event) → items_have_float (items_of (running_json until sorted walked)) ≡ false
-running_has_none None sorted walked = refl
-running_has_none (Some limit) sorted walked = tasks_have_none sorted (running_in walked walked)
+running_has_none : (clock : Clock) (until : Tick) (sorted walked : List Event) →
+    items_have_float (items_of (running_json clock until sorted walked)) ≡ false
+running_has_none clock None sorted walked = refl
+running_has_none clock (Some limit) sorted walked = tasks_have_none clock sorted (running_in walked walked)
 
 -- values of an event, of a tick and of the tasks that have not ended have no float
-pub event_has_no_float : (value : Data) (table : Table) (es : List Event) (e : Event) → value ≡ event_json table es e → has_float value ≡ false
-event_has_no_float value table es e is = rw (is, event_has_none table es e) refl
+pub event_has_no_float : (value : Data) (clock : Clock) (table : Table) (es : List Event) (e : Event) →
+    value ≡ event_json clock table es e → has_float value ≡ false
+event_has_no_float value clock table es e is = rw (is, event_has_none clock table es e) refl
 
 pub tick_has_no_float : (value : Data) (t : Tick) → value ≡ tick_json t → has_float value ≡ false
 tick_has_no_float value t is = rw (is, tick_has_none t) refl
 
-pub running_has_no_float : (value : Data) (until : Tick) (sorted walked : List Event) → value ≡ list_of (running_json until sorted walked)
-    → has_float value ≡ false
-running_has_no_float value until sorted walked is = rw (is, running_has_none until sorted walked) refl
+pub running_has_no_float : (value : Data) (clock : Clock) (until : Tick) (sorted walked : List Event) →
+    value ≡ list_of (running_json clock until sorted walked) → has_float value ≡ false
+running_has_no_float value clock until sorted walked is = rw (is, running_has_none clock until sorted walked) refl

@@ -1,11 +1,12 @@
 -- The events of a story as JSON objects. Each has its `event`, its `task` and its `tick`, and its data under the names in this
--- file.
+-- file. Each number that says when something happens is a tick.
 use Rattle.std.specs.Prelude.{ℕ, ◌+◌, Option, Some, None, List, map, codes, if◌then◌else◌}
 use Rattle.serde_json.specs.Data.{Data, null, boolean, object, Members, no_members, member, put}
 use Rattle.buffer_parts.specs.Lines.{Span}
 use Rattle.exc_groups.specs.Exceptions.{Label, Exc}
 use Rattle.cancel_scopes.specs.Sight.{Tick}
 use Rattle.job_meaning.specs.Log.{Table}
+use Rattle.job_meaning.specs.Moments.{Clock, tick_of}
 use Rattle.job_meaning.specs.Walk.{Kind, a_scope, a_nursery}
 use Rattle.job_story.specs.Story.{Happening, enters, sleeps, is_cancelled, finds, misses, raises, cancels, handles, cleans, replaces, waits, leaves}
 use Rattle.job_story.specs.Tell.{is_from}
@@ -18,6 +19,11 @@ use Rattle.json_report.specs.Values.{integer, word, list_of, text_json, label_js
 abbrev pub tick_json : Tick → Data
 tick_json None = null
 tick_json (Some t) = integer t
+
+-- the tick of a moment
+abbrev pub moment_json : Clock → Tick → Data
+moment_json clock None = null
+moment_json clock (Some m) = integer (tick_of clock m)
 
 abbrev pub label_or_null : Option Label → Data
 label_or_null None = null
@@ -34,20 +40,20 @@ abbrev pub act_json : List ℕ → Label → ℕ → Data
 act_json cause task t =
     object (put (codes "tick") (integer t) (put (codes "task") (label_json task) (put (codes "cause") (word cause) no_members)))
 
-abbrev pub cause_json : Option Cause → Data
-cause_json None = null
-cause_json (Some by_deadline) = object (put (codes "cause") (word (codes "deadline")) no_members)
-cause_json (Some (by_task task t)) = act_json (codes "cancel") task t
-cause_json (Some (by_failure task t)) = act_json (codes "failure") task t
-cause_json (Some (by_cancellation task t)) = act_json (codes "cancellation") task t
+abbrev pub cause_json : Clock → Option Cause → Data
+cause_json clock None = null
+cause_json clock (Some by_deadline) = object (put (codes "cause") (word (codes "deadline")) no_members)
+cause_json clock (Some (by_task task t)) = act_json (codes "cancel") task (tick_of clock t)
+cause_json clock (Some (by_failure task t)) = act_json (codes "failure") task (tick_of clock t)
+cause_json clock (Some (by_cancellation task t)) = act_json (codes "cancellation") task (tick_of clock t)
 
-abbrev pub why_json : Table → List Event → Option Label → Data
-why_json table es None = null
-why_json table es (Some l) = cause_json (cause_of table es l)
+abbrev pub why_json : Clock → Table → List Event → Option Label → Data
+why_json clock table es None = null
+why_json clock table es (Some l) = cause_json clock (cause_of table es l)
 
--- ---- from which tick something is cancelled
+-- ---- from which moment something is cancelled
 
--- the next tick, if a label is cancelled from then on
+-- the next moment, if a label is cancelled from then on
 abbrev pub next_if : Tick → ℕ → Tick
 next_if from t = if is_from from (t + 1) then Some (t + 1) else None
 
@@ -84,27 +90,27 @@ happening_word (replaces lost fresh) = codes "replaces"
 happening_word (waits nursery exc) = codes "waits"
 happening_word (leaves kind label inside caught outside) = codes "leaves"
 
--- the data of what happens in a tick, added to the members that are there
-abbrev pub with_happening : Table → List Event → ℕ → Happening → Members → Members
-with_happening table es t (enters kind label deadline shield) ms =
-    put (codes "shield") (boolean shield) (put (codes "deadline") (tick_json deadline) (put (kind_key kind) (label_json label) ms))
-with_happening table es t (sleeps until) ms = put (codes "until") (tick_json until) ms
-with_happening table es t (is_cancelled by since in_cleanup) ms =
-    put (codes "in_cleanup") (boolean in_cleanup) (put (codes "since") (tick_json since)
-    (put (codes "why") (why_json table es by) (put (codes "by") (label_or_null by) ms)))
-with_happening table es t (finds lines) ms = put (codes "lines") (list_of (map span_json lines)) ms
-with_happening table es t (misses name) ms = put (codes "name") (text_json name) ms
-with_happening table es t (raises name) ms = put (codes "name") (text_json name) ms
-with_happening table es t (cancels label) ms =
-    put (codes "from") (tick_json (cancel_from table label t)) (put (codes "label") (label_or_null label) ms)
-with_happening table es t (handles matched rest) ms =
+-- the data of what happens in a moment, added to the members that are there
+abbrev pub with_happening : Clock → Table → List Event → ℕ → Happening → Members → Members
+with_happening clock table es t (enters kind label deadline shield) ms =
+    put (codes "shield") (boolean shield) (put (codes "deadline") (moment_json clock deadline) (put (kind_key kind) (label_json label) ms))
+with_happening clock table es t (sleeps until) ms = put (codes "until") (moment_json clock until) ms
+with_happening clock table es t (is_cancelled by since in_cleanup) ms =
+    put (codes "in_cleanup") (boolean in_cleanup) (put (codes "since") (moment_json clock since)
+    (put (codes "why") (why_json clock table es by) (put (codes "by") (label_or_null by) ms)))
+with_happening clock table es t (finds lines) ms = put (codes "lines") (list_of (map span_json lines)) ms
+with_happening clock table es t (misses name) ms = put (codes "name") (text_json name) ms
+with_happening clock table es t (raises name) ms = put (codes "name") (text_json name) ms
+with_happening clock table es t (cancels label) ms =
+    put (codes "from") (moment_json clock (cancel_from table label t)) (put (codes "label") (label_or_null label) ms)
+with_happening clock table es t (handles matched rest) ms =
     put (codes "rest") (exc_or_null rest) (put (codes "matched") (exc_json matched) ms)
-with_happening table es t (cleans exc) ms = put (codes "exception") (exc_or_null exc) ms
-with_happening table es t (replaces lost fresh) ms = put (codes "fresh") (exc_json fresh) (put (codes "lost") (exc_json lost) ms)
-with_happening table es t (waits nursery exc) ms =
-    put (codes "from") (tick_json (failure_from table (Some nursery) exc t)) (put (codes "exception") (exc_or_null exc)
+with_happening clock table es t (cleans exc) ms = put (codes "exception") (exc_or_null exc) ms
+with_happening clock table es t (replaces lost fresh) ms = put (codes "fresh") (exc_json fresh) (put (codes "lost") (exc_json lost) ms)
+with_happening clock table es t (waits nursery exc) ms =
+    put (codes "from") (moment_json clock (failure_from table (Some nursery) exc t)) (put (codes "exception") (exc_or_null exc)
     (put (codes "nursery") (label_json nursery) ms))
-with_happening table es t (leaves kind label inside caught outside) ms =
+with_happening clock table es t (leaves kind label inside caught outside) ms =
     put (codes "outside") (exc_or_null outside) (put (codes "caught") (boolean caught) (put (codes "inside") (exc_or_null inside)
     (put (kind_key kind) (label_json label) ms)))
 
@@ -115,21 +121,22 @@ what_word (starts home part) = codes "starts"
 what_word (happens what) = happening_word what
 what_word (ends home exc) = codes "ends"
 
-abbrev pub with_what : Table → List Event → ℕ → What → Members → Members
-with_what table es t (starts home part) ms = put (codes "nursery") (label_or_null home) ms
-with_what table es t (happens what) ms = with_happening table es t what ms
-with_what table es t (ends home exc) ms =
-    put (codes "from") (tick_json (failure_from table home exc t)) (put (codes "exception") (exc_or_null exc)
+abbrev pub with_what : Clock → Table → List Event → ℕ → What → Members → Members
+with_what clock table es t (starts home part) ms = put (codes "nursery") (label_or_null home) ms
+with_what clock table es t (happens what) ms = with_happening clock table es t what ms
+with_what clock table es t (ends home exc) ms =
+    put (codes "from") (moment_json clock (failure_from table home exc t)) (put (codes "exception") (exc_or_null exc)
     (put (codes "nursery") (label_or_null home) ms))
 
 -- what each event has
-abbrev pub event_head : Event → Members
-event_head e =
-    put (codes "event") (word (what_word e.what)) (put (codes "task") (label_json e.task) (put (codes "tick") (integer e.tick) no_members))
+abbrev pub event_head : Clock → Event → Members
+event_head clock e =
+    put (codes "event") (word (what_word e.what)) (put (codes "task") (label_json e.task)
+    (put (codes "tick") (integer (tick_of clock e.tick)) no_members))
 
 -- an event of a story with these events by a table
-abbrev pub event_json : Table → List Event → Event → Data
-event_json table es e = object (with_what table es e.tick e.what (event_head e))
+abbrev pub event_json : Clock → Table → List Event → Event → Data
+event_json clock table es e = object (with_what clock table es e.tick e.what (event_head clock e))
 
 -- the event that a kernel of a task answered some lines in a tick
 abbrev pub found_json : Label → ℕ → List Span → Data

@@ -2,11 +2,12 @@ ghost use Rattle.std.specs.Prelude.{◌≡◌, Some, IfOk, codes};
 ghost use Rattle.serde_json.specs.View.{view};
 ghost use Rattle.story_causes.specs.Found.{cause_in_code};
 ghost use Rattle.json_story.specs.Events.{act_json, cause_json, why_json};
-ghost use Rattle.json_story.specs.Known.{events_in, froms_in};
+ghost use Rattle.json_story.specs.Known.{clock_in, events_in, froms_in};
 
 use crate::known::Known;
 use exc_groups::Label;
 use json_report::label_value;
+use moments::Clock;
 use serde_json::{Value, json};
 use std::alloc::{AllocError, Global};
 use story_causes::Cause;
@@ -17,7 +18,7 @@ pub(crate) fn why_value(
     known: &Known<'_, '_>,
     label: &Option<Label>,
 ) -> Result<Value, AllocError>
-    ensures { IfOk result (λ value. view value ≡ why_json (froms_in known.now) (events_in known.now) label.now) }
+    ensures { IfOk result (λ value. view value ≡ why_json (clock_in known.now) (froms_in known.now) (events_in known.now) label.now) }
 {
     let Some(label) = label else {
         return Ok(Value::Null);
@@ -25,18 +26,23 @@ pub(crate) fn why_value(
     let Some(cause) = known.cause(label) else {
         return Ok(Value::Null);
     };
-    cause_value(alloc, &cause)
+    cause_value(alloc, known.clock, &cause)
 }
 
 // Returns a cause.
-fn cause_value(alloc: Global, cause: &Cause<'_>) -> Result<Value, AllocError>
-    ensures { IfOk result (λ value. view value ≡ cause_json (Some (cause_in_code cause.now))) }
+fn cause_value(alloc: Global, clock: Clock, cause: &Cause<'_>) -> Result<Value, AllocError>
+    ensures { IfOk result (λ value. view value ≡ cause_json clock (Some (cause_in_code cause.now))) }
 {
     match cause {
         Cause::Deadline => json!(in alloc; {"cause": "deadline"}),
-        Cause::Task { task, tick } => act_value(alloc, "cancel", task, *tick),
-        Cause::Failure { task, tick } => act_value(alloc, "failure", task, *tick),
-        Cause::Cancellation { task, tick } => act_value(alloc, "cancellation", task, *tick),
+        Cause::Task { task, tick } => act_value(alloc, "cancel", task, clock.tick_of(*tick)),
+        Cause::Failure { task, tick } => act_value(alloc, "failure", task, clock.tick_of(*tick)),
+        Cause::Cancellation { task, tick } => act_value(
+            alloc,
+            "cancellation",
+            task,
+            clock.tick_of(*tick),
+        ),
     }
 }
 

@@ -6,14 +6,15 @@ ghost use Rattle.job_story.specs.Held.{what_of, event_of};
 ghost use Rattle.story_causes.specs.Seen.{event_in};
 ghost use Rattle.json_report.specs.Values.{list_of};
 ghost use Rattle.json_story.specs.Events.{what_word, with_what, event_head, event_json};
-ghost use Rattle.json_story.specs.Known.{events_in, froms_in};
+ghost use Rattle.json_story.specs.Known.{clock_in, events_in, froms_in};
 
 use crate::found::push_found;
 use crate::happening::{happening_word, put_happening};
 use crate::known::Known;
-use crate::optional::{exc_or_null, label_or_null, tick_value};
+use crate::optional::{exc_or_null, label_or_null, moment_value};
 use job_story::{Event, Happening, What};
 use json_report::{label_value, push_comma, push_value};
+use moments::Clock;
 use serde_json::{Map, Value, put};
 use std::alloc::{AllocError, Global};
 
@@ -25,7 +26,8 @@ pub(crate) fn push_events(
     events: &[&Event],
 ) -> Result<(), AllocError>
     ensures { OnOk result (out.new.items
-        ≡ out.old.items ++ compact_text (list_of (map (event_json (froms_in known.now) (events_in known.now)) (map event_in events.now)))) }
+        ≡ out.old.items ++ compact_text (list_of
+        (map (event_json (clock_in known.now) (froms_in known.now) (events_in known.now)) (map event_in events.now)))) }
 {
     out.push(b'[')?;
     'events: for (i, event) in events.iter().enumerate() {
@@ -44,10 +46,16 @@ fn push_event(
     event: &Event,
 ) -> Result<(), AllocError>
     ensures { OnOk result (out.new.items
-        ≡ out.old.items ++ compact_text (event_json (froms_in known.now) (events_in known.now) (event_of event.now))) }
+        ≡ out.old.items ++ compact_text (event_json (clock_in known.now) (froms_in known.now) (events_in known.now) (event_of event.now))) }
 {
     if let What::Happens(Happening::Finds { lines }) = &event.what {
-        return push_found(alloc, out, &event.task, event.tick, lines.as_slice());
+        return push_found(
+            alloc,
+            out,
+            &event.task,
+            known.clock.tick_of(event.tick),
+            lines.as_slice(),
+        );
     }
     let value = event_value(alloc, known, event)?;
     push_value(alloc, out, &value)
@@ -56,19 +64,20 @@ fn push_event(
 // Returns an event as a JSON object.
 fn event_value(alloc: Global, known: &Known<'_, '_>, event: &Event) -> Result<Value, AllocError>
     ensures { IfOk result (λ value. view value
-        ≡ event_json (froms_in known.now) (events_in known.now) (event_of event.now)) }
+        ≡ event_json (clock_in known.now) (froms_in known.now) (events_in known.now) (event_of event.now)) }
 {
-    let mut members = event_head(alloc, event)?;
+    let mut members = event_head(alloc, known.clock, event)?;
     put_what(&mut members, alloc, known, event.tick, &event.what)?;
     Ok(Value::Object(members))
 }
 
 // Returns what each event has.
-fn event_head(alloc: Global, event: &Event) -> Result<Map<String, Value>, AllocError>
-    ensures { IfOk result (λ members. members_view members.entries ≡ event_head (event_of event.now)) }
+fn event_head(alloc: Global, clock: Clock, event: &Event) -> Result<Map<String, Value>, AllocError>
+    ensures { IfOk result (λ members. members_view members.entries ≡ event_head clock (event_of event.now)) }
 {
     let mut members = Map::new(alloc);
-    put(&mut members, alloc, "tick", Value::from(event.tick))?;
+    let tick = clock.tick_of(event.tick);
+    put(&mut members, alloc, "tick", Value::from(tick))?;
     let task = label_value(alloc, &event.task)?;
     put(&mut members, alloc, "task", task)?;
     let word = Value::try_from_str(alloc, what_word(&event.what))?;
@@ -92,10 +101,11 @@ fn put_what(
     members: &mut Map<String, Value>,
     alloc: Global,
     known: &Known<'_, '_>,
-    tick: u64,
+    moment: u64,
     what: &What,
 ) -> Result<(), AllocError>
-    ensures { OnOk result (members_view members.new.entries ≡ with_what (froms_in known.now) (events_in known.now) tick
+    ensures { OnOk result (members_view members.new.entries
+        ≡ with_what (clock_in known.now) (froms_in known.now) (events_in known.now) moment
         (what_of what.now) (members_view members.old.entries)) }
 {
     match what {
@@ -103,7 +113,7 @@ fn put_what(
             let nursery = label_or_null(alloc, home)?;
             put(members, alloc, "nursery", nursery)
         }
-        What::Happens(happening) => put_happening(members, alloc, known, tick, happening),
+        What::Happens(happening) => put_happening(members, alloc, known, moment, happening),
         What::Ends { home, exc } => {
             let nursery = label_or_null(alloc, home)?;
             put(members, alloc, "nursery", nursery)?;
@@ -113,7 +123,7 @@ fn put_what(
                 members,
                 alloc,
                 "from",
-                tick_value(known.failure_from(home, exc, tick)),
+                moment_value(known.clock, known.failure_from(home, exc, moment)),
             )
         }
     }

@@ -5,15 +5,16 @@ ghost use Rattle.exc_groups.specs.Held.{exc_of};
 ghost use Rattle.block_exits.specs.Held.{kind_of};
 ghost use Rattle.job_story.specs.Held.{unboxed_exc, span_in, happening_of};
 ghost use Rattle.json_report.specs.Values.{list_of, label_json, exc_json};
-ghost use Rattle.json_story.specs.Events.{tick_json, label_or_null, exc_or_null, why_json, cancel_from, failure_from, kind_key, span_json, happening_word, with_happening};
-ghost use Rattle.json_story.specs.Known.{events_in, froms_in};
+ghost use Rattle.json_story.specs.Events.{moment_json, label_or_null, exc_or_null, why_json, cancel_from, failure_from, kind_key, span_json, happening_word, with_happening};
+ghost use Rattle.json_story.specs.Known.{clock_in, events_in, froms_in};
 
 use crate::acts::why_value;
 use crate::known::Known;
-use crate::optional::{exc_or_null, label_or_null, tick_value};
+use crate::optional::{exc_or_null, label_or_null, moment_value};
 use exc_groups::{Exc, Label};
 use job_story::{Happening, Kind, Span};
 use json_report::{exc_value, label_value, text_value};
+use moments::Clock;
 use serde_json::{Map, Value, json, put};
 use std::alloc::{AllocError, Global};
 
@@ -37,15 +38,16 @@ pub(crate) fn happening_word(happening: &Happening) -> &'static str
     }
 }
 
-// Adds the data of what happens in a tick.
+// Adds the data of what happens in a moment.
 pub(crate) fn put_happening(
     members: &mut Map<String, Value>,
     alloc: Global,
     known: &Known<'_, '_>,
-    tick: u64,
+    moment: u64,
     happening: &Happening,
 ) -> Result<(), AllocError>
-    ensures { OnOk result (members_view members.new.entries ≡ with_happening (froms_in known.now) (events_in known.now) tick
+    ensures { OnOk result (members_view members.new.entries
+        ≡ with_happening (clock_in known.now) (froms_in known.now) (events_in known.now) moment
         (happening_of happening.now) (members_view members.old.entries)) }
 {
     match happening {
@@ -54,8 +56,18 @@ pub(crate) fn put_happening(
             label,
             deadline,
             shield,
-        } => put_enters(members, alloc, *kind, label, *deadline, *shield),
-        Happening::Sleeps { until } => put(members, alloc, "until", tick_value(*until)),
+        } => put_enters(
+            members,
+            alloc,
+            known.clock,
+            *kind,
+            label,
+            *deadline,
+            *shield,
+        ),
+        Happening::Sleeps { until } => {
+            put(members, alloc, "until", moment_value(known.clock, *until))
+        }
         Happening::IsCancelled {
             by,
             since,
@@ -66,14 +78,14 @@ pub(crate) fn put_happening(
             let text = text_value(alloc, name.bytes())?;
             put(members, alloc, "name", text)
         }
-        Happening::Cancels { label } => put_cancels(members, alloc, known, label, tick),
+        Happening::Cancels { label } => put_cancels(members, alloc, known, label, moment),
         Happening::Handles { matched, rest } => put_handles(members, alloc, matched, rest),
         Happening::Cleans { exc } => {
             let exception = exc_or_null(alloc, exc)?;
             put(members, alloc, "exception", exception)
         }
         Happening::Replaces { lost, fresh } => put_replaces(members, alloc, lost, fresh),
-        Happening::Waits { nursery, exc } => put_waits(members, alloc, known, nursery, exc, tick),
+        Happening::Waits { nursery, exc } => put_waits(members, alloc, known, nursery, exc, moment),
         Happening::Leaves {
             kind,
             label,
@@ -108,17 +120,18 @@ fn put_kind(
 fn put_enters(
     members: &mut Map<String, Value>,
     alloc: Global,
+    clock: Clock,
     kind: Kind,
     label: &Label,
     deadline: Option<u64>,
     shield: bool,
 ) -> Result<(), AllocError>
     ensures { OnOk result (members_view members.new.entries
-        ≡ with_member (codes "shield") (boolean shield) (with_member (codes "deadline") (tick_json deadline)
+        ≡ with_member (codes "shield") (boolean shield) (with_member (codes "deadline") (moment_json clock deadline)
         (with_member (kind_key (kind_of kind)) (label_json label.now) (members_view members.old.entries)))) }
 {
     put_kind(members, alloc, kind, label)?;
-    put(members, alloc, "deadline", tick_value(deadline))?;
+    put(members, alloc, "deadline", moment_value(clock, deadline))?;
     put(members, alloc, "shield", Value::Bool(shield))
 }
 
@@ -133,14 +146,15 @@ fn put_cancelled(
     in_cleanup: bool,
 ) -> Result<(), AllocError>
     ensures { OnOk result (members_view members.new.entries ≡ with_member (codes "in_cleanup") (boolean in_cleanup)
-        (with_member (codes "since") (tick_json since) (with_member (codes "why") (why_json (froms_in known.now) (events_in known.now) by.now)
+        (with_member (codes "since") (moment_json (clock_in known.now) since)
+        (with_member (codes "why") (why_json (clock_in known.now) (froms_in known.now) (events_in known.now) by.now)
         (with_member (codes "by") (label_or_null by.now) (members_view members.old.entries))))) }
 {
     let label = label_or_null(alloc, by)?;
     put(members, alloc, "by", label)?;
     let why = why_value(alloc, known, by)?;
     put(members, alloc, "why", why)?;
-    put(members, alloc, "since", tick_value(since))?;
+    put(members, alloc, "since", moment_value(known.clock, since))?;
     put(members, alloc, "in_cleanup", Value::Bool(in_cleanup))
 }
 
@@ -182,9 +196,10 @@ fn put_cancels(
     alloc: Global,
     known: &Known<'_, '_>,
     label: &Option<Label>,
-    tick: u64,
+    moment: u64,
 ) -> Result<(), AllocError>
-    ensures { OnOk result (members_view members.new.entries ≡ with_member (codes "from") (tick_json (cancel_from (froms_in known.now) label.now tick))
+    ensures { OnOk result (members_view members.new.entries
+        ≡ with_member (codes "from") (moment_json (clock_in known.now) (cancel_from (froms_in known.now) label.now moment))
         (with_member (codes "label") (label_or_null label.now) (members_view members.old.entries))) }
 {
     let text = label_or_null(alloc, label)?;
@@ -193,7 +208,7 @@ fn put_cancels(
         members,
         alloc,
         "from",
-        tick_value(known.cancel_from(label, tick)),
+        moment_value(known.clock, known.cancel_from(label, moment)),
     )
 }
 
@@ -237,10 +252,11 @@ fn put_waits(
     known: &Known<'_, '_>,
     nursery: &Label,
     exc: &Option<Box<Exc>>,
-    tick: u64,
+    moment: u64,
 ) -> Result<(), AllocError>
     ensures { OnOk result (members_view members.new.entries
-        ≡ with_member (codes "from") (tick_json (failure_from (froms_in known.now) (Some nursery.now) (unboxed_exc exc.now) tick))
+        ≡ with_member (codes "from") (moment_json (clock_in known.now)
+        (failure_from (froms_in known.now) (Some nursery.now) (unboxed_exc exc.now) moment))
         (with_member (codes "exception") (exc_or_null (unboxed_exc exc.now))
         (with_member (codes "nursery") (label_json nursery.now) (members_view members.old.entries)))) }
 {
@@ -252,7 +268,7 @@ fn put_waits(
         members,
         alloc,
         "from",
-        tick_value(known.body_from(nursery, exc, tick)),
+        moment_value(known.clock, known.body_from(nursery, exc, moment)),
     )
 }
 

@@ -4,12 +4,14 @@ ghost use Rattle.story_causes.specs.Knows.{Knows};
 ghost use Rattle.story_causes.specs.Seen.{event_in};
 
 use job_story::{Event, Froms};
+use moments::Clock;
 use story_causes::Causes;
 
-// The events of a story in order, the tick from which each scope and nursery is cancelled, and an index of
-// both.
+// The clock of a story's moments, its events in order, the moment from which each scope and nursery is cancelled, and an index
+// of both.
 #[derive(Drop)]
 pub(crate) struct Known<'k, 'e> {
+    pub clock: Clock,
     pub events: &'k [&'e Event],
     pub froms: &'k Froms,
     pub causes: &'k Causes<'e>,

@@ -1,10 +1,11 @@
 ghost use Rattle.std.specs.Prelude.{◌≡◌, IfOk};
 ghost use Rattle.serde_json.specs.View.{view};
 ghost use Rattle.job_story.specs.Held.{unboxed_exc};
-ghost use Rattle.json_story.specs.Events.{tick_json, label_or_null, exc_or_null};
+ghost use Rattle.json_story.specs.Events.{tick_json, moment_json, label_or_null, exc_or_null};
 
 use exc_groups::{Exc, Label};
 use json_report::{exc_value, label_value};
+use moments::Clock;
 use serde_json::Value;
 use std::alloc::{AllocError, Global};
 
@@ -14,6 +15,16 @@ pub(crate) fn tick_value(tick: Option<u64>) -> Value
 {
     match tick {
         Some(tick) => Value::from(tick),
+        None => Value::Null,
+    }
+}
+
+// Returns the tick of a moment, or `null` for never.
+pub(crate) fn moment_value(clock: Clock, moment: Option<u64>) -> Value
+    ensures { view result ≡ moment_json clock moment }
+{
+    match moment {
+        Some(moment) => Value::from(clock.tick_of(moment)),
         None => Value::Null,
     }
 }

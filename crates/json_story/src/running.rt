@@ -11,10 +11,11 @@ ghost use Rattle.story_causes.specs.Lasts.{seen_last};
 ghost use Rattle.json_story.specs.Running.{with_idle, with_doing, with_last, task_json};
 ghost use Rattle.story_causes.specs.Tasks.{sorted_in, walked_in};
 
-use crate::optional::tick_value;
+use crate::optional::moment_value;
 use exc_groups::Label;
 use job_story::{Event, Happening, What};
 use json_report::label_value;
+use moments::Clock;
 use serde_json::{Map, Value, put};
 use std::alloc::{AllocError, Global};
 use story_causes::Tasks;
@@ -22,15 +23,16 @@ use story_causes::Tasks;
 // Returns the tasks that have not ended as JSON objects, in the order in which the walk starts them.
 pub(crate) fn running_values(
     alloc: Global,
+    clock: Clock,
     tasks: &Tasks<'_, '_>,
     walked: &[&Event],
 ) -> Result<Vec<Value>, AllocError>
     ensures { IfOk result (λ values. map view values.items
-        ≡ map (task_json (sorted_in tasks.now)) (running_in (walked_in tasks.now) (map event_in walked.now))) }
+        ≡ map (task_json clock (sorted_in tasks.now)) (running_in (walked_in tasks.now) (map event_in walked.now))) }
 {
     let mut values = Vec::new(alloc);
     'walked: for event in walked {
-        push_if_running(&mut values, alloc, tasks, event)?;
+        push_if_running(&mut values, alloc, clock, tasks, event)?;
     }
     Ok(values)
 }
@@ -39,30 +41,36 @@ pub(crate) fn running_values(
 fn push_if_running(
     values: &mut Vec<Value>,
     alloc: Global,
+    clock: Clock,
     tasks: &Tasks<'_, '_>,
     event: &Event,
 ) -> Result<(), AllocError>
     ensures { OnOk result ((others : List tree.Label) →
-        map view values.new.items ++ map (task_json (sorted_in tasks.now)) others
-        ≡ map view values.old.items ++ map (task_json (sorted_in tasks.now))
+        map view values.new.items ++ map (task_json clock (sorted_in tasks.now)) others
+        ≡ map view values.old.items ++ map (task_json clock (sorted_in tasks.now))
         (start_if (is_start (what_of event.now.what) && not (has_ended event.now.task (walked_in tasks.now))) event.now.task others)) }
 {
     if !tasks.is_running(event) {
         return Ok(());
     }
-    let value = task_value(alloc, tasks, &event.task)?;
+    let value = task_value(alloc, clock, tasks, &event.task)?;
     values.push(value)?;
     Ok(())
 }
 
 // Returns a task that has not ended as a JSON object.
-fn task_value(alloc: Global, tasks: &Tasks<'_, '_>, label: &Label) -> Result<Value, AllocError>
-    ensures { IfOk result (λ value. view value ≡ task_json (sorted_in tasks.now) label.now) }
+fn task_value(
+    alloc: Global,
+    clock: Clock,
+    tasks: &Tasks<'_, '_>,
+    label: &Label,
+) -> Result<Value, AllocError>
+    ensures { IfOk result (λ value. view value ≡ task_json clock (sorted_in tasks.now) label.now) }
 {
     let mut members = Map::new(alloc);
     let task = label_value(alloc, label)?;
     put(&mut members, alloc, "task", task)?;
-    put_last(&mut members, alloc, tasks.last(label))?;
+    put_last(&mut members, alloc, clock, tasks.last(label))?;
     Ok(Value::Object(members))
 }
 
@@ -70,12 +78,13 @@ fn task_value(alloc: Global, tasks: &Tasks<'_, '_>, label: &Label) -> Result<Val
 fn put_last(
     members: &mut Map<String, Value>,
     alloc: Global,
+    clock: Clock,
     last: Option<&Event>,
 ) -> Result<(), AllocError>
-    ensures { OnOk result (members_view members.new.entries ≡ with_last (seen_last last.entry) (members_view members.old.entries)) }
+    ensures { OnOk result (members_view members.new.entries ≡ with_last clock (seen_last last.entry) (members_view members.old.entries)) }
 {
     match last {
-        Some(event) => put_doing(members, alloc, event.tick, &event.what),
+        Some(event) => put_doing(members, alloc, clock, event.tick, &event.what),
         None => put_idle(members, alloc),
     }
 }
@@ -84,14 +93,16 @@ fn put_last(
 fn put_doing(
     members: &mut Map<String, Value>,
     alloc: Global,
-    tick: u64,
+    clock: Clock,
+    moment: u64,
     what: &What,
 ) -> Result<(), AllocError>
-    ensures { OnOk result (members_view members.new.entries ≡ with_doing tick (what_of what.now) (members_view members.old.entries)) }
+    ensures { OnOk result (members_view members.new.entries
+        ≡ with_doing clock moment (what_of what.now) (members_view members.old.entries)) }
 {
     match what {
         What::Starts { .. } => put_idle(members, alloc),
-        What::Happens(happening) => put_doing_in(members, alloc, tick, happening),
+        What::Happens(happening) => put_doing_in(members, alloc, clock, moment, happening),
         What::Ends { .. } => put_idle(members, alloc),
     }
 }
@@ -100,19 +111,20 @@ fn put_doing(
 fn put_doing_in(
     members: &mut Map<String, Value>,
     alloc: Global,
-    tick: u64,
+    clock: Clock,
+    moment: u64,
     happening: &Happening,
 ) -> Result<(), AllocError>
     ensures { OnOk result (members_view members.new.entries
-        ≡ with_doing tick (told.happens (happening_of happening.now)) (members_view members.old.entries)) }
+        ≡ with_doing clock moment (told.happens (happening_of happening.now)) (members_view members.old.entries)) }
 {
     match happening {
         Happening::Sleeps { until } => {
-            put_state(members, alloc, "sleeping", tick)?;
-            put(members, alloc, "until", tick_value(*until))
+            put_state(members, alloc, "sleeping", clock.tick_of(moment))?;
+            put(members, alloc, "until", moment_value(clock, *until))
         }
         Happening::Waits { nursery, .. } => {
-            put_state(members, alloc, "waiting", tick)?;
+            put_state(members, alloc, "waiting", clock.tick_of(moment))?;
             let label = label_value(alloc, nursery)?;
             put(members, alloc, "nursery", label)
         }

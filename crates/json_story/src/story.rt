@@ -7,7 +7,7 @@ ghost use Rattle.story_causes.specs.Seen.{event_in};
 ghost use Rattle.story_focus.specs.Holds.{label_seen};
 ghost use Rattle.json_report.specs.Values.{document, list_of};
 ghost use Rattle.json_story.specs.Events.{event_json, tick_json};
-ghost use Rattle.json_story.specs.Known.{events_in, froms_in};
+ghost use Rattle.json_story.specs.Known.{clock_in, events_in, froms_in};
 ghost use Rattle.json_story.specs.Stories.{running_json, kept_json, story_json};
 
 use crate::event::push_events;
@@ -18,18 +18,20 @@ use exc_groups::Label;
 use job_story::{Event, Froms};
 use job_tree::Name;
 use json_report::{push_key, push_member, text_value};
+use moments::Clock;
 use serde_json::Value;
 use std::alloc::{AllocError, Global};
 use story_causes::{Causes, Tasks};
 use story_focus::{concerned_tasks, of_tasks};
 use story_text::in_order;
 
-/// Returns the story of a job as one JSON document, in compact form and with a newline, given its events in the order of the walk
-/// and the table with the tick from which each scope and nursery is cancelled: of all tasks, or of what concerns `task`. With
-/// `until`, the limit, it is the story of a job that ends later, and includes what each task that has not ended is doing. The
-/// only error is that memory was refused.
+/// Returns the story of a job as one JSON document, in compact form and with a newline, given the clock of its moments, its events
+/// in the order of the walk and the table with the moment from which each scope and nursery is cancelled: of all tasks, or of
+/// what concerns `task`. With `until`, the tick of the limit, it is the story of a job that ends later, and includes what each
+/// task that has not ended is doing. The only error is that memory was refused.
 pub fn story_json<'e>(
     alloc: Global,
+    clock: Clock,
     job: Name,
     until: Option<u64>,
     walked: &[&'e Event],
@@ -37,11 +39,11 @@ pub fn story_json<'e>(
     task: Option<&'e Label>,
 ) -> Result<Vec<u8>, AllocError>
     ensures { IfOk result (λ bytes. bytes.items
-        ≡ document (story_json job until (table_in table.entry.now) (label_seen task.entry) (map event_in walked.now))) }
+        ≡ document (story_json clock job until (table_in table.entry.now) (label_seen task.entry) (map event_in walked.now))) }
 {
     let all = in_order(alloc, walked)?;
     let causes = Causes::of(alloc, all.as_slice(), table)?;
-    let known = Known::new(all.as_slice(), table, &causes);
+    let known = Known::new(clock, all.as_slice(), table, &causes);
     let Some(task) = task else {
         let bytes = kept_json(alloc, job, until, &known, all.as_slice(), walked)?;
         return Ok(bytes);
@@ -70,13 +72,14 @@ fn kept_json(
     walked: &[&Event],
 ) -> Result<Vec<u8>, AllocError>
     ensures { IfOk result (λ bytes. bytes.items
-        ≡ document (kept_json job until (froms_in known.now) (events_in known.now) (map event_in sorted.now) (map event_in walked.now))) }
+        ≡ document (kept_json (clock_in known.now) job until (froms_in known.now) (events_in known.now)
+        (map event_in sorted.now) (map event_in walked.now))) }
 {
     let mut out = Vec::new(alloc);
     push_events_member(alloc, &mut out, known, sorted)?;
     push_member(alloc, &mut out, "job", &text_value(alloc, job.bytes())?)?;
     push_limit(alloc, &mut out, until)?;
-    push_running(alloc, &mut out, until, sorted, walked)?;
+    push_running(alloc, &mut out, known.clock, until, sorted, walked)?;
     out.extend_from_slice(b"}\n")?;
     Ok(out)
 }
@@ -90,7 +93,7 @@ fn push_events_member(
 ) -> Result<(), AllocError>
     ensures { OnOk result ((later : Members) → out.new.items ++ members_text true later
         ≡ out.old.items ++ compact_text (object (member (codes "events")
-        (list_of (map (event_json (froms_in known.now) (events_in known.now)) (map event_in sorted.now))) later))) }
+        (list_of (map (event_json (clock_in known.now) (froms_in known.now) (events_in known.now)) (map event_in sorted.now))) later))) }
 {
     out.push(b'{')?;
     push_key(alloc, out, "events")?;
@@ -111,43 +114,47 @@ fn push_limit(alloc: Global, out: &mut Vec<u8>, until: Option<u64>) -> Result<()
 fn push_running(
     alloc: Global,
     out: &mut Vec<u8>,
+    clock: Clock,
     until: Option<u64>,
     sorted: &[&Event],
     walked: &[&Event],
 ) -> Result<(), AllocError>
     ensures { OnOk result ((later : Members) → out.new.items ++ members_text true later
-        ≡ out.old.items ++ members_text true (member (codes "running") (list_of (running_json until (map event_in sorted.now) (map event_in walked.now))) later)) }
+        ≡ out.old.items ++ members_text true (member (codes "running")
+        (list_of (running_json clock until (map event_in sorted.now) (map event_in walked.now))) later)) }
 {
-    let value = running_value(alloc, until, sorted, walked)?;
+    let value = running_value(alloc, clock, until, sorted, walked)?;
     push_member(alloc, out, "running", &value)
 }
 
 // Returns the tasks that have not ended by the limit as a JSON array.
 fn running_value(
     alloc: Global,
+    clock: Clock,
     until: Option<u64>,
     sorted: &[&Event],
     walked: &[&Event],
 ) -> Result<Value, AllocError>
-    ensures { IfOk result (λ value. view value ≡ list_of (running_json until (map event_in sorted.now) (map event_in walked.now))) }
+    ensures { IfOk result (λ value. view value ≡ list_of (running_json clock until (map event_in sorted.now) (map event_in walked.now))) }
 {
-    let tasks = running_until(alloc, until, sorted, walked)?;
+    let tasks = running_until(alloc, clock, until, sorted, walked)?;
     Ok(Value::Array(tasks))
 }
 
 // Returns the tasks that have not ended by the limit, if the story is cut off at one.
 fn running_until(
     alloc: Global,
+    clock: Clock,
     until: Option<u64>,
     sorted: &[&Event],
     walked: &[&Event],
 ) -> Result<Vec<Value>, AllocError>
-    ensures { IfOk result (λ values. map view values.items ≡ running_json until (map event_in sorted.now) (map event_in walked.now)) }
+    ensures { IfOk result (λ values. map view values.items ≡ running_json clock until (map event_in sorted.now) (map event_in walked.now)) }
 {
     match until {
         Some(_) => {
             let tasks = Tasks::of(alloc, sorted, walked)?;
-            let values = running_values(alloc, &tasks, walked)?;
+            let values = running_values(alloc, clock, &tasks, walked)?;
             Ok(values)
         }
         None => Ok(Vec::new(alloc)),

@@ -7,25 +7,29 @@ ghost use Rattle.story_causes.specs.Found.{cause_in_code};
 ghost use Rattle.story_causes.specs.Knows.{Knows};
 ghost use Rattle.story_causes.specs.Seen.{event_in};
 ghost use Rattle.json_story.specs.Events.{next_if, cancel_from, failure_from};
-ghost use Rattle.json_story.specs.Known.{events_in, froms_in};
+ghost use Rattle.json_story.specs.Known.{clock_in, events_in, froms_in};
 
 use crate::known::Known;
 use exc_groups::{Exc, Label};
 use job_story::{Event, Froms};
+use moments::Clock;
 use story_causes::{Cause, Causes};
 
 impl<'k, 'e> Known<'k, 'e> {
-    // Indexes these events and this table.
+    // Puts together the clock of a story's moments, its events in order, the table and the index of both.
     pub(crate) fn new(
+        clock: Clock,
         events: &'k [&'e Event],
         froms: &'k Froms,
         causes: &'k Causes<'e>,
     ) -> Known<'k, 'e>
         requires { Knows causes.now (table_in froms.now) (map event_in events.now) }
+        ensures clock { clock_in result ≡ clock }
         ensures events { events_in result ≡ map event_in events.now }
         ensures froms { froms_in result ≡ table_in froms.now }
     {
         Known {
+            clock,
             events,
             froms,
             causes,
@@ -39,12 +43,12 @@ impl<'k, 'e> Known<'k, 'e> {
         self.causes.cause(label)
     }
 
-    // Returns the tick after this one, if a scope or nursery is cancelled from then on.
-    pub(crate) fn cancel_from(&self, label: &Option<Label>, tick: u64) -> Option<u64>
-        ensures { result ≡ cancel_from (froms_in self.now) label.now tick }
+    // Returns the moment after this one, if a scope or nursery is cancelled from then on.
+    pub(crate) fn cancel_from(&self, label: &Option<Label>, moment: u64) -> Option<u64>
+        ensures { result ≡ cancel_from (froms_in self.now) label.now moment }
     {
         match label {
-            Some(label) => next_if(self.froms.of(label), tick),
+            Some(label) => next_if(self.froms.of(label), moment),
             None => None,
         }
     }
@@ -54,12 +58,12 @@ impl<'k, 'e> Known<'k, 'e> {
         &self,
         home: &Option<Label>,
         exc: &Option<Box<Exc>>,
-        tick: u64,
+        moment: u64,
     ) -> Option<u64>
-        ensures { result ≡ failure_from (froms_in self.now) home.now (unboxed_exc exc.now) tick }
+        ensures { result ≡ failure_from (froms_in self.now) home.now (unboxed_exc exc.now) moment }
     {
         match exc {
-            Some(_) => self.cancel_from(home, tick),
+            Some(_) => self.cancel_from(home, moment),
             None => None,
         }
     }
@@ -69,25 +73,25 @@ impl<'k, 'e> Known<'k, 'e> {
         &self,
         nursery: &Label,
         exc: &Option<Box<Exc>>,
-        tick: u64,
+        moment: u64,
     ) -> Option<u64>
-        ensures { result ≡ failure_from (froms_in self.now) (Some nursery.now) (unboxed_exc exc.now) tick }
+        ensures { result ≡ failure_from (froms_in self.now) (Some nursery.now) (unboxed_exc exc.now) moment }
     {
         match exc {
-            Some(_) => next_if(self.froms.of(nursery), tick),
+            Some(_) => next_if(self.froms.of(nursery), moment),
             None => None,
         }
     }
 }
 
-// Returns the tick after this one, if that is the from.
-fn next_if(from: Option<u64>, tick: u64) -> Option<u64>
-    ensures { result ≡ next_if from tick }
+// Returns the moment after this one, if that is the from.
+fn next_if(from: Option<u64>, moment: u64) -> Option<u64>
+    ensures { result ≡ next_if from moment }
 {
     let Some(from) = from else {
         return None;
     };
-    if tick < from && from - tick == 1 {
+    if moment < from && from - moment == 1 {
         Some(from)
     } else {
         None

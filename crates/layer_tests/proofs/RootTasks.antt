@@ -22,7 +22,7 @@ use Rattle.turn_semantics.specs.Placed.{Placed}
 use Rattle.turn_semantics.proofs.Names.{new_job}
 use Rattle.task_machine.specs.States.{state_of}
 use Rattle.task_machine.specs.declared.stop.TaskState.{TaskState}
-use Rattle.task_machine.specs.declared.stop.TaskState.TheVariants.{ToBegin, Asked, Asleep, Awaits, Over}
+use Rattle.task_machine.specs.declared.stop.TaskState.TheVariants.{ToBegin, Asked, Asleep, GivingUp, Awaits, Over}
 use Rattle.task_machine.specs.declared.stop.Stop.{Stop}
 use Rattle.task_machine.specs.declared.stop.Stop.TheVariants.{Sleep}
 use Rattle.task_machine.specs.declared.stop.Wake.TheVariants.{Begin, Due}
@@ -34,7 +34,7 @@ use Rattle.task_machine.specs.Fitting.{Block, blocks_of, AreInRangeFrames, Start
 use Rattle.task_machine.specs.Frames.{frames_of}
 use Rattle.task_machine.specs.Left.{OwnFirst}
 use Rattle.task_machine.specs.Stacked.{AreAt}
-use Rattle.task_machine.specs.Standing.{HasBlock, Stands, TookTo, TurnsAs}
+use Rattle.task_machine.specs.Standing.{HasBlock, Stands, TookTo, TurnsAs, woken_at}
 use Rattle.task_machine.specs.Stops.{Numbers, IsTaskState, StopsAs}
 use Rattle.task_machine.specs.Tasks.{home_scope, scope_of}
 use Rattle.task_machine.specs.Waking.{WakesFrom}
@@ -47,7 +47,7 @@ no_numbers id = []
 abbrev no_froms : Table
 no_froms l = None
 
-module _ (job : Job) (root : Task) (home : root.home ≡ None) (own : root.own.items ≡ []) (task_state : root.task_state ≡ ToBegin)
+module _ (job : Job) (root : Task) (home : root.home ≡ None) (own : root.own.items ≡ []) (task_state : root.task_state ≡ ToBegin 0)
     (frames : (numbers : ℕ → List ℕ) → frames_of numbers root.frames.items ≡ rest.steps_left job.steps ∷ []) where
   blocks : blocks_of root.frames.items ≡ []
   blocks = no_blocks_begun no_numbers root.frames.items job.steps (frames no_numbers)
@@ -103,16 +103,17 @@ module _ (job : Job) (root : Task) (home : root.home ≡ None) (own : root.own.i
       by_took _ (turn no_froms no_numbers [] 0 rest.to_begin
       (subst (λ (h : TaskState). IsTaskState no_numbers world.book h rest.to_begin) (sym task_state) tt) (root_stands world starting names)).took
     where
-      by_task_state : (numbers : Numbers) (o : Option rest.Stopped) (h : TaskState) → StopsAs numbers now.book root.part (Sleep due) h o →
+      by_task_state : (numbers : Numbers) (o : Option rest.Stopped) (h : TaskState) → StopsAs world.clock numbers now.book root.part (Sleep due) h o →
           WakesFrom h part now.book Due
       by_task_state numbers None h says = absurd says
-      by_task_state numbers (Some s) ToBegin says = absurd says.1
+      by_task_state numbers (Some s) (ToBegin at) says = absurd says.1
       by_task_state numbers (Some s) (Asked kernel purpose) says = absurd says.1
-      by_task_state numbers (Some s) (Asleep ticks since) says = tt
+      by_task_state numbers (Some s) (Asleep paced ticks since) says = tt
+      by_task_state numbers (Some s) (GivingUp since) says = absurd says.1
       by_task_state numbers (Some s) (Awaits id since) says = absurd says.1
       by_task_state numbers (Some s) Over says = absurd says.1
 
-      by_took : (o : Move) → TookTo (state_of root world) (state_of after now) stop no_froms no_numbers o → WakesFrom after.task_state part now.book Due
+      by_took : (o : Move) → TookTo (woken_at Begin (state_of root world)) (state_of after now) stop no_froms no_numbers o → WakesFrom after.task_state part now.book Due
       by_took o took =
           by_task_state took.numbers_after o.stopped after.task_state
-          (subst (λ (s : Stop). StopsAs took.numbers_after now.book root.part s after.task_state o.stopped) is took.moves.1)
+          (subst (λ (s : Stop). StopsAs world.clock took.numbers_after now.book root.part s after.task_state o.stopped) is took.moves.1)

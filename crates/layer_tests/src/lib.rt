@@ -40,6 +40,8 @@ mod task_tables;
 #[cfg(test)]
 mod tasks;
 #[cfg(test)]
+mod ticks_and_rounds;
+#[cfg(test)]
 mod tokens;
 #[cfg(test)]
 mod workers;

@@ -44,10 +44,10 @@ fn end_out_of_order(
     requires { HasNursery book.old id (λ n. (n.body ≡ None) × (n.children ≡ None ∷ None ∷ [])) }
     ensures { OnOk result (HasNursery book.new id (λ n. is_settled n ≡ true)) }
 {
-    book.child_ended(id, 1, Some(second));
-    book.body_ended(id, None);
+    book.child_ended(id, 1, Some(second), 3);
+    book.body_ended(id, None, 4);
     let early = book.settled(id);
-    book.child_ended(id, 0, Some(first));
+    book.child_ended(id, 0, Some(first), 4);
     if early || !book.settled(id) {
         return Err("a nursery is settled once all members have ended")?;
     }
@@ -95,7 +95,7 @@ fn group_of_children_that_end_out_of_order(rt: HostRuntime) -> Result<(), Fail> 
 fn raises_nothing(alloc: Global, scope: ScopeId, label: Label) -> Result<bool, Fail> {
     let mut book = NurseryBook::new(alloc);
     let id = book.open(scope, TaskId::of(4), label)?;
-    book.body_ended(id, None);
+    book.body_ended(id, None, 0);
     if !book.settled(id) {
         return Ok(false);
     }

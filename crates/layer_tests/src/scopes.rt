@@ -60,6 +60,14 @@ fn caught_at(tree: &ScopeTree, id: ScopeId, tick: u64) -> Option<bool> {
     Some(tree.may_catch(id, tick))
 }
 
+// Whether the scope is itself cancelled at that tick, and whether it has a shield.
+fn own_of(tree: &ScopeTree, id: ScopeId, tick: u64) -> Option<(bool, bool)> {
+    if !tree.is_open(id) {
+        return None;
+    }
+    Some((tree.is_cancelled(id, tick), tree.is_shielded(id)))
+}
+
 // The scope that encloses a scope.
 fn parent(tree: &ScopeTree, id: ScopeId) -> Option<Option<ScopeId>> {
     if !tree.is_open(id) {
@@ -91,6 +99,31 @@ fn sees_and_catches(alloc: Global) -> Result<[Option<bool>; 3], Fail> {
     let late = seen_at(&tree, outer, 3);
     cancel(&mut tree, inner, 4);
     Ok([early, late, caught_at(&tree, inner, 5)])
+}
+
+// A scope with a deadline at 3 before and at its deadline, and a shielded one inside it at that deadline.
+fn own_cancellations(alloc: Global) -> Result<[Option<(bool, bool)>; 3], Fail> {
+    let mut tree = ScopeTree::new(alloc);
+    let outer = open(&mut tree, None, false, Some(3))?;
+    let inner = open(&mut tree, Some(outer), true, None)?;
+    Ok([
+        own_of(&tree, outer, 2),
+        own_of(&tree, outer, 3),
+        own_of(&tree, inner, 3),
+    ])
+}
+
+#[test]
+fn a_scope_is_cancelled_by_its_own_deadline(rt: HostRuntime) -> Result<(), Fail> {
+    let own = own_cancellations(rt.alloc())?;
+    assert!(rt;
+        own == [
+            Some((false, false)),
+            Some((true, false)),
+            Some((false, true))
+        ]
+    );
+    Ok(())
 }
 
 #[test]

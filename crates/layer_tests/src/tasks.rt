@@ -14,6 +14,7 @@ use cancel_scopes::ScopeId;
 use exc_groups::Label;
 use job_grammar::{Job, spelled_jobs_are_sound};
 use job_meaning::MAX_INPUT;
+use moments::Clock;
 use std::alloc::{AllocError, Global};
 use std::test::Fail;
 use task_machine::{Entry, ScopeFrom, Stop, Task, Wake, World};
@@ -40,7 +41,7 @@ fn first_turn<'a>(alloc: Global, job: &'a Job, tick: u64) -> Result<Turned<'a>, 
         return Err("the part is too long")?;
     }
     let mut task = Task::root(alloc, job, part)?;
-    let mut world = World::new(alloc);
+    let mut world = World::new(alloc, Clock::ByTicks);
     world.set_now(tick);
     spelled_jobs_are_sound();
     let _steps = job.steps();
@@ -100,6 +101,7 @@ fn push_stop(text: &mut Vec<u8>, stop: &Stop<'_>) -> Result<(), AllocError> {
     match stop {
         Stop::Ask(_) => push_bytes(text, b"ask"),
         Stop::Sleep(_) => push_bytes(text, b"sleep"),
+        Stop::GiveUp(_) => push_bytes(text, b"give up"),
         Stop::Wait(_) => push_bytes(text, b"wait"),
         Stop::Ended(None) => push_bytes(text, b"end"),
         Stop::Ended(Some(exc)) => push_exc(text, exc),
@@ -135,7 +137,7 @@ fn text_of_first_turn(alloc: Global, text: &[u8], tick: u64) -> Result<Vec<u8>, 
 
 // The tick of a new world, and the tick that it was set to.
 fn ticks(alloc: Global) -> (u64, u64) {
-    let mut world = World::new(alloc);
+    let mut world = World::new(alloc, Clock::ByTicks);
     let first = world.now();
     world.set_now(7);
     (first, world.now())
@@ -143,7 +145,7 @@ fn ticks(alloc: Global) -> (u64, u64) {
 
 // Whether a task was started in a new world.
 fn has_started(alloc: Global) -> bool {
-    let mut world = World::new(alloc);
+    let mut world = World::new(alloc, Clock::ByTicks);
     world.take_started().is_some()
 }
 
@@ -156,7 +158,7 @@ fn a_new_world_is_at_tick_0(rt: HostRuntime) {
 // A scope that is opened in a world, whether it is open there, and the scope of a nursery that is opened in it.
 fn open_in_world(alloc: Global) -> Result<(ScopeId, bool, ScopeId), Fail> {
     let whose = label(alloc, b"n")?;
-    let mut world = World::new(alloc);
+    let mut world = World::new(alloc, Clock::ByTicks);
     let scope = world.scopes_mut().open(None, false, Some(3))?;
     let is_open = world.scopes().is_open(scope);
     let nursery = world.book_mut().open(scope, TaskId::of(4), whose)?;

@@ -9,7 +9,7 @@ use Rattle.nursery_book.specs.declared.book.NurseryBook.{NurseryBook}
 
 -- a nursery of the code, as contracts see it
 abbrev pub nursery_of : Members → Nursery
-nursery_of m = record { scope = m.scope; waiter = m.waiter; label = m.label; body = end_of m.body; children = m.children }
+nursery_of m = record { scope = m.scope; waiter = m.waiter; label = m.label; body = end_of m.body; children = m.children; last = m.last }
 
 -- the nursery of a key, if one is open there
 abbrev pub nursery_at : NurseryBook → ℕ → Option Nursery

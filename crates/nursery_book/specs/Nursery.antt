@@ -7,30 +7,31 @@ use Rattle.exc_groups.specs.Exceptions.{Label, Exc, by_nursery, parts_of, group_
 abbrev pub End : Type 0
 End = Option (Option Exc)
 
--- A nursery: its cancel scope, the task that waits for it, its label, and its members, with the children in the order of
--- their starts.
+-- A nursery: its cancel scope, the task that waits for it, its label, its members, with the children in the order of their
+-- starts, and the moment in which a member ended last, which is 0 before any has.
 pub record Nursery : Type 0 where
   pub scope : ℕ
   pub waiter : ℕ
   pub label : Label
   pub body : End
   pub children : List End
+  pub last : ℕ
 
 -- a nursery after it was opened: its body runs, and it has no child
 abbrev pub new_nursery : ℕ → ℕ → Label → Nursery
-new_nursery scope waiter label = record { scope = scope; waiter = waiter; label = label; body = None; children = [] }
+new_nursery scope waiter label = record { scope = scope; waiter = waiter; label = label; body = None; children = []; last = 0 }
 
 -- one more child runs
 abbrev pub with_start : Nursery → Nursery
 with_start n = record n { children = n.children ++ None ∷ [] }
 
--- the child at a place ended
-abbrev pub with_child : ℕ → Option Exc → Nursery → Nursery
-with_child place exc n = record n { children = slice_set n.children place (Some exc) }
+-- the child at a place ended in this moment
+abbrev pub with_child : ℕ → Option Exc → ℕ → Nursery → Nursery
+with_child place exc moment n = record n { children = slice_set n.children place (Some exc); last = moment }
 
--- the body ended
-abbrev pub with_body : Option Exc → Nursery → Nursery
-with_body exc n = record n { body = Some exc }
+-- the body ended in this moment
+abbrev pub with_body : Option Exc → ℕ → Nursery → Nursery
+with_body exc moment n = record n { body = Some exc; last = moment }
 
 -- whether the body and every child have ended
 abbrev pub is_settled : Nursery → Bool

@@ -21,7 +21,7 @@ pub struct NurseryBook {
     nurseries: Slab<Members>,
 }
 
-// A nursery. Its children are in the order of their starts.
+// A nursery. Its children are in the order of their starts, and `last` is the moment in which a member ended last.
 #[derive(Drop)]
 struct Members {
     scope: ScopeId,
@@ -29,6 +29,7 @@ struct Members {
     label: Label,
     body: MemberEnd,
     children: Children,
+    last: u64,
 }
 
 impl NurseryBook {
@@ -63,6 +64,7 @@ impl NurseryBook {
             label,
             body: MemberEnd::Running,
             children: Children::new(self.alloc),
+            last: 0,
         })?;
         Ok(NurseryId { key })
     }
@@ -79,24 +81,26 @@ impl NurseryBook {
         Ok(place)
     }
 
-    /// Records that the child at `place` ended with the exception `exc`, or without one if `exc` is `None`. The caller must
-    /// ensure that the nursery is open, and that the child was started and has not ended. Does not allocate.
-    pub fn child_ended(&mut self, id: NurseryId, place: Place, exc: Option<Exc>)
+    /// Records that the child at `place` ended in `moment` with the exception `exc`, or without one if `exc` is `None`. The
+    /// caller must ensure that the nursery is open, and that the child was started and has not ended. Does not allocate.
+    pub fn child_ended(&mut self, id: NurseryId, place: Place, exc: Option<Exc>, moment: u64)
         requires { HasNursery self.old id (λ n. slice_get n.children place ≡ Some None) }
-        ensures { Changes self.old self.new id (with_child place (option_map exc_of exc)) }
+        ensures { Changes self.old self.new id (with_child place (option_map exc_of exc) moment) }
     {
         let members = &mut self.nurseries[id.key];
         members.children.end(place, exc);
+        members.last = moment;
     }
 
-    /// Records that the body ended with the exception `exc`, or without one if `exc` is `None`. The caller must ensure that
-    /// the nursery is open and its body has not ended. Does not allocate.
-    pub fn body_ended(&mut self, id: NurseryId, exc: Option<Exc>)
+    /// Records that the body ended in `moment` with the exception `exc`, or without one if `exc` is `None`. The caller must
+    /// ensure that the nursery is open and its body has not ended. Does not allocate.
+    pub fn body_ended(&mut self, id: NurseryId, exc: Option<Exc>, moment: u64)
         requires { HasNursery self.old id (λ n. n.body ≡ None) }
-        ensures { Changes self.old self.new id (with_body (option_map exc_of exc)) }
+        ensures { Changes self.old self.new id (with_body (option_map exc_of exc) moment) }
     {
         let members = &mut self.nurseries[id.key];
         members.body = MemberEnd::Ended(exc);
+        members.last = moment;
     }
 
     /// Returns whether the body and every child have ended, so that the task which waits for the nursery continues. The

@@ -173,12 +173,12 @@ fn raised_by_two(
     if start_again(&mut book, id)? != 0 || start_again(&mut book, id)? != 1 {
         return Err("children have their places in the order of their starts")?;
     }
-    book.child_ended(id, 1, Some(raised_exc(alloc, second)));
-    book.body_ended(id, None);
+    book.child_ended(id, 1, Some(raised_exc(alloc, second)), 3);
+    book.body_ended(id, None, 4);
     if book.settled(id) {
         return Err("the first child has not ended")?;
     }
-    book.child_ended(id, 0, Some(raised_exc(alloc, first)));
+    book.child_ended(id, 0, Some(raised_exc(alloc, first)), 4);
     if !book.settled(id) {
         return Err("all members have ended")?;
     }

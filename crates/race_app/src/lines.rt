@@ -178,6 +178,6 @@ fn push_copies_of<R: Threads + Sync>(
         return Ok(());
     }
     let summary = summary_of(rt, alloc, job, input)?;
-    let walked = events_until(alloc, summary.events.as_slice(), None)?;
+    let walked = events_until(alloc, summary.clock, summary.events.as_slice(), None)?;
     push_copies(alloc, lines, author, walked.as_slice())
 }

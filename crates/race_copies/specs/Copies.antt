@@ -83,7 +83,7 @@ differ_last (i ∷ []) (j ∷ []) = not (i == j)
 differ_last (i ∷ is) (j ∷ js) = i == j && differ_last is js
 differ_last _ _ = false
 
--- two ticks are at most a hair apart
+-- two moments are at most a hair apart
 abbrev pub is_within : ℕ → ℕ → ℕ → Bool
 is_within hair t u = nat_le (t - hair) u && nat_le (u - hair) t
 
@@ -105,7 +105,7 @@ first_meeting hair a [] = None
 first_meeting hair a (b ∷ bs) =
     if meets hair a b then Some (record { one = a.copy; other = b.copy; tick = a.tick }) else first_meeting hair a bs
 
--- the earlier of two meetings, or the first if both are at the same tick
+-- the earlier of two meetings, or the first if both are at the same moment
 abbrev pub earlier_meeting : Option Meeting → Option Meeting → Option Meeting
 earlier_meeting None m = m
 earlier_meeting (Some m) None = Some m

@@ -18,7 +18,7 @@ pub struct Meeting {
     pub one: Label,
     /// The copy to which something happens within a hair of that. This may happen to a descendant of the copy.
     pub other: Label,
-    /// The tick at which the first copy does so.
+    /// The moment at which the first copy does so.
     pub tick: u64,
 }
 
@@ -32,7 +32,7 @@ struct Met<'e> {
 
 /// Returns the earliest meeting of two tasks with this name that one `start .. over` started together, or `None` if there is
 /// none. They meet if one of them, or a descendant of it, cancels something, and the other, or a descendant of it, has an event
-/// at most a hair earlier or later that is neither a start nor a cancellation. If several meetings are at the same tick, the
+/// at most a hair earlier or later that is neither a start nor a cancellation. If several meetings are at the same moment, the
 /// first in the order of the walk is returned. `walked` are the events of a story in the order of the walk, and `hair` is a
 /// number of ticks. The only error is that memory was refused.
 pub fn meeting_of(
@@ -86,7 +86,7 @@ fn first_meeting<'e>(hair: u64, one: Sight<'e>, sights: &[Sight<'e>]) -> Option<
     None
 }
 
-// Returns the earlier of two meetings, or the first if both are at the same tick.
+// Returns the earlier of two meetings, or the first if both are at the same moment.
 fn earlier_meeting<'e>(first: Option<Met<'e>>, second: Option<Met<'e>>) -> Option<Met<'e>>
     ensures { option_map met_held result ≡ earlier_meeting (option_map met_held first.entry) (option_map met_held second.entry) }
 {
@@ -113,7 +113,7 @@ fn meets(hair: u64, one: Sight<'_>, other: Sight<'_>) -> bool
         && is_within(hair, one.event.tick, other.event.tick)
 }
 
-// Returns whether two ticks are at most a hair apart.
+// Returns whether two moments are at most a hair apart.
 fn is_within(hair: u64, t: u64, u: u64) -> bool
     ensures { result ≡ is_within hair t u }
 {

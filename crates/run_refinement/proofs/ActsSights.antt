@@ -32,7 +32,7 @@ either : (a b : Bool) → (a || b) ≡ true → (a ≡ true) ⊎ (b ≡ true)
 either true b e = inl refl
 either false b e = inr e
 
--- the earlier of two ticks has come where one has
+-- the earlier of two moments has come where one has
 reached_left : (a b : Tick) (x : ℕ) → is_reached a x ≡ true → is_reached (earlier a b) x ≡ true
 reached_left a b x e = reached_earlier a b x ∙ or_left (is_reached a x) (is_reached b x) e
 
@@ -65,7 +65,7 @@ seen_cancelled id t x (l ∷ ls) e = by_level (λ f. seen_cancelled id t x ls f)
     by_level more true = by_shield more l.shield (earlier l.from (Some (t + 1))) (reached_left l.from (Some (t + 1)) x) e
     by_level more false = by_shield more l.shield l.from (λ f. f) e
 
--- a tick that has come whenever another has is that one, or comes before it
+-- a moment that has come whenever another has is that one, or comes before it
 same_or_before : (a b : Tick) → ((x : ℕ) → is_reached b x ≡ true → is_reached a x ≡ true) → (a ≡ b) ⊎ (before a b ≡ true)
 same_or_before None None h = inl refl
 same_or_before None (Some u) h = absurd (let f : false ≡ true = h u (le-leb u u (omega arith)) in cc)

@@ -12,6 +12,7 @@ use Rattle.job_tree.specs.Names.{GivesNamesOnce}
 use Rattle.job_tree.specs.Starting.{StartsInNurseries}
 use Rattle.job_meaning.specs.Log.{Table}
 use Rattle.job_meaning.specs.Meaning.{root_here}
+use Rattle.job_meaning.specs.Moments.{clock_of, only_at}
 use Rattle.job_meaning.specs.Rest as rest
 use Rattle.job_meaning.specs.declared.limits.TheConstants.{MAX_INPUT}
 use Rattle.task_machine.specs.declared.entry.ScopeFrom.{ScopeFrom}
@@ -36,7 +37,7 @@ use Rattle.interleavings.specs.Interleaving.{Started}
 use Rattle.interleavings.specs.Going.{root_task}
 use Rattle.interleavings.specs.Runs.{begun}
 use Rattle.run_refinement.specs.Begun.{IsNewWorld, IsRootTask}
-use Rattle.run_refinement.specs.RunState.{Interleaving, RunState, Gone, Differ, HasHome, Follows, HasEnded, Refines}
+use Rattle.run_refinement.specs.RunState.{Interleaving, RunState, Gone, Differ, IsSince, LastEnds, HasHome, Follows, HasEnded, Refines}
 
 -- no label is cancelled
 abbrev no_froms : Table
@@ -66,11 +67,13 @@ no_numbers p id = []
 -- ---- the root
 
 root_follows : (k : Table) (job : Job) (input : List ℕ) (state : RunState) (root : Task) → IsInRange job → StartsInNurseries job →
-    GivesNamesOnce job → IsRootTask job input root →
+    GivesNamesOnce job → state.world.clock ≡ clock_of job.format → IsRootTask job input root →
     Follows state no_froms input 0 (λ s. root_task k job input) no_numbers None 0 root
-root_follows k job input state root in_range starting names r =
+root_follows k job input state root in_range starting names clock r =
     record {
       here = here;
+      since = subst (λ (h : TaskState). IsSince 0 root.cancelled.items h (only_at 0)) (sym r.task_state) refl;
+      last = subst (LastEnds (λ s. root_task k job input) (no_numbers 0) (root_task k job input) state.world.book) (sym r.task_state) tt;
       input_is = refl;
       lives = λ no. refl;
       frames = r.frames (no_numbers 0);
@@ -120,8 +123,8 @@ root_follows k job input state root in_range starting names r =
           (subst (λ (bs : List Block). HasNurseryOf id bs (waits_of root.task_state)) blocks h)));
     }
   where
-    here : here_of root ≡ root_here job input
-    here = λ i. record { input = r.buffer i; part = r.range i; task = r.label i; path = (r.label i).indices }
+    here : here_of state.world.clock root ≡ root_here job input
+    here = λ i. record { clock = clock i; input = r.buffer i; part = r.range i; task = r.label i; path = (r.label i).indices }
 
     blocks : blocks_of root.frames.items ≡ []
     blocks = no_blocks_begun (no_numbers 0) root.frames.items job.steps (r.frames (no_numbers 0))
@@ -156,10 +159,10 @@ pub record BeginsAs (k : Table) (job : Job) (input : List ℕ) (state : RunState
   pub is : Refines k job input 0 1 None state
   pub at : is.interleaving.at 0 ≡ root_task k job input
 
--- the root alone in a new world is a run in tick 0, whose task is the root of the definitions
+-- the root alone in a new world is a run in moment 0, whose task is the root of the definitions
 pub state_begins : (k : Table) (job : Job) (input : List ℕ) (state : RunState) (root : Task) → IsInRange job → StartsInNurseries job →
     GivesNamesOnce job → length input ≤ MAX_INPUT →
-    IsNewWorld state.world → IsRootTask job input root → state.task 0 ≡ Some root → ((p : ℕ) → state.task (suc p) ≡ None) →
+    IsNewWorld job state.world → IsRootTask job input root → state.task 0 ≡ Some root → ((p : ℕ) → state.task (suc p) ≡ None) →
     ((p : ℕ) → state.gone p ≡ None) → state.start 0 ≡ 0 →
     state.children 0 ≡ [] → state.turns ≡ 0 → BeginsAs k job input state
 unfolding begun_interleaving
@@ -170,6 +173,7 @@ state_begins k job input state root in_range starting names small world r first 
             interleaving = begun_interleaving k job input;
             numbers = no_numbers;
             counted = sym turns;
+            clock = world.clock;
             tick = world.tick;
             small = small;
             some = omega arith;
@@ -194,7 +198,8 @@ state_begins k job input state root in_range starting names small world r first 
     unborn zero le = absurd (omega (arith, le))
     unborn (suc s) le = (others s, gone (suc s))
 
-    ended : (s : ℕ) → s < 1 → state.task s ≡ None → (g : Gone) × (state.gone s ≡ Some g) × HasEnded no_froms input 0 (root_task k job input) g
+    ended : (s : ℕ) → s < 1 → state.task s ≡ None → (g : Gone) × (state.gone s ≡ Some g) × HasEnded state.world.clock no_froms input 0
+        (root_task k job input) g
     ended s lt e = absurd (let f : s ≡ 0 = omega (arith, lt) in let g : Some root ≡ None = sym first ∙ ap state.task (sym f) ∙ e in cc)
 
     follows : (s : ℕ) (task : Task) → state.task s ≡ Some task → Follows state no_froms input 0 (λ s. root_task k job input) no_numbers None s
@@ -202,7 +207,7 @@ state_begins k job input state root in_range starting names small world r first 
     follows zero task e =
         let f : Some root ≡ Some task = sym first ∙ e in let g : root ≡ task = cc in
         subst (Follows state no_froms input 0 (λ s. root_task k job input) no_numbers None 0) g
-        (root_follows k job input state root in_range starting names r)
+        (root_follows k job input state root in_range starting names world.clock r)
     follows (suc s) task e = absurd (let f : None ≡ Some task = sym (others s) ∙ e in cc)
 
     none_open : (key : ℕ) → IsOpen state.world.scopes key → ⊥
@@ -211,10 +216,10 @@ state_begins k job input state root in_range starting names small world r first 
         by_stack : IsSome {T = Stack} None → ⊥
         by_stack e = absurd cc
 
--- the root alone in a new world is a run of one task in tick 0
+-- the root alone in a new world is a run of one task in moment 0
 pub state_begun : (k : Table) (job : Job) (input : List ℕ) (state : RunState) (root : Task) → IsInRange job → StartsInNurseries job →
     GivesNamesOnce job → length input ≤ MAX_INPUT →
-    IsNewWorld state.world → IsRootTask job input root → state.task 0 ≡ Some root → ((p : ℕ) → state.task (suc p) ≡ None) →
+    IsNewWorld job state.world → IsRootTask job input root → state.task 0 ≡ Some root → ((p : ℕ) → state.task (suc p) ≡ None) →
     ((p : ℕ) → state.gone p ≡ None) → state.start 0 ≡ 0 →
     state.children 0 ≡ [] → state.turns ≡ 0 → Refines k job input 0 1 None state
 state_begun k job input state root in_range starting names small world r first others gone start children turns =

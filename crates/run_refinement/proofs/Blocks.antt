@@ -1,6 +1,6 @@
--- If all tasks of the program stay, the run is blocked, and while one has not ended, one sleeps. And how long the
--- program continues.
-use Rattle.std.proofs.Common.{◌≡◌, inl, inr, ◌&&◌, true, false, ℕ, zero, suc, ◌+◌, ◌*◌, ◌<◌, ◌≤◌, Option, Some, None, List, [], ◌∷◌, length, refl, ap, sym, ◌∙◌, subst, arith}
+-- If all tasks of the program stay, the run is blocked, and while one has not ended, one has a moment in which it continues.
+-- And how long the program continues.
+use Rattle.std.proofs.Common.{◌≡◌, ◌⊎◌, inl, inr, ◌&&◌, Bool, true, false, ℕ, zero, suc, ◌+◌, ◌*◌, ◌<◌, ◌≤◌, Option, Some, None, List, [], ◌∷◌, length, refl, ap, sym, ◌∙◌, subst, arith}
 use Rattle.std.specs.Prelude.{is_some, slice_get}
 use Rattle.std.specs.List.{list_all}
 use Rattle.exc_groups.specs.Exceptions.{Exc}
@@ -11,14 +11,18 @@ use Rattle.nursery_book.specs.declared.book.NurseryBook.{NurseryBook}
 use Rattle.job_tree.specs.Tree.{Tree as Job}
 use Rattle.job_tree.specs.Names.{GivesNamesOnce, size_of}
 use Rattle.job_tree.specs.Starting.{StartsInNurseries}
+use Rattle.cancel_scopes.specs.Sight.{sight}
 use Rattle.job_meaning.specs.Log.{Table}
+use Rattle.job_meaning.specs.Moments.{Clock, clock_of, tick_of, a_round_after, wakes_at, Now}
+use Rattle.job_meaning.specs.Walk.{Here, latest}
 use Rattle.job_meaning.specs.Before.{upto}
 use Rattle.job_meaning.specs.Follow.{IsSettled}
 use Rattle.job_meaning.specs.Meaning.{meaning_end, meaning_table}
-use Rattle.job_meaning.specs.Rest.{Stopped, to_begin, asking, asleep, awaiting, at_end}
+use Rattle.job_meaning.specs.Rest.{Stopped, to_begin, asking, asleep, giving_up, awaiting, at_end}
+use Rattle.turn_semantics.specs.Midway.{stack_at}
 use Rattle.turn_semantics.specs.Placed.{IsAmong}
 use Rattle.task_machine.specs.declared.stop.TaskState.{TaskState}
-use Rattle.task_machine.specs.declared.stop.TaskState.TheVariants.{ToBegin, Asked, Asleep, Awaits, Over}
+use Rattle.task_machine.specs.declared.stop.TaskState.TheVariants.{ToBegin, Asked, Asleep, GivingUp, Awaits, Over}
 use Rattle.task_machine.specs.declared.task.Home.{Home}
 use Rattle.task_machine.specs.declared.task.Task.{Task}
 use Rattle.task_machine.specs.Fitting.{waits_of}
@@ -26,16 +30,17 @@ use Rattle.task_machine.specs.Stops.{IsTaskState}
 use Rattle.task_machine.specs.Tasks.{scope_of}
 use Rattle.task_machine.specs.Worlds.{label_at}
 use Rattle.task_machine.proofs.Stacked.{sight_at}
-use Rattle.interleavings.specs.Interleaving.{Started, In, live, Unended, StaysUntil, Blocked}
-use Rattle.interleavings.specs.Laws.{Sleeps}
+use Rattle.interleavings.specs.Interleaving.{Started, In, live, Unended, Settling, StaysUntil, Blocked, members_by}
+use Rattle.interleavings.specs.Laws.{HasNextTurn, GoesOn}
 use Rattle.interleavings.specs.Runs.{turns_taken}
-use Rattle.interleavings.proofs.Running.{blocked_runs_sleep, limits_are_exact, runs_end}
-use Rattle.run_refinement.specs.RunState.{RunState, Gone, HasHome, IsMember, HasMembers, HasEnded, Refines}
-use Rattle.run_refinement.specs.Ready.{StaysTo, AllStay, HasSleeper}
+use Rattle.interleavings.proofs.Running.{blocked_runs_go_on, limits_are_exact, runs_end}
+use Rattle.run_refinement.specs.RunState.{RunState, HasHome, IsMember, HasMembers, IsSince, Refines}
+use Rattle.run_refinement.specs.Ready.{StaysTo, AllStay, HasMoment, HasNext}
 use Rattle.run_refinement.proofs.ActsKeep.{not_both}
 use Rattle.run_refinement.proofs.LabelsApart.{below_of}
 use Rattle.run_refinement.proofs.Found.{below_length}
-use Rattle.run_refinement.proofs.Found.{gives, finds}
+use Rattle.run_refinement.proofs.Found.{gives, finds, puts}
+use Rattle.run_refinement.proofs.Going.{ends, waited}
 
 -- ---- a nursery that is not settled
 
@@ -66,7 +71,62 @@ pub task_lives : (k : Table) (job : Job) (input : List ℕ) (t m : ℕ) (state :
     live (c.interleaving.at s).rest.stopped ≡ true
 task_lives k job input t m state c s task e = (c.follows s task e).lives (λ f. not_both refl f)
 
--- if no task of the program continues before a tick, the run is blocked until then
+-- A child of the nursery for which a task waits runs, where that nursery is not settled.
+record Running (state : RunState) (q : Started) (children : List ℕ) : Type 0 where
+  pub number : ℕ
+  pub among : IsAmong number children
+  pub below : number < q.count
+  pub task : Task
+  pub lives : state.task (q.child number) ≡ Some task
+
+module _ (k : Table) (job : Job) (input : List ℕ) (t m : ℕ) (state : RunState) (c : Refines k job input t m None state) where
+  abbrev at : ℕ → Started
+  at = c.interleaving.at
+
+  abbrev qs : List Started
+  qs = c.interleaving.tasks
+
+  running_child : (s : ℕ) (task : Task) (id : ℕ) (children : List ℕ) (exc : Option Exc) → state.task s ≡ Some task →
+      waits_of task.task_state ≡ Some id → c.numbers s id ≡ children → HasNursery state.world.book id (λ n. n.body ≡ Some exc) →
+      (n : Nursery) → nursery_at state.world.book id ≡ Some n → is_settled n ≡ false → Running state (at s) children
+  running_child s task id children exc lives awaits numbers body n is open_one =
+      record {
+        number = number.0;
+        among = among_at children place.0 number.0 (ap (λ (is : List ℕ). slice_get is place.0) (sym numbers) ∙ number.1);
+        below = member.0;
+        task = runs.0;
+        lives = runs.1;
+      }
+    where
+      has : HasMembers state at t (c.numbers s) (at s) id n
+      has =
+          gives state.world.book id n (λ n. HasMembers state at t (c.numbers s) (at s) id n) is
+          ((c.follows s task lives).nurseries id (inr awaits))
+
+      place : (i : ℕ) × (slice_get n.children i ≡ Some None)
+      place =
+          running_at n.children (unsettled_children n exc (gives state.world.book id n (λ n. n.body ≡ Some exc) is body) open_one)
+
+      number : (x : ℕ) × (slice_get (c.numbers s id) place.0 ≡ Some x)
+      number =
+          let a : length (c.numbers s id) ≡ length n.children = has.long in
+          let b : place.0 < length n.children = below_length n.children place.0 None place.1 in
+          got_below (c.numbers s id) place.0 (omega (arith, a, b))
+
+      member : (number.0 < (at s).count) × IsMember state at n.last id place.0 ((at s).child number.0) (slice_get n.children place.0)
+      member = has.members place.0 number.0 number.1
+
+      runs : IsMember state at n.last id place.0 ((at s).child number.0) (Some None)
+      runs = subst (IsMember state at n.last id place.0 ((at s).child number.0)) place.1 member.1
+
+  -- a task with that serial number has not ended
+  child_lives : (s : ℕ) (children : List ℕ) (r : Running state (at s) children) (x : Started) → In x qs → x.serial ≡ (at s).child r.number →
+      live x.rest.stopped ≡ true
+  child_lives s children r x j e =
+      ap (λ (y : Started). live y.rest.stopped) ((c.interleaving.one x j).0 ∙ ap at e)
+      ∙ task_lives k job input t m state c ((at s).child r.number) r.task r.lives
+
+-- if no task of the program continues before a moment, the run is blocked until then
 pub state_blocked : (k : Table) (job : Job) (input : List ℕ) (t m : ℕ) (state : RunState) → (c : Refines k job input t m None state) → (u : ℕ) →
     AllStay state u →
     Blocked c.interleaving.froms c.interleaving.tasks u
@@ -86,106 +146,146 @@ state_blocked k job input t m state c u stay q i =
     book : NurseryBook
     book = state.world.book
 
-    -- a task that waits does so for a child that runs
+    clock : (s : ℕ) (task : Task) → state.task s ≡ Some task → state.world.clock ≡ (at s).here.clock
+    clock s task lives = ap (λ (h : Here). h.clock) (c.follows s task lives).here
+
+    -- a task that waits does so for a child that runs, or its nursery is left later
     waits : (s : ℕ) (task : Task) (id since v : ℕ) (children : List ℕ) (exc : Option Exc) → state.task s ≡ Some task →
-        waits_of task.task_state ≡ Some id → c.numbers s id ≡ children →
-        HasNursery book id (λ n. n.body ≡ Some exc) → HasNursery book id (λ n. is_settled n ≡ false) → Unended qs (at s) children
-    waits s task id since v children exc lives awaits numbers body open_one =
-        record {
-          number = number.0;
-          among = among_at children place.0 number.0 (ap (λ (is : List ℕ). slice_get is place.0) (sym numbers) ∙ number.1);
-          below = member.0;
-          alive = alive;
-        }
+        task.task_state ≡ Awaits id since → c.numbers s id ≡ children → since ≡ v →
+        HasNursery book id (λ n. n.body ≡ Some exc) →
+        HasNursery book id (λ n. (is_settled n ≡ false) ⊎ (u ≤ a_round_after state.world.clock n.last)) →
+        Unended qs (at s) children ⊎ Settling qs (at s) children v u
+    waits s task id since v children exc lives e numbers same body to = by_settled (is_settled n.0) refl n.2
       where
-        n : (n : Nursery) × (nursery_at book id ≡ Some n) × HasMembers state at t (c.numbers s) (at s) id n
-        n = finds book id (λ n. HasMembers state at t (c.numbers s) (at s) id n) ((c.follows s task lives).nurseries id (inr awaits))
+        n : (n : Nursery) × (nursery_at book id ≡ Some n) × ((is_settled n ≡ false) ⊎ (u ≤ a_round_after state.world.clock n.last))
+        n = finds book id (λ n. (is_settled n ≡ false) ⊎ (u ≤ a_round_after state.world.clock n.last)) to
 
-        place : (i : ℕ) × (slice_get n.0.children i ≡ Some None)
-        place =
-            running_at n.0.children
-            (unsettled_children n.0 exc (gives book id n.0 (λ n. n.body ≡ Some exc) n.1 body)
-            (gives book id n.0 (λ n. is_settled n ≡ false) n.1 open_one))
-
-        number : (x : ℕ) × (slice_get (c.numbers s id) place.0 ≡ Some x)
-        number =
-            let a : length (c.numbers s id) ≡ length n.0.children = n.2.long in
-            let b : place.0 < length n.0.children = below_length n.0.children place.0 None place.1 in
-            got_below (c.numbers s id) place.0 (omega (arith, a, b))
-
-        member : (number.0 < (at s).count) × IsMember state at t id place.0 ((at s).child number.0) (slice_get n.0.children place.0)
-        member = n.2.members place.0 number.0 number.1
-
-        runs : IsMember state at t id place.0 ((at s).child number.0) (Some None)
-        runs = subst (IsMember state at t id place.0 ((at s).child number.0)) place.1 member.1
-
-        alive : (x : Started) → In x qs → x.serial ≡ (at s).child number.0 → live x.rest.stopped ≡ true
-        alive x j e =
-            ap (λ (y : Started). live y.rest.stopped) ((c.interleaving.one x j).0 ∙ ap at e)
-            ∙ task_lives k job input t m state c ((at s).child number.0) runs.0 runs.1
+        by_settled : (b : Bool) → is_settled n.0 ≡ b → (is_settled n.0 ≡ false) ⊎ (u ≤ a_round_after state.world.clock n.0.last) →
+            Unended qs (at s) children ⊎ Settling qs (at s) children v u
+        by_settled false g h =
+            let r = running_child k job input t m state c s task id children exc lives (ap waits_of e) numbers body n.0 n.1 g in
+            inl (record {
+              number = r.number;
+              among = r.among;
+              below = r.below;
+              alive = child_lives k job input t m state c s children r;
+            })
+        by_settled true g (inl h) = absurd (let b : true ≡ false = sym g ∙ h in cc)
+        by_settled true g (inr h) =
+            let w = waited k job input t m state c s task lives id since v children e numbers same n.0 n.1 g in
+            inr (record {
+              ends = ends at n.0.last (at s).child;
+              numbers = w.numbers;
+              over = w.over;
+              later =
+                  subst (λ (x : Clock). u ≤ a_round_after x (latest v (members_by (ends at n.0.last (at s).child) children)))
+                  (clock s task lives)
+                  (subst (λ (y : ℕ). u ≤ a_round_after state.world.clock y) (sym w.last) h);
+            })
 
     by_task_state : (s : ℕ) (task : Task) → state.task s ≡ Some task → (task_state : TaskState) (stopped : Stopped) → task.task_state ≡ task_state →
-        IsTaskState (c.numbers s) book task_state stopped →
+        IsTaskState (c.numbers s) book task_state stopped → IsSince t task.cancelled.items task_state (at s).stop →
         StaysTo state.world u (scope_of task) task_state → StaysUntil f qs u (at s) stopped
-    by_task_state s task lives ToBegin to_begin e h to = absurd to
-    by_task_state s task lives (Asked kernel purpose) (asking asked p) e h to = absurd to
-    by_task_state s task lives (Asleep ticks since) (asleep n v) e h to = (
-      (let a : u ≤ since + ticks = to.0 in let b = h.0 in let d = h.1 in omega (arith, a, b, d)),
-      ap (upto u)
-          (sym (sight_at (label_at state.world) f (outer_of state.world.scopes (scope_of task)) (at s).places
-          (c.follows s task lives).stands.places)) ∙ to.1,
+    by_task_state s task lives (ToBegin v) to_begin e h since to = subst (λ (x : Now). u ≤ x.at) (sym since) to
+    by_task_state s task lives (Asked kernel purpose) (asking asked p) e h since to = absurd to
+    by_task_state s task lives (Asleep paced ticks since) (asleep p n v) e h stop to = (
+      subst (λ (x : Clock). u ≤ wakes_at x n v) (clock s task lives)
+          (subst (λ (x : ℕ). u ≤ wakes_at state.world.clock x v) h.1
+          (subst (λ (x : ℕ). u ≤ wakes_at state.world.clock ticks x) h.2 to.0)),
+      by_sight to.1,
     )
-    by_task_state s task lives (Awaits id since) (awaiting children v exc) e h to =
-        waits s task id since v children exc lives (ap waits_of e) h.0 h.2 to
-    by_task_state s task lives Over (at_end v x) e h to = absurd to
-    by_task_state s task lives _ _ e h to = absurd h
+      where
+        by_sight : (upto u (sight (outer_of state.world.scopes (scope_of task))) ≡ u) ⊎ (u ≤ a_round_after state.world.clock since) →
+            (upto u (sight (stack_at f (at s).places)) ≡ u) ⊎ (u ≤ a_round_after (at s).here.clock v)
+        by_sight (inl g) =
+            inl (ap (upto u)
+            (sym (sight_at (label_at state.world) f (outer_of state.world.scopes (scope_of task)) (at s).places
+            (c.follows s task lives).stands.places)) ∙ g)
+        by_sight (inr g) =
+            inr (subst (λ (x : Clock). u ≤ a_round_after x v) (clock s task lives)
+            (subst (λ (x : ℕ). u ≤ a_round_after state.world.clock x) h.2 g))
+    by_task_state s task lives (GivingUp since) (giving_up v) e h stop to = subst (λ (x : ℕ). u ≤ suc x) h to
+    by_task_state s task lives (Awaits id since) (awaiting children v exc) e h stop to =
+        waits s task id since v children exc lives e h.0 h.1 h.2 to
+    by_task_state s task lives Over (at_end v x) e h since to = absurd to
+    by_task_state s task lives _ _ e h since to = absurd h
 
     by_task : (s : ℕ) → s < m → (o : Option Task) → state.task s ≡ o → StaysUntil f qs u (at s) (at s).rest.stopped
     by_task s lt None e = subst (StaysUntil f qs u (at s)) (sym (c.ended s lt e).2.stopped) tt
-    by_task s lt (Some task) e = by_task_state s task e task.task_state (at s).rest.stopped refl (c.follows s task e).task_state (stay s task e)
+    by_task s lt (Some task) e =
+        by_task_state s task e task.task_state (at s).rest.stopped refl (c.follows s task e).task_state (c.follows s task e).since
+        (stay s task e)
 
--- while a task has not ended, one sleeps
-pub state_sleeps : (k : Table) (job : Job) (input : List ℕ) (t m : ℕ) (state : RunState) → IsSettled k job input → GivesNamesOnce job →
+-- while a task has not ended, one has a moment in which it continues
+pub state_goes_on : (k : Table) (job : Job) (input : List ℕ) (t m : ℕ) (state : RunState) → IsSettled k job input → GivesNamesOnce job →
     StartsInNurseries job →
-    (c : Refines k job input t m None state) → (u : ℕ) → AllStay state u → (s : ℕ) (task : Task) → state.task s ≡ Some task → HasSleeper state
-state_sleeps k job input t m state settled names starting c u stay s task lives = by_task (state.task x.serial) refl
+    (c : Refines k job input t m None state) → (u : ℕ) → AllStay state u → (s : ℕ) (task : Task) → state.task s ≡ Some task → HasNext state
+state_goes_on k job input t m state settled names starting c u stay s task lives = by_task (state.task p) refl
   where
-    z : Sleeps c.interleaving.tasks
+    at : ℕ → Started
+    at = c.interleaving.at
+
+    qs : List Started
+    qs = c.interleaving.tasks
+
+    z : GoesOn qs
     z =
-        blocked_runs_sleep k job input names starting settled c.interleaving.froms t m c.interleaving.tasks c.interleaving.reached u
-        (state_blocked k job input t m state c u stay) (c.interleaving.at s)
+        blocked_runs_go_on k job input names starting settled c.interleaving.froms t m qs c.interleaving.reached u
+        (state_blocked k job input t m state c u stay) (at s)
         (c.interleaving.has s (below_of c s task lives)).0 (task_lives k job input t m state c s task lives)
 
-    x : Started
-    x = z.sleeper
+    p : ℕ
+    p = z.next.serial
 
-    stopped : (c.interleaving.at x.serial).rest.stopped ≡ asleep z.ticks z.since
-    stopped = ap (λ (y : Started). y.rest.stopped) (sym (c.interleaving.one x z.among).0) ∙ z.stopped
+    has : HasNextTurn qs (at p) (at p).rest.stopped
+    has = subst (λ (x : Started). HasNextTurn qs x x.rest.stopped) (c.interleaving.one z.next z.among).0 z.has
 
-    by_task_state : (task_state : TaskState) → IsTaskState (c.numbers x.serial) state.world.book task_state (asleep z.ticks z.since) → (n : ℕ) × (v : ℕ)
-        × (task_state ≡ Asleep n v)
-    by_task_state ToBegin h = absurd h
-    by_task_state (Asked kernel purpose) h = absurd h
-    by_task_state (Asleep ticks since) h = (ticks, since, refl)
-    by_task_state (Awaits id since) h = absurd h
-    by_task_state Over h = absurd h
+    -- the nursery that a task waits for is settled, if all children have ended that it waits for
+    settles : (y : Task) (id since v : ℕ) (children : List ℕ) (exc : Option Exc) → state.task p ≡ Some y → y.task_state ≡ Awaits id since →
+        c.numbers p id ≡ children → HasNursery state.world.book id (λ n. n.body ≡ Some exc) → Settling qs (at p) children v 0 →
+        HasNursery state.world.book id (λ n. is_settled n ≡ true)
+    settles y id since v children exc there e numbers body over = by_settled (is_settled n.0) refl
+      where
+        n : (n : Nursery) × (nursery_at state.world.book id ≡ Some n) × (n.body ≡ Some exc)
+        n = finds state.world.book id (λ n. n.body ≡ Some exc) body
 
-    by_task : (o : Option Task) → state.task x.serial ≡ o → HasSleeper state
+        by_settled : (b : Bool) → is_settled n.0 ≡ b → HasNursery state.world.book id (λ n. is_settled n ≡ true)
+        by_settled true g = puts state.world.book id n.0 (λ n. is_settled n ≡ true) n.1 g
+        by_settled false g =
+            let r = running_child k job input t m state c p y id children exc there (ap waits_of e) numbers body n.0 n.1 g in
+            let x = c.interleaving.has ((at p).child r.number) (below_of c ((at p).child r.number) r.task r.lives) in
+            let alive = child_lives k job input t m state c p children r (at ((at p).child r.number)) x.0 x.1 in
+            let ended = over.over r.number r.among (at ((at p).child r.number)) x.0 x.1 in
+            absurd (let f : true ≡ false = sym alive ∙ ap live ended in cc)
+
+    moment : (y : Task) → state.task p ≡ Some y → (task_state : TaskState) (stopped : Stopped) → y.task_state ≡ task_state →
+        IsTaskState (c.numbers p) state.world.book task_state stopped → HasNextTurn qs (at p) stopped →
+        StaysTo state.world u (scope_of y) task_state → HasMoment state.world.book task_state
+    moment y there (ToBegin v) stopped e h next to = tt
+    moment y there (Asked kernel purpose) stopped e h next to = absurd to
+    moment y there (Asleep paced ticks since) stopped e h next to = tt
+    moment y there (GivingUp since) stopped e h next to = tt
+    moment y there (Awaits id since) (awaiting children v exc) e h next to = settles y id since v children exc there e h.0 h.2 next
+    moment y there (Awaits id since) _ e h next to = absurd h
+    moment y there Over stopped e h next to = absurd to
+
+    by_task : (o : Option Task) → state.task p ≡ o → HasNext state
     by_task None e =
-        let gone : (g : Gone) × (state.gone x.serial ≡ Some g) × HasEnded c.interleaving.froms input t (c.interleaving.at x.serial) g =
-        c.ended x.serial (c.interleaving.one x z.among).1 e in
-        let both : live (asleep z.ticks z.since) ≡ live (at_end gone.0.end gone.0.exc) = ap live (sym stopped ∙ gone.2.stopped) in
-        absurd (let f : true ≡ false = both in cc)
+        absurd (subst (HasNextTurn qs (at p)) (c.ended p (c.interleaving.one z.next z.among).1 e).2.stopped has)
     by_task (Some y) e =
-        let h = by_task_state y.task_state (subst (IsTaskState (c.numbers x.serial) state.world.book y.task_state) stopped (c.follows x.serial y e).task_state) in
-        record { serial = x.serial; task = y; lives = e; ticks = h.0; since = h.1; asleep = h.2 }
+        record {
+          serial = p;
+          task = y;
+          lives = e;
+          has = moment y e y.task_state (at p).rest.stopped refl (c.follows p y e).task_state has (stay p y e);
+        }
 
 -- ---- how long the program continues
 
--- while a task has not ended, the job does not end before the tick
+-- while a task has not ended, the job does not end before the present tick
 pub state_in_time : (job : Job) (input : List ℕ) (t m : ℕ) (state : RunState) → GivesNamesOnce job → StartsInNurseries job →
     Refines (meaning_table job input) job input t m None state →
-    (s : ℕ) (task : Task) → state.task s ≡ Some task → t ≤ meaning_end job input
+    (s : ℕ) (task : Task) → state.task s ≡ Some task → tick_of (clock_of job.format) t ≤ meaning_end job input
 state_in_time job input t m state names starting c s task lives =
     limits_are_exact job input names starting c.interleaving.froms t m c.interleaving.tasks c.interleaving.reached (c.interleaving.at s)
     (c.interleaving.has s (below_of c s task lives)).0 (task_lives (meaning_table job input) job input t m state c s task lives)

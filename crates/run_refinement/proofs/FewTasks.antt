@@ -1,11 +1,11 @@
 -- A maximum number of tasks of the program that have not ended.
-use Rattle.std.proofs.Common.{◌≡◌, ◌⊎◌, inl, inr, true, false, ℕ, ◌+◌, ◌*◌, ◌≤◌, Option, Some, None, List, [], ◌∷◌, length, refl, ap, sym, ◌∙◌, subst, arith}
+use Rattle.std.proofs.Common.{◌≡◌, ◌⊎◌, inl, inr, true, false, ℕ, zero, suc, ◌+◌, ◌*◌, ◌≤◌, Option, Some, None, List, [], ◌∷◌, length, refl, ap, sym, ◌∙◌, subst, arith}
 use Rattle.std.specs.Prelude.{IsSome}
 use Rattle.job_tree.specs.Tree.{Tree as Job}
 use Rattle.job_tree.specs.Names.{size_of}
 use Rattle.job_meaning.specs.Log.{Table}
 use Rattle.job_meaning.specs.Asking.{shows, needs, paces}
-use Rattle.job_meaning.specs.Rest.{Stopped, to_begin, asking, asleep, awaiting, at_end, stop_weight, rest_weight}
+use Rattle.job_meaning.specs.Rest.{Stopped, to_begin, asking, asleep, giving_up, awaiting, at_end, stop_weight, rest_weight}
 use Rattle.task_machine.specs.declared.task.Task.{Task}
 use Rattle.interleavings.specs.Interleaving.{Started, In, live}
 use Rattle.interleavings.specs.Runs.{Front, is_front, after_one, all_weights}
@@ -20,7 +20,11 @@ live_weighs to_begin e = omega arith
 live_weighs (asking kernel shows) e = omega arith
 live_weighs (asking kernel (needs name)) e = omega arith
 live_weighs (asking kernel (paces k)) e = omega arith
-live_weighs (asleep n since) e = omega arith
+live_weighs (asleep false zero since) e = omega arith
+live_weighs (asleep false (suc n) since) e = omega arith
+live_weighs (asleep true zero since) e = omega arith
+live_weighs (asleep true (suc n) since) e = omega arith
+live_weighs (giving_up since) e = omega arith
 live_weighs (awaiting children ended exc) e = omega arith
 live_weighs (at_end u x) e = absurd (let f : false ≡ true = e in cc)
 

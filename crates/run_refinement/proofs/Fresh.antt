@@ -49,10 +49,11 @@ new_of known (starts i m t ∷ es) once none = new_of known es once none
 -- ---- what a turn enters
 
 -- the labels that a turn enters were entered by no task before it, and none is twice in it
-pub fresh_after : (k : Table) (job : Job) (input : List ℕ) (t m s : ℕ) (was : Interleaving k job input t m) (o : Move) (stopped : Stopped) →
+pub fresh_after : (k : Table) (job : Job) (input : List ℕ) (t m s : ℕ) (own : List Label) (was : Interleaving k job input t m) (o : Move)
+    (stopped : Stopped) →
     IsSettled k job input → GivesNamesOnce job →
-    StartsInNurseries job → s < m → (w : WentOn k job input t m s was o stopped) → AreNew (IsEntered was.at) o.made
-fresh_after k job input t m s was o stopped settled names starting less w = new_of (IsEntered was.at) o.made by_times by_known
+    StartsInNurseries job → s < m → (w : WentOn k job input t m s own was o stopped) → AreNew (IsEntered was.at) o.made
+fresh_after k job input t m s own was o stopped settled names starting less w = new_of (IsEntered was.at) o.made by_times by_known
   where
     once : (l : Label) → made_times l w.is.tasks ≤ 1
     once l =

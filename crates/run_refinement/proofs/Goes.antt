@@ -7,12 +7,13 @@ use Rattle.std.specs.List.{slice_get}
 use Rattle.cancel_scopes.specs.Sight.{seen}
 use Rattle.job_tree.specs.Tree.{Tree as Job}
 use Rattle.job_meaning.specs.Log.{Table}
-use Rattle.exc_groups.specs.Exceptions.{Exc}
-use Rattle.job_meaning.specs.Rest.{Stopped, to_begin, asking, asleep, awaiting, at_end}
+use Rattle.exc_groups.specs.Exceptions.{Exc, Label}
+use Rattle.job_meaning.specs.Moments.{a_round_after, Now}
+use Rattle.job_meaning.specs.Rest.{Stopped, to_begin, asking, asleep, giving_up, awaiting}
 use Rattle.turn_semantics.specs.Midway.{Begun, Move, stack_at}
 use Rattle.turn_semantics.specs.Steps.{froms_after}
 use Rattle.turn_semantics.specs.Turned.{TurnsOver}
-use Rattle.turn_semantics.specs.Wakes.{Wake, begins, sees, is_due, has_answer, settles, CanWake, from_start, from_asking, from_sleep, from_due, from_wait}
+use Rattle.turn_semantics.specs.Wakes.{Wake, begins, sees, gives_up, is_due, has_answer, settles, CanWake, from_start, from_asking, from_sleep, from_due, from_giving_up, from_wait}
 use Rattle.interleavings.specs.Interleaving.{Started, In}
 use Rattle.interleavings.specs.Going.{task_after_turn, children_from}
 use Rattle.interleavings.specs.Woken.{MayWake, WaitIsOver}
@@ -126,69 +127,34 @@ wait_moved qs rs q t children ended e x back h =
     record { ends = h.ends; numbers = h.numbers; over = λ i among c is serial. h.over i among c (back c is) serial; settled = h.settled }
 
 -- or where other froms show the same
-pub ready_by : (f g : Table) (qs rs : List Started) (t : ℕ) (q : Started) (w : Wake) (s : Stopped) →
-    seen (stack_at f q.places) t ≡ seen (stack_at g q.places) t →
-    ((children : List ℕ) (ended : ℕ) (e x : Option Exc) → WaitIsOver qs q t children ended e x → WaitIsOver rs q t children ended e x) →
-    MayWake f qs t q w s → MayWake g rs t q w s
-ready_by f g qs rs t q begins to_begin same over h = h
-ready_by f g qs rs t q begins (asking k p) same over h = absurd h
-ready_by f g qs rs t q begins (asleep n u) same over h = absurd h
-ready_by f g qs rs t q begins (awaiting cs u e) same over h = absurd h
-ready_by f g qs rs t q begins (at_end u e) same over h = absurd h
-ready_by f g qs rs t q (has_answer a) to_begin same over h = absurd h
-ready_by f g qs rs t q (has_answer a) (asking k p) same over h = h
-ready_by f g qs rs t q (has_answer a) (asleep n u) same over h = absurd h
-ready_by f g qs rs t q (has_answer a) (awaiting cs u e) same over h = absurd h
-ready_by f g qs rs t q (has_answer a) (at_end u e) same over h = absurd h
-ready_by f g qs rs t q is_due to_begin same over h = absurd h
-ready_by f g qs rs t q is_due (asking k p) same over h = absurd h
-ready_by f g qs rs t q is_due (asleep n u) same over h = (h.0, sym same ∙ h.1)
-ready_by f g qs rs t q is_due (awaiting cs u e) same over h = absurd h
-ready_by f g qs rs t q is_due (at_end u e) same over h = absurd h
-ready_by f g qs rs t q sees to_begin same over h = absurd h
-ready_by f g qs rs t q sees (asking k p) same over h = absurd h
-ready_by f g qs rs t q sees (asleep n u) same over h = (h.0, sym same ∙ h.1)
-ready_by f g qs rs t q sees (awaiting cs u e) same over h = absurd h
-ready_by f g qs rs t q sees (at_end u e) same over h = absurd h
-ready_by f g qs rs t q (settles x) to_begin same over h = absurd h
-ready_by f g qs rs t q (settles x) (asking k p) same over h = absurd h
-ready_by f g qs rs t q (settles x) (asleep n u) same over h = absurd h
-ready_by f g qs rs t q (settles x) (awaiting cs u e) same over h = over cs u e x h
-ready_by f g qs rs t q (settles x) (at_end u e) same over h = absurd h
+pub ready_by : (f g : Table) (qs rs : List Started) (now : Now) (q : Started) (w : Wake) (s : Stopped) →
+    seen (stack_at f q.places) now.at ≡ seen (stack_at g q.places) now.at →
+    ((children : List ℕ) (ended : ℕ) (e x : Option Exc) → WaitIsOver qs q now.at children ended e x →
+    WaitIsOver rs q now.at children ended e x) →
+    MayWake f qs now q w s → MayWake g rs now q w s
+ready_by f g qs rs now q begins to_begin same over h = h
+ready_by f g qs rs now q (has_answer a) (asking k p) same over h = h
+ready_by f g qs rs now q is_due (asleep paced n u) same over h = (h.0, sym same ∙ h.1, h.2)
+ready_by f g qs rs now q sees (asleep paced n u) same over h = (h.0, sym same ∙ h.1, h.2)
+ready_by f g qs rs now q gives_up (giving_up u) same over h = h
+ready_by f g qs rs now q (settles x) (awaiting cs u e) same over h = (over cs u e x h.0, h.1)
+ready_by f g qs rs now q _ _ same over h = absurd h
 
 -- a task that may be woken among some tasks may be woken among fewer of them
-pub may_moved : (f : Table) (qs rs : List Started) (t : ℕ) (q : Started) (w : Wake) (s : Stopped) → ((c : Started) → In c rs → In c qs) →
-    MayWake f qs t q w s → MayWake f rs t q w s
-may_moved f qs rs t q w s back h =
-    ready_by f f qs rs t q w s refl (λ children ended e x over. wait_moved qs rs q t children ended e x back over) h
+pub may_moved : (f : Table) (qs rs : List Started) (now : Now) (q : Started) (w : Wake) (s : Stopped) →
+    ((c : Started) → In c rs → In c qs) → MayWake f qs now q w s → MayWake f rs now q w s
+may_moved f qs rs now q w s back h =
+    ready_by f f qs rs now q w s refl (λ children ended e x over. wait_moved qs rs q now.at children ended e x back over) h
 
 -- and such a wake can come of its stop
-pub may_can : (f : Table) (qs : List Started) (t : ℕ) (q : Started) (w : Wake) (s : Stopped) → MayWake f qs t q w s → CanWake w s
-may_can f qs t q begins to_begin h = from_start
-may_can f qs t q begins (asking k p) h = absurd h
-may_can f qs t q begins (asleep n u) h = absurd h
-may_can f qs t q begins (awaiting cs u e) h = absurd h
-may_can f qs t q begins (at_end u e) h = absurd h
-may_can f qs t q (has_answer a) to_begin h = absurd h
-may_can f qs t q (has_answer a) (asking k p) h = from_asking
-may_can f qs t q (has_answer a) (asleep n u) h = absurd h
-may_can f qs t q (has_answer a) (awaiting cs u e) h = absurd h
-may_can f qs t q (has_answer a) (at_end u e) h = absurd h
-may_can f qs t q is_due to_begin h = absurd h
-may_can f qs t q is_due (asking k p) h = absurd h
-may_can f qs t q is_due (asleep n u) h = from_due
-may_can f qs t q is_due (awaiting cs u e) h = absurd h
-may_can f qs t q is_due (at_end u e) h = absurd h
-may_can f qs t q sees to_begin h = absurd h
-may_can f qs t q sees (asking k p) h = absurd h
-may_can f qs t q sees (asleep n u) h = from_sleep
-may_can f qs t q sees (awaiting cs u e) h = absurd h
-may_can f qs t q sees (at_end u e) h = absurd h
-may_can f qs t q (settles x) to_begin h = absurd h
-may_can f qs t q (settles x) (asking k p) h = absurd h
-may_can f qs t q (settles x) (asleep n u) h = absurd h
-may_can f qs t q (settles x) (awaiting cs u e) h = from_wait
-may_can f qs t q (settles x) (at_end u e) h = absurd h
+pub may_can : (f : Table) (qs : List Started) (now : Now) (q : Started) (w : Wake) (s : Stopped) → MayWake f qs now q w s → CanWake w s
+may_can f qs now q begins to_begin h = from_start
+may_can f qs now q (has_answer a) (asking k p) h = from_asking
+may_can f qs now q is_due (asleep paced n u) h = from_due
+may_can f qs now q sees (asleep paced n u) h = from_sleep
+may_can f qs now q gives_up (giving_up u) h = from_giving_up
+may_can f qs now q (settles x) (awaiting cs u e) h = from_wait
+may_can f qs now q _ _ h = absurd h
 
 -- ---- the run after a turn
 
@@ -199,31 +165,36 @@ picked false true turned_now old new = old
 picked false false turned_now old new = new
 
 -- The run with the turn taken, and what it has at each serial number.
-pub record WentOn (k : Table) (job : Job) (input : List ℕ) (t m s : ℕ) (was : Interleaving k job input t m) (o : Move) (stopped : Stopped) : Type
-    0 where
-  pub is : Interleaving k job input t (m + length o.begun)
-  pub counts : turns_taken is.reached ≡ turns_taken was.reached + 1
-  pub froms : is.froms ≡ froms_after was.froms o.made
-  pub of_task : is.at s ≡ task_after_turn k t m (was.at s) o stopped
-  pub of_child : (i : ℕ) (b : Begun) → slice_get o.begun i ≡ Some b → is.at (m + i) ≡ child_at k t (m + i) b
-  pub of_other : (p : ℕ) → p < m → p ≢ s → is.at p ≡ was.at p
+pub record WentOn
+    (k : Table) (job : Job) (input : List ℕ) (t m s : ℕ) (own : List Label) (was : Interleaving k job input t m) (o : Move)
+    (stopped : Stopped) :
+    Type 0
+  where
+    pub is : Interleaving k job input t (m + length o.begun)
+    pub counts : turns_taken is.reached ≡ turns_taken was.reached + 1
+    pub froms : is.froms ≡ froms_after was.froms o.made
+    pub of_task : is.at s ≡ task_after_turn k (record { at = t; own = own }) m (was.at s) o stopped
+    pub of_child : (i : ℕ) (b : Begun) → slice_get o.begun i ≡ Some b → is.at (m + i) ≡ child_at k (a_round_after (was.at s).here.clock t)
+        (m + i) b
+    pub of_other : (p : ℕ) → p < m → p ≢ s → is.at p ≡ was.at p
 
 -- a turn of a task that may be woken so takes a run on
-pub went_on : (k : Table) (job : Job) (input : List ℕ) (t m s : ℕ) (was : Interleaving k job input t m) (wake : Wake) (o : Move)
-    (stopped : Stopped) → s < m →
-    MayWake was.froms was.tasks t (was.at s) wake (was.at s).rest.stopped →
-    TurnsOver (was.at s).stop t (was.at s).here was.froms wake (was.at s).rest (was.at s).places (was.at s).count o →
+pub went_on : (k : Table) (job : Job) (input : List ℕ) (t m s : ℕ) (own : List Label) (was : Interleaving k job input t m) (wake : Wake)
+    (o : Move) (stopped : Stopped) → s < m →
+    MayWake was.froms was.tasks (record { at = t; own = own }) (was.at s) wake (was.at s).rest.stopped →
+    TurnsOver (was.at s).stop (record { at = t; own = own }) (was.at s).here was.froms wake (was.at s).rest (was.at s).places
+    (was.at s).count o →
     o.stopped ≡ Some stopped →
-    WentOn k job input t m s was o stopped
-went_on k job input t m s was wake o stopped less may goes stops =
+    WentOn k job input t m s own was o stopped
+went_on k job input t m s own was wake o stopped less may goes stops =
     record {
       is =
           record {
             froms = froms_after was.froms o.made;
-            tasks = (task_after_turn k t m q o stopped ∷ children_from k t m o.begun) ++ others;
+            tasks = (task_after_turn k now m q o stopped ∷ children_from k later m o.begun) ++ others;
             reached =
-                turn was.froms t m q was.tasks others wake o stopped was.reached front.front
-                (may_moved was.froms was.tasks (q ∷ others) t q wake q.rest.stopped same.back may) goes stops;
+                turn was.froms now m q was.tasks others wake o stopped was.reached front.front
+                (may_moved was.froms was.tasks (q ∷ others) now q wake q.rest.stopped same.back may) goes stops;
             at = at_after;
             has = has_after;
             one = one_after;
@@ -233,12 +204,18 @@ went_on k job input t m s was wake o stopped less may goes stops =
       counts = refl;
       froms = refl;
       of_task = at_task;
-      of_child = λ i b e. at_child i ∙ nth_at k t m o.begun i (was.at (m + i)) b e;
+      of_child = λ i b e. at_child i ∙ nth_at k later m o.begun i (was.at (m + i)) b e;
       of_other = at_other;
     }
   where
     q : Started
     q = was.at s
+
+    now : Now
+    now = record { at = t; own = own }
+
+    later : ℕ
+    later = a_round_after q.here.clock t
 
     front : Others q was.tasks
     front = front_of q was.tasks (was.has s less).0
@@ -253,33 +230,35 @@ went_on k job input t m s was wake o stopped less may goes stops =
     apart = apart_front q was.tasks others front.front was.differ
 
     at_after : ℕ → Started
-    at_after p = picked (p == s) (nat_lt p m) (task_after_turn k t m q o stopped) (was.at p) (nth_child k t m o.begun (p - m) (was.at p))
+    at_after p = picked (p == s) (nat_lt p m) (task_after_turn k now m q o stopped) (was.at p)
+        (nth_child k later m o.begun (p - m) (was.at p))
 
-    at_task : at_after s ≡ task_after_turn k t m q o stopped
-    at_task = ap (λ (b : Bool). picked b (nat_lt s m) (task_after_turn k t m q o stopped) (was.at s) (nth_child k t m o.begun (s - m) (was.at s)))
+    at_task : at_after s ≡ task_after_turn k now m q o stopped
+    at_task = ap (λ (b : Bool). picked b (nat_lt s m) (task_after_turn k now m q o stopped) (was.at s)
+        (nth_child k later m o.begun (s - m) (was.at s)))
         (eq-eqb s s refl)
 
     at_other : (p : ℕ) → p < m → p ≢ s → at_after p ≡ was.at p
     at_other p lt differs = by_same (p == s) refl (nat_lt p m) refl
       where
         by_same : (b : Bool) → (p == s) ≡ b → (c : Bool) → nat_lt p m ≡ c →
-            picked b c (task_after_turn k t m q o stopped) (was.at p) (nth_child k t m o.begun (p - m) (was.at p)) ≡ was.at p
+            picked b c (task_after_turn k now m q o stopped) (was.at p) (nth_child k later m o.begun (p - m) (was.at p)) ≡ was.at p
         by_same true e c f = absurd (differs (eqb-true p s e))
         by_same false e true f = refl
         by_same false e false f = absurd (grind (arith, nat_tests))
 
-    at_born : (p : ℕ) → m ≤ p → at_after p ≡ nth_child k t m o.begun (p - m) (was.at p)
+    at_born : (p : ℕ) → m ≤ p → at_after p ≡ nth_child k later m o.begun (p - m) (was.at p)
     at_born p le = by_same (p == s) refl (nat_lt p m) refl
       where
         by_same : (b : Bool) → (p == s) ≡ b → (c : Bool) → nat_lt p m ≡ c →
-            picked b c (task_after_turn k t m q o stopped) (was.at p) (nth_child k t m o.begun (p - m) (was.at p))
-            ≡ nth_child k t m o.begun (p - m) (was.at p)
+            picked b c (task_after_turn k now m q o stopped) (was.at p) (nth_child k later m o.begun (p - m) (was.at p))
+            ≡ nth_child k later m o.begun (p - m) (was.at p)
         by_same true e c f = absurd (let g : p ≡ s = eqb-true p s e in omega (arith, g, le, less))
         by_same false e true f = absurd (grind (arith, nat_tests))
         by_same false e false f = refl
 
-    at_child : (i : ℕ) → at_after (m + i) ≡ nth_child k t m o.begun i (was.at (m + i))
-    at_child i = at_born (m + i) (omega arith) ∙ ap (λ (x : ℕ). nth_child k t m o.begun x (was.at (m + i)))
+    at_child : (i : ℕ) → at_after (m + i) ≡ nth_child k later m o.begun i (was.at (m + i))
+    at_child i = at_born (m + i) (omega arith) ∙ ap (λ (x : ℕ). nth_child k later m o.begun x (was.at (m + i)))
         (let e : m + i - m ≡ i = omega arith in e)
 
     has_old : (p : ℕ) → p < m → p ≢ s → In (was.at p) others
@@ -289,12 +268,13 @@ went_on k job input t m s was wake o stopped less may goes stops =
         by_either (inl e) = absurd (differs (sym (was.has p lt).1 ∙ ap (λ (x : Started). x.serial) e ∙ (was.has s less).1))
         by_either (inr i) = i
 
-    has_after : (p : ℕ) → p < m + length o.begun → In (at_after p) ((task_after_turn k t m q o stopped ∷ children_from k t m o.begun) ++ others)
+    has_after : (p : ℕ) → p < m + length o.begun → In (at_after p) ((task_after_turn k now m q o stopped ∷ children_from k later m o.begun)
+        ++ others)
         × ((at_after p).serial ≡ p)
     has_after p lt = by_same (p == s) refl (nat_lt p m) refl
       where
         Has : Started → Type 0
-        Has x = In x ((task_after_turn k t m q o stopped ∷ children_from k t m o.begun) ++ others) × (x.serial ≡ p)
+        Has x = In x ((task_after_turn k now m q o stopped ∷ children_from k later m o.begun) ++ others) × (x.serial ≡ p)
 
         by_same : (b : Bool) → (p == s) ≡ b → (c : Bool) → nat_lt p m ≡ c → Has (at_after p)
         by_same true e c f =
@@ -304,31 +284,32 @@ went_on k job input t m s was wake o stopped less may goes stops =
             let lower : p < m = grind (arith, nat_tests) in
             let differs : p ≢ s = λ g. absurd (let x : true ≡ false = sym (eq-eqb p s g) ∙ e in cc) in
             subst Has (sym (at_other p lower differs)) (
-              in_second (was.at p) (task_after_turn k t m q o stopped ∷ children_from k t m o.begun) others (has_old p lower differs),
+              in_second (was.at p) (task_after_turn k now m q o stopped ∷ children_from k later m o.begun) others (has_old p lower differs),
               (was.has p lower).1,
             )
         by_same false e false f =
             let upper : m ≤ p = grind (arith, nat_tests) in
-            let h = nth_in k t m o.begun (p - m) (was.at p) (omega (arith, lt, upper)) in
+            let h = nth_in k later m o.begun (p - m) (was.at p) (omega (arith, lt, upper)) in
             subst Has (sym (at_born p upper)) (
-              inr (in_first (nth_child k t m o.begun (p - m) (was.at p)) (children_from k t m o.begun) others h.0),
+              inr (in_first (nth_child k later m o.begun (p - m) (was.at p)) (children_from k later m o.begun) others h.0),
               (let e = h.1 in omega (arith, e, upper)),
             )
 
-    one_after : (x : Started) → In x ((task_after_turn k t m q o stopped ∷ children_from k t m o.begun) ++ others) → (x ≡ at_after x.serial)
+    one_after : (x : Started) → In x ((task_after_turn k now m q o stopped ∷ children_from k later m o.begun) ++ others) →
+        (x ≡ at_after x.serial)
         × (x.serial < m + length o.begun)
-    one_after x i = by_part (in_either x (task_after_turn k t m q o stopped ∷ children_from k t m o.begun) others i)
+    one_after x i = by_part (in_either x (task_after_turn k now m q o stopped ∷ children_from k later m o.begun) others i)
       where
-        by_part : In x (task_after_turn k t m q o stopped ∷ children_from k t m o.begun) ⊎ In x others → (x ≡ at_after x.serial)
+        by_part : In x (task_after_turn k now m q o stopped ∷ children_from k later m o.begun) ⊎ In x others → (x ≡ at_after x.serial)
             × (x.serial < m + length o.begun)
         by_part (inl (inl e)) =
             let is_s : x.serial ≡ s = ap (λ (y : Started). y.serial) e ∙ (was.has s less).1 in
             (e ∙ sym at_task ∙ ap at_after (sym is_s), omega (arith, is_s, less))
         by_part (inl (inr j)) =
-            let h = in_nth k t m o.begun (was.at x.serial) x j in
+            let h = in_nth k later m o.begun (was.at x.serial) x j in
             let upper : m ≤ x.serial = (let e = h.serial in omega (arith, e)) in
             let place : h.place ≡ x.serial - m = (let e = h.serial in omega (arith, e)) in (
-              h.is ∙ ap (λ (n : ℕ). nth_child k t m o.begun n (was.at x.serial)) place
+              h.is ∙ ap (λ (n : ℕ). nth_child k later m o.begun n (was.at x.serial)) place
                   ∙ sym (at_born x.serial upper),
               (let e = h.serial in let f = h.below in omega (arith, e, f)),
             )
@@ -337,24 +318,25 @@ went_on k job input t m s was wake o stopped less may goes stops =
             let differs : x.serial ≢ s = λ e. absurd (apart.0 x j (e ∙ sym (was.has s less).1)) in
             (h.0 ∙ sym (at_other x.serial h.1 differs), (let e = h.1 in omega (arith, e)))
 
-    differ_after : AreApart ((task_after_turn k t m q o stopped ∷ children_from k t m o.begun) ++ others)
+    differ_after : AreApart ((task_after_turn k now m q o stopped ∷ children_from k later m o.begun) ++ others)
     differ_after =
-        (by_part, apart_append (children_from k t m o.begun) others (children_apart k t m o.begun) apart.1 later)
+        (by_part, apart_append (children_from k later m o.begun) others (children_apart k later m o.begun) apart.1 after)
       where
-        later : (x y : Started) → In x (children_from k t m o.begun) → In y others → y.serial ≢ x.serial
-        later x y i j e =
-            let h = in_nth k t m o.begun x x i in let g = (was.one y (same.back y (inr j))).1 in let z =
+        after : (x y : Started) → In x (children_from k later m o.begun) → In y others → y.serial ≢ x.serial
+        after x y i j e =
+            let h = in_nth k later m o.begun x x i in let g = (was.one y (same.back y (inr j))).1 in let z =
             h.serial in absurd (omega (arith, e, g, z))
 
-        by_either : (x : Started) → In x (children_from k t m o.begun) ⊎ In x others → x.serial ≢ q.serial
+        by_either : (x : Started) → In x (children_from k later m o.begun) ⊎ In x others → x.serial ≢ q.serial
         by_either x (inl i) e =
-            let h = in_nth k t m o.begun x x i in let g = (was.has s less).1 in let z = h.serial in absurd (omega (arith, e, g, z, less))
+            let h = in_nth k later m o.begun x x i in let g = (was.has s less).1 in let z =
+            h.serial in absurd (omega (arith, e, g, z, less))
         by_either x (inr i) e = apart.0 x i e
 
-        by_part : (x : Started) → In x (children_from k t m o.begun ++ others) → x.serial ≢ q.serial
-        by_part x i = by_either x (in_either x (children_from k t m o.begun) others i)
+        by_part : (x : Started) → In x (children_from k later m o.begun ++ others) → x.serial ≢ q.serial
+        by_part x i = by_either x (in_either x (children_from k later m o.begun) others i)
 
     none_after : (p : ℕ) → m + length o.begun ≤ p → (at_after p).made ≡ []
     none_after p le =
-        ap (λ (x : Started). x.made) (at_born p (omega (arith, le)) ∙ nth_past k t m o.begun (p - m) (was.at p) (omega (arith, le)))
+        ap (λ (x : Started). x.made) (at_born p (omega (arith, le)) ∙ nth_past k later m o.begun (p - m) (was.at p) (omega (arith, le)))
         ∙ was.none p (omega (arith, le))

@@ -1,5 +1,5 @@
 -- A task that may continue, as the code sees it, may be woken so in the run of the definitions.
-use Rattle.std.proofs.Common.{◌≡◌, ◌⊎◌, inl, inr, ◌&&◌, Bool, true, false, ℕ, zero, suc, ◌+◌, ◌<◌, ◌≤◌, max, Option, Some, None, List, [], ◌∷◌, ◌++◌, map, length, refl, ap, sym, ◌∙◌, subst, arith}
+use Rattle.std.proofs.Common.{◌≡◌, ◌⊎◌, inl, inr, ◌&&◌, Bool, true, false, ℕ, zero, suc, ◌<◌, ◌≤◌, max, Option, Some, None, List, [], ◌∷◌, ◌++◌, map, length, refl, ap, sym, ◌∙◌, subst, arith}
 use Rattle.std.specs.Prelude.{IsSome, is_some, slice_get, MatchOption}
 use Rattle.std.specs.List.{list_all}
 use Rattle.buffer_parts.specs.Lines.{Span}
@@ -21,19 +21,18 @@ use Rattle.nursery_book.specs.declared.book.NurseryBook.{NurseryBook}
 use Rattle.job_tree.specs.Tree.{Tree as Job}
 use Rattle.job_tree.specs.Names.{GivesNamesOnce}
 use Rattle.job_tree.specs.Starting.{StartsInNurseries}
-use Rattle.job_meaning.specs.Log.{Member, Result, Table}
-use Rattle.job_meaning.specs.Walk.{with_exc, excs_of, latest}
+use Rattle.job_meaning.specs.Log.{Member, Table}
+use Rattle.job_meaning.specs.Moments.{Clock, a_round_after, wakes_at, Now, only_at}
+use Rattle.job_meaning.specs.Walk.{Here, with_exc, excs_of, latest}
 use Rattle.job_meaning.specs.Asking as ask
-use Rattle.job_meaning.specs.Follow.{follow, IsSettled}
-use Rattle.job_meaning.specs.Rest.{told_members, Stopped, to_begin, asking, asleep, awaiting, at_end}
-use Rattle.turn_semantics.specs.Midway.{Place, stack_at, Begun, Move}
+use Rattle.job_meaning.specs.Follow.{IsSettled}
+use Rattle.job_meaning.specs.Rest.{told_members, Stopped, to_begin, asking, asleep, giving_up, awaiting, at_end}
+use Rattle.turn_semantics.specs.Midway.{Place, stack_at}
 use Rattle.turn_semantics.specs.Placed.{IsAmong}
-use Rattle.turn_semantics.specs.Steps.{froms_after}
-use Rattle.turn_semantics.specs.Turned.{AgreesOn, StopsAt, TurnsOver}
-use Rattle.turn_semantics.specs.Wakes as wakes
+use Rattle.turn_semantics.specs.Turned.{AgreesOn}
 use Rattle.turn_semantics.specs.Wakes.{SettlesAt}
 use Rattle.task_machine.specs.declared.stop.TaskState.{TaskState}
-use Rattle.task_machine.specs.declared.stop.TaskState.TheVariants.{ToBegin, Asked, Asleep, Awaits, Over}
+use Rattle.task_machine.specs.declared.stop.TaskState.TheVariants.{ToBegin, Asked, Asleep, GivingUp, Awaits, Over}
 use Rattle.task_machine.specs.declared.stop.Wake.{Wake}
 use Rattle.task_machine.specs.declared.stop.Wake.TheVariants.{Begin, Due, Seen, Answer, Settled}
 use Rattle.task_machine.specs.declared.task.Own.{Own}
@@ -42,122 +41,63 @@ use Rattle.task_machine.specs.Fitting.{Block, a_scope, a_nursery, blocks_of, IsM
 use Rattle.task_machine.specs.Labels.{Labels}
 use Rattle.task_machine.specs.Left.{keys_of, keys_in}
 use Rattle.task_machine.specs.Stacked.{AreAt}
-use Rattle.task_machine.specs.Standing.{here_of, HasBlock, HasNurseryOf}
+use Rattle.task_machine.specs.Standing.{here_of, HasBlock, HasNurseryOf, now_for}
+use Rattle.task_machine.specs.States.{state_of}
 use Rattle.task_machine.specs.Stops.{kernel_in, IsTaskState}
 use Rattle.task_machine.specs.Tasks.{home_scope, scope_of}
 use Rattle.task_machine.specs.Waking.{WakesFrom, answer_in, raised_in, wake_in}
 use Rattle.task_machine.specs.Worlds.{label_at}
 use Rattle.task_machine.proofs.Stacked.{one_of, seen_at}
-use Rattle.interleavings.specs.Interleaving.{Started, In, Kid, RunInvariant, live, goes_on, AllFrom}
-use Rattle.interleavings.specs.Going.{children_from, task_after_turn}
-use Rattle.interleavings.specs.Runs.{Front, Reached, begun, turn, jump}
+use Rattle.interleavings.specs.Interleaving.{Started, In, RunInvariant, live, goes_on, AllFrom}
+use Rattle.interleavings.specs.Going.{root_result}
 use Rattle.interleavings.specs.Woken.{members_by, WaitIsOver, MayWake}
-use Rattle.interleavings.proofs.Contract.{stops_at}
-use Rattle.interleavings.proofs.Picking.{front_same}
-use Rattle.interleavings.proofs.Readings.{in_either}
 use Rattle.interleavings.proofs.Running.{runs_keep_invariant}
-use Rattle.interleavings.proofs.Waking.{ended_final_result}
-use Rattle.run_refinement.specs.RunState.{RunState, IsMember, HasMembers, Follows, Refines}
+use Rattle.interleavings.proofs.Agreement.{told_tells, told_ended}
+use Rattle.run_refinement.specs.RunState.{RunState, IsMember, HasMembers, IsSince, SomeEnded, LastEnds, Follows, Refines}
 use Rattle.run_refinement.specs.Ready.{IsTimely, MayGo}
 use Rattle.run_refinement.proofs.LabelsApart.{below_of}
 use Rattle.run_refinement.proofs.Parts.{among_got}
 use Rattle.run_refinement.proofs.Found.{gives, puts, finds}
 
--- ---- how the tasks of a run stopped
-
--- a body that ended, and whose task waits, did so by tick t
-abbrev BodyBy : ℕ → Stopped → Type 0
-BodyBy t to_begin = Unit {0}
-BodyBy t (asking kernel purpose) = Unit {0}
-BodyBy t (asleep n since) = Unit {0}
-BodyBy t (awaiting children ended exc) = ended ≤ t
-BodyBy t (at_end u e) = Unit {0}
-
-body_later : (t u : ℕ) (s : Stopped) → t ≤ u → BodyBy t s → BodyBy u s
-body_later t u to_begin le h = tt
-body_later t u (asking kernel purpose) le h = tt
-body_later t u (asleep n since) le h = tt
-body_later t u (awaiting children ended exc) le h = omega (arith, le, h)
-body_later t u (at_end v e) le h = tt
-
-body_at : (t : ℕ) (f : Table) (s : Stopped) (ps : List Place) → StopsAt t f (Some s) ps → BodyBy t s
-body_at t f to_begin ps h = tt
-body_at t f (asking kernel purpose) ps h = tt
-body_at t f (asleep n since) ps h = tt
-body_at t f (awaiting children ended exc) ps h = omega (arith, h)
-body_at t f (at_end u e) ps h = tt
-
--- the last stop of a task, and the end of a body, are no later than tick t
-pub record StoppedBy (t : ℕ) (q : Started) : Type 0 where
-  pub stop : q.stop ≤ t
-  pub body : BodyBy t q.rest.stopped
-
-begun_stopped : (k : Table) (t m : ℕ) (bs : List Begun) (x : Started) → In x (children_from k t m bs) → StoppedBy t x
-unfolding children_from
-begun_stopped k t m [] x i = absurd i
-begun_stopped k t m (b ∷ bs) x (inl e) = subst (StoppedBy t) (sym e) (record { stop = omega arith; body = tt })
-begun_stopped k t m (b ∷ bs) x (inr i) = begun_stopped k t (suc m) bs x i
-
--- after a turn that stopped, each task is stopped by the tick of the turn: the task itself, the children that it started, and
--- the others
-turn_stopped : (k f : Table) (t m : ℕ) (q : Started) (qs others : List Started) (wake : wakes.Wake) (o : Move) (s : Stopped) →
-    Front q qs others →
-    TurnsOver q.stop t q.here f wake q.rest q.places q.count o → o.stopped ≡ Some s → ((z : Started) → In z qs → StoppedBy t z) →
-    (x : Started) → In x ((task_after_turn k t m q o s ∷ children_from k t m o.begun) ++ others) → StoppedBy t x
-turn_stopped k f t m q qs others wake o s at goes e before x (inl g) =
-    subst (StoppedBy t) (sym g) (record {
-      stop = omega arith;
-      body =
-          body_at t (froms_after f o.made) s o.places (stops_at t f wake q o s goes e);
-    })
-turn_stopped k f t m q qs others wake o s at goes e before x (inr i) = by_place (in_either x (children_from k t m o.begun) others i)
-  where
-    by_place : In x (children_from k t m o.begun) ⊎ In x others → StoppedBy t x
-    by_place (inl j) = begun_stopped k t m o.begun x j
-    by_place (inr j) = before x ((front_same q qs others at).back x (inr j))
-
--- each task of a run stopped by the present tick, and the body of a nursery that it waits for ended by then
-pub stopped_by : (k : Table) (job : Job) (input : List ℕ) → {f : Table} {t m : ℕ} {qs : List Started} → Reached k job input f t m qs →
-    (q : Started) → In q qs → StoppedBy t q
-stopped_by k job input (begun f) q (inl e) = subst (StoppedBy 0) (sym e) (record { stop = omega arith; body = tt })
-stopped_by k job input (begun f) q (inr i) = absurd i
-stopped_by k job input (turn f t m q qs others wake o s r at may goes stopped) x i =
-    turn_stopped k f t m q qs others wake o s at goes stopped (λ z j. stopped_by k job input r z j) x i
-stopped_by k job input (jump f t u m qs r le blocked) x i =
-    let h : StoppedBy t x = stopped_by k job input r x i in
-    let a : x.stop ≤ t = h.stop in
-    record { stop = omega (arith, a, le); body = body_later t u x.rest.stopped le h.body }
-
 -- ---- the answer of a kernel
 
 -- an answer of the code is that of the definitions
-answer_is : (kernel : Kernel) (part : Part) (answer : held.Answer) (label : Label) (path : List ℕ) → IsAnswer kernel part answer →
-    answer_in answer ≡ ask.answer_of (kernel_in kernel) (record { input = buffer_of part; part = range_of part; task = label; path = path })
-answer_is (Find needle) part (answers.Lines lines) label path a = ap (λ (ls : List Span). ask.lines ls) a.places
-answer_is (Head count) part (answers.Lines lines) label path a = ap (λ (ls : List Span). ask.lines ls) a.places
-answer_is Longest part (answers.Lines lines) label path a = ap (λ (ls : List Span). ask.lines ls) a.places
-answer_is (Need needle) part (answers.Lines lines) label path a = by_line (needed_in (buffer_of part) needle.now (range_of part)) a
+answer_is : (clock : Clock) (kernel : Kernel) (part : Part) (answer : held.Answer) (label : Label) (path : List ℕ) →
+    IsAnswer kernel part answer →
+    answer_in answer ≡ ask.answer_of (kernel_in kernel) (record {
+      clock = clock;
+      input = buffer_of part;
+      part = range_of part;
+      task =
+          label;
+      path = path;
+    })
+answer_is clock (Find needle) part (answers.Lines lines) label path a = ap (λ (ls : List Span). ask.lines ls) a.places
+answer_is clock (Head count) part (answers.Lines lines) label path a = ap (λ (ls : List Span). ask.lines ls) a.places
+answer_is clock Longest part (answers.Lines lines) label path a = ap (λ (ls : List Span). ask.lines ls) a.places
+answer_is clock (Need needle) part (answers.Lines lines) label path a = by_line (needed_in (buffer_of part) needle.now (range_of part)) a
   where
     by_line : (o : Option Span) → MatchOption o ⊥ (λ l. AreLinesAt (buffer_of part) (l ∷ []) lines) →
         ask.lines (map span_of lines) ≡ ask.one_line o
     by_line None a = absurd a
     by_line (Some l) a = ap (λ (ls : List Span). ask.lines ls) a.places
-answer_is (Need needle) part answers.Missing label path a = sym (ap ask.one_line a)
-answer_is Count part (answers.Count n) label path a = ap (λ (x : ℕ). ask.counted x) a
-answer_is _ part _ label path a = absurd a
+answer_is clock (Need needle) part answers.Missing label path a = sym (ap ask.one_line a)
+answer_is clock Count part (answers.Count n) label path a = ap (λ (x : ℕ). ask.counted x) a
+answer_is clock _ part _ label path a = absurd a
 
 -- ---- the children of a settled nursery
 
 -- how a task ended that has ended
-abbrev member_of : Stopped → Member
+abbrev pub member_of : Stopped → Member
 member_of to_begin = record { end = 0; exc = None }
 member_of (asking kernel purpose) = record { end = 0; exc = None }
-member_of (asleep n since) = record { end = 0; exc = None }
+member_of (asleep paced n since) = record { end = 0; exc = None }
+member_of (giving_up since) = record { end = 0; exc = None }
 member_of (awaiting children ended exc) = record { end = 0; exc = None }
 member_of (at_end u e) = record { end = u; exc = e }
 
--- at a place of a nursery is recorded how the task with a serial number ended, by tick t
-abbrev EndsAs : (ℕ → Started) → ℕ → ℕ → Option End → Type 0
+-- at a place of a nursery is recorded how the task with a serial number ended, by moment t
+abbrev pub EndsAs : (ℕ → Started) → ℕ → ℕ → Option End → Type 0
 EndsAs at t serial None = ⊥
 EndsAs at t serial (Some None) = Unit {0}
 EndsAs at t serial (Some (Some exc)) = (u : ℕ) × (u ≤ t) × ((at serial).rest.stopped ≡ at_end u exc)
@@ -166,10 +106,10 @@ ends_as : (state : RunState) (at : ℕ → Started) (t id place serial : ℕ) (e
     EndsAs at t serial end
 ends_as state at t id place serial None h = h
 ends_as state at t id place serial (Some None) h = tt
-ends_as state at t id place serial (Some (Some exc)) h = (h.0.end, h.2, h.3)
+ends_as state at t id place serial (Some (Some exc)) h = (h.1, h.3, h.4)
 
 -- all children have ended so
-abbrev AllEnded : (ℕ → Started) → ℕ → (ℕ → ℕ) → List ℕ → List End → Type 0
+abbrev pub AllEnded : (ℕ → Started) → ℕ → (ℕ → ℕ) → List ℕ → List End → Type 0
 AllEnded at t child [] [] = Unit {0}
 AllEnded at t child [] (e ∷ es) = ⊥
 AllEnded at t child (i ∷ is) [] = ⊥
@@ -194,7 +134,7 @@ same_with (Some e) es = refl
 
 module _ (at : ℕ → Started) (t : ℕ) (child : ℕ → ℕ) where
   -- how the child of each number ended
-  abbrev ends : ℕ → Member
+  abbrev pub ends : ℕ → Member
   ends i = member_of (at (child i)).rest.stopped
 
   ended_so : (is : List ℕ) (es : List End) → AllEnded at t child is es → (i : ℕ) → IsAmong i is →
@@ -225,19 +165,23 @@ module _ (at : ℕ → Started) (t : ℕ) (child : ℕ → ℕ) where
       let b : h.0.0 ≤ t = h.0.1 in
       ends_by is es h.1 (max u (ends i).end) (omega arith)
 
--- what is recorded of children that have ended is how they ended
-latest_told : (k f : Table) (whole : Result) (qs : List Started) → RunInvariant k f whole qs → (q : Started) → In q qs →
-    (ends : ℕ → Member) (is : List ℕ) →
-    ((n : ℕ) → IsAmong n is → n < q.count) → ((n : ℕ) → IsAmong n is → (c : Started) → In c qs → c.serial ≡ q.child n →
-    c.rest.stopped ≡ at_end (ends n).end (ends n).exc) →
-    (u : ℕ) → latest u (told_members q.told is) ≡ latest u (members_by ends is)
-latest_told k f whole qs o q i ends [] below over u = refl
-latest_told k f whole qs o q i ends (n ∷ is) below over u =
-    let c : Kid qs q n = o.kids q i n (below n (inl refl)) in
-    let a : (c.kid.final_result.end ≡ (ends n).end) × (c.kid.final_result.exc ≡ (ends n).exc) =
-    ended_final_result k c.kid (o.fits c.kid c.among) (ends n).end (ends n).exc (over n (inl refl) c.kid c.among c.serial) in
-    ap (λ (v : ℕ). latest (max u v) (told_members q.told is)) (sym (ap (λ (r : Result). r.end) c.same) ∙ a.0)
-    ∙ latest_told k f whole qs o q i ends is (λ m x. below m (inr x)) (λ m x. over m (inr x)) (max u (ends n).end)
+-- the last of some members ended no earlier than any of them
+latest_of : (u : ℕ) (ms : List Member) → u ≤ latest u ms
+latest_of u [] = omega arith
+latest_of u (m ∷ ms) = let h = latest_of (max u m.end) ms in omega (arith, h)
+
+latest_among : (ends : ℕ → Member) (u : ℕ) (is : List ℕ) (i : ℕ) → IsAmong i is → (ends i).end ≤ latest u (members_by ends is)
+latest_among ends u [] i among = absurd among
+latest_among ends u (j ∷ is) i (inl e) =
+    let a = latest_of (max u (ends j).end) (members_by ends is) in
+    let b : (ends i).end ≡ (ends j).end = ap (λ (n : ℕ). (ends n).end) e in
+    omega (arith, a, b)
+latest_among ends u (j ∷ is) i (inr among) = latest_among ends (max u (ends j).end) is i among
+
+among_got_at : (i : ℕ) (is : List ℕ) (place : ℕ) → slice_get is place ≡ Some i → IsAmong i is
+among_got_at i [] place e = absurd (let f : None ≡ Some i = e in cc)
+among_got_at i (j ∷ is) zero e = inl (let f : Some j ≡ Some i = e in cc)
+among_got_at i (j ∷ is) (suc place) e = inr (among_got_at i is place e)
 
 -- ---- the scope of a nursery that is waited for
 
@@ -287,38 +231,116 @@ block_body labels book (a_nursery key ∷ bs) (o ∷ own) waits id h (inl e) =
     subst (λ (x : ℕ). HasNursery book x (λ n. n.body ≡ None)) (sym e) (puts book key n.0 (λ n. n.body ≡ None) n.1 n.2.1)
 block_body labels book (a_nursery key ∷ bs) (o ∷ own) waits id h (inr has) = block_body labels book bs own waits id h.2 has
 
-running_body : (n : Nursery) → n.body ≡ None → is_settled n ≡ true → ⊥
-running_body n e s = let f : false ≡ true = sym (ap (λ (b : End). is_some b && list_all is_some n.children) e) ∙ s in cc
-
-settled_children : (n : Nursery) → is_settled n ≡ true → list_all is_some n.children ≡ true
+-- each child of a settled nursery has ended
+pub settled_children : (n : Nursery) → is_settled n ≡ true → list_all is_some n.children ≡ true
 settled_children n s = by_body (is_some n.body) s
   where
     by_body : (b : Bool) → (b && list_all is_some n.children) ≡ true → list_all is_some n.children ≡ true
     by_body true e = e
     by_body false e = absurd (let f : false ≡ true = e in cc)
 
--- a nursery of a task that is settled is the one for which the task waits
-pub settled_waits : (k : Table) (job : Job) (input : List ℕ) (t m : ℕ) (state : RunState) → Refines k job input t m None state →
-    (s : ℕ) (a : Task) (id : ℕ) → state.task s ≡ Some a →
-    HasNurseryOf id (blocks_of a.frames.items) (waits_of a.task_state) → HasNursery state.world.book id (λ n. is_settled n ≡ true) →
+-- a nursery of a task whose body has ended is the one for which the task waits
+pub ended_waits : (k : Table) (job : Job) (input : List ℕ) (t m : ℕ) (leaving : Option ℕ) (state : RunState) →
+    Refines k job input t m leaving state → (s : ℕ) (a : Task) (id : ℕ) → state.task s ≡ Some a →
+    HasNurseryOf id (blocks_of a.frames.items) (waits_of a.task_state) → HasNursery state.world.book id (λ n. is_some n.body ≡ true) →
     waits_of a.task_state ≡ Some id
-settled_waits k job input t m state c s a id e (inl has) over =
+ended_waits k job input t m leaving state c s a id e (inl has) over =
     let book = state.world.book in
-    let n = finds book id (λ n. is_settled n ≡ true) over in
+    let n = finds book id (λ n. is_some n.body ≡ true) over in
     let body = gives book id n.0 (λ n. n.body ≡ None) n.1
     (block_body (label_at state.world) book (blocks_of a.frames.items) a.own.items (waits_of a.task_state) id (c.follows s a e).goes.opened has) in
-    absurd (running_body n.0 body n.2)
-settled_waits k job input t m state c s a id e (inr waits) over = waits
+    absurd (let f : false ≡ true = sym (ap (λ (b : End). is_some b) body) ∙ n.2 in cc)
+ended_waits k job input t m leaving state c s a id e (inr waits) over = waits
+
+-- ---- the members of a settled nursery
+
+-- How the members of the nursery ended that a task of the definitions waits for, and when the last of them did.
+pub record Waited (at : ℕ → Started) (qs : List Started) (q : Started) (children : List ℕ) (ended : ℕ) (n : Nursery) : Type 0 where
+  pub found : AllEnded at n.last q.child children n.children
+  pub numbers : (i : ℕ) → IsAmong i children → i < q.count
+  pub over : (i : ℕ) → IsAmong i children → (x : Started) → In x qs → x.serial ≡ q.child i →
+      x.rest.stopped ≡ at_end (ends at n.last q.child i).end (ends at n.last q.child i).exc
+  pub last : latest ended (members_by (ends at n.last q.child) children) ≡ n.last
+
+pub waited : (k : Table) (job : Job) (input : List ℕ) (t m : ℕ) (state : RunState) → (c : Refines k job input t m None state) →
+    (s : ℕ) (task : Task) → state.task s ≡ Some task →
+    (id since u : ℕ) (children : List ℕ) → task.task_state ≡ Awaits id since → c.numbers s id ≡ children → since ≡ u →
+    (n : Nursery) → nursery_at state.world.book id ≡ Some n → is_settled n ≡ true →
+    Waited c.interleaving.at c.interleaving.tasks (c.interleaving.at s) children u n
+waited k job input t m state c s task lives id since u children task_state numbers same n is over =
+    record { found = has_ended; numbers = is_child; over = child_over; last = last }
+  where
+    q : Started
+    q = c.interleaving.at s
+
+    at : ℕ → Started
+    at = c.interleaving.at
+
+    qs : List Started
+    qs = c.interleaving.tasks
+
+    book : NurseryBook
+    book = state.world.book
+
+    it : Follows state c.interleaving.froms input t at c.numbers None s task
+    it = c.follows s task lives
+
+    has : HasMembers state at t (c.numbers s) q id n
+    has = gives book id n (λ n. HasMembers state at t (c.numbers s) q id n) is (it.nurseries id (inr (ap waits_of task_state)))
+
+    when : (since ≤ n.last) × ((since ≡ n.last) ⊎ SomeEnded at (c.numbers s) q id n.last)
+    when =
+        gives book id n (λ n. (since ≤ n.last) × ((since ≡ n.last) ⊎ SomeEnded at (c.numbers s) q id n.last)) is
+        (subst (LastEnds at (c.numbers s) q book) task_state it.last)
+
+    has_ended : AllEnded at n.last q.child children n.children
+    has_ended =
+        subst (λ (is : List ℕ). AllEnded at n.last q.child is n.children) numbers
+        (all_ended at n.last q.child (c.numbers s id) n.children has.long (settled_children n over)
+        (λ place number e. ends_as state at n.last id place (q.child number) (slice_get n.children place) (has.members place number e).1))
+
+    is_child : (i : ℕ) → IsAmong i children → i < q.count
+    is_child i among =
+        let g = among_got i (c.numbers s id) (subst (IsAmong i) (sym numbers) among) in
+        (has.members g.0 i g.1).0
+
+    child_over : (i : ℕ) → IsAmong i children → (x : Started) → In x qs → x.serial ≡ q.child i →
+        x.rest.stopped ≡ at_end (ends at n.last q.child i).end (ends at n.last q.child i).exc
+    child_over i among x j e =
+        ap (λ (y : Started). y.rest.stopped) ((c.interleaving.one x j).0 ∙ ap at e)
+        ∙ ended_so at n.last q.child children n.children has_ended i among
+
+    no_later : latest u (members_by (ends at n.last q.child) children) ≤ n.last
+    no_later =
+        ends_by at n.last q.child children n.children has_ended u
+        (let a : since ≤ n.last = when.0 in omega (arith, a, same))
+
+    no_earlier : (since ≡ n.last) ⊎ SomeEnded at (c.numbers s) q id n.last →
+        n.last ≤ latest u (members_by (ends at n.last q.child) children)
+    no_earlier (inl now) = let a = latest_of u (members_by (ends at n.last q.child) children) in omega (arith, a, now, same)
+    no_earlier (inr x) =
+        let among : IsAmong x.number children =
+        subst (IsAmong x.number) numbers (among_got_at x.number (c.numbers s id) x.place x.is) in
+        let a = latest_among (ends at n.last q.child) u children x.number among in
+        let b : (ends at n.last q.child x.number).end ≡ n.last = ap (λ (y : Stopped). (member_of y).end) x.ended in
+        omega (arith, a, b)
+
+    last : latest u (members_by (ends at n.last q.child) children) ≡ n.last
+    last = let a = no_later in let b = no_earlier when.1 in omega (arith, a, b)
 
 -- ---- continuing
+
+same_now : (x : Now) (t : ℕ) (own : List Label) → x.at ≡ t → x.own ≡ own → x ≡ record { at = t; own = own }
+same_now x t own e f = λ i. record { at = e i; own = f i }
 
 -- a task that may continue by what the code sees may be woken so in the run of the definitions
 pub may_wake : (k : Table) (job : Job) (input : List ℕ) (t m : ℕ) (state : RunState) → IsSettled k job input → GivesNamesOnce job →
     StartsInNurseries job →
     (c : Refines k job input t m None state) → (s : ℕ) (task : Task) → state.task s ≡ Some task → (wake : Wake) → MayGo state.world task wake →
-    MayWake c.interleaving.froms c.interleaving.tasks t (c.interleaving.at s) (wake_in state.world.book task.task_state wake) (c.interleaving.at s).rest.stopped
+    MayWake c.interleaving.froms c.interleaving.tasks (record { at = t; own = (now_for wake (state_of task state.world)).own })
+    (c.interleaving.at s) (wake_in state.world.book task.task_state wake) (c.interleaving.at s).rest.stopped
 may_wake k job input t m state settled names starting c s task lives wake may =
-    by_stop task.task_state q.rest.stopped refl it.task_state (on.1 q there) by_now.body may.fits may.timely
+    by_stop task.task_state q.rest.stopped refl it.task_state it.since (on.1 q there) may.fits may.timely
   where
     q : Started
     q = c.interleaving.at s
@@ -338,102 +360,109 @@ may_wake k job input t m state settled names starting c s task lives wake may =
     it : Follows state f input t c.interleaving.at c.numbers None s task
     it = c.follows s task lives
 
+    clock : state.world.clock ≡ q.here.clock
+    clock = ap (λ (h : Here). h.clock) it.here
+
     there : In q qs
     there = (c.interleaving.has s (below_of c s task lives)).0
 
-    on : RunInvariant k f (follow k job input) qs × AllFrom k qs t × ((x : Started) → In x qs → AgreesOn t k f x.places)
+    on : RunInvariant k f (root_result k job input) qs × AllFrom k qs t × ((x : Started) → In x qs → AgreesOn t k f x.places)
     on = runs_keep_invariant k job input settled names starting f t m qs c.interleaving.reached
-
-    by_now : StoppedBy t q
-    by_now = stopped_by k job input c.interleaving.reached q there
 
     stack : Stack
     stack = outer_of state.world.scopes (scope_of task)
 
-    -- a task that begins or has an answer does so in the tick of its stop
-    now : t ≤ q.stop → q.stop ≡ t
-    now le = let h : q.stop ≤ t = by_now.stop in omega (arith, le, h)
+    now : Wake → Now
+    now w = record { at = t; own = (now_for w (state_of task state.world)).own }
 
-    begins_now : (w : Wake) → WakesFrom ToBegin task.part book w → q.stop ≡ t → MayWake f qs t q (wake_in book ToBegin w) to_begin
-    begins_now Begin h e = e
-    begins_now _ h e = absurd h
+    begins_now : (w : Wake) (at : ℕ) → WakesFrom (ToBegin at) task.part book w → q.stop ≡ only_at at → at ≡ state.world.tick →
+        MayWake f qs (now w) q (wake_in book (ToBegin at) w) to_begin
+    begins_now Begin at h e timely = e ∙ ap only_at (timely ∙ c.tick)
+    begins_now Due at h e timely = e ∙ ap only_at (timely ∙ c.tick)
+    begins_now _ at h e timely = absurd h
 
     answers_now : (w : Wake) (kernel : Kernel) (purpose : _) (asked : ask.Kernel) (p : ask.Purpose) → kernel_in kernel ≡ asked →
-        WakesFrom (Asked kernel purpose) task.part book w → q.stop ≡ t →
-        MayWake f qs t q (wake_in book (Asked kernel purpose) w) (asking asked p)
-    answers_now (Answer answer) kernel purpose asked p same h e = (
-      e,
-      answer_is kernel task.part answer task.label task.label.indices h ∙ ap (λ (x : ask.Kernel). ask.answer_of x (here_of task)) same
+        WakesFrom (Asked kernel purpose) task.part book w → (q.stop.at ≤ t) × (q.stop.own ≡ task.cancelled.items) → t ≤ q.stop.at →
+        MayWake f qs (now w) q (wake_in book (Asked kernel purpose) w) (asking asked p)
+    answers_now (Answer answer) kernel purpose asked p same h since late = (
+      same_now q.stop t task.cancelled.items (let le = since.0 in omega (arith, le, late)) since.1,
+      answer_is state.world.clock kernel task.part answer task.label task.label.indices h
+          ∙ ap (λ (x : ask.Kernel). ask.answer_of x (here_of state.world.clock task)) same
           ∙ ap (ask.answer_of asked) it.here,
     )
-    answers_now _ kernel purpose asked p same h e = absurd h
+    answers_now _ kernel purpose asked p same h since late = absurd h
 
     -- the same is seen in the world and in the froms
     same_seen : (b : Bool) → seen stack state.world.tick ≡ b → seen (stack_at f q.places) t ≡ b
     same_seen b e = sym (seen_at labels f stack q.places t it.stands.places) ∙ ap (λ (v : ℕ). seen stack v) (sym c.tick) ∙ e
 
-    sleeps_now : (w : Wake) (ticks since n u : ℕ) → ticks ≡ n → since ≡ u → WakesFrom (Asleep ticks since) task.part book w →
-        IsTimely state.world (scope_of task) (Asleep ticks since) w →
-        MayWake f qs t q (wake_in book (Asleep ticks since) w) (asleep n u)
-    sleeps_now Due ticks since n u e g h timely = (
-      let a : since + ticks ≡ state.world.tick = timely.0 in let b : state.world.tick ≡ t = c.tick in
-          omega (arith, a, b, e, g),
+    sleeps_now : (w : Wake) (paced : Bool) (ticks since : ℕ) (p : Bool) (n u : ℕ) → ticks ≡ n → since ≡ u →
+        WakesFrom (Asleep paced ticks since) task.part book w →
+        IsTimely state.world (scope_of task) (Asleep paced ticks since) w →
+        MayWake f qs (now w) q (wake_in book (Asleep paced ticks since) w) (asleep p n u)
+    sleeps_now Due paced ticks since p n u e g h timely = (
+      ap (λ (x : Clock). wakes_at x n u) (sym clock) ∙ ap (λ (v : ℕ). wakes_at state.world.clock v u) (sym e)
+          ∙ ap (wakes_at state.world.clock ticks) (sym g) ∙ timely.0 ∙ c.tick,
       same_seen false timely.1,
+      refl,
     )
-    sleeps_now Seen ticks since n u e g h timely = (
+    sleeps_now Seen paced ticks since p n u e g h timely = (
       let a : since < state.world.tick = timely.0 in let b : state.world.tick ≡ t = c.tick in
           omega (arith, a, b, g),
       same_seen true timely.1,
+      refl,
     )
-    sleeps_now _ ticks since n u e g h timely = absurd h
+    sleeps_now _ paced ticks since p n u e g h timely = absurd h
+
+    gives_up_now : (w : Wake) (since u : ℕ) → since ≡ u → WakesFrom (GivingUp since) task.part book w → suc since ≡ state.world.tick →
+        MayWake f qs (now w) q (wake_in book (GivingUp since) w) (giving_up u)
+    gives_up_now Due since u e h timely = (ap suc (sym e) ∙ timely ∙ c.tick, refl)
+    gives_up_now _ since u e h timely = absurd h
 
     -- a nursery that is waited for is over when it is settled
     over_now : (id since u : ℕ) (children : List ℕ) (exc : Option Exc) → task.task_state ≡ Awaits id since → c.numbers s id ≡ children →
-        HasNursery book id (λ n. n.body ≡ Some exc) →
-        t ≤ latest u (told_members q.told children) → u ≤ t → HasNursery book id (λ n. is_settled n ≡ true) →
+        since ≡ u → HasNursery book id (λ n. n.body ≡ Some exc) →
+        t ≤ a_round_after q.here.clock (latest u (told_members q.told children)) → HasNursery book id (λ n. is_settled n ≡ true) →
+        HasNursery book id (λ n. a_round_after state.world.clock n.last ≤ state.world.tick) →
         WaitIsOver qs q t children u exc (raised_in (nursery_at book id))
-    over_now id since u children exc task_state numbers body late ended over =
+    over_now id since u children exc task_state numbers same body late over timely =
         record {
           ends = found;
-          numbers = is_child;
-          over = child_over;
-          settled = subst (SettlesAt t (raised_in (nursery_at book id)) (members_by found children) u exc) (sym first.2) (ends_now, raises);
+          numbers = w.numbers;
+          over = w.over;
+          settled = subst (SettlesAt q.here.clock t (raised_in (nursery_at book id)) (members_by found children) u exc) (sym first.2)
+              (ends_now, raises);
         }
       where
         waits : waits_of task.task_state ≡ Some id
         waits = ap waits_of task_state
 
-        n : (n : Nursery) × (nursery_at book id ≡ Some n) × HasMembers state c.interleaving.at t (c.numbers s) q id n
-        n = finds book id (λ n. HasMembers state c.interleaving.at t (c.numbers s) q id n) (it.nurseries id (inr waits))
+        n : (n : Nursery) × (nursery_at book id ≡ Some n) × (is_settled n ≡ true)
+        n = finds book id (λ n. is_settled n ≡ true) over
+
+        w : Waited c.interleaving.at qs q children u n.0
+        w = waited k job input t m state c s task lives id since u children task_state numbers same n.0 n.1 n.2
 
         found : ℕ → Member
-        found i = ends c.interleaving.at t q.child i
+        found i = ends c.interleaving.at n.0.last q.child i
 
-        has_ended : AllEnded c.interleaving.at t q.child children n.0.children
-        has_ended =
-            subst (λ (is : List ℕ). AllEnded c.interleaving.at t q.child is n.0.children) numbers
-            (all_ended c.interleaving.at t q.child (c.numbers s id) n.0.children n.2.long
-            (settled_children n.0 (gives book id n.0 (λ n. is_settled n ≡ true) n.1 over))
-            (λ place number e. ends_as state c.interleaving.at t id place (q.child number) (slice_get n.0.children place)
-            (n.2.members place number e).1))
-
-        is_child : (i : ℕ) → IsAmong i children → i < q.count
-        is_child i among =
-            let g = among_got i (c.numbers s id) (subst (IsAmong i) (sym numbers) among) in
-            (n.2.members g.0 i g.1).0
-
-        child_over : (i : ℕ) → IsAmong i children → (x : Started) → In x qs → x.serial ≡ q.child i →
-            x.rest.stopped ≡ at_end (found i).end (found i).exc
-        child_over i among x j e =
-            ap (λ (y : Started). y.rest.stopped) ((c.interleaving.one x j).0 ∙ ap c.interleaving.at e)
-            ∙ ended_so c.interleaving.at t q.child children n.0.children has_ended i among
-
-        ends_now : latest u (members_by found children) ≡ t
+        ends_now : a_round_after q.here.clock (latest u (members_by found children)) ≡ t
         ends_now =
-            let a : latest u (members_by found children) ≤ t = ends_by c.interleaving.at t q.child children n.0.children has_ended u ended in
-            let b : latest u (told_members q.told children) ≡ latest u (members_by found children) =
-            latest_told k f (follow k job input) qs on.0 q there found children is_child child_over u in
-            omega (arith, a, b, late)
+            let a : a_round_after state.world.clock n.0.last ≤ state.world.tick =
+            gives book id n.0 (λ n. a_round_after state.world.clock n.last ≤ state.world.tick) n.1 timely in
+            let b : a_round_after q.here.clock (latest u (members_by found children)) ≡ a_round_after state.world.clock n.0.last =
+            ap (a_round_after q.here.clock) w.last ∙ ap (λ (x : Clock). a_round_after x n.0.last) (sym clock) in
+            let told : latest u (told_members q.told children) ≡ latest u (members_by found children) =
+            ap (latest u)
+            (told_ended k f (root_result k job input) qs on.0 q there q.told (told_tells q) found children w.numbers w.over) in
+            let d : t ≤ a_round_after q.here.clock (latest u (members_by found children)) =
+            subst (λ (v : ℕ). t ≤ a_round_after q.here.clock v) told late in
+            let e : state.world.tick ≡ t = c.tick in
+            same_moment (a_round_after q.here.clock (latest u (members_by found children))) (a_round_after state.world.clock n.0.last)
+            state.world.tick t b a e d
+          where
+            same_moment : (x y tick t : ℕ) → x ≡ y → y ≤ tick → tick ≡ t → t ≤ x → x ≡ t
+            same_moment x y tick t b a e d = omega (arith, a, b, d, e)
 
         last : Awaited labels book task.own.items id
         last = awaited labels book (blocks_of task.frames.items) task.own.items id
@@ -456,29 +485,35 @@ may_wake k job input t m state settled names starting c s task lives wake may =
         raises =
             ap (λ (l : Label). group_of (by_nursery l) (parts_of (with_exc exc (excs_of (members_by found children))))) first.3
             ∙ ap (λ (es : List Exc). group_of (by_nursery n.0.label) (parts_of (with_exc exc es)))
-            (sym (same_excs c.interleaving.at t q.child children n.0.children has_ended))
+            (sym (same_excs c.interleaving.at n.0.last q.child children n.0.children w.found))
             ∙ ap (λ (es : List Exc). group_of (by_nursery n.0.label) (parts_of es)) (sym (same_with exc (excs_in n.0.children)))
             ∙ ap (λ (b : End). group_of (by_nursery n.0.label) (parts_of (nursery.with_exc b (excs_in n.0.children))))
             (sym (gives book id n.0 (λ n. n.body ≡ Some exc) n.1 body))
             ∙ sym (ap raised_in n.1)
 
     settles_now : (w : Wake) (id since u : ℕ) (children : List ℕ) (exc : Option Exc) → task.task_state ≡ Awaits id since →
-        c.numbers s id ≡ children → HasNursery book id (λ n. n.body ≡ Some exc) →
-        t ≤ latest u (told_members q.told children) → u ≤ t → WakesFrom (Awaits id since) task.part book w →
-        MayWake f qs t q (wake_in book (Awaits id since) w) (awaiting children u exc)
-    settles_now Settled id since u children exc task_state numbers body late ended h =
-        over_now id since u children exc task_state numbers body late ended h
-    settles_now _ id since u children exc task_state numbers body late ended h = absurd h
+        c.numbers s id ≡ children → since ≡ u → HasNursery book id (λ n. n.body ≡ Some exc) →
+        t ≤ a_round_after q.here.clock (latest u (told_members q.told children)) → WakesFrom (Awaits id since) task.part book w →
+        HasNursery book id (λ n. a_round_after state.world.clock n.last ≤ state.world.tick) →
+        MayWake f qs (now w) q (wake_in book (Awaits id since) w) (awaiting children u exc)
+    settles_now Settled id since u children exc task_state numbers same body late h timely =
+        (over_now id since u children exc task_state numbers same body late h timely, refl)
+    settles_now Due id since u children exc task_state numbers same body late h timely =
+        (over_now id since u children exc task_state numbers same body late h timely, refl)
+    settles_now _ id since u children exc task_state numbers same body late h timely = absurd h
 
     by_stop : (task_state : TaskState) (stopped : Stopped) → task.task_state ≡ task_state → IsTaskState (c.numbers s) book task_state stopped →
-        (live stopped ≡ true → t ≤ goes_on q.told stopped (stack_at k q.places) q.stop) → BodyBy t stopped →
+        IsSince t task.cancelled.items task_state q.stop →
+        (live stopped ≡ true → t ≤ goes_on q.here.clock q.told stopped (stack_at k q.places) q.stop.at) →
         WakesFrom task_state task.part book wake → IsTimely state.world (scope_of task) task_state wake →
-        MayWake f qs t q (wake_in book task_state wake) stopped
-    by_stop ToBegin to_begin e h late body fits timely = begins_now wake fits (now (late refl))
-    by_stop (Asked kernel purpose) (asking asked p) e h late body fits timely =
-        answers_now wake kernel purpose asked p h.0 fits (now (late refl))
-    by_stop (Asleep ticks since) (asleep n u) e h late body fits timely = sleeps_now wake ticks since n u h.0 h.1 fits timely
-    by_stop (Awaits id since) (awaiting children u exc) e h late body fits timely =
-        settles_now wake id since u children exc e h.0 h.2 (late refl) body fits
-    by_stop Over (at_end u x) e h late body fits timely = absurd fits
-    by_stop _ _ e h late body fits timely = absurd h
+        MayWake f qs (now wake) q (wake_in book task_state wake) stopped
+    by_stop (ToBegin at) to_begin e h since late fits timely = begins_now wake at fits since timely
+    by_stop (Asked kernel purpose) (asking asked p) e h since late fits timely =
+        answers_now wake kernel purpose asked p h.0 fits since (late refl)
+    by_stop (Asleep paced ticks since) (asleep p n u) e h stop late fits timely =
+        sleeps_now wake paced ticks since p n u h.1 h.2 fits timely
+    by_stop (GivingUp since) (giving_up u) e h stop late fits timely = gives_up_now wake since u h fits timely
+    by_stop (Awaits id since) (awaiting children u exc) e h stop late fits timely =
+        settles_now wake id since u children exc e h.0 h.1 h.2 (late refl) fits timely
+    by_stop Over (at_end u x) e h since late fits timely = absurd fits
+    by_stop _ _ e h since late fits timely = absurd h

@@ -4,7 +4,7 @@ use Rattle.std.specs.Option.{unwrap_or}
 use Rattle.cancel_scopes.specs.Sight.{Level}
 use Rattle.cancel_scopes.specs.Tree.{Stack, Tree, stack_of, outer_of, IsChain}
 use Rattle.job_meaning.specs.Log.{Table}
-use Rattle.job_meaning.specs.Rest.{Frame, steps_left, in_scope, in_nursery, in_repeat, in_try, in_handler, in_cleanup, Stopped, to_begin, asking, asleep, awaiting, at_end}
+use Rattle.job_meaning.specs.Rest.{Frame, steps_left, in_scope, in_nursery, in_repeat, in_try, in_handler, in_cleanup, Stopped, to_begin, asking, asleep, giving_up, awaiting, at_end}
 use Rattle.turn_semantics.specs.Midway.{Place}
 use Rattle.turn_semantics.specs.Placed.{IsAmong, HasChild, HasChildAfter}
 use Rattle.task_machine.specs.Labels.{Labels}
@@ -97,7 +97,9 @@ home_waiting P now labels froms number home id fs (l ∷ st) [] stopped w k a h 
 home_waiting P now labels froms number home id fs (l ∷ st) (p ∷ ps) to_begin w k a h = absurd (let e : Some id ≡ None = w in cc)
 home_waiting P now labels froms number home id fs (l ∷ st) (p ∷ ps) (asking kernel purpose) w k a h =
     absurd (let e : Some id ≡ None = w in cc)
-home_waiting P now labels froms number home id fs (l ∷ st) (p ∷ ps) (asleep n since) w k a h = absurd (let e : Some id ≡ None = w in cc)
+home_waiting P now labels froms number home id fs (l ∷ st) (p ∷ ps) (asleep paced n since) w k a h =
+    absurd (let e : Some id ≡ None = w in cc)
+home_waiting P now labels froms number home id fs (l ∷ st) (p ∷ ps) (giving_up since) w k a h = absurd (let e : Some id ≡ None = w in cc)
 home_waiting P now labels froms number home id fs (l ∷ st) (p ∷ ps) (awaiting children ended exc) w k a (inl h) =
     let same : id ≡ w.0 = (let e : Some id ≡ Some w.0 = w.1 in cc) in
     home_first id l st p ps (subst (λ (key : ℕ). IsAmong number (now key)) (sym same) (subst (IsAmong number) (sym w.2) h.0)) k.0 a h.1
@@ -117,8 +119,11 @@ home_there P now labels froms number home None fs st ps to_begin w k a (inr h) =
 home_there P now labels froms number home None fs st ps (asking kernel purpose) w k a (inl h) = absurd h
 home_there P now labels froms number home None fs st ps (asking kernel purpose) w k a (inr h) =
     home_in P now labels froms number home fs st ps k a h
-home_there P now labels froms number home None fs st ps (asleep n since) w k a (inl h) = absurd h
-home_there P now labels froms number home None fs st ps (asleep n since) w k a (inr h) =
+home_there P now labels froms number home None fs st ps (asleep paced n since) w k a (inl h) = absurd h
+home_there P now labels froms number home None fs st ps (asleep paced n since) w k a (inr h) =
+    home_in P now labels froms number home fs st ps k a h
+home_there P now labels froms number home None fs st ps (giving_up since) w k a (inl h) = absurd h
+home_there P now labels froms number home None fs st ps (giving_up since) w k a (inr h) =
     home_in P now labels froms number home fs st ps k a h
 home_there P now labels froms number home None fs st ps (awaiting children ended exc) w k a h = absurd (let e : None ≡ Some w.0 = w.1 in cc)
 home_there P now labels froms number home None fs st ps (at_end u e) w k a (inl h) = absurd h

@@ -7,11 +7,12 @@ use Rattle.cancel_scopes.specs.Sight.{seen}
 use Rattle.job_tree.specs.Tree.{Step, sleep, checkpoint, forever, pace, find, head, longest, need, raise, cancel, scope, nursery, start, repeat, attempt, Steps, stop, step, Handled, unhandled, except, Cleaned, uncleaned, finally}
 use Rattle.job_meaning.specs.Asking.{Answer, lines, missing, counted, shows, needs, paces}
 use Rattle.job_meaning.specs.Log.{Table}
-use Rattle.job_meaning.specs.Walk.{Here, far, pace_ticks}
-use Rattle.job_meaning.specs.Rest.{Frame, steps_left, in_scope, in_nursery, in_repeat, in_try, in_handler, in_cleanup, Stopped, to_begin, asking, asleep, awaiting, at_end, inside}
-use Rattle.turn_semantics.specs.Midway.{Place, stack_at, Midway, Begun, Move, after_move, then_move}
+use Rattle.job_meaning.specs.Moments.{Clock, by_ticks, by_rounds, far, tick_of, Now}
+use Rattle.job_meaning.specs.Walk.{Here, pace_ticks}
+use Rattle.job_meaning.specs.Rest.{Frame, steps_left, in_scope, in_nursery, in_repeat, in_try, in_handler, in_cleanup, Stopped, to_begin, asking, asleep, giving_up, awaiting, at_end, inside}
+use Rattle.turn_semantics.specs.Midway.{Place, stack_at, Midway, Begun, Move, after_move, then_move, now_after}
 use Rattle.turn_semantics.specs.Steps.{froms_after, falls_asleep, begun_over, begins_passes, step_on, step_steps, handler_if, step_try, step_pass, step_frames, step_of, turn_of}
-use Rattle.turn_semantics.specs.Wakes.{Wake, begins, sees, is_due, has_answer, settles, with_answer, wake_of, turn_from}
+use Rattle.turn_semantics.specs.Wakes.{Wake, begins, sees, gives_up, is_due, has_answer, settles, with_answer, sees_from, wake_of, turn_from}
 use Rattle.run_refinement.proofs.ActsKeep.{not_both}
 use Rattle.task_machine.proofs.Stacked.{one_of}
 
@@ -36,41 +37,47 @@ over_on name here of body ps first zero = tt
 over_on name here of body ps first (suc k) =
     on_append here.input (begun_over name here of body ps first k) _ (over_on name here of body ps first k) (refl, tt)
 
-asleep_on : (input : List ℕ) (b : Bool) (n t : ℕ) (fs : List Frame) (ps : List Place) → AllOn input (falls_asleep b n t fs ps).begun
-asleep_on input true n t fs ps = tt
-asleep_on input false zero t fs ps = tt
-asleep_on input false (suc n) t fs ps = tt
+asleep_on : (input : List ℕ) (clock : Clock) (b paced : Bool) (n t : ℕ) (fs : List Frame) (ps : List Place) →
+    AllOn input (falls_asleep clock b paced n t fs ps).begun
+asleep_on input by_ticks true paced n t fs ps = tt
+asleep_on input by_ticks false paced zero t fs ps = tt
+asleep_on input by_ticks false paced (suc n) t fs ps = tt
+asleep_on input by_rounds b paced n t fs ps = tt
 
 passes_on : (input : List ℕ) (n : ℕ) (body : Steps) (fs : List Frame) (ps : List Place) → AllOn input (begins_passes n body fs ps).begun
 passes_on input zero body fs ps = tt
 passes_on input (suc k) body fs ps = tt
 
-one_on : (input : List ℕ) (froms : Table) (t : ℕ) (here : Here) (s : Step) (ss : Steps) (fs : List Frame) (ps : List Place) (count : ℕ) →
+one_on : (input : List ℕ) (froms : Table) (now : Now) (here : Here) (s : Step) (ss : Steps) (fs : List Frame) (ps : List Place) (count : ℕ)
+    →
     here.input ≡ input →
-    AllOn input (step_on froms t here s ss fs ps count).begun
-one_on input froms t here (sleep n) ss fs ps count e = asleep_on input (seen (stack_at froms ps) t) n t (steps_left ss ∷ fs) ps
-one_on input froms t here checkpoint ss fs ps count e = asleep_on input (seen (stack_at froms ps) t) 0 t (steps_left ss ∷ fs) ps
-one_on input froms t here forever ss fs ps count e = asleep_on input (seen (stack_at froms ps) t) (far - t) t (steps_left ss ∷ fs) ps
-one_on input froms t here (pace k) ss fs ps count e = tt
-one_on input froms t here (find text) ss fs ps count e = tt
-one_on input froms t here (head n) ss fs ps count e = tt
-one_on input froms t here longest ss fs ps count e = tt
-one_on input froms t here (need text name) ss fs ps count e = tt
-one_on input froms t here (raise name) ss fs ps count e = tt
-one_on input froms t here (cancel name) ss fs ps count e = tt
-one_on input froms t here (scope name d shield fail body) ss fs ps count e = tt
-one_on input froms t here (nursery name d shield body) ss fs ps count e = tt
-one_on input froms t here (start name None body) ss fs ps count e = (e, tt)
-one_on input froms t here (start name (Some k) body) ss fs ps count e =
+    AllOn input (step_on froms now here s ss fs ps count).begun
+one_on input froms now here (sleep n) ss fs ps count e = asleep_on input here.clock (seen (stack_at froms ps) now.at) false n now.at
+    (steps_left ss ∷ fs) ps
+one_on input froms now here checkpoint ss fs ps count e = asleep_on input here.clock (seen (stack_at froms ps) now.at) false 0 now.at
+    (steps_left ss ∷ fs) ps
+one_on input froms now here forever ss fs ps count e = asleep_on input here.clock (seen (stack_at froms ps) now.at) false
+    (far - tick_of here.clock now.at) now.at (steps_left ss ∷ fs) ps
+one_on input froms now here (pace k) ss fs ps count e = tt
+one_on input froms now here (find text) ss fs ps count e = tt
+one_on input froms now here (head n) ss fs ps count e = tt
+one_on input froms now here longest ss fs ps count e = tt
+one_on input froms now here (need text name) ss fs ps count e = tt
+one_on input froms now here (raise name) ss fs ps count e = tt
+one_on input froms now here (cancel name) ss fs ps count e = tt
+one_on input froms now here (scope name d shield fail body) ss fs ps count e = tt
+one_on input froms now here (nursery name d shield body) ss fs ps count e = tt
+one_on input froms now here (start name None body) ss fs ps count e = (e, tt)
+one_on input froms now here (start name (Some k) body) ss fs ps count e =
     subst (λ (xs : List ℕ). AllOn xs (begun_over name here k body ps count k)) e (over_on name here k body ps count k)
-one_on input froms t here (repeat n body) ss fs ps count e = passes_on input n body (steps_left ss ∷ fs) ps
-one_on input froms t here (attempt body handler cleanup) ss fs ps count e = tt
+one_on input froms now here (repeat n body) ss fs ps count e = passes_on input n body (steps_left ss ∷ fs) ps
+one_on input froms now here (attempt body handler cleanup) ss fs ps count e = tt
 
-block_on : (froms : Table) (t : ℕ) (here : Here) (ss : Steps) (fs : List Frame) (ps : List Place) (exc : Option Exc) (count : ℕ) →
-    AllOn here.input (step_steps froms t here ss fs ps exc count).begun
-block_on froms t here ss fs ps (Some e) count = tt
-block_on froms t here stop fs ps None count = tt
-block_on froms t here (step s ss) fs ps None count = one_on here.input froms t (inside fs here) s ss fs ps count refl
+block_on : (froms : Table) (now : Now) (here : Here) (ss : Steps) (fs : List Frame) (ps : List Place) (exc : Option Exc) (count : ℕ) →
+    AllOn here.input (step_steps froms now here ss fs ps exc count).begun
+block_on froms now here ss fs ps (Some e) count = tt
+block_on froms now here stop fs ps None count = tt
+block_on froms now here (step s ss) fs ps None count = one_on here.input froms now (inside fs here) s ss fs ps count refl
 
 pass_on : (input : List ℕ) (pass left : ℕ) (body : Steps) (fs : List Frame) (ps : List Place) (exc : Option Exc) →
     AllOn input (step_pass pass left body fs ps exc).begun
@@ -89,35 +96,36 @@ try_on input (except name body) cleanup fs ps (Some e) = by_match (keep (named n
     by_match None = tt
     by_match (Some x) = tt
 
-frame_on : (froms : Table) (t : ℕ) (here : Here) (fs : List Frame) (ps : List Place) (exc : Option Exc) (count : ℕ) →
-    AllOn here.input (step_frames froms t here fs ps exc count).begun
-frame_on froms t here [] ps exc count = tt
-frame_on froms t here (steps_left ss ∷ fs) ps exc count = block_on froms t here ss fs ps exc count
-frame_on froms t here (in_scope fail ∷ fs) [] exc count = tt
-frame_on froms t here (in_scope fail ∷ fs) (p ∷ ps) exc count = tt
-frame_on froms t here (in_nursery children ∷ fs) [] exc count = tt
-frame_on froms t here (in_nursery children ∷ fs) (p ∷ ps) exc count = tt
-frame_on froms t here (in_repeat pass left body ∷ fs) ps exc count = pass_on here.input pass left body fs ps exc
-frame_on froms t here (in_try handler cleanup ∷ fs) ps exc count = try_on here.input handler cleanup fs ps exc
-frame_on froms t here (in_handler rest cleanup ∷ fs) ps exc count = tt
-frame_on froms t here (in_cleanup outcome ∷ fs) ps exc count = tt
+frame_on : (froms : Table) (now : Now) (here : Here) (fs : List Frame) (ps : List Place) (exc : Option Exc) (count : ℕ) →
+    AllOn here.input (step_frames froms now here fs ps exc count).begun
+frame_on froms now here [] ps exc count = tt
+frame_on froms now here (steps_left ss ∷ fs) ps exc count = block_on froms now here ss fs ps exc count
+frame_on froms now here (in_scope fail ∷ fs) [] exc count = tt
+frame_on froms now here (in_scope fail ∷ fs) (p ∷ ps) exc count = tt
+frame_on froms now here (in_nursery children ∷ fs) [] exc count = tt
+frame_on froms now here (in_nursery children ∷ fs) (p ∷ ps) exc count = tt
+frame_on froms now here (in_repeat pass left body ∷ fs) ps exc count = pass_on here.input pass left body fs ps exc
+frame_on froms now here (in_try handler cleanup ∷ fs) ps exc count = try_on here.input handler cleanup fs ps exc
+frame_on froms now here (in_handler rest cleanup ∷ fs) ps exc count = tt
+frame_on froms now here (in_cleanup outcome ∷ fs) ps exc count = tt
 
-step_on_input : (froms : Table) (t : ℕ) (here : Here) (m : Midway) → AllOn here.input (step_of froms t here m).begun
+step_on_input : (froms : Table) (now : Now) (here : Here) (m : Midway) → AllOn here.input (step_of froms now here m).begun
 unfolding step_of
-step_on_input froms t here m = frame_on froms t here m.frames m.places m.exc m.count
+step_on_input froms now here m = frame_on froms now here m.frames m.places m.exc m.count
 
 then_on : (input : List ℕ) (s : Option Stopped) (o q : Move) → AllOn input o.begun → AllOn input q.begun →
     AllOn input (then_move s o q).begun
 then_on input None o q h k = on_append input o.begun q.begun h k
 then_on input (Some s) o q h k = h
 
-steps_on_input : (n : ℕ) (froms : Table) (t : ℕ) (here : Here) (m : Midway) → AllOn here.input (turn_of n froms t here m).begun
+steps_on_input : (n : ℕ) (froms : Table) (now : Now) (here : Here) (m : Midway) → AllOn here.input (turn_of n froms now here m).begun
 unfolding turn_of
-steps_on_input zero froms t here m = tt
-steps_on_input (suc n) froms t here m =
-    let o = step_of froms t here m in
-    then_on here.input o.stopped o (turn_of n (froms_after froms o.made) t here (after_move m o)) (step_on_input froms t here m)
-    (steps_on_input n (froms_after froms o.made) t here (after_move m o))
+steps_on_input zero froms now here m = tt
+steps_on_input (suc n) froms now here m =
+    let o = step_of froms now here m in
+    then_on here.input o.stopped o (turn_of n (froms_after froms o.made) (now_after here.clock now o.made) here (after_move m o))
+    (step_on_input froms now here m)
+    (steps_on_input n (froms_after froms o.made) (now_after here.clock now o.made) here (after_move m o))
 
 answer_on : (input : List ℕ) (froms : Table) (t : ℕ) (here : Here) (a : Answer) (s : Stopped) (fs : List Frame) (ps : List Place) →
     AllOn input (with_answer froms t here a s fs ps).begun
@@ -125,39 +133,53 @@ answer_on input froms t here (lines ls) (asking kernel purpose) fs ps = tt
 answer_on input froms t here missing (asking kernel (needs name)) fs ps = tt
 answer_on input froms t here missing (asking kernel shows) fs ps = tt
 answer_on input froms t here missing (asking kernel (paces k)) fs ps = tt
-answer_on input froms t here (counted n) (asking kernel (paces k)) fs ps = asleep_on input (seen (stack_at froms ps) t) (pace_ticks n k) t fs ps
+answer_on input froms t here (counted n) (asking kernel (paces k)) fs ps = asleep_on input here.clock (seen (stack_at froms ps) t) true
+    (pace_ticks n k) t fs ps
 answer_on input froms t here (counted n) (asking kernel shows) fs ps = tt
 answer_on input froms t here (counted n) (asking kernel (needs name)) fs ps = tt
 answer_on input froms t here a to_begin fs ps = tt
-answer_on input froms t here a (asleep n since) fs ps = tt
+answer_on input froms t here a (asleep paced n since) fs ps = tt
+answer_on input froms t here a (giving_up since) fs ps = tt
 answer_on input froms t here a (awaiting children ended exc) fs ps = tt
 answer_on input froms t here a (at_end u e) fs ps = tt
 
-wake_on : (input : List ℕ) (froms : Table) (t : ℕ) (here : Here) (w : Wake) (s : Stopped) (fs : List Frame) (ps : List Place) →
-    AllOn input (wake_of froms t here w s fs ps).begun
-wake_on input froms t here begins s fs ps = tt
-wake_on input froms t here sees s fs ps = tt
-wake_on input froms t here is_due s fs ps = tt
-wake_on input froms t here (has_answer a) s fs ps = answer_on input froms t here a s fs ps
-wake_on input froms t here (settles exc) s fs [] = tt
-wake_on input froms t here (settles exc) s fs (p ∷ ps) = tt
+sees_on : (input : List ℕ) (t : ℕ) (s : Stopped) (fs : List Frame) (ps : List Place) → AllOn input (sees_from t s fs ps).begun
+sees_on input t (asleep false zero since) fs ps = tt
+sees_on input t (asleep false (suc n) since) fs ps = tt
+sees_on input t (asleep true n since) fs ps = tt
+sees_on input t to_begin fs ps = tt
+sees_on input t (asking kernel purpose) fs ps = tt
+sees_on input t (giving_up since) fs ps = tt
+sees_on input t (awaiting children ended exc) fs ps = tt
+sees_on input t (at_end u e) fs ps = tt
+
+wake_on : (input : List ℕ) (froms : Table) (now : Now) (here : Here) (w : Wake) (s : Stopped) (fs : List Frame) (ps : List Place) →
+    AllOn input (wake_of froms now here w s fs ps).begun
+wake_on input froms now here begins s fs ps = tt
+wake_on input froms now here sees s fs ps = sees_on input now.at s fs ps
+wake_on input froms now here gives_up s fs ps = tt
+wake_on input froms now here is_due s fs ps = tt
+wake_on input froms now here (has_answer a) s fs ps = answer_on input froms now.at here a s fs ps
+wake_on input froms now here (settles exc) s fs [] = tt
+wake_on input froms now here (settles exc) s fs (p ∷ ps) = tt
 
 -- a whole turn
-pub turn_on_input : (n : ℕ) (froms : Table) (t : ℕ) (here : Here) (w : Wake) (s : Stopped) (fs : List Frame) (ps : List Place) (count : ℕ) →
-    AllOn here.input (turn_from n froms t here w s fs ps count).begun
+pub turn_on_input : (n : ℕ) (froms : Table) (now : Now) (here : Here) (w : Wake) (s : Stopped) (fs : List Frame) (ps : List Place)
+    (count : ℕ) →
+    AllOn here.input (turn_from n froms now here w s fs ps count).begun
 unfolding turn_from
-turn_on_input n froms t here w s fs ps count =
-    let o = wake_of froms t here w s fs ps in
+turn_on_input n froms now here w s fs ps count =
+    let o = wake_of froms now here w s fs ps in
     then_on here.input o.stopped o
-    (turn_of n (froms_after froms o.made) t here (record {
+    (turn_of n (froms_after froms o.made) (now_after here.clock now o.made) here (record {
       frames = o.frames;
       places = o.places;
       exc = o.exc;
       count =
           count + length o.begun;
     }))
-    (wake_on here.input froms t here w s fs ps)
-    (steps_on_input n (froms_after froms o.made) t here (record {
+    (wake_on here.input froms now here w s fs ps)
+    (steps_on_input n (froms_after froms o.made) (now_after here.clock now o.made) here (record {
       frames = o.frames;
       places = o.places;
       exc = o.exc;

@@ -3,10 +3,14 @@ use Rattle.std.proofs.Common.{◌≡◌, ℕ, ◌≤◌, Option, Some, None, Lis
 use Rattle.std.specs.List.{slice_get}
 use Rattle.std.specs.Option.{IsSomeAnd}
 use Rattle.job_tree.specs.Tree.{Tree as Job}
+use Rattle.exc_groups.specs.Exceptions.{Label}
 use Rattle.job_meaning.specs.Log.{Table}
+use Rattle.job_meaning.specs.Moments.{Clock, Now}
 use Rattle.job_meaning.specs.Rest as rest
 use Rattle.nursery_book.specs.Nursery.{End, Nursery}
 use Rattle.nursery_book.specs.Book.{nursery_at}
+use Rattle.task_machine.specs.declared.stop.TaskState.{TaskState}
+use Rattle.task_machine.specs.declared.stop.TaskState.TheVariants.{ToBegin, Asked, Asleep, GivingUp, Awaits, Over}
 use Rattle.task_machine.specs.declared.task.Home.{Home}
 use Rattle.task_machine.specs.declared.task.Task.{Task}
 use Rattle.task_machine.specs.declared.world.World.{World}
@@ -14,7 +18,7 @@ use Rattle.task_machine.specs.Stops.{Numbers}
 use Rattle.interleavings.specs.Interleaving.{Started, Blocked}
 use Rattle.interleavings.specs.Runs.{jump, turns_taken}
 use Rattle.interleavings.specs.Rows.{children_made}
-use Rattle.run_refinement.specs.RunState.{Interleaving, RunState, Gone, HasHome, IsMember, HasMembers, Follows, HasEnded, OpenedBy, AreStarted, Refines}
+use Rattle.run_refinement.specs.RunState.{Interleaving, RunState, Gone, HasHome, IsMember, HasMembers, IsSince, Follows, HasEnded, OpenedBy, AreStarted, Refines}
 use Rattle.run_refinement.specs.Moved.{SameTasks, moved_world}
 
 -- ---- the same tasks
@@ -39,17 +43,19 @@ module _ (t u m : ℕ) (le : t ≤ u) (old new : RunState) (at : ℕ → Started
         serial = h.serial;
       }
 
-  member_moved : (id place serial : ℕ) (e : Option End) → IsMember old at t id place serial e → IsMember there at u id place serial e
-  member_moved id place serial None h = h
-  member_moved id place serial (Some None) h = (h.0, same.task serial ∙ h.1, h.2)
-  member_moved id place serial (Some (Some exc)) h = (h.0, same.gone serial ∙ h.1, (let e = h.2 in omega (arith, e, le)), h.3)
+  member_moved : (last id place serial : ℕ) (e : Option End) → IsMember old at last id place serial e →
+      IsMember there at last id place serial e
+  member_moved last id place serial None h = h
+  member_moved last id place serial (Some None) h = (h.0, same.task serial ∙ h.1, h.2)
+  member_moved last id place serial (Some (Some exc)) h = (h.0, h.1, same.gone serial ∙ h.2, h.3, h.4)
 
   members_moved : (ns : Numbers) (q : Started) (id : ℕ) (n : Nursery) → HasMembers old at t ns q id n → HasMembers there at u ns q id n
   members_moved ns q id n h =
       record {
         long = h.long;
+        last = (let e = h.last in omega (arith, e, le));
         members = λ place number e. (let g = h.members place number e in
-            (g.0, member_moved id place (q.child number) (slice_get n.children place) g.1));
+            (g.0, member_moved n.last id place (q.child number) (slice_get n.children place) g.1));
       }
 
   nursery_moved : (ns : Numbers) (q : Started) (id : ℕ) (o : Option Nursery) → IsSomeAnd o (λ n. HasMembers old at t ns q id n) →
@@ -57,12 +63,23 @@ module _ (t u m : ℕ) (le : t ≤ u) (old new : RunState) (at : ℕ → Started
   nursery_moved ns q id None h = h
   nursery_moved ns q id (Some n) h = members_moved ns q id n h
 
+  since_moved : (cancelled : List Label) (task_state : TaskState) (stop : Now) → IsSince t cancelled task_state stop →
+      IsSince u cancelled task_state stop
+  since_moved cancelled (ToBegin v) stop h = h
+  since_moved cancelled (Asked kernel purpose) stop h = (let e = h.0 in omega (arith, e, le), h.1)
+  since_moved cancelled (Asleep paced ticks since) stop h = tt
+  since_moved cancelled (GivingUp since) stop h = tt
+  since_moved cancelled (Awaits id since) stop h = tt
+  since_moved cancelled Over stop h = tt
+
   follows_moved : (f : Table) (input : List ℕ) (leaving : Option ℕ) (s : ℕ) (task : Task) →
       Follows old f input t at numbers leaving s task →
       Follows there f input u at numbers leaving s task
   follows_moved f input leaving s task h =
       record {
         here = h.here;
+        since = since_moved task.cancelled.items task.task_state (at s).stop h.since;
+        last = h.last;
         input_is = h.input_is;
         lives = h.lives;
         frames = h.frames;
@@ -113,14 +130,15 @@ module _ (t u m : ℕ) (le : t ≤ u) (old new : RunState) (at : ℕ → Started
   opened_there : (key s : ℕ) → OpenedBy old key s → OpenedBy there key s
   opened_there key s h = record { task = h.task; lives = same.task s ∙ h.lives; place = h.place; scope = h.scope; own = h.own; is = h.is }
 
-  started_moved : (child : ℕ → ℕ) (es : List rest.Event) → AreStarted old.start at child es → AreStarted new.start at child es
-  started_moved child [] h = h
-  started_moved child (rest.noted v e ∷ es) h = started_moved child es h
-  started_moved child (rest.signs l v ∷ es) h = started_moved child es h
-  started_moved child (rest.enters l v d ∷ es) h = started_moved child es h
-  started_moved child (rest.starts i l v ∷ es) h = (h.0, same.start (child i) ∙ h.1, started_moved child es h.2)
+  started_moved : (clock : Clock) (child : ℕ → ℕ) (es : List rest.Event) → AreStarted clock old.start at child es →
+      AreStarted clock new.start at child es
+  started_moved clock child [] h = h
+  started_moved clock child (rest.noted v e ∷ es) h = started_moved clock child es h
+  started_moved clock child (rest.signs l v ∷ es) h = started_moved clock child es h
+  started_moved clock child (rest.enters l v d ∷ es) h = started_moved clock child es h
+  started_moved clock child (rest.starts i l v ∷ es) h = (h.0, same.start (child i) ∙ h.1, started_moved clock child es h.2)
 
--- what the code holds in the later tick, or with tasks taken, is the same run
+-- what the code holds in the later moment, or with tasks taken, is the same run
 state_moved : (k : Table) (job : Job) (input : List ℕ) (t u m : ℕ) (leaving : Option ℕ) (old new : RunState) → t ≤ u → SameTasks old new →
     new.world ≡ moved_world old.world u new.world →
     (c : Refines k job input t m leaving old) → (d : Interleaving k job input u m) → d.froms ≡ c.interleaving.froms → d.at ≡ c.interleaving.at →
@@ -132,6 +150,7 @@ state_moved k job input t u m leaving old new le same world c d froms at taken =
         interleaving = d;
         numbers = c.numbers;
         counted = taken ∙ c.counted ∙ sym same.turns;
+        clock = c.clock;
         tick = refl;
         small = c.small;
         some = c.some;
@@ -148,23 +167,26 @@ state_moved k job input t u m leaving old new le same world c d froms at taken =
             (opened_back t u m le old new d.at c.numbers same key v y);
         labelled = c.labelled;
         started = λ s less.
-            started_moved t u m le old new d.at c.numbers same (d.at s).child (d.at s).made
-            (subst (λ (a : ℕ → Started). AreStarted old.start a (a s).child (a s).made) (sym at) (c.started s less));
+            started_moved t u m le old new d.at c.numbers same old.world.clock (d.at s).child (d.at s).made
+            (subst (λ (a : ℕ → Started). AreStarted old.world.clock old.start a (a s).child (a s).made) (sym at) (c.started s less));
         children = λ s less. same.children s ∙ c.children s less ∙ ap (λ (a : ℕ → Started). children_made (a s).child (a s).made) (sym at);
       },
       refl,
     )
   where
-    by_ended : (s : ℕ) → (g : Gone) × (old.gone s ≡ Some g) × HasEnded c.interleaving.froms input t (c.interleaving.at s) g →
-        (g : Gone) × (new.gone s ≡ Some g) × HasEnded d.froms input u (d.at s) g
+    by_ended : (s : ℕ) → (g : Gone) × (old.gone s ≡ Some g) × HasEnded old.world.clock c.interleaving.froms input t (c.interleaving.at s) g
+        →
+        (g : Gone) × (new.gone s ≡ Some g) × HasEnded old.world.clock d.froms input u (d.at s) g
     by_ended s h = (
       h.0,
       same.gone s ∙ h.1,
-      subst (λ (f : Table). HasEnded f input u (d.at s) h.0) (sym froms)
-          (subst (λ (a : ℕ → Started). HasEnded c.interleaving.froms input u (a s) h.0) (sym at)
+      subst (λ (f : Table). HasEnded old.world.clock f input u (d.at s) h.0) (sym froms)
+          (subst (λ (a : ℕ → Started). HasEnded old.world.clock c.interleaving.froms input u (a s) h.0) (sym at)
           (record {
             label = h.2.label;
+            end = h.2.end;
             stopped = h.2.stopped;
+            tick = h.2.tick;
             before = (let e = h.2.before in omega (arith, e, le));
             notes =
                 h.2.notes;

@@ -1,27 +1,28 @@
 -- What stays the same for other tasks when one has its turn or leaves: a task that may continue may still do so, and
 -- each home has its owner.
-use Rattle.std.proofs.Common.{◌≡◌, ◌≢◌, ◌⊎◌, inl, inr, ◌&&◌, Bool, true, false, ℕ, zero, suc, ◌+◌, ◌-◌, ◌<◌, ◌≤◌, Option, Some, None, List, [], ◌∷◌, length, refl, ap, sym, ◌∙◌, subst, arith}
+use Rattle.std.proofs.Common.{◌≡◌, ◌≢◌, ◌⊎◌, inl, inr, true, false, ℕ, zero, suc, ◌+◌, ◌-◌, ◌<◌, ◌≤◌, Option, Some, None, List, [], ◌∷◌, length, refl, ap, sym, ◌∙◌, subst, arith}
 use Rattle.std.proofs.lemmas.Bool.{cases_lt}
-use Rattle.std.specs.Prelude.{is_some, slice_get, slice_set}
+use Rattle.std.specs.Prelude.{is_some, slice_get}
 use Rattle.std.specs.List.{list_all}
 use Rattle.buffer_parts.specs.declared.part.Part.{Part}
 use Rattle.exc_groups.specs.Exceptions.{Exc}
 use Rattle.cancel_scopes.specs.Sight.{seen}
 use Rattle.cancel_scopes.specs.Tree.{outer_of}
-use Rattle.nursery_book.specs.Nursery.{End, Nursery, with_child, is_settled}
+use Rattle.nursery_book.specs.Nursery.{End, Nursery, is_settled}
 use Rattle.nursery_book.specs.Book.{nursery_at, HasNursery}
 use Rattle.nursery_book.specs.declared.book.NurseryBook.{NurseryBook}
 use Rattle.job_tree.specs.Tree.{Tree as Job}
 use Rattle.job_tree.specs.Names.{GivesNamesOnce}
 use Rattle.job_tree.specs.Starting.{StartsInNurseries}
 use Rattle.job_meaning.specs.Log.{Table}
-use Rattle.job_meaning.specs.Follow.{follow, IsSettled}
+use Rattle.job_meaning.specs.Moments.{Clock, a_round_after, wakes_at}
+use Rattle.job_meaning.specs.Follow.{IsSettled}
 use Rattle.job_meaning.specs.Rest as rest
 use Rattle.job_meaning.proofs.Clips.{seen_near}
 use Rattle.turn_semantics.specs.Midway.{stack_at}
 use Rattle.turn_semantics.specs.Turned.{AgreesOn}
 use Rattle.task_machine.specs.declared.stop.TaskState.{TaskState}
-use Rattle.task_machine.specs.declared.stop.TaskState.TheVariants.{Asleep, Awaits}
+use Rattle.task_machine.specs.declared.stop.TaskState.TheVariants.{ToBegin, Asleep, GivingUp, Awaits}
 use Rattle.task_machine.specs.declared.stop.Stop.{Stop}
 use Rattle.task_machine.specs.declared.stop.Wake.{Wake}
 use Rattle.task_machine.specs.declared.stop.Wake.TheVariants.{Due, Seen, Settled}
@@ -36,6 +37,7 @@ use Rattle.task_machine.specs.Waking.{WakesFrom}
 use Rattle.task_machine.specs.Worlds.{label_at}
 use Rattle.task_machine.proofs.Stacked.{one_of, seen_at}
 use Rattle.interleavings.specs.Interleaving.{Started, In, RunInvariant, AllFrom}
+use Rattle.interleavings.specs.Going.{root_result}
 use Rattle.interleavings.proofs.Contract.{near_places}
 use Rattle.interleavings.proofs.Running.{runs_keep_invariant}
 use Rattle.run_refinement.specs.RunState.{RunState, LivesIn, HasHome, Follows, Refines}
@@ -50,26 +52,51 @@ use Rattle.run_refinement.proofs.OtherHomes.{mover_owned}
 use Rattle.run_refinement.proofs.OtherNurseries.{same_nursery}
 use Rattle.run_refinement.proofs.Found.{below_length}
 use Rattle.run_refinement.proofs.Parts.{begun_at}
-use Rattle.run_refinement.proofs.Found.{finds, puts}
+use Rattle.run_refinement.proofs.Found.{finds, gives}
+use Rattle.run_refinement.proofs.Going.{settled_children}
+use Rattle.task_machine.proofs.Stopping.{settled_from}
 use Rattle.run_refinement.proofs.Told.{same_owner, Told, stays, tells, told}
 
 -- ---- a wake in another world
 
--- one that fits does so where what the task waits for is settled still
+-- one that fits does so where what the task waits for is the same
 fits_still : (task_state : TaskState) (part : Part) (old new : NurseryBook) (wake : Wake) →
-    ((id : ℕ) → waits_of task_state ≡ Some id → HasNursery old id (λ n. is_settled n ≡ true) → HasNursery new id (λ n. is_settled n ≡ true)) →
-    WakesFrom task_state part old wake →
+    ((id : ℕ) → waits_of task_state ≡ Some id → nursery_at new id ≡ nursery_at old id) → WakesFrom task_state part old wake →
     WakesFrom task_state part new wake
-fits_still (Awaits id since) part old new Settled over h = over id refl h
-fits_still _ part old new _ over h = h
+fits_still (Awaits id since) part old new Due same h = same_nursery (λ n. is_settled n ≡ true) old new id (same id refl) h
+fits_still (Awaits id since) part old new Settled same h = same_nursery (λ n. is_settled n ≡ true) old new id (same id refl) h
+fits_still _ part old new _ same h = h
 
--- and is timely where the same is seen in the same tick
-timely_still : (old new : World) (scope : Option ℕ) (task_state : TaskState) (wake : Wake) → new.tick ≡ old.tick →
-    seen (outer_of new.scopes scope) new.tick ≡ seen (outer_of old.scopes scope) old.tick → IsTimely old scope task_state wake →
+-- and is timely where the same is seen in the same moment
+timely_still : (old new : World) (scope : Option ℕ) (task_state : TaskState) (wake : Wake) → new.clock ≡ old.clock → new.tick ≡ old.tick →
+    seen (outer_of new.scopes scope) new.tick ≡ seen (outer_of old.scopes scope) old.tick →
+    ((id : ℕ) → waits_of task_state ≡ Some id → nursery_at new.book id ≡ nursery_at old.book id) → IsTimely old scope task_state wake →
     IsTimely new scope task_state wake
-timely_still old new scope (Asleep ticks since) Due tick same h = (h.0 ∙ sym tick, same ∙ h.1)
-timely_still old new scope (Asleep ticks since) Seen tick same h = (subst (λ (v : ℕ). since < v) (sym tick) h.0, same ∙ h.1)
-timely_still old new scope _ _ tick same h = h
+timely_still old new scope (ToBegin at) wake clock tick seeing same h = h ∙ sym tick
+timely_still old new scope (Asleep paced ticks since) Due clock tick seeing same h =
+    (ap (λ (x : Clock). wakes_at x ticks since) clock ∙ h.0 ∙ sym tick, seeing ∙ h.1)
+timely_still old new scope (Asleep paced ticks since) Seen clock tick seeing same h =
+    (subst (λ (v : ℕ). since < v) (sym tick) h.0, seeing ∙ h.1)
+timely_still old new scope (GivingUp since) wake clock tick seeing same h = h ∙ sym tick
+timely_still old new scope (Awaits id since) wake clock tick seeing same h =
+    same_nursery (λ n. a_round_after new.clock n.last ≤ new.tick) old.book new.book id (same id refl)
+    (subst (λ (x : Clock). HasNursery old.book id (λ n. a_round_after x n.last ≤ new.tick)) (sym clock)
+    (subst (λ (v : ℕ). HasNursery old.book id (λ n. a_round_after old.clock n.last ≤ v)) (sym tick) h))
+timely_still old new scope _ _ clock tick seeing same h = h
+
+-- so a task may continue in another world where a nursery that it waits for is the same, if it is settled
+may_still : (old new : World) (task : Task) (wake : Wake) → new.clock ≡ old.clock → new.tick ≡ old.tick →
+    seen (outer_of new.scopes (scope_of task)) new.tick ≡ seen (outer_of old.scopes (scope_of task)) old.tick →
+    ((id : ℕ) → waits_of task.task_state ≡ Some id → HasNursery old.book id (λ n. is_settled n ≡ true) →
+    nursery_at new.book id ≡ nursery_at old.book id) → MayGo old task wake → MayGo new task wake
+may_still old new task wake clock tick seeing same may =
+    record {
+      fits = fits_still task.task_state task.part old.book new.book wake there may.fits;
+      timely = timely_still old new (scope_of task) task.task_state wake clock tick seeing there may.timely;
+    }
+  where
+    there : (id : ℕ) → waits_of task.task_state ≡ Some id → nursery_at new.book id ≡ nursery_at old.book id
+    there id e = same id e (settled_from task.task_state task.part old.book wake id may.fits e)
 
 -- ---- a turn of another task
 
@@ -94,7 +121,7 @@ seen_still {k} {job} {input} {t} {m} {s} {old} {new} {before} {after} {stop} set
     other = T.of_other u below differs
 
     IsOn : Table → List Started → Type 0
-    IsOn f qs = RunInvariant k f (follow k job input) qs × AllFrom k qs t × ((x : Started) → In x qs → AgreesOn t k f x.places)
+    IsOn f qs = RunInvariant k f (root_result k job input) qs × AllFrom k qs t × ((x : Started) → In x qs → AgreesOn t k f x.places)
 
     on_before : IsOn c.interleaving.froms c.interleaving.tasks
     on_before = runs_keep_invariant k job input settled names starting c.interleaving.froms t m c.interleaving.tasks c.interleaving.reached
@@ -124,12 +151,8 @@ pub still_goes : {k : Table} {job : Job} {input : List ℕ} {t m s : ℕ} {old n
     Follows new T.is.froms input t T.is.at (numbers_then c.numbers s m T.took.numbers_after) (leaving_by stop s) u task → (wake : Wake) →
     MayGo old.world task wake → MayGo new.world task wake
 still_goes {t = t} {old = old} {new = new} settled names starting c T u below differs task lives now wake may =
-    record {
-      fits = fits_still task.task_state task.part old.world.book new.world.book wake
-          (λ id e. same_nursery (λ n. is_settled n ≡ true) old.world.book new.world.book id
-          (nursery_same c T u task differs lives id (inr e))) may.fits;
-      timely = timely_still old.world new.world (scope_of task) task.task_state wake tick same may.timely;
-    }
+    may_still old.world new.world task wake (ap (λ (w : World). w.clock) T.code.world) tick same
+    (λ id e over. nursery_same c T u task differs lives id (inr e)) may
   where
     tick : new.world.tick ≡ old.world.tick
     tick = ap (λ (w : World). w.tick) T.code.world
@@ -207,10 +230,12 @@ homes_kept {k} {job} {input} {t} {m} {s} {old} {new} {before} {after} {stop} c T
               HasNurseryOf h.nursery (blocks_of after.frames.items) (waits_of after.task_state)) is b.2.owned;
         })
       where
-        b : (b : _) × (slice_get T.move.begun i ≡ Some b) × IsBegun T.took.numbers_after new.world.book (blocks_of after.frames.items)
+        b : (b : _) × (slice_get T.move.begun i ≡ Some b) × IsBegun old.world.clock (a_round_after old.world.clock old.world.tick)
+            T.took.numbers_after new.world.book (blocks_of after.frames.items)
             (waits_of after.task_state) x b
         b =
-            begun_at T.took.numbers_after new.world.book (blocks_of after.frames.items) (waits_of after.task_state) T.took.tasks T.move.begun
+            begun_at old.world.clock (a_round_after old.world.clock old.world.tick) T.took.numbers_after new.world.book
+            (blocks_of after.frames.items) (waits_of after.task_state) T.took.tasks T.move.begun
             T.took.begun i x
             (sym (T.child_after i) ∙ e)
 
@@ -270,37 +295,32 @@ module _ (k : Table) (job : Job) (input : List ℕ) (t m s : ℕ) (old new : Run
       parent_differs : parent p ≢ s
       parent_differs e = no_nursery home.nursery keeps.task (ap old.task (sym e) ∙ keeps.lives) keeps.owned
 
-  settled_with : (es : List End) (place : ℕ) → list_all is_some es ≡ true → list_all is_some (slice_set es place (Some exc)) ≡ true
-  settled_with [] zero e = e
-  settled_with [] (suc place) e = e
-  settled_with (None ∷ es) place e = absurd (let f : false ≡ true = e in cc)
-  settled_with (Some x ∷ es) zero e = e
-  settled_with (Some x ∷ es) (suc place) e = settled_with es place e
+  none_runs : (es : List End) (place : ℕ) → list_all is_some es ≡ true → slice_get es place ≡ Some None → ⊥
+  none_runs [] place e f = not_both refl f
+  none_runs (None ∷ es) place e f = absurd (let g : false ≡ true = e in cc)
+  none_runs (Some x ∷ es) zero e f = absurd (let g : Some x ≡ None = one_of (Some x) None f in cc)
+  none_runs (Some x ∷ es) (suc place) e f = none_runs es place e f
 
-  -- a nursery that is settled is so after an end is recorded
-  still_settled : (id : ℕ) → HasNursery old.world.book id (λ n. is_settled n ≡ true) →
-      HasNursery new.world.book id (λ n. is_settled n ≡ true)
-  still_settled id h = by_told task.home (told old.world.book new.world.book task.home exc l.told id n.0 n.1)
+  -- a nursery that is settled is as it was after an end is recorded: it is not the home of a task that ends
+  pub settled_same : (id : ℕ) → HasNursery old.world.book id (λ n. is_settled n ≡ true) →
+      nursery_at new.world.book id ≡ nursery_at old.world.book id
+  settled_same id h = by_told task.home refl (told t old.world.book new.world.book task.home exc l.told id n.0 n.1)
     where
       n : (n : Nursery) × (nursery_at old.world.book id ≡ Some n) × (is_settled n ≡ true)
       n = finds old.world.book id (λ n. is_settled n ≡ true) h
 
-      by_body : (b : Bool) (es : List End) (place : ℕ) → (b && list_all is_some es) ≡ true →
-          (b && list_all is_some (slice_set es place (Some exc))) ≡ true
-      by_body true es place e = settled_with es place e
-      by_body false es place e = e
-
-      by_told : (home : Option Home) → Told new.world.book exc id n.0 home → HasNursery new.world.book id (λ n. is_settled n ≡ true)
-      by_told _ (stays y e z) = puts new.world.book id n.0 (λ n. is_settled n ≡ true) e n.2
-      by_told _ (tells y z e) = puts new.world.book id (with_child y.place exc n.0) (λ n. is_settled n ≡ true) e
-          (by_body (is_some n.0.body) n.0.children y.place n.2)
+      by_told : (home : Option Home) → task.home ≡ home → Told t new.world.book exc id n.0 home →
+          nursery_at new.world.book id ≡ nursery_at old.world.book id
+      by_told _ is (stays y e z) = e ∙ sym n.1
+      by_told _ is (tells y z e) =
+          let its = subst (λ (h : Option Home). HasHome old c.interleaving.at c.numbers s h) is (c.follows s task l.was).home in
+          let runs = gives old.world.book id n.0 (λ n. (n.scope ≡ y.scope) × (slice_get n.children y.place ≡ Some None)) n.1
+          (subst (λ (key : ℕ). HasNursery old.world.book key (λ n. (n.scope ≡ y.scope) × (slice_get n.children y.place ≡ Some None))) z
+          its.runs) in
+          absurd (none_runs n.0.children y.place (settled_children n.0 n.2) runs.1)
 
   -- and a task that may continue may still do so
   pub goes_left : (x : Task) → (wake : Wake) → MayGo old.world x wake → MayGo new.world x wake
   goes_left x wake may =
-      record {
-        fits = fits_still x.task_state x.part old.world.book new.world.book wake (λ id e. still_settled id) may.fits;
-        timely =
-            timely_still old.world new.world (scope_of x) x.task_state wake (ap (λ (w : World). w.tick) l.world)
-            (ap (λ (w : World). seen (outer_of w.scopes (scope_of x)) w.tick) l.world) may.timely;
-      }
+      may_still old.world new.world x wake (ap (λ (w : World). w.clock) l.world) (ap (λ (w : World). w.tick) l.world)
+      (ap (λ (w : World). seen (outer_of w.scopes (scope_of x)) w.tick) l.world) (λ id e over. settled_same id over) may

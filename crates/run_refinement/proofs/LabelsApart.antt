@@ -8,7 +8,7 @@ use Rattle.cancel_scopes.specs.Tree.{Stack, stack_of, outer_of}
 use Rattle.job_tree.specs.Names.{GivesNamesOnce}
 use Rattle.job_tree.specs.Starting.{StartsInNurseries}
 use Rattle.job_tree.specs.Tree.{Tree as Job}
-use Rattle.job_meaning.specs.Follow.{follow, IsSettled}
+use Rattle.job_meaning.specs.Follow.{IsSettled}
 use Rattle.job_meaning.specs.Log.{Table}
 use Rattle.job_meaning.specs.Rest.{Event, noted, signs, enters, starts}
 use Rattle.task_machine.specs.declared.entry.ScopeFrom.{ScopeFrom}
@@ -23,6 +23,7 @@ use Rattle.task_machine.specs.Stacked.{IsKey, Alone}
 use Rattle.task_machine.specs.Tasks.{scope_of}
 use Rattle.task_machine.specs.Worlds.{label_at}
 use Rattle.interleavings.specs.Interleaving.{Started, In, times_made, made_times, all_times, RunInvariant}
+use Rattle.interleavings.specs.Going.{root_result}
 use Rattle.interleavings.specs.Rows.{entered_made}
 use Rattle.run_refinement.specs.RunState.{Interleaving, RunState, Tracks, Follows, OpenedBy, Refines}
 use Rattle.run_refinement.specs.Turn.{IsSound, IsEntered}
@@ -64,7 +65,7 @@ pub one_entered : {k : Table} {job : Job} {input : List ℕ} {t m : ℕ} → (in
     (l : Label) (p q : ℕ) → p < m → q < m → Known l (entered_made (interleaving.at p).made) → Known l (entered_made (interleaving.at q).made) → p ≡ q
 one_entered {k} {job} {input} {t} {m} interleaving settled names nurseries l p q below lower a b = by_test (same_or p q)
   where
-    on : RunInvariant k interleaving.froms (follow k job input) interleaving.tasks
+    on : RunInvariant k interleaving.froms (root_result k job input) interleaving.tasks
     on = (runs_keep_invariant k job input settled names nurseries interleaving.froms t m interleaving.tasks interleaving.reached).0
 
     by_test : (p ≡ q) ⊎ (p ≢ q) → p ≡ q

@@ -1,6 +1,6 @@
 -- A task leaves: its end is recorded in its nursery, and what is left of it is kept. All others continue unchanged.
 use Rattle.std.proofs.lemmas.Bool.{eqb-true, eq-eqb}
-use Rattle.std.proofs.Common.{◌≡◌, ◌≢◌, inl, inr, ◌==◌, Bool, true, false, ℕ, suc, ◌<◌, Option, Some, None, List, [], ◌∷◌, map, length, refl, ap, sym, ◌∙◌, subst, arith}
+use Rattle.std.proofs.Common.{◌≡◌, ◌≢◌, ◌⊎◌, inl, inr, ◌==◌, Bool, true, false, ℕ, suc, ◌<◌, ◌≤◌, Option, Some, None, List, [], ◌∷◌, map, length, refl, ap, sym, ◌∙◌, subst, arith}
 use Rattle.std.specs.Prelude.{IsSome, slice_get, slice_set}
 use Rattle.std.specs.Option.{option_map}
 use Rattle.std.proofs.lemmas.List.Elements.{All-nil}
@@ -9,6 +9,7 @@ use Rattle.exc_groups.specs.Exceptions.{Label, Exc}
 use Rattle.job_tree.specs.Tree.{Tree as Job}
 use Rattle.job_meaning.specs.Log.{Table}
 use Rattle.job_meaning.specs.Meaning.{From, froms_by}
+use Rattle.job_meaning.specs.Moments.{Clock, tick_of}
 use Rattle.job_meaning.specs.Rest as rest
 use Rattle.nursery_book.specs.Nursery.{End, Nursery, with_child}
 use Rattle.nursery_book.specs.Book.{nursery_at, HasNursery}
@@ -20,7 +21,7 @@ use Rattle.turn_semantics.specs.Midway.{Place}
 use Rattle.turn_semantics.specs.Placed.{PlacedStop}
 use Rattle.turn_semantics.specs.Turned.{Known}
 use Rattle.task_machine.specs.declared.stop.TaskState.{TaskState}
-use Rattle.task_machine.specs.declared.stop.TaskState.TheVariants.{ToBegin, Asked, Asleep, Awaits, Over}
+use Rattle.task_machine.specs.declared.stop.TaskState.TheVariants.{ToBegin, Asked, Asleep, GivingUp, Awaits, Over}
 use Rattle.task_machine.specs.declared.task.Home.{Home}
 use Rattle.task_machine.specs.declared.task.Own.{Own}
 use Rattle.task_machine.specs.declared.task.Task.{Task}
@@ -29,18 +30,18 @@ use Rattle.task_machine.specs.Acts.{scoping_of}
 use Rattle.task_machine.specs.Fitting.{Block, a_scope, a_nursery, blocks_of, IsMine, Opened, waits_of}
 use Rattle.task_machine.specs.Frames.{frames_of}
 use Rattle.task_machine.specs.Labels.{Labels}
-use Rattle.task_machine.specs.Standing.{HasNurseryOf, Stands}
+use Rattle.task_machine.specs.Standing.{here_of, HasNurseryOf, Stands}
 use Rattle.task_machine.specs.Stops.{Numbers, IsTaskState}
 use Rattle.task_machine.specs.Tasks.{home_of}
 use Rattle.task_machine.specs.Worlds.{label_at}
 use Rattle.task_machine.proofs.Stopping.{no_blocks}
 use Rattle.interleavings.specs.Interleaving.{Started}
 use Rattle.interleavings.specs.Rows.{entered_made}
-use Rattle.run_refinement.specs.RunState.{RunState, Gone, IsPast, Tracks, CanGoOn, LivesIn, HasHome, IsMember, HasMembers, Follows, HasEnded, AreStarted, OpenedBy, Refines}
+use Rattle.run_refinement.specs.RunState.{RunState, Gone, IsPast, Notes, Tracks, CanGoOn, LivesIn, HasHome, IsMember, HasMembers, SomeEnded, LastEnds, Follows, HasEnded, AreStarted, OpenedBy, Refines}
 use Rattle.run_refinement.specs.Leaving.{Leaving}
 use Rattle.run_refinement.proofs.Told.{same_owner, AllLike, Told, stays, tells, told, set_long, set_at, set_else, all_like, carry}
 use Rattle.run_refinement.proofs.LabelsApart.{below_of}
-use Rattle.run_refinement.proofs.Found.{finds, puts}
+use Rattle.run_refinement.proofs.Found.{finds, gives, puts}
 
 -- ---- what stays of a task
 
@@ -68,32 +69,14 @@ opened_kept labels old new (a_nursery key ∷ bs) (o ∷ own) waits like h = (
 
 task_state_kept : (numbers : Numbers) (old new : NurseryBook) (task_state : TaskState) (stopped : rest.Stopped) → AllLike old new →
     IsTaskState numbers old task_state stopped → IsTaskState numbers new task_state stopped
-task_state_kept numbers old new ToBegin rest.to_begin like h = h
+task_state_kept numbers old new (ToBegin at) rest.to_begin like h = h
 task_state_kept numbers old new (Asked kernel purpose) (rest.asking k p) like h = h
-task_state_kept numbers old new (Asleep ticks since) (rest.asleep n u) like h = h
+task_state_kept numbers old new (Asleep paced ticks since) (rest.asleep p n u) like h = h
+task_state_kept numbers old new (GivingUp since) (rest.giving_up u) like h = h
 task_state_kept numbers old new (Awaits id since) (rest.awaiting children u exc) like h =
     (h.0, h.1, carry old new id (λ n. n.body ≡ Some exc) (λ n. n.body ≡ Some exc) like (λ n m l e. l.body ∙ e) h.2)
 task_state_kept numbers old new Over (rest.at_end u e) like h = h
-task_state_kept numbers old new ToBegin (rest.asking k p) like h = absurd h
-task_state_kept numbers old new ToBegin (rest.asleep n u) like h = absurd h
-task_state_kept numbers old new ToBegin (rest.awaiting children u exc) like h = absurd h
-task_state_kept numbers old new ToBegin (rest.at_end u e) like h = absurd h
-task_state_kept numbers old new (Asked kernel purpose) rest.to_begin like h = absurd h
-task_state_kept numbers old new (Asked kernel purpose) (rest.asleep n u) like h = absurd h
-task_state_kept numbers old new (Asked kernel purpose) (rest.awaiting children u exc) like h = absurd h
-task_state_kept numbers old new (Asked kernel purpose) (rest.at_end u e) like h = absurd h
-task_state_kept numbers old new (Asleep ticks since) rest.to_begin like h = absurd h
-task_state_kept numbers old new (Asleep ticks since) (rest.asking k p) like h = absurd h
-task_state_kept numbers old new (Asleep ticks since) (rest.awaiting children u exc) like h = absurd h
-task_state_kept numbers old new (Asleep ticks since) (rest.at_end u e) like h = absurd h
-task_state_kept numbers old new (Awaits id since) rest.to_begin like h = absurd h
-task_state_kept numbers old new (Awaits id since) (rest.asking k p) like h = absurd h
-task_state_kept numbers old new (Awaits id since) (rest.asleep n u) like h = absurd h
-task_state_kept numbers old new (Awaits id since) (rest.at_end u e) like h = absurd h
-task_state_kept numbers old new Over rest.to_begin like h = absurd h
-task_state_kept numbers old new Over (rest.asking k p) like h = absurd h
-task_state_kept numbers old new Over (rest.asleep n u) like h = absurd h
-task_state_kept numbers old new Over (rest.awaiting children u exc) like h = absurd h
+task_state_kept numbers old new _ _ like h = absurd h
 
 -- The state of a task, and how it continues, in a world with another book.
 stands_kept : (task : Task) (w : World) (book : NurseryBook) (f : Table) (numbers : Numbers) (stopped : rest.Stopped) (ps : List Place) →
@@ -136,9 +119,10 @@ ended_blocks task numbers ps stopped u e placed ends =
 -- a task that has ended waits for no nursery
 pub over_task_state : (numbers : Numbers) (book : NurseryBook) (task_state : TaskState) (u : ℕ) (e : Option Exc) →
     IsTaskState numbers book task_state (rest.at_end u e) → waits_of task_state ≡ None
-over_task_state numbers book ToBegin u e h = absurd h
+over_task_state numbers book (ToBegin at) u e h = absurd h
 over_task_state numbers book (Asked kernel purpose) u e h = absurd h
-over_task_state numbers book (Asleep ticks since) u e h = absurd h
+over_task_state numbers book (Asleep paced ticks since) u e h = absurd h
+over_task_state numbers book (GivingUp since) u e h = absurd h
 over_task_state numbers book (Awaits id since) u e h = absurd h
 over_task_state numbers book Over u e h = refl
 
@@ -154,13 +138,18 @@ past_froms f (x ∷ froms) h =
     ap (λ (d : Option ℕ). record { label = x.label; seen = d } ∷ map from_of froms) (h 0 x refl)
     ∙ ap (λ (fs : List From). record { label = x.label; seen = f x.label } ∷ fs) (past_froms f froms (λ i y e. h (suc i) y e))
 
-started_kept : (old new : ℕ → ℕ) (at : ℕ → Started) (child : ℕ → ℕ) (es : List rest.Event) → ((p : ℕ) → new p ≡ old p) →
-    AreStarted old at child es → AreStarted new at child es
-started_kept old new at child [] same h = tt
-started_kept old new at child (rest.noted t e ∷ es) same h = started_kept old new at child es same h
-started_kept old new at child (rest.signs l t ∷ es) same h = started_kept old new at child es same h
-started_kept old new at child (rest.enters l t d ∷ es) same h = started_kept old new at child es same h
-started_kept old new at child (rest.starts i l t ∷ es) same h = (h.0, same (child i) ∙ h.1, started_kept old new at child es same h.2)
+started_kept : (clock : Clock) (old new : ℕ → ℕ) (at : ℕ → Started) (child : ℕ → ℕ) (es : List rest.Event) →
+    ((p : ℕ) → new p ≡ old p) → AreStarted clock old at child es → AreStarted clock new at child es
+started_kept clock old new at child [] same h = tt
+started_kept clock old new at child (rest.noted t e ∷ es) same h = started_kept clock old new at child es same h
+started_kept clock old new at child (rest.signs l t ∷ es) same h = started_kept clock old new at child es same h
+started_kept clock old new at child (rest.enters l t d ∷ es) same h = started_kept clock old new at child es same h
+started_kept clock old new at child (rest.starts i l t ∷ es) same h = (
+  h.0,
+  same (child i)
+      ∙ h.1,
+  started_kept clock old new at child es same h.2,
+)
 
 -- a home is a place of a nursery
 home_parts : (h : Option Home) (id place : ℕ) → option_map {U = ℕ × ℕ} (λ (x : Home). (x.nursery, x.place)) h ≡ Some (id, place) →
@@ -182,19 +171,24 @@ state_left k job input t m s old new task exc c l =
       interleaving = c.interleaving;
       numbers = c.numbers;
       counted = c.counted ∙ sym l.turns;
+      clock = clock ∙ c.clock;
       tick = ap (λ (w : World). w.tick) l.world ∙ c.tick;
       small = c.small;
       some = c.some;
       begun = l.start 0 ∙ c.begun;
       unborn = λ p le. let differs : p ≢ s = (λ e. absurd (omega (arith, e, le, less))) in
           ((l.others p differs).0 ∙ (c.unborn p le).0, (l.others p differs).1 ∙ (c.unborn p le).1);
-      ended = ended_after;
+      ended = λ p lt e. let g = ended_after p lt e in
+          (g.0, g.1, subst (λ (x : Clock). HasEnded x f input t (c.interleaving.at p) g.0) (sym clock) g.2);
       follows = follows_after;
       owned = λ key o. let h = c.owned key (subst (λ (tree : _). IsOpen tree key) scopes o) in (h.0, opened_after key h.0 h.1);
       apart = λ key p u a b. c.apart key p u (opened_before key p a) (opened_before key u b);
       labelled = λ key label e. subst (λ (tree : _). IsOpen tree key) (sym scopes)
           (c.labelled key label (ap (λ (w : World). label_at w key) (sym l.world) ∙ e));
-      started = λ p lt. started_kept old.start new.start c.interleaving.at (c.interleaving.at p).child (c.interleaving.at p).made l.start (c.started p lt);
+      started = λ p lt.
+          subst (λ (x : Clock). AreStarted x new.start c.interleaving.at (c.interleaving.at p).child (c.interleaving.at p).made) (sym clock)
+          (started_kept old.world.clock old.start new.start c.interleaving.at (c.interleaving.at p).child (c.interleaving.at p).made l.start
+          (c.started p lt));
       children = λ p lt. l.children p ∙ c.children p lt;
     }
   where
@@ -212,6 +206,9 @@ state_left k job input t m s old new task exc c l =
 
     it : Follows old f input t c.interleaving.at c.numbers (Some s) s task
     it = c.follows s task l.was
+
+    clock : new.world.clock ≡ old.world.clock
+    clock = ap (λ (w : World). w.clock) l.world
 
     scopes : new.world.scopes ≡ old.world.scopes
     scopes = ap (λ (w : World). w.scopes) l.world
@@ -247,13 +244,15 @@ state_left k job input t m s old new task exc c l =
 
     -- what is kept of it
     kept : Gone
-    kept = record { label = task.label; end = t; exc = exc; entries = task.entries.items; froms = task.froms.items }
+    kept = record { label = task.label; end = tick_of old.world.clock t; exc = exc; entries = task.entries.items; froms = task.froms.items }
 
-    is_kept : HasEnded f input t q kept
+    is_kept : HasEnded old.world.clock f input t q kept
     is_kept =
         record {
           label = ap (λ (h : _). h.task) it.here;
+          end = t;
           stopped = l.ended;
+          tick = refl;
           before = omega arith;
           notes = it.notes;
           froms =
@@ -295,20 +294,26 @@ state_left k job input t m s old new task exc c l =
             ∙ ap (λ (x : Task). slice_get x.own.items o.place) (sym is) ∙ o.own in
             absurd cc
 
-    ended_after : (p : ℕ) → p < m → new.task p ≡ None → (g : Gone) × (new.gone p ≡ Some g) × HasEnded f input t (c.interleaving.at p) g
+    ended_after : (p : ℕ) → p < m → new.task p ≡ None → (g : Gone) × (new.gone p ≡ Some g) × HasEnded old.world.clock f input t
+        (c.interleaving.at p) g
     ended_after p lt e = by_same (p == s) refl
       where
-        by_same : (b : Bool) → (p == s) ≡ b → (g : Gone) × (new.gone p ≡ Some g) × HasEnded f input t (c.interleaving.at p) g
+        by_same : (b : Bool) → (p == s) ≡ b → (g : Gone) × (new.gone p ≡ Some g) × HasEnded old.world.clock f input t (c.interleaving.at p)
+            g
         by_same true h =
-            let is : p ≡ s = eqb-true p s h in
-            (kept, ap new.gone is ∙ l.kept, subst (λ (n : ℕ). HasEnded f input t (c.interleaving.at n) kept) (sym is) is_kept)
+            let is : p ≡ s = eqb-true p s h in (
+              kept,
+              ap new.gone is ∙ l.kept,
+              subst (λ (n : ℕ). HasEnded old.world.clock f input t (c.interleaving.at n) kept) (sym is)
+                  is_kept,
+            )
         by_same false h =
             let differs : p ≢ s = λ g. absurd (let x : true ≡ false = sym (eq-eqb p s g) ∙ h in cc) in
             let g = c.ended p lt (sym (l.others p differs).0 ∙ e) in
             (g.0, (l.others p differs).1 ∙ g.1, g.2)
 
     like : AllLike old.world.book book
-    like = all_like old.world.book book task.home exc l.told
+    like = all_like t old.world.book book task.home exc l.told
 
     -- the child with a number at the place where it was started
     at_place : (y : Home) → task.home ≡ Some y → (u : ℕ) (b : Task) → old.task u ≡ Some b → (id place number : ℕ) →
@@ -334,37 +339,61 @@ state_left k job input t m s old new task exc c l =
         one : number ≡ its.number
         one = let e = both in cc
 
-    member_kept : (id place serial : ℕ) (end : Option End) → (home_of task ≡ Some (id, place) → ⊥) →
-        IsMember old c.interleaving.at t id place serial end → IsMember new c.interleaving.at t id place serial end
-    member_kept id place serial None other h = absurd h
-    member_kept id place serial (Some None) other h = (h.0, after serial h.0 differs h.1, h.2)
+    -- the number of the task at its place in its home
+    at_home : (y : Home) → task.home ≡ Some y → (u : ℕ) (b : Task) → old.task u ≡ Some b → (id : ℕ) →
+        HasNurseryOf id (blocks_of b.frames.items) (waits_of b.task_state) → y.nursery ≡ id →
+        (number : ℕ) × (slice_get (c.numbers u id) y.place ≡ Some number) × ((c.interleaving.at u).child number ≡ s)
+    at_home y e u b lives id owned is_nursery = (
+      its.number,
+      ap (λ (n : ℕ). slice_get (c.numbers u n) y.place) (sym is_nursery)
+          ∙ ap (λ (n : ℕ). slice_get (c.numbers n y.nursery) y.place) (sym same) ∙ its.stands,
+      ap (λ (n : ℕ). (c.interleaving.at n).child its.number) (sym same) ∙ its.serial,
+    )
+      where
+        its : LivesIn old c.interleaving.at c.numbers s y
+        its = subst (λ (h : Option Home). HasHome old c.interleaving.at c.numbers s h) e it.home
+
+        same : its.parent ≡ u
+        same =
+            same_owner k job input t m (Some s) old c its.parent u its.starter b y.nursery its.lives lives its.owned
+            (subst (λ (n : ℕ). HasNurseryOf n (blocks_of b.frames.items) (waits_of b.task_state)) (sym is_nursery) owned)
+
+    member_kept : (last later id place serial : ℕ) (end : Option End) → last ≤ later → (home_of task ≡ Some (id, place) → ⊥) →
+        IsMember old c.interleaving.at last id place serial end → IsMember new c.interleaving.at later id place serial end
+    member_kept last later id place serial None le other h = absurd h
+    member_kept last later id place serial (Some None) le other h = (h.0, after serial h.0 differs h.1, h.2)
       where
         differs : serial ≢ s
         differs g =
             let e : Some h.0 ≡ Some task = sym h.1 ∙ ap old.task g ∙ l.was in
             let is : h.0 ≡ task = cc in
             other (ap home_of (sym is) ∙ h.2)
-    member_kept id place serial (Some (Some x)) other h = by_same (serial == s) refl
+    member_kept last later id place serial (Some (Some x)) le other h = by_same (serial == s) refl
       where
-        by_same : (b : Bool) → (serial == s) ≡ b → IsMember new c.interleaving.at t id place serial (Some (Some x))
+        by_same : (b : Bool) → (serial == s) ≡ b → IsMember new c.interleaving.at later id place serial (Some (Some x))
         by_same true e =
             let is : serial ≡ s = eqb-true serial s e in
-            let ends : rest.at_end h.0.end x ≡ rest.at_end t exc = sym h.3 ∙ ap (λ (n : ℕ). (c.interleaving.at n).rest.stopped) is ∙ l.ended in
-            let same : x ≡ exc = cc in (
+            let ends : rest.at_end h.1 x ≡ rest.at_end t exc = sym h.4 ∙ ap (λ (n : ℕ). (c.interleaving.at n).rest.stopped) is ∙ l.ended in
+            let same : x ≡ exc = cc in
+            let now : h.1 ≡ t = cc in
+            let before : h.1 ≤ last = h.3 in (
               kept,
+              t,
               ap new.gone is ∙ l.kept,
-              omega arith,
+              omega (arith, now, before, le),
               ap (λ (n : ℕ). (c.interleaving.at n).rest.stopped) is ∙ l.ended
                   ∙ ap (λ (y : Option Exc). rest.at_end t y) (sym same),
             )
         by_same false e =
             let differs : serial ≢ s = λ g. absurd (let z : true ≡ false = sym (eq-eqb serial s g) ∙ e in cc) in
-            (h.0, (l.others serial differs).1 ∙ h.1, h.2, h.3)
+            (h.0, h.1, (l.others serial differs).1 ∙ h.2, (let a = h.3 in omega (arith, a, le)), h.4)
 
     follows_after : (p : ℕ) (x : Task) → new.task p ≡ Some x → Follows new f input t c.interleaving.at c.numbers None p x
     follows_after p x e =
         record {
-          here = g.here;
+          here = ap (λ (z : Clock). here_of z x) clock ∙ g.here;
+          since = g.since;
+          last = last_after x.task_state refl g.last;
           input_is = g.input_is;
           lives = λ no. g.lives (λ z. let w : s ≡ p = cc in there p x e (sym w));
           frames = g.frames;
@@ -374,7 +403,7 @@ state_left k job input t m s old new task exc c l =
           task_state = task_state_kept (c.numbers p) old.world.book book x.task_state r.rest.stopped like g.task_state;
           in_range = g.in_range;
           goes = subst (CanGoOn x) (sym l.world) (goes_kept x old.world book like g.goes);
-          notes = g.notes;
+          notes = subst (λ (z : Clock). Notes z input r.made x.entries.items) (sym clock) g.notes;
           tracks = subst (λ (w : World). Tracks (λ l. (u : ℕ) × Known l (entered_made (c.interleaving.at u).made)) f (scoping_of x w)
               (entered_made r.made)) (sym l.world) g.tracks;
           home = by_home x.home g.home;
@@ -399,7 +428,7 @@ state_left k job input t m s old new task exc c l =
               lives = after h.parent h.starter (λ z. no_nursery home.nursery h.starter (ap old.task (sym z) ∙ h.lives) h.owned) h.lives;
               earlier = h.earlier;
               owned = h.owned;
-              runs = by_told task.home refl (told old.world.book book task.home exc l.told home.nursery n.0 n.1);
+              runs = by_told task.home refl (told t old.world.book book task.home exc l.told home.nursery n.0 n.1);
               number = h.number;
               stands = h.stands;
               below = h.below;
@@ -412,19 +441,58 @@ state_left k job input t m s old new task exc c l =
             n : (n : Nursery) × (nursery_at old.world.book home.nursery ≡ Some n) × Runs n
             n = finds old.world.book home.nursery Runs h.runs
 
-            by_told : (y : Option Home) → task.home ≡ y → Told book exc home.nursery n.0 y → HasNursery book home.nursery Runs
+            by_told : (y : Option Home) → task.home ≡ y → Told t book exc home.nursery n.0 y → HasNursery book home.nursery Runs
             by_told _ is (stays y z w) = puts book home.nursery n.0 Runs z n.2
             by_told _ is (tells y z w) =
-                puts book home.nursery (with_child y.place exc n.0) Runs w (
+                puts book home.nursery (with_child y.place exc t n.0) Runs w (
                   n.2.0,
                   set_else n.0.children y.place home.place (Some exc)
                       (λ v. there p x e (sym h.serial ∙ at_place y is h.parent h.starter h.lives home.nursery home.place h.number h.owned
                       h.stands z v)) ∙ n.2.1,
                 )
 
+        -- if it waits, the last member of its nursery ended when the book says so
+        last_after : (task_state : TaskState) → x.task_state ≡ task_state →
+            LastEnds c.interleaving.at (c.numbers p) r old.world.book task_state → LastEnds c.interleaving.at (c.numbers p) r book
+            task_state
+        last_after (Awaits id since) is h = by_told task.home refl (told t old.world.book book task.home exc l.told id n.0 n.1)
+          where
+            Last : Nursery → Type 0
+            Last n = (since ≤ n.last) × ((since ≡ n.last) ⊎ SomeEnded c.interleaving.at (c.numbers p) r id n.last)
+
+            n : (n : Nursery) × (nursery_at old.world.book id ≡ Some n) × Last n
+            n = finds old.world.book id Last h
+
+            has : HasNurseryOf id (blocks_of x.frames.items) (waits_of x.task_state)
+            has = inr (ap waits_of is)
+
+            by_told : (y : Option Home) → task.home ≡ y → Told t book exc id n.0 y → HasNursery book id Last
+            by_told _ home (stays y z w) = puts book id n.0 Last z n.2
+            by_told _ home (tells y z w) =
+                let before : n.0.last ≤ t =
+                (gives old.world.book id n.0 (λ n. HasMembers old c.interleaving.at t (c.numbers p) r id n) n.1 (g.nurseries id has)).last
+                in
+                let slept : since ≤ n.0.last = n.2.0 in
+                let number = at_home y home p x lives id has z in
+                puts book id (with_child y.place exc t n.0) Last w (
+                  omega (arith, before, slept),
+                  inr (record {
+                    place = y.place;
+                    number = number.0;
+                    is = number.1;
+                    exc = exc;
+                    ended = ap (λ (a : ℕ). (c.interleaving.at a).rest.stopped) number.2 ∙ l.ended;
+                  }),
+                )
+        last_after (ToBegin at) is h = tt
+        last_after (Asked kernel purpose) is h = tt
+        last_after (Asleep paced ticks since) is h = tt
+        last_after (GivingUp since) is h = tt
+        last_after Over is h = tt
+
         nurseries : (id : ℕ) → HasNurseryOf id (blocks_of x.frames.items) (waits_of x.task_state) →
             HasNursery book id (λ n. HasMembers new c.interleaving.at t (c.numbers p) r id n)
-        nurseries id h = by_told task.home refl (told old.world.book book task.home exc l.told id n.0 n.1)
+        nurseries id h = by_told task.home refl (told t old.world.book book task.home exc l.told id n.0 n.1)
           where
             Members : RunState → Nursery → Type 0
             Members state n = HasMembers state c.interleaving.at t (c.numbers p) r id n
@@ -432,32 +500,35 @@ state_left k job input t m s old new task exc c l =
             n : (n : Nursery) × (nursery_at old.world.book id ≡ Some n) × Members old n
             n = finds old.world.book id (Members old) (g.nurseries id h)
 
-            by_told : (y : Option Home) → task.home ≡ y → Told book exc id n.0 y → HasNursery book id (Members new)
+            by_told : (y : Option Home) → task.home ≡ y → Told t book exc id n.0 y → HasNursery book id (Members new)
             by_told _ is (stays y z w) =
                 puts book id n.0 (Members new) z
                 (record {
                   long = n.2.long;
+                  last = n.2.last;
                   members =
                       λ place number stands. let m = n.2.members place number stands in (
                         m.0,
-                        member_kept id place (r.child number) (slice_get n.0.children place)
+                        member_kept n.0.last n.0.last id place (r.child number) (slice_get n.0.children place) (omega arith)
                             (λ v. let a = home_parts task.home id place v in w a.0 (sym is ∙ a.1) a.2) m.1,
                       );
                 })
             by_told _ is (tells y z w) =
-                puts book id (with_child y.place exc n.0) (Members new) w
+                puts book id (with_child y.place exc t n.0) (Members new) w
                 (record {
+                  last = omega arith;
                   long = n.2.long ∙ sym (set_long n.0.children y.place (Some exc));
                   members = λ place number stands. let m = n.2.members place number stands in
                       (m.0, by_place place number stands m.1 (y.place == place) refl);
                 })
               where
-                by_end : (place serial : ℕ) (end : Option End) → IsMember old c.interleaving.at t id place serial end → (v : End) × (end ≡ Some v)
+                by_end : (place serial : ℕ) (end : Option End) → IsMember old c.interleaving.at n.0.last id place serial end →
+                    (v : End) × (end ≡ Some v)
                 by_end place serial None v = absurd v
                 by_end place serial (Some v) a = (v, refl)
 
                 by_place : (place number : ℕ) → slice_get (c.numbers p id) place ≡ Some number →
-                    IsMember old c.interleaving.at t id place (r.child number) (slice_get n.0.children place) →
+                    IsMember old c.interleaving.at n.0.last id place (r.child number) (slice_get n.0.children place) →
                     (b : Bool) → (y.place == place) ≡ b → IsMember new c.interleaving.at t id place (r.child number)
                     (slice_get (slice_set n.0.children y.place (Some exc)) place)
                 by_place place number stands m true v =
@@ -468,12 +539,12 @@ state_left k job input t m s old new task exc c l =
                     ap (λ (a : ℕ). slice_get (slice_set n.0.children y.place (Some exc)) a) (sym at)
                     ∙ set_at n.0.children y.place (Some exc) was.0 (ap (λ (a : ℕ). slice_get n.0.children a) at ∙ was.1) in
                     subst (IsMember new c.interleaving.at t id place (r.child number)) (sym told_end)
-                    (kept, ap new.gone is_s ∙ l.kept, omega arith, ap (λ (a : ℕ). (c.interleaving.at a).rest.stopped) is_s ∙ l.ended)
+                    (kept, t, ap new.gone is_s ∙ l.kept, omega arith, ap (λ (a : ℕ). (c.interleaving.at a).rest.stopped) is_s ∙ l.ended)
                 by_place place number stands m false v =
                     let differs : y.place ≢ place = λ a. absurd (let b : true ≡ false = sym (eq-eqb y.place place a) ∙ v in cc) in
                     subst (IsMember new c.interleaving.at t id place (r.child number))
                     (sym (set_else n.0.children y.place place (Some exc) differs))
-                    (member_kept id place (r.child number) (slice_get n.0.children place)
+                    (member_kept n.0.last t id place (r.child number) (slice_get n.0.children place) n.2.last
                     (λ a. let h = home_parts task.home id place a in let same : Some h.0 ≡ Some y = sym h.1 ∙ is in let one : h.0 ≡ y =
                     cc in
                     differs (ap (λ (z : Home). z.place) (sym one) ∙ h.3)) m)

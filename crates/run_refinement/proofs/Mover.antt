@@ -10,31 +10,38 @@ use Rattle.buffer_parts.specs.Part.{buffer_of}
 use Rattle.cancel_scopes.specs.Tree.{Stack, stack_of, outer_of, IsOpen}
 use Rattle.nursery_book.specs.Nursery.{Nursery}
 use Rattle.nursery_book.specs.Book.{nursery_at}
+use Rattle.nursery_book.specs.declared.book.NurseryBook.{NurseryBook}
 use Rattle.job_tree.specs.Tree.{Tree as Job}
 use Rattle.job_meaning.specs.Log.{Table}
+use Rattle.job_meaning.specs.Moments.{Clock}
 use Rattle.job_meaning.specs.Walk.{Here}
 use Rattle.job_meaning.specs.Shown.{Shown}
 use Rattle.job_meaning.specs.Rest as rest
-use Rattle.job_meaning.specs.Rest.{Stopped, to_begin, asking, asleep, awaiting, at_end}
+use Rattle.job_meaning.specs.Rest.{Event, Stopped, to_begin, asking, asleep, giving_up, awaiting, at_end}
 use Rattle.task_machine.specs.States.{state_of}
 use Rattle.task_machine.specs.Noted.{entry_of, IsSlice, shown_made, AreNoted}
 use Rattle.turn_semantics.specs.Names.{NewIn}
 use Rattle.turn_semantics.specs.Placed.{PlacedAfter, outer_places}
-use Rattle.turn_semantics.specs.Turned.{Known}
+use Rattle.turn_semantics.specs.Turned.{Known, StopsAt}
+use Rattle.turn_semantics.specs.Midway.{Place, own_after}
+use Rattle.turn_semantics.specs.Steps.{froms_after}
 use Rattle.task_machine.specs.declared.stop.Stop.{Stop}
 use Rattle.task_machine.specs.declared.task.Home.{Home}
 use Rattle.task_machine.specs.declared.task.Own.{Own}
 use Rattle.task_machine.specs.declared.task.Task.{Task}
+use Rattle.task_machine.specs.declared.world.World.{World}
+use Rattle.task_machine.specs.declared.stop.TaskState.{TaskState}
+use Rattle.task_machine.specs.declared.stop.TaskState.TheVariants.{ToBegin, Asked, Asleep, GivingUp, Awaits, Over}
 use Rattle.task_machine.specs.Acts.{scoping_of}
 use Rattle.task_machine.specs.Fitting.{blocks_of, waits_of, AreOthers}
 use Rattle.task_machine.specs.Stacked.{AreAt, IsKey}
-use Rattle.task_machine.specs.Standing.{here_of, HasBlock, Stands}
-use Rattle.task_machine.specs.Stops.{Numbers, IsTaskState, IsTold, StopsAs}
+use Rattle.task_machine.specs.Standing.{here_of, HasBlock, Stands, BodyEnds, now_for}
+use Rattle.task_machine.specs.Stops.{Numbers, IsTaskState, IsTold, StopsAs, OwnAfter}
 use Rattle.task_machine.specs.Tasks.{scope_of}
 use Rattle.task_machine.specs.Worlds.{label_at}
 use Rattle.interleavings.specs.Interleaving.{Started, live}
 use Rattle.interleavings.specs.Rows.{entered_made}
-use Rattle.run_refinement.specs.RunState.{RunState, Notes, Tracks, CanGoOn, LivesIn, HasHome, Follows, OpenedBy, Refines}
+use Rattle.run_refinement.specs.RunState.{RunState, Notes, Tracks, CanGoOn, LivesIn, HasHome, IsSince, LastEnds, Follows, OpenedBy, Refines}
 use Rattle.run_refinement.specs.Turn.{IsEntered, numbers_then, leaving_by}
 use Rattle.run_refinement.specs.Turning.{Turning}
 use Rattle.run_refinement.proofs.ActsKeep.{Sound, Apart, KnownWith, labels_entered, same_or}
@@ -48,6 +55,39 @@ use Rattle.task_machine.proofs.StateLemmas.{told_end}
 use Rattle.task_machine.proofs.Taking.{shown_append}
 use Rattle.run_refinement.proofs.Found.{finds, puts}
 
+-- ---- where a task stops in time
+
+-- A task that stops in this moment is there, and what it has cancelled itself in the moment counts on while it asks.
+since_now : (t : ℕ) (clock there : Clock) (cancelled woken own : List Label) (made : List Event) (numbers : Numbers) (book : NurseryBook)
+    (task_state : TaskState) (stopped : Stopped) (froms : Table) (ps : List Place) → clock ≡ there → woken ≡ own →
+    IsTaskState numbers book task_state stopped → StopsAt there t froms (Some stopped) ps →
+    OwnAfter clock woken cancelled made (Some stopped) →
+    IsSince t cancelled task_state (record { at = t; own = own_after there own made })
+since_now t clock there cancelled woken own made numbers book (ToBegin at) to_begin froms ps same count h stops after = absurd stops
+since_now t clock there cancelled woken own made numbers book (ToBegin at) _ froms ps same count h stops after = absurd h
+since_now t clock there cancelled woken own made numbers book (Asked kernel purpose) (asking k p) froms ps same count h stops after = (
+  omega arith,
+  sym (after ∙ ap (λ (x : Clock). own_after x woken made) same ∙ ap (λ (ls : List Label). own_after there ls made) count),
+)
+since_now t clock there cancelled woken own made numbers book (Asked kernel purpose) _ froms ps same count h stops after = absurd h
+since_now t clock there cancelled woken own made numbers book (Asleep paced ticks since) stopped froms ps same count h stops after = tt
+since_now t clock there cancelled woken own made numbers book (GivingUp since) stopped froms ps same count h stops after = tt
+since_now t clock there cancelled woken own made numbers book (Awaits id since) stopped froms ps same count h stops after = tt
+since_now t clock there cancelled woken own made numbers book Over stopped froms ps same count h stops after = tt
+
+-- The body of the nursery that a task waits for from this moment on ended now, and no member later.
+ended_now : (at : ℕ → Started) (numbers : Numbers) (q : Started) (book : NurseryBook) (task_state : TaskState) → BodyEnds task_state book →
+    LastEnds at numbers q book task_state
+ended_now at numbers q book (Awaits id since) ends =
+    let n = finds book id (λ n. n.last ≡ since) ends in
+    let e : n.0.last ≡ since = n.2 in
+    puts book id n.0 _ n.1 (omega (arith, e), inl (sym e))
+ended_now at numbers q book (ToBegin v) ends = tt
+ended_now at numbers q book (Asked kernel purpose) ends = tt
+ended_now at numbers q book (Asleep paced ticks since) ends = tt
+ended_now at numbers q book (GivingUp since) ends = tt
+ended_now at numbers q book Over ends = tt
+
 module _ (k : Table) (job : Job) (input : List ℕ) (t m s : ℕ) (old new : RunState) (before after : Task) (stop : Stop)
     (c : Refines k job input t m None old)
     (T : Turning k job input t m s old new c.numbers before after stop c.interleaving) where
@@ -60,39 +100,70 @@ module _ (k : Table) (job : Job) (input : List ℕ) (t m s : ℕ) (old new : Run
   abbrev now : Numbers
   now = T.took.numbers_after
 
+  abbrev mover_clock : Clock
+  mover_clock = (c.interleaving.at s).here.clock
+
   -- ---- where it stopped, and what it noted
 
-  blocks_on : IsTaskState now new.world.book after.task_state T.stopped × IsTold before.part stop after.task_state T.stopped
-  blocks_on = subst (λ (o : Option Stopped). StopsAs now new.world.book before.part stop after.task_state o) T.stops T.took.moves.1
+  blocks_on : IsTaskState now new.world.book after.task_state T.stopped × IsTold old.world.clock before.part stop after.task_state T.stopped
+  blocks_on = subst (λ (o : Option Stopped). StopsAs old.world.clock now new.world.book before.part stop after.task_state o) T.stops
+      T.took.moves.1
 
-  lives_on : (stopped : Stopped) → IsTaskState now new.world.book after.task_state stopped → IsTold before.part stop after.task_state stopped →
+  lives_on : (stopped : Stopped) → IsTaskState now new.world.book after.task_state stopped →
+      IsTold old.world.clock before.part stop after.task_state stopped →
       (leaving_by stop s ≡ Some s → ⊥) →
       live stopped ≡ true
   lives_on to_begin h told stays = refl
   lives_on (asking kernel purpose) h told stays = refl
-  lives_on (asleep n since) h told stays = refl
+  lives_on (asleep paced n since) h told stays = refl
+  lives_on (giving_up since) h told stays = refl
   lives_on (awaiting children ended exc) h told stays = refl
   lives_on (at_end u e) h told stays =
-      let w = told_end now new.world.book before.part stop after.task_state u e h told in
+      let w = told_end old.world.clock now new.world.book before.part stop after.task_state u e h told in
       absurd (stays (ap (λ (z : Stop). leaving_by z s) w.1))
 
   input_here : buffer_of before.part ≡ input
   input_here = ap (λ (h : Here). h.input) mover.here ∙ mover.input_is
 
-  noted_after : Notes input result.made after.entries.items
-  noted_after =
-      let more : AreNoted input T.took.entries T.move.made =
-      subst (λ (xs : List ℕ). AreNoted xs T.took.entries T.move.made) input_here T.took.shown in
+  -- the world's clock stays
+  clock_stays : new.world.clock ≡ old.world.clock
+  clock_stays = ap (λ (w : World). w.clock) T.code.world
+
+  noted_before : Notes old.world.clock input result.made after.entries.items
+  noted_before =
+      let more : AreNoted old.world.clock input T.took.entries T.move.made =
+      subst (λ (xs : List ℕ). AreNoted old.world.clock xs T.took.entries T.move.made) input_here T.took.shown in
       record {
         shown =
             ap (map entry_of) T.took.noted
             ∙ (map-append entry_of before.entries.items T.took.entries
             ∙ (ap (λ (x : List Shown). x ++ map entry_of T.took.entries) mover.notes.shown
-            ∙ (ap (λ (x : List Shown). shown_made input (c.interleaving.at s).made ++ x) more.shown
-            ∙ sym (shown_append input (c.interleaving.at s).made T.move.made))));
+            ∙ (ap (λ (x : List Shown). shown_made old.world.clock input (c.interleaving.at s).made ++ x) more.shown
+            ∙ sym (shown_append old.world.clock input (c.interleaving.at s).made T.move.made))));
         slices = subst (All (IsSlice input)) (sym T.took.noted) (All-append (IsSlice input) before.entries.items T.took.entries
             mover.notes.slices more.slices);
       }
+
+  noted_after : Notes new.world.clock input result.made after.entries.items
+  noted_after = subst (λ (clock : Clock). Notes clock input result.made after.entries.items) (sym clock_stays) noted_before
+
+  -- where it is in time
+  stops_now : StopsAt mover_clock t (froms_after c.interleaving.froms T.move.made) (Some T.stopped) T.move.places
+  stops_now =
+      subst (λ (o : Option Stopped). StopsAt mover_clock t (froms_after c.interleaving.froms T.move.made) o T.move.places) T.stops
+      T.promise.stops
+
+  since_after : IsSince t after.cancelled.items after.task_state result.stop
+  since_after =
+      since_now t old.world.clock mover_clock after.cancelled.items (now_for T.woken_by (state_of before old.world)).own T.own T.move.made
+      now
+      new.world.book after.task_state T.stopped (froms_after c.interleaving.froms T.move.made) T.move.places
+      (ap (λ (h : Here). h.clock) mover.here) (sym T.owns) blocks_on.0 stops_now
+      (subst (OwnAfter old.world.clock (now_for T.woken_by (state_of before old.world)).own after.cancelled.items T.move.made) T.stops
+      T.took.own)
+
+  last_after : LastEnds T.is.at now result new.world.book after.task_state
+  last_after = ended_now T.is.at now result new.world.book after.task_state T.took.last
 
   -- ---- its state
 
@@ -233,7 +304,11 @@ module _ (k : Table) (job : Job) (input : List ℕ) (t m s : ℕ) (old new : Run
     stood : Stood new T.is.froms input t T.is.at (leaving_by stop s) s after now result
     stood =
         record {
-          here = ap (λ (z : Task). here_of z) T.code.stays ∙ mover.here;
+          here =
+              ap (λ (z : Task). here_of new.world.clock z) T.code.stays ∙ ap (λ (clock : Clock). here_of clock before) clock_stays
+              ∙ mover.here;
+          since = since_after;
+          last = last_after;
           input_is = mover.input_is;
           lives = lives_on T.stopped blocks_on.0 blocks_on.1;
           frames = T.took.frames_after;

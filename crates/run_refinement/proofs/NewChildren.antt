@@ -12,6 +12,8 @@ use Rattle.nursery_book.specs.declared.book.NurseryBook.{NurseryBook}
 use Rattle.job_tree.specs.Starting.{StartsIn}
 use Rattle.job_tree.specs.Tree.{Tree as Job}
 use Rattle.job_meaning.specs.Log.{Table}
+use Rattle.job_meaning.specs.Moments.{Clock, a_round_after, only_at}
+use Rattle.job_meaning.specs.Walk.{Here}
 use Rattle.job_meaning.specs.Rest as rest
 use Rattle.job_meaning.specs.Rest.{Stopped, to_begin}
 use Rattle.task_machine.specs.States.{state_of}
@@ -25,20 +27,21 @@ use Rattle.task_machine.specs.declared.stop.Stop.{Stop}
 use Rattle.task_machine.specs.declared.task.Home.{Home}
 use Rattle.task_machine.specs.declared.task.Own.{Own}
 use Rattle.task_machine.specs.declared.task.Task.{Task}
+use Rattle.task_machine.specs.declared.world.World.{World}
 use Rattle.task_machine.specs.Acts.{Scoping, scoping_of}
 use Rattle.task_machine.specs.Fitting.{Block, blocks_of, waits_of, AreInRangeFrames, StartsFit, Opened}
 use Rattle.task_machine.specs.Frames.{frames_of}
 use Rattle.task_machine.specs.Labels.{Labels}
 use Rattle.task_machine.specs.Left.{keys_of, OwnFirst}
 use Rattle.task_machine.specs.Stacked.{AreAt}
-use Rattle.task_machine.specs.Standing.{HasBlock, HasNurseryOf, IsBegun, BeginsAt, Stands}
+use Rattle.task_machine.specs.Standing.{here_of, HasBlock, HasNurseryOf, IsBegun, BeginsAt, Stands}
 use Rattle.task_machine.specs.Stops.{Numbers, IsTaskState, StopsAs}
 use Rattle.task_machine.specs.Tasks.{home_scope, scope_of, home_of}
 use Rattle.task_machine.specs.Waking.{IsInRangeTaskState}
 use Rattle.task_machine.specs.Worlds.{label_at}
 use Rattle.interleavings.specs.Interleaving.{Started}
 use Rattle.interleavings.proofs.Turning.{later_child}
-use Rattle.run_refinement.specs.RunState.{RunState, Differ, Tracks, CanGoOn, LivesIn, HasHome, Follows, Refines}
+use Rattle.run_refinement.specs.RunState.{RunState, Differ, Tracks, CanGoOn, LivesIn, HasHome, IsSince, LastEnds, Follows, Refines}
 use Rattle.run_refinement.specs.Turn.{IsEntered, child_at, numbers_then}
 use Rattle.run_refinement.specs.Turning.{Turning}
 use Rattle.run_refinement.proofs.ActsKeep.{not_both}
@@ -84,6 +87,18 @@ module _ (k : Table) (job : Job) (input : List ℕ) (t m s : ℕ) (old new : Run
   abbrev now : Numbers
   now = T.took.numbers_after
 
+  -- the moment in which the children begin
+  abbrev at_begin : ℕ
+  at_begin = a_round_after old.world.clock old.world.tick
+
+  same_begin : a_round_after (c.interleaving.at s).here.clock t ≡ at_begin
+  same_begin =
+      ap (λ (clock : Clock). a_round_after clock t) (sym (ap (λ (h : Here). h.clock) (c.follows s before T.code.task).here))
+      ∙ ap (a_round_after old.world.clock) (sym c.tick)
+
+  clock_stays : new.world.clock ≡ old.world.clock
+  clock_stays = ap (λ (w : World). w.clock) T.code.world
+
   -- a nursery of the task after its turn, by its key and that of its scope
   abbrev IsNursery : ℕ → ℕ → Type 0
   IsNursery id key = HasNurseryOf id (blocks_of after.frames.items) (waits_of after.task_state)
@@ -103,10 +118,11 @@ module _ (k : Table) (job : Job) (input : List ℕ) (t m s : ℕ) (old new : Run
       (keys_of (outer_of new.world.scopes (home_scope after))) (λ id o has n. (has, n)) T.code.fits_after.runs.opened))
 
   task_state_after : IsTaskState now new.world.book after.task_state T.stopped
-  task_state_after = (subst (λ (o : Option Stopped). StopsAs now new.world.book before.part stop after.task_state o) T.stops T.took.moves.1).0
+  task_state_after = (subst (λ (o : Option Stopped). StopsAs old.world.clock now new.world.book before.part stop after.task_state o) T.stops
+      T.took.moves.1).0
 
   module _ (i : ℕ) (task : Task) (is : slice_get T.took.tasks i ≡ Some task) (b : Begun) (begun : slice_get T.move.begun i ≡ Some b)
-      (h : IsBegun now new.world.book (blocks_of after.frames.items) (waits_of after.task_state) task b) where
+      (h : IsBegun old.world.clock at_begin now new.world.book (blocks_of after.frames.items) (waits_of after.task_state) task b) where
     numbered : b.number ≡ (c.interleaving.at s).count + i
     numbered = numbered_on (c.interleaving.at s).count T.move.made T.move.begun T.promise.starts i b begun
 
@@ -232,10 +248,18 @@ module _ (k : Table) (job : Job) (input : List ℕ) (t m s : ℕ) (old new : Run
         }
 
     stood : (leaving : Option ℕ) → b.here.input ≡ input →
-        Stood new T.is.froms input t T.is.at leaving (m + i) task (λ id. []) (child_at k t (m + i) b)
+        Stood new T.is.froms input t T.is.at leaving (m + i) task (λ id. []) (child_at k (a_round_after (c.interleaving.at s).here.clock t)
+        (m + i) b)
     stood leaving here =
         record {
-          here = h.here;
+          here = ap (λ (clock : Clock). here_of clock task) clock_stays ∙ h.here;
+          since = subst (λ z. IsSince t task.cancelled.items z (only_at (a_round_after (c.interleaving.at s).here.clock t)))
+              (sym h.task_state)
+              (ap only_at same_begin);
+          last =
+              subst (λ z. LastEnds T.is.at (λ id. []) (child_at k (a_round_after (c.interleaving.at s).here.clock t) (m + i) b)
+              new.world.book z)
+              (sym h.task_state) tt;
           input_is = here;
           lives = λ stays. refl;
           frames = frames_are;
@@ -257,8 +281,10 @@ module _ (k : Table) (job : Job) (input : List ℕ) (t m s : ℕ) (old new : Run
       slice_get T.took.tasks i ≡ Some task →
       (leaving : Option ℕ) → Follows new T.is.froms input t T.is.at (numbers_then c.numbers s m T.took.numbers_after) leaving (m + i) task
   child_follows inputs i task is leaving =
-      let o = begun_at now new.world.book (blocks_of after.frames.items) (waits_of after.task_state) T.took.tasks T.move.begun T.took.begun i task
+      let o = begun_at old.world.clock at_begin now new.world.book (blocks_of after.frames.items) (waits_of after.task_state) T.took.tasks
+      T.move.begun T.took.begun i task
       is in
-      follows_by new T.is.froms input t T.is.at (numbers_then c.numbers s m now) leaving (m + i) task (λ id. []) (child_at k t (m + i) o.0)
+      follows_by new T.is.froms input t T.is.at (numbers_then c.numbers s m now) leaving (m + i) task (λ id. [])
+      (child_at k (a_round_after (c.interleaving.at s).here.clock t) (m + i) o.0)
       (numbers_child c.numbers s m now i T.below) (T.of_child i o.0 o.1) (stood i task is o.0 o.1 o.2 leaving (inputs i o.0 o.1))
       (subst (HasHome new T.is.at (numbers_then c.numbers s m now) (m + i)) (sym o.2.at_home) (lives_there i task is o.0 o.1 o.2))

@@ -14,7 +14,7 @@ use Rattle.turn_semantics.specs.Placed.{outer_places, IsAmong, HasChild, WaitsFo
 use Rattle.task_machine.specs.declared.frame.Frame.{Frame}
 use Rattle.task_machine.specs.declared.frame.Frame.TheVariants.{Steps, Scope, Nursery, Repeat, Try, Handler, Cleanup}
 use Rattle.task_machine.specs.declared.stop.TaskState.{TaskState}
-use Rattle.task_machine.specs.declared.stop.TaskState.TheVariants.{ToBegin, Asked, Asleep, Awaits, Over}
+use Rattle.task_machine.specs.declared.stop.TaskState.TheVariants.{ToBegin, Asked, Asleep, GivingUp, Awaits, Over}
 use Rattle.task_machine.specs.declared.task.Own.{Own}
 use Rattle.task_machine.specs.Fitting.{Block, a_nursery, blocks_of, Opened, waits_of}
 use Rattle.task_machine.specs.Frames.{frame_of, frames_onto, frames_of}
@@ -123,9 +123,10 @@ IsStop numbers (Some id) stopped = (children : List ℕ) × (u : ℕ) × (e : Op
 -- a blocked state waits for the nursery for which its stop does, or for none
 pub is_stop : (numbers : Numbers) (book : NurseryBook) (task_state : TaskState) (stopped : rest.Stopped) → IsTaskState numbers book task_state stopped →
     IsStop numbers (waits_of task_state) stopped
-is_stop numbers book ToBegin rest.to_begin h = ((λ ps. refl), (λ i home ps w. w))
+is_stop numbers book (ToBegin at) rest.to_begin h = ((λ ps. refl), (λ i home ps w. w))
 is_stop numbers book (Asked kernel purpose) (rest.asking k p) h = ((λ ps. refl), (λ i home ps w. w))
-is_stop numbers book (Asleep ticks since) (rest.asleep n u) h = ((λ ps. refl), (λ i home ps w. w))
+is_stop numbers book (Asleep paced ticks since) (rest.asleep p n u) h = ((λ ps. refl), (λ i home ps w. w))
+is_stop numbers book (GivingUp since) (rest.giving_up u) h = ((λ ps. refl), (λ i home ps w. w))
 is_stop numbers book (Awaits nursery since) (rest.awaiting children u exc) h = (children, u, exc, refl, h.0)
 is_stop numbers book Over (rest.at_end u e) h = ((λ ps. refl), (λ i home ps w. w))
 is_stop numbers book _ _ h = absurd h

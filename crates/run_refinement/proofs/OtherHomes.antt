@@ -65,8 +65,8 @@ pub grown : {k : Table} {job : Job} {input : List ℕ} {t m s : ℕ} {old new : 
     (c : Refines k job input t m None old) →
     (T : Turning k job input t m s old new c.numbers before after stop c.interleaving) → (id : ℕ) → HasBlock id (blocks_of before.frames.items) →
     (n : Members) → nursery_at old.world.book id ≡ Some n → (x : Members) × (nursery_at new.world.book id ≡ Some x)
-    × Grown n x (c.numbers s id) (T.took.numbers_after id)
-grown {new = new} c T id has n e = finds new.world.book id _ (T.took.nurseries.grow id has n e)
+    × Grown old.world.tick n x (c.numbers s id) (T.took.numbers_after id)
+grown {old = old} {new = new} c T id has n e = finds new.world.book id _ (T.took.nurseries.grow id has n e)
 
 -- ---- the home of another task
 
@@ -116,7 +116,7 @@ mover_home {k} {job} {input} {t} {m} {s} {old} {new} {before} {after} c T u home
     n = finds old.world.book home.nursery _ h.runs
 
     g : (x : Members) × (nursery_at new.world.book home.nursery ≡ Some x)
-        × Grown n.0 x (c.numbers s home.nursery) (T.took.numbers_after home.nursery)
+        × Grown old.world.tick n.0 x (c.numbers s home.nursery) (T.took.numbers_after home.nursery)
     g = grown c T home.nursery block n.0 n.1
 
     child : slice_get g.0.children home.place ≡ Some None

@@ -66,13 +66,13 @@ begins_late id place number n (rest.starts i l u ∷ es) (t ∷ ts) (b ∷ bs) s
 
 -- a task that has not ended and is a member of a nursery at a place has its home there
 pub member_home : {k : Table} {job : Job} {input : List ℕ} {t m : ℕ} {old : RunState} → (c : Refines k job input t m None old) →
-    (u : ℕ) (task : Task) → old.task u ≡ Some task → (id place : ℕ) (e : Option End) →
-    IsMember old c.interleaving.at t id place u e → home_of task ≡ Some (id, place)
-member_home c u task is id place None h = absurd h
-member_home c u task is id place (Some None) h = ap home_of (one_of task h.0 (sym is ∙ h.1)) ∙ h.2
-member_home c u task is id place (Some (Some exc)) h =
+    (u : ℕ) (task : Task) → old.task u ≡ Some task → (last id place : ℕ) (e : Option End) →
+    IsMember old c.interleaving.at last id place u e → home_of task ≡ Some (id, place)
+member_home c u task is last id place None h = absurd h
+member_home c u task is last id place (Some None) h = ap home_of (one_of task h.0 (sym is ∙ h.1)) ∙ h.2
+member_home c u task is last id place (Some (Some exc)) h =
     let alive : live (c.interleaving.at u).rest.stopped ≡ true = (c.follows u task is).lives (λ e. not_both refl e) in
-    let ended : live (c.interleaving.at u).rest.stopped ≡ false = ap live h.3 in
+    let ended : live (c.interleaving.at u).rest.stopped ≡ false = ap live h.4 in
     absurd (let clash : true ≡ false = sym alive ∙ ended in cc)
 
 -- the nursery of the mover that has the number of a child is the home of that child
@@ -96,10 +96,11 @@ home_is {k} {job} {input} {t} {m} {s} {old} {new} {before} {after} c T u task is
         ⊎ BeginsAt id place h.number T.took.tasks T.move.begun → id ≡ home.nursery
     by_case (inl x) =
         let n = finds old.world.book id _ ((c.follows s before T.code.task).nurseries id (inl x.0)) in
-        let member : IsMember old c.interleaving.at t id place u (slice_get n.0.children place) =
-        subst (λ (p : ℕ). IsMember old c.interleaving.at t id place p (slice_get n.0.children place)) serial (n.2.members place h.number x.1).1 in
+        let member : IsMember old c.interleaving.at n.0.last id place u (slice_get n.0.children place) =
+        subst (λ (p : ℕ). IsMember old c.interleaving.at n.0.last id place p (slice_get n.0.children place)) serial
+        (n.2.members place h.number x.1).1 in
         let same : Some (id, place) ≡ Some (home.nursery, home.place) =
-        sym (member_home c u task is id place (slice_get n.0.children place) member)
+        sym (member_home c u task is n.0.last id place (slice_get n.0.children place) member)
         ∙ ap (option_map (λ (y : Home). (y.nursery, y.place))) at_home in
         ap (λ (z : ℕ × ℕ). z.0) (one_of (id, place) (home.nursery, home.place) same)
     by_case (inr b) =
@@ -172,8 +173,9 @@ mover_places {k} {job} {input} {t} {m} {s} {old} {new} {before} {after} {stop} c
         (subst (λ (o : Option rest.Stopped). HasChildAfter h.number ps o T.move.frames T.move.places) T.stops
         (T.promise.stays h.number ps child))
 
-    task_state : StopsAs T.took.numbers_after new.world.book before.part stop after.task_state (Some T.stopped)
-    task_state = subst (StopsAs T.took.numbers_after new.world.book before.part stop after.task_state) T.stops T.took.moves.1
+    task_state : StopsAs old.world.clock T.took.numbers_after new.world.book before.part stop after.task_state (Some T.stopped)
+    task_state = subst (StopsAs old.world.clock T.took.numbers_after new.world.book before.part stop after.task_state) T.stops
+        T.took.moves.1
 
     there : Found (label_at new.world) new.world.book (froms_after f T.move.made) T.took.numbers_after (blocks_of after.frames.items)
         (waits_of after.task_state) (outer_of new.world.scopes (scope_of after)) h.number ps

@@ -1,12 +1,14 @@
 -- Each other task is tied to the one of the definitions after a turn, as it was before.
-use Rattle.std.proofs.Common.{◌≡◌, ◌≢◌, ◌⊎◌, inl, inr, ℕ, ◌<◌, true, false, Option, Some, None, List, length, refl, ap, sym, ◌∙◌, subst}
+use Rattle.std.proofs.Common.{◌≡◌, ◌≢◌, ◌⊎◌, inl, inr, ℕ, ◌<◌, ◌≤◌, true, false, Option, Some, None, List, length, refl, ap, sym, ◌∙◌, subst}
 use Rattle.std.specs.Prelude.{slice_get}
 use Rattle.std.specs.Option.{ForSome, IsSomeAnd}
 use Rattle.cancel_scopes.specs.Tree.{outer_of, IsOpen}
 use Rattle.nursery_book.specs.Nursery.{End, Nursery}
 use Rattle.nursery_book.specs.Book.{nursery_at, HasNursery}
 use Rattle.job_tree.specs.Tree.{Tree as Job}
+use Rattle.exc_groups.specs.Exceptions.{Exc}
 use Rattle.job_meaning.specs.Log.{Table}
+use Rattle.job_meaning.specs.Moments.{Clock}
 use Rattle.job_meaning.specs.Rest as rest
 use Rattle.task_machine.specs.States.{state_of}
 use Rattle.task_machine.specs.declared.entry.ScopeFrom.{ScopeFrom}
@@ -14,15 +16,18 @@ use Rattle.turn_semantics.specs.Turned.{Known}
 use Rattle.task_machine.specs.declared.stop.Stop.{Stop}
 use Rattle.task_machine.specs.declared.task.Own.{Own}
 use Rattle.task_machine.specs.declared.task.Task.{Task}
+use Rattle.task_machine.specs.declared.world.World.{World}
+use Rattle.task_machine.specs.declared.stop.TaskState.{TaskState}
+use Rattle.task_machine.specs.declared.stop.TaskState.TheVariants.{ToBegin, Asked, Asleep, GivingUp, Awaits, Over}
 use Rattle.task_machine.specs.Acts.{scoping_of}
 use Rattle.task_machine.specs.Fitting.{blocks_of, waits_of}
 use Rattle.task_machine.specs.Stacked.{AreAt}
-use Rattle.task_machine.specs.Standing.{HasNurseryOf, Stands}
+use Rattle.task_machine.specs.Standing.{here_of, HasNurseryOf, Stands}
 use Rattle.task_machine.specs.Tasks.{home_of, home_scope, scope_of}
 use Rattle.task_machine.specs.Worlds.{label_at}
 use Rattle.interleavings.specs.Interleaving.{Started, live}
 use Rattle.interleavings.specs.Rows.{entered_made}
-use Rattle.run_refinement.specs.RunState.{RunState, Tracks, CanGoOn, IsMember, HasMembers, Follows, Refines}
+use Rattle.run_refinement.specs.RunState.{RunState, Notes, Tracks, CanGoOn, IsMember, HasMembers, SomeEnded, LastEnds, Follows, Refines}
 use Rattle.run_refinement.specs.Turn.{IsEntered, numbers_then, leaving_by}
 use Rattle.run_refinement.specs.Turning.{Turning}
 use Rattle.run_refinement.proofs.ActsKeep.{not_both, same_or}
@@ -33,7 +38,7 @@ use Rattle.run_refinement.proofs.OtherNurseries.{same_nursery, opened_stays, tas
 use Rattle.run_refinement.proofs.OtherPlaces.{places_other}
 use Rattle.run_refinement.proofs.OtherScopes.{AreElse, tracks_other, scope_stays, first_stays}
 use Rattle.task_machine.proofs.Stacked.{one_of}
-use Rattle.run_refinement.proofs.Found.{same_got}
+use Rattle.run_refinement.proofs.Found.{same_got, finds, gives, puts}
 use Rattle.run_refinement.proofs.Parts.{numbers_other}
 use Rattle.run_refinement.proofs.LabelsApart.{below_of}
 
@@ -43,35 +48,41 @@ module _ (k : Table) (job : Job) (input : List ℕ) (t m s : ℕ) (old new : Run
   -- ---- which tasks are in a nursery
 
   -- a task that is in a nursery is there still, be it the mover or another
-  running_stays : (id place serial : ℕ) → IsMember old c.interleaving.at t id place serial (Some None) → (serial ≡ s) ⊎ (serial ≢ s) →
-      IsMember new T.is.at t id place serial (Some None)
-  running_stays id place serial h (inl e) =
+  running_stays : (last id place serial : ℕ) → IsMember old c.interleaving.at last id place serial (Some None) →
+      (serial ≡ s) ⊎ (serial ≢ s) → IsMember new T.is.at last id place serial (Some None)
+  running_stays last id place serial h (inl e) =
       let mine : h.0 ≡ before = one_of h.0 before (sym h.1 ∙ (ap old.task e ∙ T.code.task)) in
       (after, ap new.task e ∙ T.code.task_after, ap (λ (z : Task). home_of z) T.code.stays ∙ (sym (ap (λ (z : Task). home_of z) mine) ∙ h.2))
-  running_stays id place serial h (inr differs) = (h.0, T.code.other_after serial (below_of c serial h.0 h.1) differs ∙ h.1, h.2)
+  running_stays last id place serial h (inr differs) = (h.0, T.code.other_after serial (below_of c serial h.0 h.1) differs ∙ h.1, h.2)
 
-  -- what is a member stays one
-  member_stays : (id place serial : ℕ) (e : Option End) → IsMember old c.interleaving.at t id place serial e →
-      IsMember new T.is.at t id place serial e
-  member_stays id place serial None h = absurd h
-  member_stays id place serial (Some None) h = running_stays id place serial h (same_or serial s)
-  member_stays id place serial (Some (Some exc)) h = (
-    h.0,
-    T.code.gone_after serial ∙ h.1,
-    h.2,
-    ap (λ (q : Started). q.rest.stopped)
-        (T.of_other serial (gone_below k job input t m None old c serial h.0 h.1) differs) ∙ h.3,
-  )
+  -- a task that has ended is as it was
+  ended_stays : (serial u : ℕ) (exc : Option Exc) → serial < m → (c.interleaving.at serial).rest.stopped ≡ rest.at_end u exc →
+      (T.is.at serial).rest.stopped ≡ rest.at_end u exc
+  ended_stays serial u exc below ended = ap (λ (q : Started). q.rest.stopped) (T.of_other serial below differs) ∙ ended
     where
       lives : live (c.interleaving.at s).rest.stopped ≡ true
       lives = (c.follows s before T.code.task).lives (λ e. not_both refl e)
 
       differs : serial ≢ s
       differs e =
-          let over : (c.interleaving.at s).rest.stopped ≡ rest.at_end h.0.end exc = sym (ap (λ (p : ℕ). (c.interleaving.at p).rest.stopped) e) ∙ h.3 in
+          let over : (c.interleaving.at s).rest.stopped ≡ rest.at_end u exc = sym (ap (λ (p : ℕ). (c.interleaving.at p).rest.stopped) e)
+          ∙ ended in
           let none : live (c.interleaving.at s).rest.stopped ≡ false = ap live over in
           let clash : true ≡ false = sym lives ∙ none in
           cc
+
+  -- what is a member stays one
+  member_stays : (last id place serial : ℕ) (e : Option End) → IsMember old c.interleaving.at last id place serial e →
+      IsMember new T.is.at last id place serial e
+  member_stays last id place serial None h = absurd h
+  member_stays last id place serial (Some None) h = running_stays last id place serial h (same_or serial s)
+  member_stays last id place serial (Some (Some exc)) h =
+      (h.0, h.1, T.code.gone_after serial ∙ h.2, h.3, ended_stays serial h.1 exc (gone_below k job input t m None old c serial h.0 h.2) h.4)
+
+  member_below : (last id place serial : ℕ) (e : Option End) → IsMember old c.interleaving.at last id place serial e → serial < m
+  member_below last id place serial None h = absurd h
+  member_below last id place serial (Some None) h = below_of c serial h.0 h.1
+  member_below last id place serial (Some (Some exc)) h = gone_below k job input t m None old c serial h.0 h.2
 
   -- ---- one other task
 
@@ -152,16 +163,61 @@ module _ (k : Table) (job : Job) (input : List ℕ) (t m s : ℕ) (old new : Run
         in_book (Some n) h =
             record {
               long = h.long;
+              last = h.last;
               members =
                   λ place number got.
                   let one = h.members place number got in
-                  (one.0, member_stays id place ((c.interleaving.at u).child number) (slice_get n.children place) one.1);
+                  (one.0, member_stays n.last id place ((c.interleaving.at u).child number) (slice_get n.children place) one.1);
             }
+
+    clock : new.world.clock ≡ old.world.clock
+    clock = ap (λ (w : World). w.clock) T.code.world
+
+    -- if it waits, the last member of its nursery ended when the book says so
+    last_after : (task_state : TaskState) → task.task_state ≡ task_state →
+        LastEnds c.interleaving.at (c.numbers u) (c.interleaving.at u) old.world.book task_state →
+        LastEnds T.is.at (c.numbers u) (c.interleaving.at u) new.world.book task_state
+    last_after (Awaits id since) e h = puts new.world.book id n.0 (Last T.is.at) (nursery id has ∙ n.1) (n.2.0, by_either n.2.1)
+      where
+        Last : (ℕ → Started) → Nursery → Type 0
+        Last at n = (since ≤ n.last) × ((since ≡ n.last) ⊎ SomeEnded at (c.numbers u) (c.interleaving.at u) id n.last)
+
+        n : (n : Nursery) × (nursery_at old.world.book id ≡ Some n) × Last c.interleaving.at n
+        n = finds old.world.book id (Last c.interleaving.at) h
+
+        has : HasNurseryOf id (blocks_of task.frames.items) (waits_of task.task_state)
+        has = inr (ap waits_of e)
+
+        all : HasMembers old c.interleaving.at t (c.numbers u) (c.interleaving.at u) id n.0
+        all = gives old.world.book id n.0 (λ n. HasMembers old c.interleaving.at t (c.numbers u) (c.interleaving.at u) id n) n.1
+            (was.nurseries id has)
+
+        by_either : (since ≡ n.0.last) ⊎ SomeEnded c.interleaving.at (c.numbers u) (c.interleaving.at u) id n.0.last →
+            (since ≡ n.0.last) ⊎ SomeEnded T.is.at (c.numbers u) (c.interleaving.at u) id n.0.last
+        by_either (inl now) = inl now
+        by_either (inr x) =
+            inr (record {
+              place = x.place;
+              number = x.number;
+              is = x.is;
+              exc = x.exc;
+              ended =
+                  ended_stays ((c.interleaving.at u).child x.number) n.0.last x.exc
+                  (member_below n.0.last id x.place ((c.interleaving.at u).child x.number) (slice_get n.0.children x.place)
+                  (all.members x.place x.number x.is).1) x.ended;
+            })
+    last_after (ToBegin at) e h = tt
+    last_after (Asked kernel purpose) e h = tt
+    last_after (Asleep paced ticks since) e h = tt
+    last_after (GivingUp since) e h = tt
+    last_after Over e h = tt
 
     stood : Stood new T.is.froms input t T.is.at (leaving_by stop s) u task (c.numbers u) (c.interleaving.at u)
     stood =
         record {
-          here = was.here;
+          here = ap (λ (z : Clock). here_of z task) clock ∙ was.here;
+          since = was.since;
+          last = last_after task.task_state refl was.last;
           input_is = was.input_is;
           lives = λ stays. was.lives (λ e. not_both refl e);
           frames = was.frames;
@@ -170,7 +226,7 @@ module _ (k : Table) (job : Job) (input : List ℕ) (t m s : ℕ) (old new : Run
               (λ id waits. nursery id (inr waits)) was.task_state;
           in_range = was.in_range;
           goes = goes;
-          notes = was.notes;
+          notes = subst (λ (z : Clock). Notes z input (c.interleaving.at u).made task.entries.items) (sym clock) was.notes;
           tracks = tracks;
           nurseries = members;
         }

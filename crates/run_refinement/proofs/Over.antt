@@ -5,10 +5,11 @@ use Rattle.job_tree.specs.Tree.{Tree as Job}
 use Rattle.job_tree.specs.Names.{GivesNamesOnce}
 use Rattle.job_tree.specs.Starting.{StartsInNurseries}
 use Rattle.job_meaning.specs.Log.{Table}
+use Rattle.job_meaning.specs.Moments.{Clock, clock_of, tick_of, a_round_after}
 use Rattle.job_meaning.specs.Walk.{Here}
 use Rattle.job_meaning.specs.Meaning.{root_label, root_here, meaning_table, meaning_records, meaning_froms, meaning_end, froms_by}
 use Rattle.job_meaning.specs.Shown.{Shown, as_shown, shown_at}
-use Rattle.job_meaning.specs.Rest.{Event, noted, signs, enters, starts, Stopped, to_begin, asking, asleep, awaiting, at_end}
+use Rattle.job_meaning.specs.Rest.{Event, noted, signs, enters, starts, Stopped, to_begin, asking, asleep, giving_up, awaiting, at_end}
 use Rattle.turn_semantics.specs.Midway.{Begun}
 use Rattle.task_machine.specs.Noted.{shown_made}
 use Rattle.interleavings.specs.Interleaving.{Started, In}
@@ -40,19 +41,21 @@ root_stays k job input _ _ _ _ (begun f) = (omega arith, by_in)
     by_in : (x : Started) → In x (root_task k job input ∷ []) → x.serial ≡ 0 → x.here ≡ root_here job input
     by_in x (inl e) z = ap (λ (y : Started). y.here) e
     by_in x (inr i) z = absurd i
-root_stays k job input _ _ _ _ (turn f t m q qs others wake o s r front may goes stopped) =
-    let inner = root_stays k job input f t m qs r in (
+root_stays k job input _ _ _ _ (turn f now m q qs others wake o s r front may goes stopped) =
+    let inner = root_stays k job input f now.at m qs r in (
       let some = inner.0 in omega (arith, some),
       λ x i z. by_part inner x z
-          (in_either x (task_after_turn k t m q o s ∷ children_from k t m o.begun) others i),
+          (in_either x (task_after_turn k now m q o s ∷ children_from k (a_round_after q.here.clock now.at) m o.begun) others i),
     )
   where
-    by_part : RootStays job input m qs → (x : Started) → x.serial ≡ 0 → In x (task_after_turn k t m q o s ∷ children_from k t m o.begun)
+    by_part : RootStays job input m qs → (x : Started) → x.serial ≡ 0 → In x (task_after_turn k now m q o s ∷ children_from k
+        (a_round_after q.here.clock now.at) m o.begun)
         ⊎ In x others → x.here ≡ root_here job input
     by_part inner x z (inl (inl e)) =
         ap (λ (y : Started). y.here) e ∙ inner.1 q ((front_same q qs others front).back q (inl refl))
         (sym (ap (λ (y : Started). y.serial) e) ∙ z)
-    by_part inner x z (inl (inr j)) = absurd (let h = children_later k t m o.begun x j in let some = inner.0 in omega (arith, h, some, z))
+    by_part inner x z (inl (inr j)) = absurd (let h = children_later k (a_round_after q.here.clock now.at) m o.begun x j in let some =
+        inner.0 in omega (arith, h, some, z))
     by_part inner x z (inr j) = inner.1 x ((front_same q qs others front).back x (inr j)) z
 root_stays k job input _ _ _ _ (jump f t u m qs r le blocked) = root_stays k job input f t m qs r
 
@@ -61,47 +64,51 @@ root_stays k job input _ _ _ _ (jump f t u m qs r le blocked) = root_stays k job
 abbrev end_at : Stopped → ℕ
 end_at to_begin = 0
 end_at (asking kernel purpose) = 0
-end_at (asleep n since) = 0
+end_at (asleep paced n since) = 0
+end_at (giving_up since) = 0
 end_at (awaiting children ended exc) = 0
 end_at (at_end u e) = u
 
 abbrev exc_at : Stopped → Option Exc
 exc_at to_begin = None
 exc_at (asking kernel purpose) = None
-exc_at (asleep n since) = None
+exc_at (asleep paced n since) = None
+exc_at (giving_up since) = None
 exc_at (awaiting children ended exc) = None
 exc_at (at_end u e) = e
 
 -- the row of a task that was started in this tick
-abbrev row_at : Table → ℕ → Started → Row
-row_at f start q =
+abbrev row_at : Clock → Table → ℕ → Started → Row
+row_at clock f start q =
     record {
       label = q.here.task;
       start = start;
-      end = end_at q.rest.stopped;
+      end = tick_of clock (end_at q.rest.stopped);
       exc = exc_at q.rest.stopped;
-      entries = entries_made q.made;
+      entries = entries_made clock q.made;
       froms = froms_by f (entered_made q.made);
       children = children_made q.child q.made;
     }
 
-shown_entries : (input : List ℕ) (es : List Event) → shown_made input es ≡ map (as_shown input) (entries_made es)
-shown_entries input [] = refl
-shown_entries input (noted t e ∷ es) = ap (λ (xs : List Shown). shown_at input t e ∷ xs) (shown_entries input es)
-shown_entries input (signs l t ∷ es) = shown_entries input es
-shown_entries input (enters l t d ∷ es) = shown_entries input es
-shown_entries input (starts i l t ∷ es) = shown_entries input es
+shown_entries : (clock : Clock) (input : List ℕ) (es : List Event) →
+    shown_made clock input es ≡ map (as_shown input) (entries_made clock es)
+shown_entries clock input [] = refl
+shown_entries clock input (noted t e ∷ es) = ap (λ (xs : List Shown). shown_at input (tick_of clock t) e ∷ xs)
+    (shown_entries clock input es)
+shown_entries clock input (signs l t ∷ es) = shown_entries clock input es
+shown_entries clock input (enters l t d ∷ es) = shown_entries clock input es
+shown_entries clock input (starts i l t ∷ es) = shown_entries clock input es
 
-rows_started : (f : Table) (start : ℕ → ℕ) (at : ℕ → Started) (child : ℕ → ℕ) (es : List Event) → AreStarted start at child es →
-    StartsRows (λ p. row_at f (start p) (at p)) child es
-rows_started f start at child [] h = tt
-rows_started f start at child (noted t e ∷ es) h = rows_started f start at child es h
-rows_started f start at child (signs l t ∷ es) h = rows_started f start at child es h
-rows_started f start at child (enters l t d ∷ es) h = rows_started f start at child es h
-rows_started f start at child (starts i l t ∷ es) h = (h.0, h.1, rows_started f start at child es h.2)
+rows_started : (clock : Clock) (f : Table) (start : ℕ → ℕ) (at : ℕ → Started) (child : ℕ → ℕ) (es : List Event) →
+    AreStarted clock start at child es → StartsRows clock (λ p. row_at clock f (start p) (at p)) child es
+rows_started clock f start at child [] h = tt
+rows_started clock f start at child (noted t e ∷ es) h = rows_started clock f start at child es h
+rows_started clock f start at child (signs l t ∷ es) h = rows_started clock f start at child es h
+rows_started clock f start at child (enters l t d ∷ es) h = rows_started clock f start at child es h
+rows_started clock f start at child (starts i l t ∷ es) h = (h.0, h.1, rows_started clock f start at child es h.2)
 
-ended_row : (s : Stopped) (u : ℕ) (e : Option Exc) → s ≡ at_end u e → s ≡ at_end (end_at s) (exc_at s)
-ended_row s u e h = subst (λ (x : Stopped). x ≡ at_end (end_at x) (exc_at x)) (sym h) refl
+ended_row : (s : Stopped) (u : ℕ) (e : Option Exc) → s ≡ at_end u e → s ≡ at_end u (exc_at s)
+ended_row s u e h = subst (λ (x : Stopped). x ≡ at_end u (exc_at x)) (sym h) refl
 
 -- if every task of the program has ended, what is kept of them is what the job means
 pub state_over : (job : Job) (input : List ℕ) → GivesNamesOnce job → StartsInNurseries job → (t m : ℕ) (state : RunState) →
@@ -122,8 +129,15 @@ state_over job input names starting t m state c none =
     f : Table
     f = c.interleaving.froms
 
+    clock : Clock
+    clock = clock_of job.format
+
     rows : ℕ → Row
-    rows p = row_at f (state.start p) (c.interleaving.at p)
+    rows p = row_at clock f (state.start p) (c.interleaving.at p)
+
+    gone_at : (p : ℕ) → p < m → (g : Gone) × (state.gone p ≡ Some g) × HasEnded clock f input t (c.interleaving.at p) g
+    gone_at p lt = let g = c.ended p lt (none p) in
+        (g.0, g.1, subst (λ (x : Clock). HasEnded x f input t (c.interleaving.at p) g.0) c.clock g.2)
 
     shows : (p : ℕ) → p < m → ShowsRow input state p (rows p)
     shows p lt =
@@ -132,35 +146,41 @@ state_over job input names starting t m state c none =
           is = g.1;
           label = g.2.label;
           start = refl;
-          end = sym (ap end_at g.2.stopped);
+          end = g.2.tick ∙ ap (tick_of clock) (sym (ap end_at g.2.stopped));
           exc = sym (ap exc_at g.2.stopped);
-          entries = g.2.notes.shown ∙ shown_entries input (c.interleaving.at p).made;
+          entries = g.2.notes.shown ∙ shown_entries clock input (c.interleaving.at p).made;
           slices = g.2.notes.slices;
           froms = g.2.froms;
           children = c.children p lt;
         }
       where
-        g : (g : Gone) × (state.gone p ≡ Some g) × HasEnded f input t (c.interleaving.at p) g
-        g = c.ended p lt (none p)
+        g : (g : Gone) × (state.gone p ≡ Some g) × HasEnded clock f input t (c.interleaving.at p) g
+        g = gone_at p lt
 
-    row_of_at : (p : ℕ) → p < m → HasRow f rows (c.interleaving.at p)
+    row_of_at : (p : ℕ) → p < m → HasRow clock f rows (c.interleaving.at p)
     row_of_at p lt =
         record {
-          ended = ended_row (c.interleaving.at p).rest.stopped g.0.end g.0.exc g.2.stopped ∙ ap (λ (r : Row). at_end r.end r.exc) is;
+          end = g.2.end;
+          ended = ended_row (c.interleaving.at p).rest.stopped g.2.end g.0.exc g.2.stopped ∙ ap (λ (r : Row). at_end g.2.end r.exc) is;
+          tick = ap (λ (r : Row). r.end) (sym is) ∙ ap (λ (s : Stopped). tick_of clock (end_at s)) g.2.stopped;
           entries = ap (λ (r : Row). r.entries) (sym is);
           froms = ap (λ (r : Row). r.froms) (sym is);
           children = ap (λ (r : Row). r.children) (sym is);
-          starts = rows_started f state.start c.interleaving.at (c.interleaving.at p).child (c.interleaving.at p).made (c.started p lt);
+          starts =
+              rows_started clock f state.start c.interleaving.at (c.interleaving.at p).child (c.interleaving.at p).made
+              (subst (λ (x : Clock). AreStarted x state.start c.interleaving.at (c.interleaving.at p).child (c.interleaving.at p).made)
+              c.clock
+              (c.started p lt));
         }
       where
         is : rows p ≡ rows (c.interleaving.at p).serial
         is = ap rows (sym (c.interleaving.has p lt).1)
 
-        g : (g : Gone) × (state.gone p ≡ Some g) × HasEnded f input t (c.interleaving.at p) g
-        g = c.ended p lt (none p)
+        g : (g : Gone) × (state.gone p ≡ Some g) × HasEnded clock f input t (c.interleaving.at p) g
+        g = gone_at p lt
 
-    has_row : (q : Started) → In q c.interleaving.tasks → HasRow f rows q
-    has_row q i = let h = c.interleaving.one q i in subst (HasRow f rows) (sym h.0) (row_of_at q.serial h.1)
+    has_row : (q : Started) → In q c.interleaving.tasks → HasRow clock f rows q
+    has_row q i = let h = c.interleaving.one q i in subst (HasRow clock f rows) (sym h.0) (row_of_at q.serial h.1)
 
     label : (rows 0).label ≡ root_label job.name
     label =

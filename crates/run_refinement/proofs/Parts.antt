@@ -4,6 +4,7 @@ use Rattle.std.proofs.lemmas.Bool.{eq-eqb, ne_eqb, lt-ltb, le-ltb}
 use Rattle.std.proofs.lemmas.List.Elements.{All-nil, All-cons}
 use Rattle.std.specs.Prelude.{slice_get, nat_lt}
 use Rattle.job_tree.specs.Starting.{StartsIn}
+use Rattle.job_meaning.specs.Moments.{Clock}
 use Rattle.job_meaning.specs.Rest.{Event, noted, signs, enters, starts, Frame, Stopped}
 use Rattle.exc_groups.specs.Exceptions.{Label}
 use Rattle.nursery_book.specs.declared.book.NurseryBook.{NurseryBook}
@@ -52,14 +53,17 @@ among_got x (y ∷ xs) (inr a) = let g = among_got x xs a in (suc g.0, g.1)
 -- ---- the children begun
 
 -- a task that was started is the child begun at the same index
-pub begun_at : (numbers : Numbers) (book : NurseryBook) (blocks : List Block) (waits : Option ℕ) (ts : List Task) (bs : List Begun) →
-    AreBegun numbers book blocks waits ts bs →
-    (i : ℕ) (task : Task) → slice_get ts i ≡ Some task → (b : Begun) × (slice_get bs i ≡ Some b) × IsBegun numbers book blocks waits task b
-begun_at numbers book blocks waits [] bs h i task e = absurd (not_both refl e)
-begun_at numbers book blocks waits (u ∷ ts) [] h i task e = absurd h
-begun_at numbers book blocks waits (u ∷ ts) (b ∷ bs) h zero task e =
-    (b, refl, subst (λ (z : Task). IsBegun numbers book blocks waits z b) (one_of u task e) h.0)
-begun_at numbers book blocks waits (u ∷ ts) (b ∷ bs) h (suc i) task e = begun_at numbers book blocks waits ts bs h.1 i task e
+pub begun_at : (clock : Clock) (at : ℕ) (numbers : Numbers) (book : NurseryBook) (blocks : List Block) (waits : Option ℕ) (ts : List Task)
+    (bs : List Begun) →
+    AreBegun clock at numbers book blocks waits ts bs →
+    (i : ℕ) (task : Task) → slice_get ts i ≡ Some task → (b : Begun) × (slice_get bs i ≡ Some b) × IsBegun clock at numbers book blocks
+    waits task b
+begun_at clock at numbers book blocks waits [] bs h i task e = absurd (not_both refl e)
+begun_at clock at numbers book blocks waits (u ∷ ts) [] h i task e = absurd h
+begun_at clock at numbers book blocks waits (u ∷ ts) (b ∷ bs) h zero task e =
+    (b, refl, subst (λ (z : Task). IsBegun clock at numbers book blocks waits z b) (one_of u task e) h.0)
+begun_at clock at numbers book blocks waits (u ∷ ts) (b ∷ bs) h (suc i) task e = begun_at clock at numbers book blocks waits ts bs h.1 i
+    task e
 
 -- a child that begins at a place of a nursery is one of those begun
 pub record BeginsThere (id place number : ℕ) (ts : List Task) (bs : List Begun) : Type 0 where

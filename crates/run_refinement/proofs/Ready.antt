@@ -1,13 +1,14 @@
--- What may wake a task in a tick may do so after the turn of another task in that tick.
+-- What may wake a task in a moment may do so after the turn of another task in that moment.
 use Rattle.std.proofs.lemmas.Bool.{eqb-true, eq-eqb}
 use Rattle.std.proofs.Common.{◌≡◌, ◌≢◌, ◌==◌, Bool, true, false, ℕ, suc, ◌+◌, ◌<◌, Option, List, [], length, refl, ap, sym, ◌∙◌, subst, arith}
 use Rattle.cancel_scopes.specs.Sight.{seen}
-use Rattle.exc_groups.specs.Exceptions.{Exc}
+use Rattle.exc_groups.specs.Exceptions.{Label, Exc}
 use Rattle.job_tree.specs.Tree.{Tree as Job}
 use Rattle.job_tree.specs.Names.{GivesNamesOnce}
 use Rattle.job_tree.specs.Starting.{StartsInNurseries}
 use Rattle.job_meaning.specs.Log.{Table}
-use Rattle.job_meaning.specs.Follow.{follow, IsSettled}
+use Rattle.job_meaning.specs.Moments.{Now}
+use Rattle.job_meaning.specs.Follow.{IsSettled}
 use Rattle.job_meaning.specs.Rest.{Frame, Rest, Stopped, at_end, rest_weight}
 use Rattle.job_meaning.proofs.Clips.{seen_near}
 use Rattle.turn_semantics.specs.Midway.{Place, stack_at}
@@ -18,6 +19,7 @@ use Rattle.task_machine.specs.declared.stop.Stop.{Stop}
 use Rattle.task_machine.specs.declared.task.Task.{Task}
 use Rattle.task_machine.specs.Stops.{Numbers}
 use Rattle.interleavings.specs.Interleaving.{Started, In, Kid, RunInvariant, AllFrom}
+use Rattle.interleavings.specs.Going.{root_result}
 use Rattle.interleavings.specs.Woken.{MayWake, WaitIsOver}
 use Rattle.interleavings.proofs.Contract.{near_places}
 use Rattle.interleavings.proofs.Running.{runs_keep_invariant}
@@ -33,16 +35,18 @@ no_weight rest ps u e placed ends =
     ap (λ (x : Stopped). rest_weight (record { stopped = x; frames = rest.frames })) ends
     ∙ ap (λ (fs : List Frame). rest_weight (record { stopped = at_end u e; frames = fs })) none
 
--- a task that may be woken in a tick may be woken after the turn of another task in that tick
+-- a task that may be woken in a moment may be woken after the turn of another task in that moment
 pub still_ready : (k : Table) (job : Job) (input : List ℕ) (t m s : ℕ) (old new : RunState) (numbers : ℕ → Numbers) (before after : Task)
     (stop : Stop) (was : Interleaving k job input t m) →
     IsSettled k job input → GivesNamesOnce job → StartsInNurseries job →
     (turn : Turning k job input t m s old new numbers before after stop was) → (p : ℕ) → p < m → p ≢ s →
-    (w : Wake) → MayWake was.froms was.tasks t (was.at p) w (was.at p).rest.stopped →
-    MayWake turn.is.froms turn.is.tasks t (turn.is.at p) w (turn.is.at p).rest.stopped
-still_ready k job input t m s old new numbers before after stop was settled names starting turn p below differs w may =
-    subst (λ (x : Started). MayWake turn.is.froms turn.is.tasks t x w x.rest.stopped) (sym other)
-    (ready_by was.froms turn.is.froms was.tasks turn.is.tasks t q w q.rest.stopped (sym seen_before ∙ seen_after) over may)
+    (own : List Label) → (let now : Now = record { at = t; own = own } in (w : Wake) → MayWake was.froms was.tasks now (was.at p) w
+    (was.at p).rest.stopped →
+    MayWake turn.is.froms turn.is.tasks now (turn.is.at p) w (turn.is.at p).rest.stopped)
+still_ready k job input t m s old new numbers before after stop was settled names starting turn p below differs own w may =
+    let now : Now = record { at = t; own = own } in
+    subst (λ (x : Started). MayWake turn.is.froms turn.is.tasks now x w x.rest.stopped) (sym other)
+    (ready_by was.froms turn.is.froms was.tasks turn.is.tasks now q w q.rest.stopped (sym seen_before ∙ seen_after) over may)
   where
     q : Started
     q = was.at p
@@ -51,7 +55,7 @@ still_ready k job input t m s old new numbers before after stop was settled name
     other = turn.of_other p below differs
 
     IsOn : Table → List Started → Type 0
-    IsOn f qs = RunInvariant k f (follow k job input) qs × AllFrom k qs t × ((x : Started) → In x qs → AgreesOn t k f x.places)
+    IsOn f qs = RunInvariant k f (root_result k job input) qs × AllFrom k qs t × ((x : Started) → In x qs → AgreesOn t k f x.places)
 
     on_before : IsOn was.froms was.tasks
     on_before = runs_keep_invariant k job input settled names starting was.froms t m was.tasks was.reached

@@ -21,7 +21,7 @@ use Rattle.task_machine.specs.Waking.{IsInRangeTaskState}
 use Rattle.task_machine.specs.Worlds.{label_at}
 use Rattle.interleavings.specs.Interleaving.{Started, live}
 use Rattle.interleavings.specs.Rows.{entered_made}
-use Rattle.run_refinement.specs.RunState.{RunState, Gone, Notes, Tracks, CanGoOn, HasHome, HasMembers, Follows, OpenedBy, Refines}
+use Rattle.run_refinement.specs.RunState.{RunState, Gone, Notes, Tracks, CanGoOn, HasHome, HasMembers, IsSince, LastEnds, Follows, OpenedBy, Refines}
 use Rattle.run_refinement.specs.Turn.{IsEntered}
 use Rattle.run_refinement.proofs.ActsKeep.{not_both}
 use Rattle.run_refinement.proofs.Parts.{own_or}
@@ -35,7 +35,9 @@ use Rattle.run_refinement.proofs.Found.{finds}
 pub record Stood (state : RunState) (f : Table) (input : List ℕ) (t : ℕ) (at : ℕ → Started) (leaving : Option ℕ) (s : ℕ) (task : Task)
     (n : Numbers) (q : Started) : Type 0
   where
-    pub here : here_of task ≡ q.here
+    pub here : here_of state.world.clock task ≡ q.here
+    pub since : IsSince t task.cancelled.items task.task_state q.stop
+    pub last : LastEnds at n q state.world.book task.task_state
     pub input_is : q.here.input ≡ input
     pub lives : (leaving ≡ Some s → ⊥) → live q.rest.stopped ≡ true
     pub frames : frames_of n task.frames.items ≡ q.rest.frames
@@ -43,7 +45,7 @@ pub record Stood (state : RunState) (f : Table) (input : List ℕ) (t : ℕ) (at
     pub task_state : IsTaskState n state.world.book task.task_state q.rest.stopped
     pub in_range : IsInRangeTaskState task.task_state
     pub goes : CanGoOn task state.world
-    pub notes : Notes input q.made task.entries.items
+    pub notes : Notes state.world.clock input q.made task.entries.items
     pub tracks : Tracks (IsEntered at) f (scoping_of task state.world) (entered_made q.made)
     pub nurseries :
         (id : ℕ) → HasNurseryOf id (blocks_of task.frames.items) (waits_of task.task_state) →
@@ -56,6 +58,8 @@ stood_follows : (state : RunState) (f : Table) (input : List ℕ) (t : ℕ) (at 
 stood_follows state f input t at numbers leaving s task h home =
     record {
       here = h.here;
+      since = h.since;
+      last = h.last;
       input_is = h.input_is;
       lives = h.lives;
       frames = h.frames;

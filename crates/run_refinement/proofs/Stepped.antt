@@ -1,8 +1,6 @@
 -- The tasks of the program after a turn of the code: they are those of the run after it, and what the stop
 -- says of the task is true.
-use Rattle.std.proofs.Common.{◌≡◌, ◌≢◌, ℕ, ◌+◌, ◌<◌, Option, Some, None, List, ◌++◌, length, refl, ap, sym, ◌∙◌, subst, arith}
-use Rattle.std.specs.Prelude.{IsSome}
-use Rattle.std.specs.Option.{IsSomeAnd}
+use Rattle.std.proofs.Common.{◌≡◌, ◌≢◌, ℕ, zero, suc, ◌+◌, ◌<◌, min, max, Bool, Option, Some, None, List, ◌++◌, length, refl, ap, sym, ◌∙◌, subst, arith}
 use Rattle.exc_groups.specs.Exceptions.{Exc}
 use Rattle.buffer_parts.specs.declared.part.Part.{Part}
 use Rattle.cancel_scopes.specs.Sight.{seen}
@@ -13,21 +11,24 @@ use Rattle.job_tree.specs.Names.{GivesNamesOnce}
 use Rattle.job_tree.specs.Starting.{StartsInNurseries}
 use Rattle.job_meaning.specs.Follow.{IsSettled}
 use Rattle.job_meaning.specs.Log.{Table}
-use Rattle.job_meaning.specs.Rest.{Stopped, to_begin, asking, asleep, awaiting, at_end}
-use Rattle.nursery_book.specs.Nursery.{Nursery}
-use Rattle.nursery_book.specs.Book.{nursery_at}
+use Rattle.job_meaning.specs.Moments.{Clock, by_ticks, by_rounds, tick_of, start_of, far, wakes_at}
+use Rattle.job_meaning.specs.Walk.{Here}
+use Rattle.job_meaning.specs.Rest.{Stopped, asleep, giving_up, awaiting, at_end}
+use Rattle.nursery_book.specs.Book.{HasNursery}
 use Rattle.nursery_book.specs.declared.book.NurseryBook.{NurseryBook}
-use Rattle.turn_semantics.specs.Midway.{Place}
+use Rattle.turn_semantics.specs.Midway.{Place, stack_at}
 use Rattle.turn_semantics.specs.Steps.{froms_after}
-use Rattle.turn_semantics.specs.Turned.{StopsAt}
+use Rattle.turn_semantics.specs.Turned.{StopsAt, FallsAsleep as FallsAsleepFor}
 use Rattle.task_machine.specs.declared.stop.TaskState.{TaskState}
-use Rattle.task_machine.specs.declared.stop.TaskState.TheVariants.{ToBegin, Asked, Asleep, Awaits, Over}
+use Rattle.task_machine.specs.declared.stop.TaskState.TheVariants.{Asked, Asleep, GivingUp, Awaits, Over}
 use Rattle.task_machine.specs.declared.stop.Stop.{Stop}
-use Rattle.task_machine.specs.declared.stop.Stop.TheVariants.{Ask, Sleep, Wait, Ended}
+use Rattle.task_machine.specs.declared.stop.Stop.TheVariants.{Ask, Sleep, GiveUp, Wait, Ended}
 use Rattle.task_machine.specs.declared.stop.Wake.{Wake}
 use Rattle.task_machine.specs.declared.task.Task.{Task}
 use Rattle.task_machine.specs.declared.world.World.{World}
 use Rattle.task_machine.specs.Stacked.{AreAt}
+use Rattle.task_machine.specs.Standing.{BodyEnds, now_for}
+use Rattle.task_machine.specs.States.{state_of}
 use Rattle.task_machine.specs.Stops.{Numbers, IsTaskState, IsTold, StopsAs}
 use Rattle.task_machine.specs.Tasks.{scope_of}
 use Rattle.task_machine.specs.Waking.{wake_in, IsInRangeTaskState}
@@ -38,7 +39,7 @@ use Rattle.interleavings.specs.Woken.{MayWake}
 use Rattle.run_refinement.specs.RunState.{RunState, Follows, Refines}
 use Rattle.run_refinement.specs.Turn.{numbers_then, leaving_by}
 use Rattle.run_refinement.specs.Turning.{Turning}
-use Rattle.run_refinement.specs.Step.{TakesTurn, StopSays, EndsAs, StoppedIn}
+use Rattle.run_refinement.specs.Step.{TakesTurn, IsUnseen, StopSays, EndsAs, StoppedIn}
 use Rattle.run_refinement.proofs.StateFits.{state_fits}
 use Rattle.run_refinement.proofs.StateTurn.{acted}
 use Rattle.run_refinement.proofs.OthersFollow.{others_follow}
@@ -48,98 +49,104 @@ use Rattle.run_refinement.proofs.Turned.{state_turned}
 -- ---- what a stop says
 
 -- where the task stopped corresponds to its blocked state and to what was returned, now
-pub record IsToldNow (numbers : Numbers) (book : NurseryBook) (part : Part) (stop : Stop) (task_state : TaskState) (t : ℕ) (froms : Table)
-    (ps : List Place) (s : Stopped) : Type 0 where
+pub record IsToldNow (clock there : Clock) (numbers : Numbers) (book : NurseryBook) (part : Part) (stop : Stop) (task_state : TaskState)
+    (t : ℕ)
+    (froms : Table) (ps : List Place) (s : Stopped) : Type 0 where
   pub blocks_on : IsTaskState numbers book task_state s
-  pub told : IsTold part stop task_state s
-  pub now : StopsAt t froms (Some s) ps
+  pub told : IsTold clock part stop task_state s
+  pub now : StopsAt there t froms (Some s) ps
 
 -- how the code stopped and how the definitions did, put together in one record
-told_now : (numbers : Numbers) (book : NurseryBook) (part : Part) (stop : Stop) (task_state : TaskState) (t : ℕ) (froms : Table) (ps : List Place)
-    (o : Option Stopped) (s : Stopped) → o ≡ Some s →
-    StopsAs numbers book part stop task_state o → StopsAt t froms o ps → IsToldNow numbers book part stop task_state t froms ps s
-told_now numbers book part stop task_state t froms ps o s e stops now =
-    let both = subst (λ (x : Option Stopped). StopsAs numbers book part stop task_state x) e stops in
-    record { blocks_on = both.0; told = both.1; now = subst (λ (x : Option Stopped). StopsAt t froms x ps) e now }
+told_now : (clock there : Clock) (numbers : Numbers) (book : NurseryBook) (part : Part) (stop : Stop) (task_state : TaskState) (t : ℕ)
+    (froms : Table) (ps : List Place) (o : Option Stopped) (s : Stopped) → o ≡ Some s →
+    StopsAs clock numbers book part stop task_state o → StopsAt there t froms o ps →
+    IsToldNow clock there numbers book part stop task_state t froms ps s
+told_now clock there numbers book part stop task_state t froms ps o s e stops now =
+    let both = subst (λ (x : Option Stopped). StopsAs clock numbers book part stop task_state x) e stops in
+    record { blocks_on = both.0; told = both.1; now = subst (λ (x : Option Stopped). StopsAt there t froms x ps) e now }
 
 -- a task that ended did so now
-pub ends_now : (numbers : Numbers) (book : NurseryBook) (part : Part) (stop : Stop) (task_state : TaskState) (t : ℕ) (froms : Table) (ps : List Place)
-    (s : Stopped) →
-    IsToldNow numbers book part stop task_state t froms ps s → (q : Started) → q.rest.stopped ≡ s → EndsAs stop t q
-ends_now numbers book part (Ask request) task_state t froms ps s h q e = tt
-ends_now numbers book part (Sleep due) task_state t froms ps s h q e = tt
-ends_now numbers book part (Wait id) task_state t froms ps s h q e = tt
-ends_now numbers book part (Ended exc) ToBegin t froms ps s h q e = absurd h.told
-ends_now numbers book part (Ended exc) (Asked kernel purpose) t froms ps s h q e = absurd h.told
-ends_now numbers book part (Ended exc) (Asleep ticks since) t froms ps s h q e = absurd h.told
-ends_now numbers book part (Ended exc) (Awaits id since) t froms ps s h q e = absurd h.told
-ends_now numbers book part (Ended exc) Over t froms ps to_begin h q e = absurd h.told
-ends_now numbers book part (Ended exc) Over t froms ps (asking kernel purpose) h q e = absurd h.told
-ends_now numbers book part (Ended exc) Over t froms ps (asleep n since) h q e = absurd h.told
-ends_now numbers book part (Ended exc) Over t froms ps (awaiting children u x) h q e = absurd h.told
-ends_now numbers book part (Ended exc) Over t froms ps (at_end u x) h q e =
+pub ends_now : (clock there : Clock) (numbers : Numbers) (book : NurseryBook) (part : Part) (stop : Stop) (task_state : TaskState) (t : ℕ)
+    (froms : Table) (ps : List Place) (s : Stopped) →
+    IsToldNow clock there numbers book part stop task_state t froms ps s → (q : Started) → q.rest.stopped ≡ s → EndsAs stop t q
+ends_now clock there numbers book part (Ask request) task_state t froms ps s h q e = tt
+ends_now clock there numbers book part (Sleep due) task_state t froms ps s h q e = tt
+ends_now clock there numbers book part (GiveUp due) task_state t froms ps s h q e = tt
+ends_now clock there numbers book part (Wait id) task_state t froms ps s h q e = tt
+ends_now clock there numbers book part (Ended exc) Over t froms ps (at_end u x) h q e =
     e ∙ (ap (λ (v : ℕ). at_end v x) h.now ∙ ap (λ (y : Option Exc). at_end t y) (sym h.told))
+ends_now clock there numbers book part (Ended exc) _ t froms ps _ h q e = absurd h.told
 
-some_there : (o : Option Nursery) (P : Nursery → Type 0) → IsSomeAnd o P → IsSome o
-some_there None P h = absurd h
-some_there (Some n) P h = refl
+-- a sleep that a task falls into ends later
+ends_later : (clock : Clock) (n t : ℕ) (seen_now : Bool) → FallsAsleepFor clock n seen_now → t < wakes_at clock n t
+ends_later by_ticks n t seen_now h = let e : 0 < n = h.0 in omega (arith, e)
+ends_later by_rounds zero t seen_now h = omega arith
+ends_later by_rounds (suc n) t seen_now h = max_later t (start_of by_rounds (min far (tick_of by_rounds t + suc n)))
+  where
+    max_later : (a b : ℕ) → a < max (a + 1) b
+    max_later a b = omega arith
+
+-- where moments are ticks, a task falls asleep only if it sees nothing
+sees_none : (clock : Clock) (n : ℕ) (seen_now there : Bool) → there ≡ seen_now → FallsAsleepFor clock n seen_now → IsUnseen clock there
+sees_none by_ticks n seen_now there e h = e ∙ h.1
+sees_none by_rounds n seen_now there e h = tt
 
 -- and what the stop says is so
-says_now : (numbers : Numbers) (book : NurseryBook) (part : Part) (stop : Stop) (task_state : TaskState) (t : ℕ) (froms : Table) (ps : List Place)
-    (s : Stopped) →
-    IsToldNow numbers book part stop task_state t froms ps s → (world : World) (task : Task) → task.task_state ≡ task_state → task.part ≡ part →
-    world.tick ≡ t →
+says_now : (clock there : Clock) (numbers : Numbers) (book : NurseryBook) (part : Part) (stop : Stop) (task_state : TaskState) (t : ℕ)
+    (froms : Table) (ps : List Place) (s : Stopped) →
+    IsToldNow clock there numbers book part stop task_state t froms ps s → (world : World) (task : Task) → task.task_state ≡ task_state →
+    task.part ≡ part → world.tick ≡ t → world.clock ≡ clock → there ≡ clock →
     AreAt (label_at world) froms (outer_of world.scopes (scope_of task)) ps → IsInRangeTaskState task_state → book ≡ world.book →
-    StopSays world task stop
-says_now numbers book part (Ask request) ToBegin t froms ps s h world task e of tick at in_range held = absurd h.told
-says_now numbers book part (Ask request) (Asked kernel purpose) t froms ps s h world task e of tick at in_range held =
+    BodyEnds task_state book → StopSays world task stop
+says_now clock there numbers book part (Ask request) (Asked kernel purpose) t froms ps s h world task e of tick ticking same at in_range held ends =
     record { purpose = purpose; task_state = e ∙ ap (λ (k : Kernel). Asked k purpose) (sym h.told.0); part = h.told.1 ∙ sym of }
-says_now numbers book part (Ask request) (Asleep ticks since) t froms ps s h world task e of tick at in_range held = absurd h.told
-says_now numbers book part (Ask request) (Awaits id since) t froms ps s h world task e of tick at in_range held = absurd h.told
-says_now numbers book part (Ask request) Over t froms ps s h world task e of tick at in_range held = absurd h.told
-says_now numbers book part (Sleep due) ToBegin t froms ps s h world task e of tick at in_range held = absurd h.told
-says_now numbers book part (Sleep due) (Asked kernel purpose) t froms ps s h world task e of tick at in_range held = absurd h.told
-says_now numbers book part (Sleep due) (Asleep ticks since) t froms ps to_begin h world task e of tick at in_range held = absurd h.blocks_on
-says_now numbers book part (Sleep due) (Asleep ticks since) t froms ps (asking kernel purpose) h world task e of tick at in_range held =
-    absurd h.blocks_on
-says_now numbers book part (Sleep due) (Asleep ticks since) t froms ps (asleep n u) h world task e of tick at in_range held =
-    let is : since ≡ world.tick = h.blocks_on.1 ∙ (h.now.0 ∙ sym tick) in
-    let long : ticks ≡ n = h.blocks_on.0 in
-    let more : 0 < n = h.now.1 in
-    let told : due ≡ since + ticks = h.told in
+says_now clock there numbers book part (Ask request) _ t froms ps s h world task e of tick ticking same at in_range held ends = absurd h.told
+says_now clock there numbers book part (Sleep due) (Asleep paced ticks since) t froms ps (asleep p n u) h world task e of tick ticking same
+    at
+    in_range held ends =
+    let is : since ≡ world.tick = h.blocks_on.2 ∙ (h.now.0 ∙ sym tick) in
+    let told : due ≡ wakes_at world.clock ticks world.tick =
+    h.told ∙ ap (λ (x : Clock). wakes_at x ticks since) (sym ticking) ∙ ap (wakes_at world.clock ticks) is in
+    let falls : FallsAsleepFor world.clock ticks (seen (stack_at froms ps) t) =
+    subst (λ (x : Clock). FallsAsleepFor x ticks (seen (stack_at froms ps) t)) (same ∙ sym ticking)
+    (subst (λ (v : ℕ). FallsAsleepFor there v (seen (stack_at froms ps) t)) (sym h.blocks_on.1) h.now.1) in
     record {
+      paced = paced;
       ticks = ticks;
-      task_state = e ∙ ap (λ (v : ℕ). Asleep ticks v) is;
+      task_state = e ∙ ap (λ (v : ℕ). Asleep paced ticks v) is;
       short = in_range;
-      due_is = omega (arith, is, told);
-      later = omega (arith, is, told, long, more);
+      due_is = told;
+      later = subst (λ (v : ℕ). world.tick < v) (sym told) (ends_later world.clock ticks world.tick (seen (stack_at froms ps) t) falls);
       unseen =
-          ap (λ (v : ℕ). seen (outer_of world.scopes (scope_of task)) v) tick
-          ∙ (seen_at (label_at world) froms (outer_of world.scopes (scope_of task)) ps t at ∙ h.now.2);
+          sees_none world.clock ticks (seen (stack_at froms ps) t) (seen (outer_of world.scopes (scope_of task)) world.tick)
+          (ap (λ (v : ℕ). seen (outer_of world.scopes (scope_of task)) v) tick
+          ∙ seen_at (label_at world) froms (outer_of world.scopes (scope_of task)) ps t at) falls;
     }
-says_now numbers book part (Sleep due) (Asleep ticks since) t froms ps (awaiting children u x) h world task e of tick at in_range held =
+says_now clock there numbers book part (Sleep due) (Asleep paced ticks since) t froms ps _ h world task e of tick ticking same at in_range held ends =
     absurd h.blocks_on
-says_now numbers book part (Sleep due) (Asleep ticks since) t froms ps (at_end u x) h world task e of tick at in_range held = absurd h.blocks_on
-says_now numbers book part (Sleep due) (Awaits id since) t froms ps s h world task e of tick at in_range held = absurd h.told
-says_now numbers book part (Sleep due) Over t froms ps s h world task e of tick at in_range held = absurd h.told
-says_now numbers book part (Wait id) ToBegin t froms ps s h world task e of tick at in_range held = absurd h.told
-says_now numbers book part (Wait id) (Asked kernel purpose) t froms ps s h world task e of tick at in_range held = absurd h.told
-says_now numbers book part (Wait id) (Asleep ticks since) t froms ps s h world task e of tick at in_range held = absurd h.told
-says_now numbers book part (Wait id) (Awaits key since) t froms ps to_begin h world task e of tick at in_range held = absurd h.blocks_on
-says_now numbers book part (Wait id) (Awaits key since) t froms ps (asking kernel purpose) h world task e of tick at in_range held =
+says_now clock there numbers book part (Sleep due) _ t froms ps s h world task e of tick ticking same at in_range held ends = absurd h.told
+says_now clock there numbers book part (GiveUp due) (GivingUp since) t froms ps (giving_up u) h world task e of tick ticking same at
+    in_range held ends =
+    let is : since ≡ world.tick = h.blocks_on ∙ (h.now ∙ sym tick) in
+    record { task_state = e ∙ ap (λ (v : ℕ). GivingUp v) is; due_is = h.told ∙ ap suc is }
+says_now clock there numbers book part (GiveUp due) (GivingUp since) t froms ps _ h world task e of tick ticking same at in_range held ends =
     absurd h.blocks_on
-says_now numbers book part (Wait id) (Awaits key since) t froms ps (asleep n u) h world task e of tick at in_range held = absurd h.blocks_on
-says_now numbers book part (Wait id) (Awaits key since) t froms ps (awaiting children u x) h world task e of tick at in_range held =
+says_now clock there numbers book part (GiveUp due) _ t froms ps s h world task e of tick ticking same at in_range held ends = absurd h.told
+says_now clock there numbers book part (Wait id) (Awaits key since) t froms ps (awaiting children u x) h world task e of tick ticking same
+    at
+    in_range held ends =
+    let is : since ≡ world.tick = h.blocks_on.1 ∙ (h.now ∙ sym tick) in
     record {
-      since = since;
-      task_state = e ∙ ap (λ (n : ℕ). Awaits n since) (sym h.told);
-      there =
-          subst (λ (b : NurseryBook). IsSome (nursery_at b id)) held
-          (subst (λ (n : ℕ). IsSome (nursery_at book n)) (sym h.told) (some_there (nursery_at book key) (λ n. n.body ≡ Some x) h.blocks_on.2));
+      task_state = e ∙ (ap (λ (n : ℕ). Awaits n since) (sym h.told) ∙ ap (λ (v : ℕ). Awaits id v) is);
+      last =
+          subst (λ (v : ℕ). HasNursery world.book id (λ n. n.last ≡ v)) is
+          (subst (λ (b : NurseryBook). HasNursery b id (λ n. n.last ≡ since)) held
+          (subst (λ (n : ℕ). HasNursery book n (λ m. m.last ≡ since)) (sym h.told) ends));
     }
-says_now numbers book part (Wait id) (Awaits key since) t froms ps (at_end u x) h world task e of tick at in_range held = absurd h.blocks_on
-says_now numbers book part (Wait id) Over t froms ps s h world task e of tick at in_range held = absurd h.told
-says_now numbers book part (Ended exc) task_state t froms ps s h world task e of tick at in_range held = tt
+says_now clock there numbers book part (Wait id) (Awaits key since) t froms ps _ h world task e of tick ticking same at in_range held ends =
+    absurd h.blocks_on
+says_now clock there numbers book part (Wait id) _ t froms ps s h world task e of tick ticking same at in_range held ends = absurd h.told
+says_now clock there numbers book part (Ended exc) task_state t froms ps s h world task e of tick ticking same at in_range held ends = tt
 
 -- ---- a turn
 
@@ -157,7 +164,8 @@ module _ (k : Table) (job : Job) (input : List ℕ) (t m s : ℕ) (old new : Run
     (settled : IsSettled k job input)
     (names : GivesNamesOnce job) (starting : StartsInNurseries job) (c : Refines k job input t m None old)
     (x : TakesTurn t m s old new before after wake stop)
-    (may : MayWake c.interleaving.froms c.interleaving.tasks t (c.interleaving.at s) (wake_in old.world.book before.task_state wake) (c.interleaving.at s).rest.stopped)
+    (may : MayWake c.interleaving.froms c.interleaving.tasks (record { at = t; own = (now_for wake (state_of before old.world)).own })
+    (c.interleaving.at s) (wake_in old.world.book before.task_state wake) (c.interleaving.at s).rest.stopped)
   where
     -- what the code says of it is all that is known of a turn
     turn : Turning k job input t m s old new c.numbers before after stop c.interleaving
@@ -174,16 +182,19 @@ module _ (k : Table) (job : Job) (input : List ℕ) (t m s : ℕ) (old new : Run
         started = turn.took.started ∙ ap (λ (ts : List Task). ts ++ turn.took.tasks) x.none_left
 
     module _ (T : Turning k job input t m s old new c.numbers before after stop c.interleaving) where
-      told : IsToldNow T.took.numbers_after new.world.book before.part stop after.task_state t (froms_after c.interleaving.froms T.move.made)
+      told : IsToldNow old.world.clock (c.interleaving.at s).here.clock T.took.numbers_after new.world.book before.part stop
+          after.task_state t (froms_after c.interleaving.froms T.move.made)
           T.move.places T.stopped
       told =
-          told_now T.took.numbers_after new.world.book before.part stop after.task_state t (froms_after c.interleaving.froms T.move.made) T.move.places
+          told_now old.world.clock (c.interleaving.at s).here.clock T.took.numbers_after new.world.book before.part stop after.task_state t
+          (froms_after c.interleaving.froms T.move.made) T.move.places
           T.move.stopped T.stopped T.stops T.took.moves.1
           T.promise.stops
 
       now : EndsAs stop t (T.is.at s)
       now =
-          ends_now T.took.numbers_after new.world.book before.part stop after.task_state t (froms_after c.interleaving.froms T.move.made) T.move.places
+          ends_now old.world.clock (c.interleaving.at s).here.clock T.took.numbers_after new.world.book before.part stop after.task_state t
+          (froms_after c.interleaving.froms T.move.made) T.move.places
           T.stopped told (T.is.at s)
           (ap (λ (q : Started). q.rest.stopped) T.of_task)
 
@@ -196,9 +207,12 @@ module _ (k : Table) (job : Job) (input : List ℕ) (t m s : ℕ) (old new : Run
 
       says : StopSays new.world after stop
       says =
-          says_now T.took.numbers_after new.world.book before.part stop after.task_state t (froms_after c.interleaving.froms T.move.made) T.move.places
+          says_now old.world.clock (c.interleaving.at s).here.clock T.took.numbers_after new.world.book before.part stop after.task_state t
+          (froms_after c.interleaving.froms T.move.made) T.move.places
           T.stopped told new.world after refl
-          (ap (λ (z : Task). z.part) T.code.stays) (ap (λ (w : World). w.tick) T.code.world ∙ c.tick) T.took.places T.code.in_range refl
+          (ap (λ (z : Task). z.part) T.code.stays) (ap (λ (w : World). w.tick) T.code.world ∙ c.tick)
+          (ap (λ (w : World). w.clock) T.code.world) (sym (ap (λ (h : Here). h.clock) (c.follows s before T.code.task).here)) T.took.places
+          T.code.in_range refl T.took.last
 
     -- After a task of the program took a turn, the tasks are one run with those that it started, in which that
     -- task stopped so.

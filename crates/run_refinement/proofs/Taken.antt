@@ -5,6 +5,7 @@ use Rattle.job_tree.specs.Tree.{Tree as Job}
 use Rattle.job_tree.specs.Names.{GivesNamesOnce}
 use Rattle.job_tree.specs.Starting.{StartsInNurseries}
 use Rattle.job_meaning.specs.Log.{Table}
+use Rattle.job_meaning.specs.Moments.{Clock, a_round_after, Now, only_at}
 use Rattle.job_meaning.specs.Walk.{Here}
 use Rattle.job_meaning.specs.Follow.{IsSettled}
 use Rattle.job_meaning.specs.Rest as rest
@@ -20,10 +21,11 @@ use Rattle.turn_semantics.proofs.Names.{turn_stays_new}
 use Rattle.task_machine.specs.States.{State, state_of, here_at}
 use Rattle.task_machine.specs.declared.stop.Stop.{Stop}
 use Rattle.task_machine.specs.declared.stop.Wake.{Wake}
+use Rattle.task_machine.specs.declared.stop.Wake.TheVariants.{Begin, Due, Seen, Answer, Settled}
 use Rattle.task_machine.specs.declared.task.Task.{Task}
 use Rattle.task_machine.specs.Fitting.{Block, blocks_of, Fits, waits_of}
 use Rattle.task_machine.specs.Frames.{frames_of}
-use Rattle.task_machine.specs.Standing.{AreBegun, TookTo, TookTurn}
+use Rattle.task_machine.specs.Standing.{AreBegun, TookTo, now_for, woken_at, TookTurn}
 use Rattle.task_machine.specs.Stops.{Numbers, IsTaskState}
 use Rattle.task_machine.specs.Waking.{wake_in}
 use Rattle.task_machine.proofs.Stopping.{settled_from, stop_of}
@@ -39,38 +41,52 @@ use Rattle.run_refinement.proofs.Fresh.{fresh_after}
 use Rattle.run_refinement.proofs.LabelsApart.{below_of}
 
 -- as many tasks as children begun
-pub begun_long : (numbers : Numbers) (book : NurseryBook) (bs : List Block) (waits : Option ℕ) (ts : List Task) (cs : List Begun) →
-    AreBegun numbers book bs waits ts cs →
+pub begun_long : (clock : Clock) (at : ℕ) (numbers : Numbers) (book : NurseryBook) (bs : List Block) (waits : Option ℕ) (ts : List Task)
+    (cs : List Begun) →
+    AreBegun clock at numbers book bs waits ts cs →
     length ts ≡ length cs
-begun_long numbers book bs waits [] [] h = refl
-begun_long numbers book bs waits [] (c ∷ cs) h = absurd h
-begun_long numbers book bs waits (t ∷ ts) [] h = absurd h
-begun_long numbers book bs waits (t ∷ ts) (c ∷ cs) h = ap suc (begun_long numbers book bs waits ts cs h.1)
+begun_long clock at numbers book bs waits [] [] h = refl
+begun_long clock at numbers book bs waits [] (c ∷ cs) h = absurd h
+begun_long clock at numbers book bs waits (t ∷ ts) [] h = absurd h
+begun_long clock at numbers book bs waits (t ∷ ts) (c ∷ cs) h = ap suc (begun_long clock at numbers book bs waits ts cs h.1)
 
 -- a turn of the code starts as many tasks as that of the definitions begins children
 pub tasks_long : {k : Table} {job : Job} {input : List ℕ} {t m s : ℕ} {old new : RunState} {numbers : ℕ → Numbers} {before after : Task}
     {stop : Stop} {was : Interleaving k job input t m} →
     (T : Turning k job input t m s old new numbers before after stop was) → length T.took.tasks ≡ length T.move.begun
-tasks_long {new = new} {after = after} T =
-    begun_long T.took.numbers_after new.world.book (blocks_of after.frames.items) (waits_of after.task_state) T.took.tasks T.move.begun
+tasks_long {old = old} {new = new} {after = after} T =
+    begun_long old.world.clock (a_round_after old.world.clock old.world.tick) T.took.numbers_after new.world.book
+    (blocks_of after.frames.items) (waits_of after.task_state) T.took.tasks T.move.begun
     T.took.begun
 
--- ---- a turn of the definitions, at the tick, the point and the frames of a task
+-- ---- a turn of the definitions, at the moment, the point and the frames of a task
 
-took_at : (s u : State) (stop : Stop) (froms : Table) (numbers : Numbers) (n : ℕ) (w : wakes.Wake) (stopped : rest.Stopped)
-    (ps : List Place) (count t : ℕ) (here : Here) (fs : List rest.Frame) → s.tick ≡ t → here_at s ≡ here → frames_of numbers s.frames ≡ fs →
-    TookTo s u stop froms numbers (turn_from n froms s.tick (here_at s) w stopped (frames_of numbers s.frames) ps count) →
-    TookTo s u stop froms numbers (turn_from n froms t here w stopped fs ps count)
-took_at s u stop froms numbers n w stopped ps count t here fs tick at held h =
-    subst (λ (gs : List rest.Frame). TookTo s u stop froms numbers (turn_from n froms t here w stopped gs ps count)) held
-    (subst (λ (x : Here). TookTo s u stop froms numbers (turn_from n froms t x w stopped (frames_of numbers s.frames) ps count)) at
-    (subst (λ (x : ℕ). TookTo s u stop froms numbers (turn_from n froms x (here_at s) w stopped (frames_of numbers s.frames) ps count)) tick h))
+took_at : (v s u : State) (stop : Stop) (froms : Table) (numbers : Numbers) (n : ℕ) (w : wakes.Wake) (stopped : rest.Stopped)
+    (ps : List Place) (count : ℕ) (was now : Now) (here : Here) (fs : List rest.Frame) → was ≡ now → here_at s ≡ here →
+    frames_of numbers s.frames ≡ fs →
+    TookTo v u stop froms numbers (turn_from n froms was (here_at s) w stopped (frames_of numbers s.frames) ps count) →
+    TookTo v u stop froms numbers (turn_from n froms now here w stopped fs ps count)
+took_at v s u stop froms numbers n w stopped ps count was now here fs moment at held h =
+    subst (λ (gs : List rest.Frame). TookTo v u stop froms numbers (turn_from n froms now here w stopped gs ps count)) held
+    (subst (λ (x : Here). TookTo v u stop froms numbers (turn_from n froms now x w stopped (frames_of numbers s.frames) ps count)) at
+    (subst (λ (x : Now). TookTo v u stop froms numbers (turn_from n froms x (here_at s) w stopped (frames_of numbers s.frames) ps count))
+    moment
+    h))
+
+-- a task that wakes is in the world's moment
+now_at_tick : (w : Wake) (s : State) (t : ℕ) → s.tick ≡ t → now_for w s ≡ record { at = t; own = (now_for w s).own }
+now_at_tick Begin s t e = ap (λ (m : ℕ). only_at m) e
+now_at_tick Due s t e = ap (λ (m : ℕ). only_at m) e
+now_at_tick Seen s t e = ap (λ (m : ℕ). only_at m) e
+now_at_tick (Answer answer) s t e = ap (λ (m : ℕ). record { at = m; own = s.cancelled }) e
+now_at_tick Settled s t e = ap (λ (m : ℕ). only_at m) e
 
 -- What the code says of a turn is one turn of the definitions.
 pub turning : (k : Table) (job : Job) (input : List ℕ) (t m s : ℕ) (old new : RunState) (before after : Task) (wake : Wake) (stop : Stop) →
     IsSettled k job input → GivesNamesOnce job → StartsInNurseries job → (c : Refines k job input t m None old) →
     TakesTurn t m s old new before after wake stop → Fits (state_of before old.world) (waits_of before.task_state) →
-    MayWake c.interleaving.froms c.interleaving.tasks t (c.interleaving.at s) (wake_in old.world.book before.task_state wake)
+    MayWake c.interleaving.froms c.interleaving.tasks (record { at = t; own = (now_for wake (state_of before old.world)).own })
+    (c.interleaving.at s) (wake_in old.world.book before.task_state wake)
     (c.interleaving.at s).rest.stopped →
     Turning k job input t m s old new c.numbers before after stop c.interleaving
 turning k job input t m s old new before after wake stop settled names starting c code fits may =
@@ -81,15 +97,17 @@ turning k job input t m s old new before after wake stop settled names starting 
       fits = fits;
       over = λ id e. settled_from before.task_state before.part old.world.book wake id code.goes.fits e;
       wake = w;
+      own = now.own;
+      owns = refl;
       move = o;
       stopped = at_stop.0;
       stops = at_stop.1;
       took = took;
       promise = promise;
-      names = turn_stays_new turn.steps t q.here c.interleaving.froms w q.rest q.places q.count can
+      names = turn_stays_new turn.steps now q.here c.interleaving.froms w q.rest q.places q.count can
           (subst (λ (gs : List rest.Frame). NewIn gs (outer_places (Some q.rest.stopped) q.places)) f.frames f.stands.new) f.stands.own;
-      fresh = fresh_after k job input t m s c.interleaving o at_stop.0 settled names starting less went;
-      inputs = on_at q.here.input o.begun (turn_on_input turn.steps c.interleaving.froms t q.here w q.rest.stopped q.rest.frames q.places
+      fresh = fresh_after k job input t m s now.own c.interleaving o at_stop.0 settled names starting less went;
+      inputs = on_at q.here.input o.begun (turn_on_input turn.steps c.interleaving.froms now q.here w q.rest.stopped q.rest.frames q.places
           q.count);
       is = went.is;
       counts = went.counts;
@@ -112,39 +130,44 @@ turning k job input t m s old new before after wake stop settled names starting 
     less : s < m
     less = below_of c s before code.task
 
+    now : Now
+    now = record { at = t; own = (now_for wake (state_of before old.world)).own }
+
     w : wakes.Wake
     w = wake_in old.world.book before.task_state wake
 
     can : CanWake w q.rest.stopped
-    can = may_can c.interleaving.froms c.interleaving.tasks t q w q.rest.stopped may
+    can = may_can c.interleaving.froms c.interleaving.tasks now q w q.rest.stopped may
 
     turn : TookTurn (state_of before old.world) (state_of after new.world) wake stop c.interleaving.froms (c.numbers s) q.rest.stopped q.places q.count
     turn = code.turn c.interleaving.froms (c.numbers s) q.places q.count q.rest.stopped f.task_state f.stands
 
     o : Move
-    o = turn_from turn.steps c.interleaving.froms t q.here w q.rest.stopped q.rest.frames q.places q.count
+    o = turn_from turn.steps c.interleaving.froms now q.here w q.rest.stopped q.rest.frames q.places q.count
 
-    took : TookTo (state_of before old.world) (state_of after new.world) stop c.interleaving.froms (c.numbers s) o
+    took : TookTo (woken_at wake (state_of before old.world)) (state_of after new.world) stop c.interleaving.froms (c.numbers s) o
     took =
-        took_at (state_of before old.world) (state_of after new.world) stop c.interleaving.froms (c.numbers s) turn.steps w q.rest.stopped q.places q.count t q.here
-        q.rest.frames c.tick f.here f.frames turn.took
+        took_at (woken_at wake (state_of before old.world)) (state_of before old.world) (state_of after new.world) stop c.interleaving.froms
+        (c.numbers s) turn.steps w q.rest.stopped q.places q.count (now_for wake (state_of before old.world)) now q.here q.rest.frames
+        (now_at_tick wake (state_of before old.world) t c.tick) f.here f.frames turn.took
 
     at_stop : (x : rest.Stopped) × (o.stopped ≡ Some x) × IsTaskState took.numbers_after new.world.book after.task_state x
-    at_stop = stop_of took.numbers_after new.world.book before.part stop after.task_state o took.moves
+    at_stop = stop_of old.world.clock took.numbers_after new.world.book before.part stop after.task_state o took.moves
 
-    promise : TurnsOver q.stop t q.here c.interleaving.froms w q.rest q.places q.count o
+    promise : TurnsOver q.stop now q.here c.interleaving.froms w q.rest q.places q.count o
     promise =
-        turned_from turn.steps q.stop t q.here c.interleaving.froms w q.rest q.places q.count can
+        turned_from turn.steps q.stop now q.here c.interleaving.froms w q.rest q.places q.count can
         (subst (λ (gs : List rest.Frame). PlacedStop q.rest.stopped gs q.places) f.frames f.stands.placed)
 
-    went : WentOn k job input t m s c.interleaving o at_stop.0
-    went = went_on k job input t m s c.interleaving w o at_stop.0 less may promise at_stop.1
+    went : WentOn k job input t m s now.own c.interleaving o at_stop.0
+    went = went_on k job input t m s now.own c.interleaving w o at_stop.0 less may promise at_stop.1
 
     started : new.world.started.items ≡ took.tasks
     started = took.started ∙ ap (λ (ts : List Task). ts ++ took.tasks) code.none_left
 
     many : length took.tasks ≡ length o.begun
-    many = begun_long took.numbers_after new.world.book _ _ took.tasks o.begun took.begun
+    many = begun_long old.world.clock (a_round_after old.world.clock old.world.tick) took.numbers_after new.world.book _ _ took.tasks
+        o.begun took.begun
 
     is_below : (i : ℕ) → i < length o.begun → i < length new.world.started.items
     is_below i lt = let e = ap (λ (ts : List Task). length ts) started in omega (arith, e, many, lt)

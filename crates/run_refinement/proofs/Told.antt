@@ -45,26 +45,26 @@ AllLike old new = (id : ℕ) (n : Nursery) → nursery_at old id ≡ Some n → 
 
 -- How recording an end leaves a nursery: it is as it was, and not the home of the task that left; or it is that home, and
 -- has the end at its place.
-pub data Told (new : NurseryBook) (exc : Option Exc) (id : ℕ) (n : Nursery) : Option Home → Type 0 where
-  stays : (home : Option Home) → nursery_at new id ≡ Some n → ((h : Home) → home ≡ Some h → h.nursery ≢ id) → Told new exc id n home
-  tells : (h : Home) → h.nursery ≡ id → nursery_at new id ≡ Some (with_child h.place exc n) → Told new exc id n (Some h)
+pub data Told (t : ℕ) (new : NurseryBook) (exc : Option Exc) (id : ℕ) (n : Nursery) : Option Home → Type 0 where
+  stays : (home : Option Home) → nursery_at new id ≡ Some n → ((h : Home) → home ≡ Some h → h.nursery ≢ id) → Told t new exc id n home
+  tells : (h : Home) → h.nursery ≡ id → nursery_at new id ≡ Some (with_child h.place exc t n) → Told t new exc id n (Some h)
 
 -- if an end is recorded, each nursery is as it was, or is the home and has the end at its place
-pub told : (old new : NurseryBook) (home : Option Home) (exc : Option Exc) → EndIsTold old new home exc → (id : ℕ) (n : Nursery) →
-    nursery_at old id ≡ Some n → Told new exc id n home
-told old new None exc h id n e =
+pub told : (t : ℕ) (old new : NurseryBook) (home : Option Home) (exc : Option Exc) → EndIsTold t old new home exc → (id : ℕ) (n : Nursery) →
+    nursery_at old id ≡ Some n → Told t new exc id n home
+told t old new None exc h id n e =
     stays None (ap (λ (b : NurseryBook). nursery_at b id) h ∙ e) (λ x f. absurd (let g : None ≡ Some x = f in cc))
-told old new (Some x) exc h id n e = by_key (x.nursery == id) refl
+told t old new (Some x) exc h id n e = by_key (x.nursery == id) refl
   where
-    u : (n : Nursery) × (nursery_at old x.nursery ≡ Some n) × Updates old new x.nursery (Some (with_child x.place exc n))
-    u = finds old x.nursery (λ n. Updates old new x.nursery (Some (with_child x.place exc n))) h
+    u : (n : Nursery) × (nursery_at old x.nursery ≡ Some n) × Updates old new x.nursery (Some (with_child x.place exc t n))
+    u = finds old x.nursery (λ n. Updates old new x.nursery (Some (with_child x.place exc t n))) h
 
-    by_key : (b : Bool) → (x.nursery == id) ≡ b → Told new exc id n (Some x)
+    by_key : (b : Bool) → (x.nursery == id) ≡ b → Told t new exc id n (Some x)
     by_key true f =
         let g : x.nursery ≡ id = eqb-true x.nursery id f in
         let same : Some u.0 ≡ Some n = sym u.1 ∙ ap (nursery_at old) g ∙ e in
         let one : u.0 ≡ n = cc in
-        tells x g (ap (nursery_at new) (sym g) ∙ u.2.changed ∙ ap (λ (y : Nursery). Some (with_child x.place exc y)) one)
+        tells x g (ap (nursery_at new) (sym g) ∙ u.2.changed ∙ ap (λ (y : Nursery). Some (with_child x.place exc t y)) one)
     by_key false f =
         let differs : x.nursery ≢ id = λ g. absurd (let z : true ≡ false = sym (eq-eqb x.nursery id g) ∙ f in cc) in
         stays (Some x) (u.2.others id (λ g. differs (sym g)) ∙ e)
@@ -93,13 +93,13 @@ set_else (e ∷ es) (suc n) zero x differs = refl
 set_else (e ∷ es) (suc n) (suc p) x differs = set_else es n p x (λ f. differs (ap suc f))
 
 -- if an end is recorded, each nursery keeps its scope, its label, its body's end and the number of its children
-pub all_like : (old new : NurseryBook) (home : Option Home) (exc : Option Exc) → EndIsTold old new home exc → AllLike old new
-all_like old new home exc h id n e = by_told home (told old new home exc h id n e)
+pub all_like : (t : ℕ) (old new : NurseryBook) (home : Option Home) (exc : Option Exc) → EndIsTold t old new home exc → AllLike old new
+all_like t old new home exc h id n e = by_told home (told t old new home exc h id n e)
   where
-    by_told : (x : Option Home) → Told new exc id n x → (m : Nursery) × (nursery_at new id ≡ Some m) × Like n m
+    by_told : (x : Option Home) → Told t new exc id n x → (m : Nursery) × (nursery_at new id ≡ Some m) × Like n m
     by_told _ (stays x f g) = (n, f, record { scope = refl; label = refl; body = refl; long = refl })
     by_told _ (tells x f g) = (
-      with_child x.place exc n,
+      with_child x.place exc t n,
       g,
       record
           { scope = refl; label = refl; body = refl; long = set_long n.children x.place (Some exc) },

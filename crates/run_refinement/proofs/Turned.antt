@@ -8,9 +8,11 @@ use Rattle.cancel_scopes.specs.Tree.{Stack, stack_of, IsOpen}
 use Rattle.job_tree.specs.Names.{GivesNamesOnce}
 use Rattle.job_tree.specs.Starting.{StartsInNurseries}
 use Rattle.job_tree.specs.Tree.{Tree as Job}
-use Rattle.job_meaning.specs.Follow.{follow, IsSettled}
+use Rattle.job_meaning.specs.Follow.{IsSettled}
 use Rattle.job_meaning.specs.Log.{Table}
 use Rattle.job_meaning.specs.Meaning.{From, froms_by}
+use Rattle.job_meaning.specs.Moments.{Clock, tick_of, a_round_after}
+use Rattle.job_meaning.specs.Walk.{Here}
 use Rattle.job_meaning.specs.Rest.{Event, noted, signs, enters, starts}
 use Rattle.turn_semantics.specs.Midway.{Begun}
 use Rattle.turn_semantics.specs.Turned.{Known, MadeAt, Starts, labels_of}
@@ -23,7 +25,7 @@ use Rattle.task_machine.specs.Fitting.{blocks_of, waits_of, AreOthers}
 use Rattle.task_machine.specs.Stops.{Numbers}
 use Rattle.task_machine.specs.Worlds.{label_at}
 use Rattle.interleavings.specs.Interleaving.{Started, StartsChild, Kid, RunInvariant}
-use Rattle.interleavings.specs.Going.{child_from}
+use Rattle.interleavings.specs.Going.{root_result, child_from}
 use Rattle.interleavings.specs.Rows.{entered_made}
 use Rattle.interleavings.proofs.Running.{runs_keep_invariant}
 use Rattle.interleavings.proofs.Turning.{old_child, later_child}
@@ -62,48 +64,49 @@ abbrev pub IsSameChild : (was are : ℕ → ℕ) (at now : ℕ → Started) (chi
 IsSameChild was are at now child later i = ((now (later i)).here.task ≡ (at (child i)).here.task) × (are (later i) ≡ was (child i))
 
 -- children that keep their labels and starts are still as their starter's events say
-pub started_same : (was are : ℕ → ℕ) (at now : ℕ → Started) (child later : ℕ → ℕ) (es : List Event) →
+pub started_same : (clock : Clock) (was are : ℕ → ℕ) (at now : ℕ → Started) (child later : ℕ → ℕ) (es : List Event) →
     ((i : ℕ) → StartsChild i es → IsSameChild was are at now child later i) →
-    AreStarted was at child es → AreStarted are now later es
-started_same was are at now child later [] same h = tt
-started_same was are at now child later (noted t e ∷ es) same h = started_same was are at now child later es same h
-started_same was are at now child later (signs l t ∷ es) same h = started_same was are at now child later es same h
-started_same was are at now child later (enters l t d ∷ es) same h = started_same was are at now child later es same h
-started_same was are at now child later (starts i l t ∷ es) same h =
+    AreStarted clock was at child es → AreStarted clock are now later es
+started_same clock was are at now child later [] same h = tt
+started_same clock was are at now child later (noted t e ∷ es) same h = started_same clock was are at now child later es same h
+started_same clock was are at now child later (signs l t ∷ es) same h = started_same clock was are at now child later es same h
+started_same clock was are at now child later (enters l t d ∷ es) same h = started_same clock was are at now child later es same h
+started_same clock was are at now child later (starts i l t ∷ es) same h =
     let o = same i (inl refl) in
-    (o.0 ∙ h.0, o.1 ∙ h.1, started_same was are at now child later es (λ j among. same j (inr among)) h.2)
+    (o.0 ∙ h.0, o.1 ∙ h.1, started_same clock was are at now child later es (λ j among. same j (inr among)) h.2)
 
 -- children that are as events say, and as further ones say, are as all of them say
-pub started_join : (start : ℕ → ℕ) (at : ℕ → Started) (child : ℕ → ℕ) (es fs : List Event) → AreStarted start at child es →
-    AreStarted start at child fs →
-    AreStarted start at child (es ++ fs)
-started_join start at child [] fs h k = k
-started_join start at child (noted t e ∷ es) fs h k = started_join start at child es fs h k
-started_join start at child (signs l t ∷ es) fs h k = started_join start at child es fs h k
-started_join start at child (enters l t d ∷ es) fs h k = started_join start at child es fs h k
-started_join start at child (starts i l t ∷ es) fs h k = (h.0, h.1, started_join start at child es fs h.2 k)
+pub started_join : (clock : Clock) (start : ℕ → ℕ) (at : ℕ → Started) (child : ℕ → ℕ) (es fs : List Event) →
+    AreStarted clock start at child es → AreStarted clock start at child fs → AreStarted clock start at child (es ++ fs)
+started_join clock start at child [] fs h k = k
+started_join clock start at child (noted t e ∷ es) fs h k = started_join clock start at child es fs h k
+started_join clock start at child (signs l t ∷ es) fs h k = started_join clock start at child es fs h k
+started_join clock start at child (enters l t d ∷ es) fs h k = started_join clock start at child es fs h k
+started_join clock start at child (starts i l t ∷ es) fs h k = (h.0, h.1, started_join clock start at child es fs h.2 k)
 
 -- the child of a number has this label, and was started in this tick
 abbrev pub IsStartedAs : (start : ℕ → ℕ) (at : ℕ → Started) (t n : ℕ) (b : Begun) → Type 0
 IsStartedAs start at t n b = ((at n).here.task ≡ b.here.task) × (start n ≡ t)
 
 -- the events of a turn start the children begun in it, numbered on
-pub started_now : (start : ℕ → ℕ) (at : ℕ → Started) (child : ℕ → ℕ) (t : ℕ) (ls : List Label) (n : ℕ) (es : List Event) (bs : List Begun) →
-    MadeAt t ls es → Starts n es bs →
-    ((i : ℕ) (b : Begun) → slice_get bs i ≡ Some b → IsStartedAs start at t (child (n + i)) b) → AreStarted start at child es
-started_now start at child t ls n [] bs made h are = tt
-started_now start at child t ls n (noted u e ∷ es) bs made h are = started_now start at child t ls n es bs made.1 h are
-started_now start at child t ls n (signs l u ∷ es) bs made h are = started_now start at child t ls n es bs made.2 h are
-started_now start at child t ls n (enters l u d ∷ es) bs made h are = started_now start at child t (l ∷ ls) n es bs made.1 h are
-started_now start at child t ls n (starts i l u ∷ es) [] made h are = absurd h
-started_now start at child t ls n (starts i l u ∷ es) (b ∷ bs) made h are =
+pub started_now : (clock : Clock) (start : ℕ → ℕ) (at : ℕ → Started) (child : ℕ → ℕ) (t : ℕ) (ls : List Label) (n : ℕ) (es : List Event)
+    (bs : List Begun) → MadeAt clock t ls es → Starts n es bs →
+    ((i : ℕ) (b : Begun) → slice_get bs i ≡ Some b → IsStartedAs start at (tick_of clock (a_round_after clock t)) (child (n + i)) b) →
+    AreStarted clock start at child es
+started_now clock start at child t ls n [] bs made h are = tt
+started_now clock start at child t ls n (noted u e ∷ es) bs made h are = started_now clock start at child t ls n es bs made.1 h are
+started_now clock start at child t ls n (signs l u ∷ es) bs made h are = started_now clock start at child t ls n es bs made.2 h are
+started_now clock start at child t ls n (enters l u d ∷ es) bs made h are = started_now clock start at child t (l ∷ ls) n es bs made.1 h are
+started_now clock start at child t ls n (starts i l u ∷ es) [] made h are = absurd h
+started_now clock start at child t ls n (starts i l u ∷ es) (b ∷ bs) made h are =
     let is : i ≡ n = h.0 in
     let first : i ≡ n + 0 = omega (arith, is) in
     let o = are zero b refl in (
       ap (λ (x : ℕ). (at (child x)).here.task) first ∙ (o.0 ∙ sym h.2),
-      ap (λ (x : ℕ). start (child x)) first ∙ (o.1 ∙ sym made.0),
-      started_now start at child t ls (suc n) es bs made.1 h.3
-          (λ j c e. let on : n + suc j ≡ suc n + j = omega arith in subst (λ (x : ℕ). IsStartedAs start at t (child x) c) on
+      ap (λ (x : ℕ). start (child x)) first ∙ (o.1 ∙ ap (tick_of clock) (sym made.0)),
+      started_now clock start at child t ls (suc n) es bs made.1 h.3
+          (λ j c e. let on : n + suc j ≡ suc n + j = omega arith in subst (λ (x : ℕ). IsStartedAs start at
+          (tick_of clock (a_round_after clock t)) (child x) c) on
           (are (suc j) c e)),
     )
 
@@ -119,8 +122,11 @@ module _ (k : Table) (job : Job) (input : List ℕ) (t m s : ℕ) (old new : Run
   abbrev q : Started
   q = c.interleaving.at s
 
-  on : RunInvariant k c.interleaving.froms (follow k job input) c.interleaving.tasks
+  on : RunInvariant k c.interleaving.froms (root_result k job input) c.interleaving.tasks
   on = (runs_keep_invariant k job input settled names starting c.interleaving.froms t m c.interleaving.tasks c.interleaving.reached).0
+
+  clock : new.world.clock ≡ old.world.clock
+  clock = ap (λ (w : World). w.clock) T.code.world
 
   -- a serial number is that of the task, of one that was there, or of a new one
   abbrev Whose : ℕ → Type 0
@@ -151,32 +157,39 @@ module _ (k : Table) (job : Job) (input : List ℕ) (t m s : ℕ) (old new : Run
       (opened_entered c key x.0 l x.1 e) i in
       not_both ended (ap old.task (sym same) ∙ x.1.lives)
 
-  ended_other : (p : ℕ) → p < m → p ≢ s → old.task p ≡ None → (g : Gone) × (new.gone p ≡ Some g) × HasEnded T.is.froms input t (T.is.at p) g
-  ended_other p below differs e =
-      (g.0, T.code.gone_after p ∙ g.1, subst (λ (x : Started). HasEnded T.is.froms input t x g.0) (sym (T.of_other p below differs)) still)
+  ended_other : (p : ℕ) → p < m → p ≢ s → old.task p ≡ None → (g : Gone) × (new.gone p ≡ Some g) × HasEnded old.world.clock T.is.froms input
+      t (T.is.at p) g
+  ended_other p below differs e = (
+    g.0,
+    T.code.gone_after p ∙ g.1,
+    subst (λ (x : Started). HasEnded old.world.clock T.is.froms input t x g.0)
+        (sym (T.of_other p below differs)) still,
+  )
     where
-      g : (g : Gone) × (old.gone p ≡ Some g) × HasEnded c.interleaving.froms input t (c.interleaving.at p) g
+      g : (g : Gone) × (old.gone p ≡ Some g) × HasEnded old.world.clock c.interleaving.froms input t (c.interleaving.at p) g
       g = c.ended p below e
 
       same_from : (l : Label) → Known l (entered_made (c.interleaving.at p).made) → T.is.froms l ≡ c.interleaving.froms l
       same_from l i = ap (λ (f : Table). f l) T.froms
           ∙ (unmoved (IsEntered c.interleaving.at) c.interleaving.froms l T.took.acts (none_has p below e l i) (p, i) T.fresh).0
 
-      still : HasEnded T.is.froms input t (c.interleaving.at p) g.0
+      still : HasEnded old.world.clock T.is.froms input t (c.interleaving.at p) g.0
       still =
           record {
             label = g.2.label;
+            end = g.2.end;
             stopped = g.2.stopped;
+            tick = g.2.tick;
             before = g.2.before;
             notes = g.2.notes;
             froms = g.2.froms ∙ sym (froms_same c.interleaving.froms T.is.froms (entered_made (c.interleaving.at p).made) same_from);
           }
 
   ended_after : (p : ℕ) → p < m + length T.move.begun → new.task p ≡ None → (g : Gone) × (new.gone p ≡ Some g)
-      × HasEnded T.is.froms input t (T.is.at p) g
+      × HasEnded old.world.clock T.is.froms input t (T.is.at p) g
   ended_after p less e = by_whose (whose p)
     where
-      by_whose : Whose p → (g : Gone) × (new.gone p ≡ Some g) × HasEnded T.is.froms input t (T.is.at p) g
+      by_whose : Whose p → (g : Gone) × (new.gone p ≡ Some g) × HasEnded old.world.clock T.is.froms input t (T.is.at p) g
       by_whose (inl is) = absurd (not_both e (ap new.task is ∙ T.code.task_after))
       by_whose (inr (inl o)) = ended_other p o.0 o.1 (sym (T.code.other_after p o.0 o.1) ∙ e)
       by_whose (inr (inr i)) =
@@ -255,7 +268,8 @@ module _ (k : Table) (job : Job) (input : List ℕ) (t m s : ℕ) (old new : Run
   -- a new task opened none yet
   child_owns_none : (key i : ℕ) → OpenedBy new key (m + i) → ⊥
   child_owns_none key i o =
-      let b = begun_at T.took.numbers_after new.world.book (blocks_of after.frames.items) (waits_of after.task_state) T.took.tasks T.move.begun
+      let b = begun_at old.world.clock (a_round_after old.world.clock old.world.tick) T.took.numbers_after new.world.book
+      (blocks_of after.frames.items) (waits_of after.task_state) T.took.tasks T.move.begun
       T.took.begun i o.task (sym (T.child_after i) ∙ o.lives) in
       not_both refl (sym (ap (λ (os : List Own). slice_get os o.place) b.2.own) ∙ o.own)
 
@@ -295,12 +309,14 @@ module _ (k : Table) (job : Job) (input : List ℕ) (t m s : ℕ) (old new : Run
       let lower : (c.interleaving.at p).child i < m = child_below p below i among in
       (same_label ((c.interleaving.at p).child i) lower, T.code.start_after ((c.interleaving.at p).child i) lower)
 
-  started_mover : AreStarted new.start T.is.at (T.is.at s).child (T.is.at s).made
+  started_mover : AreStarted old.world.clock new.start T.is.at (T.is.at s).child (T.is.at s).made
   started_mover =
-      subst (λ (x : Started). AreStarted new.start T.is.at x.child x.made) (sym T.of_task)
-      (started_join new.start T.is.at child q.made T.move.made
-      (started_same old.start new.start c.interleaving.at T.is.at q.child child q.made same (c.started s T.below))
-      (started_now new.start T.is.at child t (labels_of q.places) q.count T.move.made T.move.begun T.promise.made_now T.promise.starts are))
+      subst (λ (x : Started). AreStarted old.world.clock new.start T.is.at x.child x.made) (sym T.of_task)
+      (started_join old.world.clock new.start T.is.at child q.made T.move.made
+      (started_same old.world.clock old.start new.start c.interleaving.at T.is.at q.child child q.made same (c.started s T.below))
+      (started_now old.world.clock new.start T.is.at child t (labels_of q.places) q.count T.move.made T.move.begun
+      (subst (λ (clock : Clock). MadeAt clock t (labels_of q.places) T.move.made) (sym here_clock) T.promise.made_now) T.promise.starts
+      are))
     where
       child : ℕ → ℕ
       child = child_from q.count q.child m
@@ -311,7 +327,11 @@ module _ (k : Table) (job : Job) (input : List ℕ) (t m s : ℕ) (old new : Run
           let o = same_child s T.below i among in
           (ap (λ (n : ℕ). (T.is.at n).here.task) e ∙ o.0, ap new.start e ∙ o.1)
 
-      are : (i : ℕ) (b : Begun) → slice_get T.move.begun i ≡ Some b → IsStartedAs new.start T.is.at t (child (q.count + i)) b
+      here_clock : old.world.clock ≡ q.here.clock
+      here_clock = ap (λ (h : Here). h.clock) (c.follows s before T.code.task).here
+
+      are : (i : ℕ) (b : Begun) → slice_get T.move.begun i ≡ Some b →
+          IsStartedAs new.start T.is.at (tick_of old.world.clock (a_round_after old.world.clock t)) (child (q.count + i)) b
       are i b e =
           let f : m + (q.count + i - q.count) ≡ m + i = omega arith in
           let is : child (q.count + i) ≡ m + i = later_child q.count q.child m (q.count + i) (omega arith) ∙ f in (
@@ -320,19 +340,22 @@ module _ (k : Table) (job : Job) (input : List ℕ) (t m s : ℕ) (old new : Run
                 ∙ T.start_child i (below_length T.move.begun i b e),
           )
 
-  started_after : (p : ℕ) → p < m + length T.move.begun → AreStarted new.start T.is.at (T.is.at p).child (T.is.at p).made
+  started_after : (p : ℕ) → p < m + length T.move.begun → AreStarted old.world.clock new.start T.is.at (T.is.at p).child (T.is.at p).made
   started_after p less = by_whose (whose p)
     where
-      by_whose : Whose p → AreStarted new.start T.is.at (T.is.at p).child (T.is.at p).made
-      by_whose (inl e) = subst (λ (u : ℕ). AreStarted new.start T.is.at (T.is.at u).child (T.is.at u).made) (sym e) started_mover
+      by_whose : Whose p → AreStarted old.world.clock new.start T.is.at (T.is.at p).child (T.is.at p).made
+      by_whose (inl e) = subst (λ (u : ℕ). AreStarted old.world.clock new.start T.is.at (T.is.at u).child (T.is.at u).made) (sym e)
+          started_mover
       by_whose (inr (inl o)) =
-          subst (λ (x : Started). AreStarted new.start T.is.at x.child x.made) (sym (T.of_other p o.0 o.1))
-          (started_same old.start new.start c.interleaving.at T.is.at (c.interleaving.at p).child (c.interleaving.at p).child (c.interleaving.at p).made
+          subst (λ (x : Started). AreStarted old.world.clock new.start T.is.at x.child x.made) (sym (T.of_other p o.0 o.1))
+          (started_same old.world.clock old.start new.start c.interleaving.at T.is.at (c.interleaving.at p).child
+          (c.interleaving.at p).child (c.interleaving.at p).made
           (same_child p o.0) (c.started p o.0))
       by_whose (inr (inr i)) =
           let is : m + i.0 ≡ p = i.1 in
           let b = nth T.move.begun i.0 (omega (arith, is, less)) in
-          subst (λ (x : Started). AreStarted new.start T.is.at x.child x.made) (sym (ap T.is.at (sym is) ∙ T.of_child i.0 b.0 b.1)) tt
+          subst (λ (x : Started). AreStarted old.world.clock new.start T.is.at x.child x.made)
+          (sym (ap T.is.at (sym is) ∙ T.of_child i.0 b.0 b.1)) tt
 
   -- ---- all of it
 
@@ -362,17 +385,20 @@ module _ (k : Table) (job : Job) (input : List ℕ) (t m s : ℕ) (old new : Run
         interleaving = T.is;
         numbers = numbers;
         counted = T.counts ∙ (ap (λ (n : ℕ). n + 1) c.counted ∙ sym T.code.turns);
+        clock = clock ∙ c.clock;
         tick = ap (λ (w : World). w.tick) T.code.world ∙ c.tick;
         small = c.small;
         some = (let first : 0 < m = c.some in omega (arith, first));
         begun = T.code.start_after 0 c.some ∙ c.begun;
         unborn = λ p le. (none_born p le, T.code.gone_after p ∙ (c.unborn p (omega (arith, le))).1);
-        ended = ended_after;
+        ended = λ p less e. let g = ended_after p less e in
+            (g.0, g.1, subst (λ (x : Clock). HasEnded x T.is.froms input t (T.is.at p) g.0) (sym clock) g.2);
         follows = follows_after;
         owned = owned_after;
         apart = apart_after;
         labelled = labelled_acts T.took.acts c.labelled;
-        started = started_after;
+        started = λ p less.
+            subst (λ (x : Clock). AreStarted x new.start T.is.at (T.is.at p).child (T.is.at p).made) (sym clock) (started_after p less);
         children = children_kept k job input t m s old new before after stop settled names starting c T;
       },
       refl,

@@ -3,6 +3,7 @@ use Rattle.std.specs.Prelude.{◌≡◌, ℕ, suc, List, [], ◌∷◌, Some, No
 use Rattle.buffer_parts.specs.Part.{buffer_of, range_of}
 use Rattle.cancel_scopes.specs.Tree.{stack_of}
 use Rattle.job_tree.specs.Tree.{Tree as Job}
+use Rattle.job_meaning.specs.Moments.{clock_of}
 use Rattle.job_meaning.specs.Meaning.{root_label}
 use Rattle.job_meaning.specs.Rest.{steps_left}
 use Rattle.nursery_book.specs.Book.{nursery_at}
@@ -13,8 +14,9 @@ use Rattle.task_machine.specs.Frames.{frames_of}
 use Rattle.task_machine.specs.Worlds.{label_at}
 use Rattle.run_refinement.specs.RunState.{RunState}
 
--- a world as `World::new` returns it
-pub record IsNewWorld (world : World) : Type 0 where
+-- a world as `World::new` returns it for the clock of a job
+pub record IsNewWorld (job : Job) (world : World) : Type 0 where
+  pub clock : world.clock ≡ clock_of job.format
   pub tick : world.tick ≡ 0
   pub scopes : (key : ℕ) → stack_of world.scopes key ≡ None
   pub labels : (key : ℕ) → label_at world key ≡ None
@@ -29,13 +31,14 @@ pub record IsRootTask (job : Job) (input : List ℕ) (task : Task) : Type 0 wher
   pub home : task.home ≡ None
   pub frames : (children : ℕ → List ℕ) → frames_of children task.frames.items ≡ steps_left job.steps ∷ []
   pub own : task.own.items ≡ []
-  pub task_state : task.task_state ≡ ToBegin
+  pub task_state : task.task_state ≡ ToBegin 0
   pub entries : task.entries.items ≡ []
   pub froms : task.froms.items ≡ []
+  pub cancelled : task.cancelled.items ≡ []
 
 -- the root is the only task of the program, in a new world, and no turn was taken
 pub record IsNewRunState (job : Job) (input : List ℕ) (state : RunState) : Type 0 where
-  pub world : IsNewWorld state.world
+  pub world : IsNewWorld job state.world
   pub root : Task
   pub is_root : IsRootTask job input root
   pub first : state.task 0 ≡ Some root

@@ -7,6 +7,7 @@ use Rattle.job_tree.specs.Names.{GivesNamesOnce, size_of}
 use Rattle.job_tree.specs.Starting.{StartsInNurseries}
 use Rattle.job_meaning.specs.Follow.{IsSettled}
 use Rattle.job_meaning.specs.Log.{Table}
+use Rattle.job_meaning.specs.Moments.{clock_of, tick_of}
 use Rattle.job_meaning.specs.Meaning.{meaning_end, meaning_table}
 use Rattle.job_meaning.specs.declared.limits.TheConstants.{MAX_INPUT}
 use Rattle.task_machine.specs.States.{state_of}
@@ -22,9 +23,9 @@ use Rattle.run_refinement.specs.Step.{TakesTurn, StopSays, StoppedIn}
 use Rattle.run_refinement.specs.Leaving.{Leaving}
 use Rattle.run_refinement.specs.Moved.{SameTasks, moved_world}
 use Rattle.run_refinement.specs.Over.{IsOver}
-use Rattle.run_refinement.specs.Ready.{AllStay, HasSleeper}
+use Rattle.run_refinement.specs.Ready.{AllStay, HasNext}
 
--- Before the first turn what the code holds is a run of one task in tick 0, for any table that is followed.
+-- Before the first turn what the code holds is a run of one task in moment 0, for any table that is followed.
 abbrev pub RunStatesBegin : Type 0
 RunStatesBegin =
     (k : Table) (job : Job) (input : List ℕ) (state : RunState) → IsInRange job → GivesNamesOnce job → StartsInNurseries job →
@@ -51,7 +52,7 @@ AfterTurns Holds =
 abbrev pub RunStatesTurn : Type 0
 RunStatesTurn = AfterTurns (λ k job input t m s new after stop. StoppedIn k job input t (m + length new.world.started.items) s stop new)
 
--- And what a stop says of the task is true: a sleep is to a later tick, and no cancellation is seen now.
+-- And what a stop says of the task is true: a sleep is to a later moment.
 abbrev pub StopsSay : Type 0
 StopsSay = AfterTurns (λ k job input t m s new after stop. StopSays new.world after stop)
 
@@ -69,26 +70,26 @@ RunStatesTake =
     new.world ≡ moved_world old.world t new.world →
     (c : Refines k job input t m leaving old) → (x : Refines k job input t m leaving new) × (x.interleaving.at ≡ c.interleaving.at)
 
--- If no task continues before a later tick, the clock may jump to it.
+-- If no task continues before a later moment, the clock may jump to it.
 abbrev pub RunStatesJump : Type 0
 RunStatesJump =
     (k : Table) (job : Job) (input : List ℕ) (t u m : ℕ) (old new : RunState) → t ≤ u → SameTasks old new →
     new.world ≡ moved_world old.world u new.world →
     Refines k job input t m None old → AllStay old u → Refines k job input u m None new
 
--- While a task has not ended and none continues before a tick, one sleeps.
-abbrev pub RunStatesSleep : Type 0
-RunStatesSleep =
+-- While a task has not ended and none continues before a moment, one has a moment in which it continues.
+abbrev pub RunStatesGoOn : Type 0
+RunStatesGoOn =
     (k : Table) (job : Job) (input : List ℕ) (t m : ℕ) (state : RunState) → IsSettled k job input → GivesNamesOnce job → StartsInNurseries job →
     Refines k job input t m None state →
-    (u : ℕ) → AllStay state u → (s : ℕ) (task : Task) → state.task s ≡ Some task → HasSleeper state
+    (u : ℕ) → AllStay state u → (s : ℕ) (task : Task) → state.task s ≡ Some task → HasNext state
 
 -- While a task has not ended, the job does not end before the present tick.
 abbrev pub RunStatesAreInTime : Type 0
 RunStatesAreInTime =
     (job : Job) (input : List ℕ) (t m : ℕ) (state : RunState) → GivesNamesOnce job → StartsInNurseries job →
     Refines (meaning_table job input) job input t m None state →
-    (s : ℕ) (task : Task) → state.task s ≡ Some task → t ≤ meaning_end job input
+    (s : ℕ) (task : Task) → state.task s ≡ Some task → tick_of (clock_of job.format) t ≤ meaning_end job input
 
 -- There are at most twice as many turns as the job has steps, plus one.
 abbrev pub TurnsAreFew : Type 0

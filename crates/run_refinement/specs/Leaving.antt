@@ -4,27 +4,35 @@ use Rattle.exc_groups.specs.Exceptions.{Exc}
 use Rattle.nursery_book.specs.Nursery.{with_child}
 use Rattle.nursery_book.specs.Book.{Changes}
 use Rattle.nursery_book.specs.declared.book.NurseryBook.{NurseryBook}
+use Rattle.job_meaning.specs.Moments.{tick_of}
 use Rattle.job_meaning.specs.Rest as rest
 use Rattle.task_machine.specs.declared.task.Home.{Home}
 use Rattle.task_machine.specs.declared.task.Task.{Task}
 use Rattle.interleavings.specs.Interleaving.{Started}
 use Rattle.run_refinement.specs.RunState.{RunState}
 
--- the child's place in its nursery has its end; the root has no nursery
-abbrev pub EndIsTold : NurseryBook → NurseryBook → Option Home → Option Exc → Type 0
-EndIsTold old new None exc = new ≡ old
-EndIsTold old new (Some home) exc = Changes old new home.nursery (with_child home.place exc)
+-- the child's place in its nursery has its end, in this moment; the root has no nursery
+abbrev pub EndIsTold : ℕ → NurseryBook → NurseryBook → Option Home → Option Exc → Type 0
+EndIsTold t old new None exc = new ≡ old
+EndIsTold t old new (Some home) exc = Changes old new home.nursery (with_child home.place exc t)
 
--- The task with this serial number has ended in this tick, with this exception or none. All other tasks
+-- The task with this serial number has ended in this moment, with this exception or none. All other tasks
 -- stay.
 pub record Leaving (t s : ℕ) (old new : RunState) (q : Started) (task : Task) (exc : Option Exc) : Type 0 where
   pub was : old.task s ≡ Some task
   pub ended : q.rest.stopped ≡ rest.at_end t exc
   pub world : new.world ≡ record old.world { book = new.world.book }
   pub turns : new.turns ≡ old.turns
-  pub told : EndIsTold old.world.book new.world.book task.home exc
+  pub told : EndIsTold t old.world.book new.world.book task.home exc
   pub left : new.task s ≡ None
-  pub kept : new.gone s ≡ Some (record { label = task.label; end = t; exc = exc; entries = task.entries.items; froms = task.froms.items })
+  pub kept : new.gone s ≡ Some (record {
+    label = task.label;
+    end = tick_of old.world.clock t;
+    exc = exc;
+    entries =
+        task.entries.items;
+    froms = task.froms.items;
+  })
   pub others : (p : ℕ) → p ≢ s → (new.task p ≡ old.task p) × (new.gone p ≡ old.gone p)
   pub start : (p : ℕ) → new.start p ≡ old.start p
   pub children : (p : ℕ) → new.children p ≡ old.children p

@@ -12,6 +12,6 @@ pub record SameTasks (old new : RunState) : Type 0 where
   pub start : (p : ℕ) → new.start p ≡ old.start p
   pub children : (p : ℕ) → new.children p ≡ old.children p
 
--- the world with another tick, other tasks that were started and not taken, and other scopes marked as changed
+-- the world with another moment, other tasks that were started and not taken, and other scopes marked as changed
 abbrev pub moved_world : World → ℕ → World → World
 moved_world w u x = record w { tick = u; started = x.started; scopes = record (w.scopes) { changed = x.scopes.changed } }

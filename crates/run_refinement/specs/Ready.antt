@@ -1,12 +1,14 @@
 -- When the tasks of the program continue, as the code sees it: by their blocked states and the world, without the definitions.
-use Rattle.std.specs.Prelude.{◌≡◌, ℕ, ◌+◌, ◌<◌, ◌≤◌, true, false, Option, Some}
+use Rattle.std.specs.Prelude.{◌≡◌, ◌⊎◌, ℕ, suc, ◌<◌, ◌≤◌, true, false, Option, Some}
 use Rattle.cancel_scopes.specs.Sight.{sight, seen}
 use Rattle.cancel_scopes.specs.Tree.{outer_of}
 use Rattle.nursery_book.specs.Nursery.{is_settled}
 use Rattle.nursery_book.specs.Book.{HasNursery}
+use Rattle.nursery_book.specs.declared.book.NurseryBook.{NurseryBook}
+use Rattle.job_meaning.specs.Moments.{a_round_after, wakes_at}
 use Rattle.job_meaning.specs.Before.{upto}
 use Rattle.task_machine.specs.declared.stop.TaskState.{TaskState}
-use Rattle.task_machine.specs.declared.stop.TaskState.TheVariants.{ToBegin, Asked, Asleep, Awaits, Over}
+use Rattle.task_machine.specs.declared.stop.TaskState.TheVariants.{ToBegin, Asked, Asleep, GivingUp, Awaits, Over}
 use Rattle.task_machine.specs.declared.stop.Wake.{Wake}
 use Rattle.task_machine.specs.declared.stop.Wake.TheVariants.{Due, Seen}
 use Rattle.task_machine.specs.declared.task.Home.{Home}
@@ -18,39 +20,56 @@ use Rattle.task_machine.specs.Tasks.{scope_of}
 use Rattle.task_machine.specs.Waking.{WakesFrom}
 use Rattle.run_refinement.specs.RunState.{RunState}
 
--- A sleeper in that scope continues when it is due and sees nothing, or when it sees a cancellation, after the tick in which
--- it fell asleep.
+-- A task continues in its moment: it begins in the moment that it was started for; a sleeper in that scope when it is due and sees
+-- nothing, or when it sees a cancellation, after the moment in which it fell asleep; one that gives up a round later; and one that
+-- waits after the last member of its nursery has ended, a round later where there are rounds.
 abbrev pub IsTimely : World → Option ℕ → TaskState → Wake → Type 0
-IsTimely world scope (Asleep ticks since) Due = (since + ticks ≡ world.tick) × (seen (outer_of world.scopes scope) world.tick ≡ false)
-IsTimely world scope (Asleep ticks since) Seen = (since < world.tick) × (seen (outer_of world.scopes scope) world.tick ≡ true)
+IsTimely world scope (ToBegin at) wake = at ≡ world.tick
+IsTimely world scope (Asleep paced ticks since) Due =
+    (wakes_at world.clock ticks since ≡ world.tick) × (seen (outer_of world.scopes scope) world.tick ≡ false)
+IsTimely world scope (Asleep paced ticks since) Seen = (since < world.tick) × (seen (outer_of world.scopes scope) world.tick ≡ true)
+IsTimely world scope (GivingUp since) wake = suc since ≡ world.tick
+IsTimely world scope (Awaits id since) wake = HasNursery world.book id (λ n. a_round_after world.clock n.last ≤ world.tick)
 IsTimely world scope task_state wake = Unit {0}
 
--- a task may continue so, in the world's tick
+-- a task may continue so, in the world's moment
 pub record MayGo (world : World) (task : Task) (wake : Wake) : Type 0 where
   pub fits : WakesFrom task.task_state task.part world.book wake
   pub timely : IsTimely world (scope_of task) task.task_state wake
 
--- A task in that scope does not continue before tick u: a sleeper is due, and sees a cancellation, in that tick or later; and
--- one that waits does so for a nursery of which a member runs.
+-- A task in that scope does not continue before moment u: it begins then or later; a sleeper is due then or later, and sees no
+-- cancellation before, or has not slept for a round by then; one that gives up does so then or later; and one that waits does so for
+-- a nursery of which a member runs, or that is left then or later.
 abbrev pub StaysTo : World → ℕ → Option ℕ → TaskState → Type 0
-StaysTo world u scope ToBegin = ⊥
+StaysTo world u scope (ToBegin at) = u ≤ at
 StaysTo world u scope (Asked kernel purpose) = ⊥
-StaysTo world u scope (Asleep ticks since) = (u ≤ since + ticks) × (upto u (sight (outer_of world.scopes scope)) ≡ u)
-StaysTo world u scope (Awaits id since) = HasNursery world.book id (λ n. is_settled n ≡ false)
+StaysTo world u scope (Asleep paced ticks since) =
+    (u ≤ wakes_at world.clock ticks since)
+    × ((upto u (sight (outer_of world.scopes scope)) ≡ u) ⊎ (u ≤ a_round_after world.clock since))
+StaysTo world u scope (GivingUp since) = u ≤ suc since
+StaysTo world u scope (Awaits id since) =
+    HasNursery world.book id (λ n. (is_settled n ≡ false) ⊎ (u ≤ a_round_after world.clock n.last))
 StaysTo world u scope Over = ⊥
 
 -- no task does
 abbrev pub AllStay : RunState → ℕ → Type 0
 AllStay state u = (s : ℕ) (task : Task) → state.task s ≡ Some task → StaysTo state.world u (scope_of task) task.task_state
 
--- a task of the program sleeps
-pub record HasSleeper (state : RunState) : Type 0 where
+-- a task has a moment in which it continues, unless it waits for a member of a nursery that runs
+abbrev pub HasMoment : NurseryBook → TaskState → Type 0
+HasMoment book (ToBegin at) = Unit {0}
+HasMoment book (Asked kernel purpose) = ⊥
+HasMoment book (Asleep paced ticks since) = Unit {0}
+HasMoment book (GivingUp since) = Unit {0}
+HasMoment book (Awaits id since) = HasNursery book id (λ n. is_settled n ≡ true)
+HasMoment book Over = ⊥
+
+-- some task of the program has
+pub record HasNext (state : RunState) : Type 0 where
   pub serial : ℕ
   pub task : Task
   pub lives : state.task serial ≡ Some task
-  pub ticks : ℕ
-  pub since : ℕ
-  pub asleep : task.task_state ≡ Asleep ticks since
+  pub has : HasMoment state.world.book task.task_state
 
 -- the task with this serial number has not ended, and the nursery is one of its own
 pub record Keeps (state : RunState) (s id : ℕ) : Type 0 where

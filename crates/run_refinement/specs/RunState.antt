@@ -1,11 +1,15 @@
 -- The tasks of the program as the code holds them, and their relation to a run of the definitions.
-use Rattle.std.specs.Prelude.{◌≡◌, ◌≢◌, true, ℕ, ◌<◌, ◌≤◌, Option, Some, None, List, [], ◌∷◌, All, map, length, slice_get}
+use Rattle.std.specs.Prelude.{◌≡◌, ◌≢◌, ◌⊎◌, true, ℕ, ◌<◌, ◌≤◌, Option, Some, None, List, [], ◌∷◌, All, map, length, slice_get}
 use Rattle.exc_groups.specs.Exceptions.{Label, Exc}
 use Rattle.cancel_scopes.specs.Tree.{Stack, stack_of, IsOpen, own_from}
 use Rattle.nursery_book.specs.Nursery.{End, Nursery}
 use Rattle.nursery_book.specs.Book.{HasNursery}
+use Rattle.nursery_book.specs.declared.book.NurseryBook.{NurseryBook}
+use Rattle.task_machine.specs.declared.stop.TaskState.{TaskState}
+use Rattle.task_machine.specs.declared.stop.TaskState.TheVariants.{ToBegin, Asked, Awaits}
 use Rattle.job_tree.specs.Tree.{Tree as Job}
 use Rattle.job_meaning.specs.Log.{Table}
+use Rattle.job_meaning.specs.Moments.{Clock, clock_of, tick_of, Now, only_at}
 use Rattle.job_meaning.specs.Meaning.{froms_by}
 use Rattle.job_meaning.specs.Rest as rest
 use Rattle.job_meaning.specs.declared.limits.TheConstants.{MAX_INPUT}
@@ -37,7 +41,7 @@ abbrev pub AreApart : List Started → Type 0
 AreApart [] = Unit {0}
 AreApart (q ∷ qs) = ((x : Started) → In x qs → x.serial ≢ q.serial) × AreApart qs
 
--- A run reaches these froms and this tick with m tasks, whose serial numbers are those below m. The task at a number that no
+-- A run reaches these froms and this moment with m tasks, whose serial numbers are those below m. The task at a number that no
 -- task has has done nothing.
 pub record Interleaving (k : Table) (job : Job) (input : List ℕ) (t m : ℕ) : Type 0 where
   pub froms : Table
@@ -51,7 +55,7 @@ pub record Interleaving (k : Table) (job : Job) (input : List ℕ) (t m : ℕ) :
 
 -- ---- what the code holds
 
--- what is kept of a task that has ended
+-- what is kept of a task that has ended, with its tick
 pub record Gone : Type 0 where
   pub label : Label
   pub end : ℕ
@@ -72,8 +76,8 @@ pub record RunState : Type 0 where
 -- ---- one task
 
 -- what a task noted corresponds to its events, and each line is the slice of the input at its place
-pub record Notes (input : List ℕ) (made : List rest.Event) (entries : List Entry) : Type 0 where
-  pub shown : map entry_of entries ≡ shown_made input made
+pub record Notes (clock : Clock) (input : List ℕ) (made : List rest.Event) (entries : List Entry) : Type 0 where
+  pub shown : map entry_of entries ≡ shown_made clock input made
   pub slices : All (IsSlice input) entries
 
 -- the scopes that a task opened and did not leave have different keys
@@ -125,26 +129,52 @@ abbrev pub HasHome : RunState → (ℕ → Started) → (ℕ → Numbers) → �
 HasHome state at numbers s None = s ≡ 0
 HasHome state at numbers s (Some home) = LivesIn state at numbers s home
 
--- a member of a nursery at a place: while it runs it is a task with that home, and afterwards one that has ended so
+-- a member of a nursery at a place: while it runs it is a task with that home, and afterwards one that has ended so, by this moment
 abbrev pub IsMember : RunState → (ℕ → Started) → ℕ → ℕ → ℕ → ℕ → Option End → Type 0
-IsMember state at t id place serial None = ⊥
-IsMember state at t id place serial (Some None) = (c : Task) × (state.task serial ≡ Some c) × (home_of c ≡ Some (id, place))
-IsMember state at t id place serial (Some (Some exc)) =
-    (g : Gone) × (state.gone serial ≡ Some g) × (g.end ≤ t) × ((at serial).rest.stopped ≡ rest.at_end g.end exc)
+IsMember state at last id place serial None = ⊥
+IsMember state at last id place serial (Some None) = (c : Task) × (state.task serial ≡ Some c) × (home_of c ≡ Some (id, place))
+IsMember state at last id place serial (Some (Some exc)) =
+    (g : Gone) × (end : ℕ) × (state.gone serial ≡ Some g) × (end ≤ last) × ((at serial).rest.stopped ≡ rest.at_end end exc)
 
--- each nursery of a task has as many children as it has numbers there, and each is the task with its serial number
+-- Each nursery of a task has as many children as it has numbers there, and each is the task with its serial number. The moment in which
+-- a member ended last is not later than this one.
 pub record HasMembers (state : RunState) (at : ℕ → Started) (t : ℕ) (numbers : Numbers) (q : Started) (id : ℕ) (n : Nursery) : Type 0 where
   pub long : length (numbers id) ≡ length n.children
+  pub last : n.last ≤ t
   pub members :
       (place number : ℕ) → slice_get (numbers id) place ≡ Some number →
-      (number < q.count) × IsMember state at t id place (q.child number) (slice_get n.children place)
+      (number < q.count) × IsMember state at n.last id place (q.child number) (slice_get n.children place)
+
+-- Where a task is in time since it stopped: one that has not begun begins in its moment; and for one that asked, what it has cancelled
+-- itself in this moment counts on.
+abbrev pub IsSince : ℕ → List Label → TaskState → Now → Type 0
+IsSince t cancelled (ToBegin at) stop = stop ≡ only_at at
+IsSince t cancelled (Asked kernel purpose) stop = (stop.at ≤ t) × (stop.own ≡ cancelled)
+IsSince t cancelled task_state stop = Unit {0}
+
+-- a child of a nursery of this task ended in this moment
+pub record SomeEnded (at : ℕ → Started) (numbers : Numbers) (q : Started) (id last : ℕ) : Type 0 where
+  pub place : ℕ
+  pub number : ℕ
+  pub is : slice_get (numbers id) place ≡ Some number
+  pub exc : Option Exc
+  pub ended : (at (q.child number)).rest.stopped ≡ rest.at_end last exc
+
+-- Of the nursery that a task waits for, the body did not end after the moment in which a member ended last, and either the body or a
+-- child ended in that moment.
+abbrev pub LastEnds : (ℕ → Started) → Numbers → Started → NurseryBook → TaskState → Type 0
+LastEnds at numbers q book (Awaits id since) =
+    HasNursery book id (λ n. (since ≤ n.last) × ((since ≡ n.last) ⊎ SomeEnded at numbers q id n.last))
+LastEnds at numbers q book task_state = Unit {0}
 
 -- A task that has not ended, or whose end is not recorded yet, and its relation to the task of the definitions with its serial
 -- number.
 pub record Follows (state : RunState) (f : Table) (input : List ℕ) (t : ℕ) (at : ℕ → Started) (numbers : ℕ → Numbers) (leaving : Option ℕ)
     (s : ℕ) (task : Task) : Type 0
   where
-    pub here : here_of task ≡ (at s).here
+    pub here : here_of state.world.clock task ≡ (at s).here
+    pub since : IsSince t task.cancelled.items task.task_state (at s).stop
+    pub last : LastEnds at (numbers s) (at s) state.world.book task.task_state
     pub input_is : (at s).here.input ≡ input
     pub lives : (leaving ≡ Some s → ⊥) → live (at s).rest.stopped ≡ true
     pub frames : frames_of (numbers s) task.frames.items ≡ (at s).rest.frames
@@ -152,7 +182,7 @@ pub record Follows (state : RunState) (f : Table) (input : List ℕ) (t : ℕ) (
     pub task_state : IsTaskState (numbers s) state.world.book task.task_state (at s).rest.stopped
     pub in_range : IsInRangeTaskState task.task_state
     pub goes : CanGoOn task state.world
-    pub notes : Notes input (at s).made task.entries.items
+    pub notes : Notes state.world.clock input (at s).made task.entries.items
     pub tracks : Tracks (λ l. (p : ℕ) × Known l (entered_made (at p).made)) f (scoping_of task state.world) (entered_made (at s).made)
     pub home : HasHome state at numbers s task.home
     pub nurseries :
@@ -160,22 +190,25 @@ pub record Follows (state : RunState) (f : Table) (input : List ℕ) (t : ℕ) (
         HasNursery state.world.book id (λ n. HasMembers state at t (numbers s) (at s) id n)
 
 -- one that has ended
-pub record HasEnded (f : Table) (input : List ℕ) (t : ℕ) (q : Started) (g : Gone) : Type 0 where
+pub record HasEnded (clock : Clock) (f : Table) (input : List ℕ) (t : ℕ) (q : Started) (g : Gone) : Type 0 where
   pub label : g.label ≡ q.here.task
-  pub stopped : q.rest.stopped ≡ rest.at_end g.end g.exc
-  pub before : g.end ≤ t
-  pub notes : Notes input q.made g.entries
+  pub end : ℕ
+  pub stopped : q.rest.stopped ≡ rest.at_end end g.exc
+  pub tick : g.end ≡ tick_of clock end
+  pub before : end ≤ t
+  pub notes : Notes clock input q.made g.entries
   pub froms : map from_of g.froms ≡ froms_by f (entered_made q.made)
 
 -- ---- all tasks
 
--- each child that was started has the label and the start of its starter's event
-abbrev pub AreStarted : (ℕ → ℕ) → (ℕ → Started) → (ℕ → ℕ) → List rest.Event → Type 0
-AreStarted start at child [] = Unit {0}
-AreStarted start at child (rest.noted t e ∷ es) = AreStarted start at child es
-AreStarted start at child (rest.signs l t ∷ es) = AreStarted start at child es
-AreStarted start at child (rest.enters l t d ∷ es) = AreStarted start at child es
-AreStarted start at child (rest.starts i l t ∷ es) = ((at (child i)).here.task ≡ l) × (start (child i) ≡ t) × AreStarted start at child es
+-- each child that was started has the label of its starter's event, and its tick as its start
+abbrev pub AreStarted : Clock → (ℕ → ℕ) → (ℕ → Started) → (ℕ → ℕ) → List rest.Event → Type 0
+AreStarted clock start at child [] = Unit {0}
+AreStarted clock start at child (rest.noted t e ∷ es) = AreStarted clock start at child es
+AreStarted clock start at child (rest.signs l t ∷ es) = AreStarted clock start at child es
+AreStarted clock start at child (rest.enters l t d ∷ es) = AreStarted clock start at child es
+AreStarted clock start at child (rest.starts i l t ∷ es) =
+    ((at (child i)).here.task ≡ l) × (start (child i) ≡ tick_of clock t) × AreStarted clock start at child es
 
 -- a scope that a task opened and did not leave
 pub record OpenedBy (state : RunState) (key s : ℕ) : Type 0 where
@@ -186,23 +219,26 @@ pub record OpenedBy (state : RunState) (key s : ℕ) : Type 0 where
   pub own : slice_get task.own.items place ≡ Some scope
   pub is : scope.id ≡ key
 
--- The tasks of the program are a run of the definitions in this tick with m tasks, where a table is followed. One task may have
+-- The tasks of the program are a run of the definitions in this moment with m tasks, where a table is followed. One task may have
 -- ended whose end is not recorded yet.
 pub record Refines (k : Table) (job : Job) (input : List ℕ) (t m : ℕ) (leaving : Option ℕ) (state : RunState) : Type 0 where
   pub interleaving : Interleaving k job input t m
   pub numbers : ℕ → Numbers
   pub counted : turns_taken interleaving.reached ≡ state.turns
+  pub clock : state.world.clock ≡ clock_of job.format
   pub tick : state.world.tick ≡ t
   pub small : length input ≤ MAX_INPUT
   pub some : 0 < m
   pub begun : state.start 0 ≡ 0
   -- each task has ended, or has not
   pub unborn : (s : ℕ) → m ≤ s → (state.task s ≡ None) × (state.gone s ≡ None)
-  pub ended : (s : ℕ) → s < m → state.task s ≡ None → (g : Gone) × (state.gone s ≡ Some g) × HasEnded interleaving.froms input t (interleaving.at s) g
+  pub ended : (s : ℕ) → s < m → state.task s ≡ None → (g : Gone) × (state.gone s ≡ Some g) × HasEnded state.world.clock interleaving.froms
+      input t (interleaving.at s) g
   pub follows : (s : ℕ) (task : Task) → state.task s ≡ Some task → Follows state interleaving.froms input t interleaving.at numbers leaving s task
   -- each open scope belongs to exactly one task; it has a label, and no other scope has the same one
   pub owned : (key : ℕ) → IsOpen state.world.scopes key → (s : ℕ) × OpenedBy state key s
   pub apart : (key s u : ℕ) → OpenedBy state key s → OpenedBy state key u → s ≡ u
   pub labelled : (key : ℕ) (l : Label) → label_at state.world key ≡ Some l → IsOpen state.world.scopes key
-  pub started : (s : ℕ) → s < m → AreStarted state.start interleaving.at (interleaving.at s).child (interleaving.at s).made
+  pub started : (s : ℕ) → s < m → AreStarted state.world.clock state.start interleaving.at (interleaving.at s).child
+      (interleaving.at s).made
   pub children : (s : ℕ) → s < m → state.children s ≡ children_made (interleaving.at s).child (interleaving.at s).made

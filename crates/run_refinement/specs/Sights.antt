@@ -1,4 +1,4 @@
--- What is known of the effective deadline (`sight`) of a scope from earlier in a tick.
+-- What is known of the effective deadline (`sight`) of a scope from earlier in a moment.
 use Rattle.std.specs.Prelude.{◌≡◌, ◌⊎◌, ℕ, true, Some}
 use Rattle.cancel_scopes.specs.Sight.{Tick, sight}
 use Rattle.cancel_scopes.specs.Tree.{Stack, Tree, stack_of, is_changed}

@@ -1,20 +1,21 @@
 -- A turn of one task of the program, as the code has it, without the definitions; and what its stop says.
-use Rattle.std.specs.Prelude.{◌≡◌, ◌≢◌, ℕ, ◌+◌, ◌<◌, ◌≤◌, ◌^◌, false, Some, IsSome, List, [], ◌++◌, length, slice_get}
+use Rattle.std.specs.Prelude.{◌≡◌, ◌≢◌, ℕ, suc, ◌+◌, ◌<◌, ◌≤◌, ◌^◌, Bool, false, Some, List, [], ◌++◌, length, slice_get}
 use Rattle.std.specs.Option.{option_map}
 use Rattle.exc_groups.specs.Held.{exc_of}
 use Rattle.cancel_scopes.specs.Sight.{seen}
 use Rattle.cancel_scopes.specs.Tree.{outer_of}
 use Rattle.line_kernels.specs.declared.request.Request.{Request}
-use Rattle.nursery_book.specs.Book.{nursery_at}
+use Rattle.nursery_book.specs.Book.{HasNursery}
 use Rattle.job_tree.specs.Tree.{Tree as Job}
 use Rattle.job_meaning.specs.Log.{Table}
+use Rattle.job_meaning.specs.Moments.{Clock, by_ticks, by_rounds, tick_of, a_round_after, wakes_at}
 use Rattle.job_meaning.specs.Rest as rest
 use Rattle.interleavings.specs.Interleaving.{Started}
 use Rattle.task_machine.specs.States.{state_of}
-use Rattle.task_machine.specs.declared.stop.TaskState.TheVariants.{Asked, Asleep, Awaits}
+use Rattle.task_machine.specs.declared.stop.TaskState.TheVariants.{Asked, Asleep, GivingUp, Awaits}
 use Rattle.task_machine.specs.declared.stop.Purpose.{Purpose}
 use Rattle.task_machine.specs.declared.stop.Stop.{Stop}
-use Rattle.task_machine.specs.declared.stop.Stop.TheVariants.{Ask, Sleep, Wait, Ended}
+use Rattle.task_machine.specs.declared.stop.Stop.TheVariants.{Ask, Sleep, GiveUp, Wait, Ended}
 use Rattle.task_machine.specs.declared.stop.Wake.{Wake}
 use Rattle.task_machine.specs.declared.task.Task.{Task}
 use Rattle.task_machine.specs.declared.world.World.{World}
@@ -33,7 +34,14 @@ pub record TakesTurn (t m s : ℕ) (old new : RunState) (before after : Task) (w
   pub goes : MayGo old.world before wake
   -- the task and the world
   pub stays :
-      after ≡ record before { frames = after.frames; own = after.own; task_state = after.task_state; entries = after.entries; froms = after.froms }
+      after ≡ record before {
+        frames = after.frames;
+        own = after.own;
+        task_state = after.task_state;
+        entries = after.entries;
+        froms = after.froms;
+        cancelled = after.cancelled;
+      }
   pub world :
       new.world ≡ record old.world {
         scopes = new.world.scopes;
@@ -55,7 +63,8 @@ pub record TakesTurn (t m s : ℕ) (old new : RunState) (before after : Task) (w
   pub other_after : (p : ℕ) → p < m → p ≢ s → new.task p ≡ old.task p
   pub gone_after : (p : ℕ) → new.gone p ≡ old.gone p
   pub start_after : (p : ℕ) → p < m → new.start p ≡ old.start p
-  pub start_child : (i : ℕ) → i < length new.world.started.items → new.start (m + i) ≡ t
+  pub start_child : (i : ℕ) → i < length new.world.started.items → new.start (m + i) ≡ tick_of old.world.clock
+      (a_round_after old.world.clock t)
   pub more_children : new.children s ≡ old.children s ++ serials_from m (length new.world.started.items)
   pub children_after : (p : ℕ) → p < m → p ≢ s → new.children p ≡ old.children p
   pub no_children : (i : ℕ) → i < length new.world.started.items → new.children (m + i) ≡ []
@@ -68,24 +77,35 @@ pub record Asks (task : Task) (request : Request) : Type 0 where
   pub task_state : task.task_state ≡ Asked request.kernel purpose
   pub part : request.part ≡ task.part
 
--- a task fell asleep in this tick: it sleeps until a later one, not too far away, and sees nothing now
-pub record FallsAsleep (world : World) (task : Task) (due : ℕ) : Type 0 where
-  pub ticks : ℕ
-  pub task_state : task.task_state ≡ Asleep ticks world.tick
-  pub short : ticks ≤ 2 ^ 40
-  pub due_is : due ≡ world.tick + ticks
-  pub later : world.tick < due
-  pub unseen : seen (outer_of world.scopes (scope_of task)) world.tick ≡ false
+-- where a moment is a tick, a task falls asleep only if it sees nothing
+abbrev pub IsUnseen : Clock → Bool → Type 0
+IsUnseen by_ticks seen_now = seen_now ≡ false
+IsUnseen by_rounds seen_now = Unit {0}
 
--- a task waits for that nursery, whose body has ended
+-- a task fell asleep in this moment: it sleeps until a later one, not too far away
+pub record FallsAsleep (world : World) (task : Task) (due : ℕ) : Type 0 where
+  pub paced : Bool
+  pub ticks : ℕ
+  pub task_state : task.task_state ≡ Asleep paced ticks world.tick
+  pub short : ticks ≤ 2 ^ 40
+  pub due_is : due ≡ wakes_at world.clock ticks world.tick
+  pub later : world.tick < due
+  pub unseen : IsUnseen world.clock (seen (outer_of world.scopes (scope_of task)) world.tick)
+
+-- a task was cancelled at a checkpoint in this moment, and raises in the next one
+pub record GivesUp (world : World) (task : Task) (due : ℕ) : Type 0 where
+  pub task_state : task.task_state ≡ GivingUp world.tick
+  pub due_is : due ≡ suc world.tick
+
+-- a task waits for that nursery, whose body ended in this moment, the last of its members so far
 pub record AwaitsNow (world : World) (task : Task) (id : ℕ) : Type 0 where
-  pub since : ℕ
-  pub task_state : task.task_state ≡ Awaits id since
-  pub there : IsSome (nursery_at world.book id)
+  pub task_state : task.task_state ≡ Awaits id world.tick
+  pub last : HasNursery world.book id (λ n. n.last ≡ world.tick)
 
 abbrev pub StopSays : World → Task → Stop → Type 0
 StopSays world task (Ask request) = Asks task request
 StopSays world task (Sleep due) = FallsAsleep world task due
+StopSays world task (GiveUp due) = GivesUp world task due
 StopSays world task (Wait id) = AwaitsNow world task id
 StopSays world task (Ended exc) = Unit {0}
 
@@ -93,6 +113,7 @@ StopSays world task (Ended exc) = Unit {0}
 abbrev pub EndsAs : Stop → ℕ → Started → Type 0
 EndsAs (Ask request) t q = Unit {0}
 EndsAs (Sleep due) t q = Unit {0}
+EndsAs (GiveUp due) t q = Unit {0}
 EndsAs (Wait id) t q = Unit {0}
 EndsAs (Ended exc) t q = q.rest.stopped ≡ rest.at_end t (option_map exc_of exc)
 

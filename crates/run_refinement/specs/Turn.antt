@@ -3,11 +3,12 @@ use Rattle.std.specs.Prelude.{◌≡◌, ◌⊎◌, ℕ, zero, suc, ◌+◌, ◌
 use Rattle.exc_groups.specs.Exceptions.{Label}
 use Rattle.cancel_scopes.specs.Tree.{Tree, IsOwn, IsChain, IsApart}
 use Rattle.job_meaning.specs.Log.{Table}
+use Rattle.job_meaning.specs.Moments.{only_at}
 use Rattle.job_meaning.specs.Rest as rest
 use Rattle.turn_semantics.specs.Midway.{Begun, none_told, begun_comes_to}
 use Rattle.turn_semantics.specs.Turned.{Known}
 use Rattle.task_machine.specs.declared.stop.Stop.{Stop}
-use Rattle.task_machine.specs.declared.stop.Stop.TheVariants.{Ask, Sleep, Wait, Ended}
+use Rattle.task_machine.specs.declared.stop.Stop.TheVariants.{Ask, Sleep, GiveUp, Wait, Ended}
 use Rattle.task_machine.specs.Stops.{Numbers}
 use Rattle.interleavings.specs.Interleaving.{Started}
 use Rattle.interleavings.specs.Rows.{entered_made}
@@ -30,14 +31,14 @@ AreNew known (rest.signs l t ∷ es) = AreNew known es
 AreNew known (rest.enters l t d ∷ es) = (known l → ⊥) × AreNew (λ m. (m ≡ l) ⊎ known m) es
 AreNew known (rest.starts i l t ∷ es) = AreNew known es
 
--- a child begun in a tick, as a task with this serial number
+-- a child that begins in a moment, as a task with this serial number
 abbrev pub child_at : Table → ℕ → ℕ → Begun → Started
 child_at k t s b =
     record {
       serial = s;
       here = b.here;
       places = b.places;
-      stop = t;
+      stop = only_at t;
       rest = rest.rest_at_start b.body;
       made = [];
       count = 0;
@@ -65,5 +66,6 @@ serials_from m (suc n) = m ∷ serials_from (suc m) n
 abbrev pub leaving_by : Stop → ℕ → Option ℕ
 leaving_by (Ask request) s = None
 leaving_by (Sleep due) s = None
+leaving_by (GiveUp due) s = None
 leaving_by (Wait id) s = None
 leaving_by (Ended exc) s = Some s

@@ -4,6 +4,8 @@ use Rattle.nursery_book.specs.Nursery.{is_settled}
 use Rattle.nursery_book.specs.Book.{HasNursery}
 use Rattle.job_tree.specs.Tree.{Tree as Job}
 use Rattle.job_meaning.specs.Log.{Table}
+use Rattle.exc_groups.specs.Exceptions.{Label}
+use Rattle.job_meaning.specs.Moments.{tick_of, a_round_after}
 use Rattle.job_meaning.specs.Rest as rest
 use Rattle.turn_semantics.specs.Midway.{Begun, Move}
 use Rattle.turn_semantics.specs.Names.{StaysNew}
@@ -15,7 +17,7 @@ use Rattle.task_machine.specs.declared.stop.Stop.{Stop}
 use Rattle.task_machine.specs.declared.stop.Wake as code
 use Rattle.task_machine.specs.declared.task.Task.{Task}
 use Rattle.task_machine.specs.Fitting.{Fits, waits_of}
-use Rattle.task_machine.specs.Standing.{TookTo}
+use Rattle.task_machine.specs.Standing.{TookTo, now_for, woken_at}
 use Rattle.task_machine.specs.Stops.{Numbers}
 use Rattle.interleavings.specs.Going.{task_after_turn}
 use Rattle.interleavings.specs.Runs.{turns_taken}
@@ -38,11 +40,14 @@ pub record Turning
     pub over : (id : ℕ) → waits_of before.task_state ≡ Some id → HasNursery old.world.book id (λ n. is_settled n ≡ true)
     -- in the definitions
     pub wake : Wake
+    pub own : List Label
+    pub owns : own ≡ (now_for woken_by (state_of before old.world)).own
     pub move : Move
     pub stopped : rest.Stopped
     pub stops : move.stopped ≡ Some stopped
-    pub took : TookTo (state_of before old.world) (state_of after new.world) stop was.froms (numbers s) move
-    pub promise : TurnsOver (was.at s).stop t (was.at s).here was.froms wake (was.at s).rest (was.at s).places (was.at s).count move
+    pub took : TookTo (woken_at woken_by (state_of before old.world)) (state_of after new.world) stop was.froms (numbers s) move
+    pub promise : TurnsOver (was.at s).stop (record { at = t; own = own }) (was.at s).here was.froms wake (was.at s).rest (was.at s).places
+        (was.at s).count move
     pub names : StaysNew move
     pub fresh : AreNew (IsEntered was.at) move.made
     pub inputs : (i : ℕ) (b : Begun) → slice_get move.begun i ≡ Some b → b.here.input ≡ (was.at s).here.input
@@ -50,11 +55,12 @@ pub record Turning
     pub is : Interleaving k job input t (m + length move.begun)
     pub counts : turns_taken is.reached ≡ turns_taken was.reached + 1
     pub froms : is.froms ≡ froms_after was.froms move.made
-    pub of_task : is.at s ≡ task_after_turn k t m (was.at s) move stopped
-    pub of_child : (i : ℕ) (b : Begun) → slice_get move.begun i ≡ Some b → is.at (m + i) ≡ child_at k t (m + i) b
+    pub of_task : is.at s ≡ task_after_turn k (record { at = t; own = own }) m (was.at s) move stopped
+    pub of_child : (i : ℕ) (b : Begun) → slice_get move.begun i ≡ Some b → is.at (m + i) ≡ child_at k
+        (a_round_after (was.at s).here.clock t) (m + i) b
     pub of_other : (p : ℕ) → p < m → p ≢ s → is.at p ≡ was.at p
     -- the children that it began, in the code
     pub child_after : (i : ℕ) → new.task (m + i) ≡ slice_get took.tasks i
-    pub start_child : (i : ℕ) → i < length move.begun → new.start (m + i) ≡ t
+    pub start_child : (i : ℕ) → i < length move.begun → new.start (m + i) ≡ tick_of old.world.clock (a_round_after old.world.clock t)
     pub more_children : new.children s ≡ old.children s ++ serials_from m (length move.begun)
     pub no_children : (i : ℕ) → i < length move.begun → new.children (m + i) ≡ []

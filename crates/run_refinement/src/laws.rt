@@ -4,9 +4,9 @@ ghost use Rattle.run_refinement.specs.Laws.{
   RunStatesAreInTime,
   RunStatesBegin,
   RunStatesEnd,
+  RunStatesGoOn,
   RunStatesJump,
   RunStatesLeave,
-  RunStatesSleep,
   RunStatesTake,
   RunStatesTurn,
   StopsSay,
@@ -15,17 +15,17 @@ ghost use Rattle.run_refinement.specs.Laws.{
   TurnsAreFew,
 };
 
-/// The tasks of the program and their world (`Refines`) are a run of the definitions in turns, from its first tick to its
-/// end:
+/// The tasks of the program and their world (`Refines`) are a run of the definitions in turns, from its first moment to
+/// its end:
 ///
 /// * The root alone in a new world is one.
 /// * Each task that has not ended has what a turn of it requires: its scopes and nurseries are open, and what else is open
 ///   in them belongs to tasks that it waits for.
 /// * It stays one when a task that may continue takes a turn, with the tasks that this one started. What the turn's stop
-///   says of the task is true; and if the task ended, it has ended in the definitions, in the same tick and with the same
-///   exception. It is one again after the end of that task is recorded in its nursery.
-/// * It stays one when the started tasks are taken from the world, and when the clock jumps to a tick before which no task
-///   continues; one sleeps then, if one has not ended.
+///   says of the task is true; and if the task ended, it has ended in the definitions, in the same moment and with the
+///   same exception. It is one again after the end of that task is recorded in its nursery.
+/// * It stays one when the started tasks are taken from the world, and when the clock jumps to a moment before which no task
+///   continues; one has a moment in which it continues then, if one has not ended.
 /// * While a task has not ended, the job does not end before the present tick. There are at most twice as many turns as the
 ///   job has steps, plus one, and at most as many tasks that have not ended.
 /// * When all tasks have ended, what is kept of them is the records, the froms and the end that the job means.
@@ -37,7 +37,7 @@ pub fn law_states()
     ensures leave { RunStatesLeave }
     ensures take { RunStatesTake }
     ensures jump { RunStatesJump }
-    ensures sleep { RunStatesSleep }
+    ensures go_on { RunStatesGoOn }
     ensures in_time { RunStatesAreInTime }
     ensures turns { TurnsAreFew }
     ensures tasks { TasksAreFew }

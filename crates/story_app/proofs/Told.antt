@@ -7,6 +7,7 @@ use Rattle.std.specs.Global.{Vec}
 use Rattle.job_tree.specs.Tree.{Tree}
 use Rattle.exc_groups.specs.Exceptions.{Label, Exc, cancelled, raised, too_slow, group}
 use Rattle.job_meaning.specs.Log.{Table}
+use Rattle.job_meaning.specs.Moments.{Clock, clock_of}
 use Rattle.job_meaning.specs.Meaning.{root_label, meaning, meaning_end, meaning_table}
 use Rattle.job_meaning.specs.Shown.{Row, ending_of, meaning_rows}
 use Rattle.job_runner.specs.Runs.{is_well}
@@ -62,7 +63,7 @@ is_ending job input limit rows ending same is =
 
 -- the events of the story are those of the meaning's story
 pub told_is : (job : Tree) (input : List ℕ) (limit : ℕ) (ending : Ending) → IsEnding job input limit ending →
-    events_until (until_of ending limit) (events_of (root_label job.name) (story_by (meaning_table job input) job input)) ≡ story_events limit job input
+    events_until (clock_of job.format) (until_of ending limit) (events_of (root_label job.name) (story_by (meaning_table job input) job input)) ≡ story_events limit job input
 told_is job input limit Done h = ap (λ (b : Bool). story_events_if b limit job input) (sym (le_test (meaning_end job input) limit h.0))
 told_is job input limit Raised h = ap (λ (b : Bool). story_events_if b limit job input) (sym (le_test (meaning_end job input) limit h.0))
 told_is job input limit Late h = ap (λ (b : Bool). story_events_if b limit job input) (sym (gt_test (meaning_end job input) limit h))
@@ -75,26 +76,26 @@ cut_is job input limit Raised h = ap (λ (b : Bool). until_if b limit) (sym (le_
 cut_is job input limit Late h = ap (λ (b : Bool). until_if b limit) (sym (gt_test (meaning_end job input) limit h))
 
 whole_is : (job : Tree) (input : List ℕ) (limit : ℕ) (task : Option Label) →
-    story_told (meaning_table job input) None task (story_events_if true limit job input) ≡ story_if true limit job input task
+    story_told (clock_of job.format) (meaning_table job input) None task (story_events_if true limit job input) ≡ story_if true limit job input task
 whole_is job input limit None = refl
 whole_is job input limit (Some task) = refl
 
 front_is : (job : Tree) (input : List ℕ) (limit : ℕ) (task : Option Label) →
-    story_told (meaning_table job input) (Some limit) task (story_events_if false limit job input) ≡ story_if false limit job input task
+    story_told (clock_of job.format) (meaning_table job input) (Some limit) task (story_events_if false limit job input) ≡ story_if false limit job input task
 front_is job input limit None = refl
 front_is job input limit (Some task) = refl
 
 -- and so is their text
 pub story_is : (job : Tree) (input : List ℕ) (limit : ℕ) (ending : Ending) (task : Option Label) → IsEnding job input limit ending →
-    story_told (meaning_table job input) (until_of ending limit) task (story_events limit job input) ≡ meaning_story limit job input task
+    story_told (clock_of job.format) (meaning_table job input) (until_of ending limit) task (story_events limit job input) ≡ meaning_story limit job input task
 story_is job input limit Done task h =
-    subst (λ (b : Bool). story_told (meaning_table job input) None task (story_events_if b limit job input) ≡ story_if b limit job input task)
+    subst (λ (b : Bool). story_told (clock_of job.format) (meaning_table job input) None task (story_events_if b limit job input) ≡ story_if b limit job input task)
     (sym (le_test (meaning_end job input) limit h.0)) (whole_is job input limit task)
 story_is job input limit Raised task h =
-    subst (λ (b : Bool). story_told (meaning_table job input) None task (story_events_if b limit job input) ≡ story_if b limit job input task)
+    subst (λ (b : Bool). story_told (clock_of job.format) (meaning_table job input) None task (story_events_if b limit job input) ≡ story_if b limit job input task)
     (sym (le_test (meaning_end job input) limit h.0)) (whole_is job input limit task)
 story_is job input limit Late task h =
-    subst (λ (b : Bool). story_told (meaning_table job input) (Some limit) task (story_events_if b limit job input) ≡ story_if b limit job input task)
+    subst (λ (b : Bool). story_told (clock_of job.format) (meaning_table job input) (Some limit) task (story_events_if b limit job input) ≡ story_if b limit job input task)
     (sym (gt_test (meaning_end job input) limit h)) (front_is job input limit task)
 
 -- ---- which task was asked for
@@ -112,25 +113,25 @@ about_none : (asked : Option (List ℕ)) (es : List Event) (nearest text : List 
     nearest ≡ label_or_nothing (nearest_in text es) → IsAboutNone asked es nearest
 about_none asked es nearest text e none is = subst (λ (o : Option (List ℕ)). IsAboutNone o es nearest) (sym e) (none, is)
 
-pub told_of_all : (table : Table) (until : Option ℕ) (ending : Ending) (asked : Option (List ℕ)) (walked : List Event) (about : About)
+pub told_of_all : (clock : Clock) (table : Table) (until : Option ℕ) (ending : Ending) (asked : Option (List ℕ)) (walked : List Event) (about : About)
     (given : StoryVerdict) (bytes : List ℕ) → IsAsked asked walked about → about ≡ All → given ≡ verdict_of ending →
-    bytes ≡ story_told table until None walked → IsTold table until ending asked walked given bytes
-told_of_all table until ending asked walked about given bytes h e is text =
+    bytes ≡ story_told clock table until None walked → IsTold clock table until ending asked walked given bytes
+told_of_all clock table until ending asked walked about given bytes h e is text =
     inl (None, about_all asked walked (subst (IsAsked asked walked) e h), is, text)
 
 -- the verdict and the bytes if a task was asked for, and the story has it
-pub told_of_task : (table : Table) (until : Option ℕ) (ending : Ending) (asked : Option (List ℕ)) (walked : List Event) (about : About)
+pub told_of_task : (clock : Clock) (table : Table) (until : Option ℕ) (ending : Ending) (asked : Option (List ℕ)) (walked : List Event) (about : About)
     (label : Bor Label) (given : StoryVerdict) (bytes : List ℕ) → IsAsked asked walked about → about ≡ Task label →
-    given ≡ verdict_of ending → bytes ≡ story_told table until (Some label.now) walked →
-    IsTold table until ending asked walked given bytes
-told_of_task table until ending asked walked about label given bytes h e is text =
+    given ≡ verdict_of ending → bytes ≡ story_told clock table until (Some label.now) walked →
+    IsTold clock table until ending asked walked given bytes
+told_of_task clock table until ending asked walked about label given bytes h e is text =
     let k = subst (IsAsked asked walked) e h in inl (Some label.now, about_task asked walked label.now k.0 k.1 k.2, is, text)
 
 -- the verdict and the bytes if a task was asked for that the story does not have
-pub told_of_none : (table : Table) (until : Option ℕ) (ending : Ending) (asked : Option (List ℕ)) (walked : List Event) (about : About)
+pub told_of_none : (clock : Clock) (table : Table) (until : Option ℕ) (ending : Ending) (asked : Option (List ℕ)) (walked : List Event) (about : About)
     (nearest : Vec ℕ) (given : StoryVerdict) (bytes : List ℕ) → IsAsked asked walked about → about ≡ NoTask nearest →
-    given ≡ verdict.NoTask nearest → bytes ≡ [] → IsTold table until ending asked walked given bytes
-told_of_none table until ending asked walked about nearest given bytes h e is text =
+    given ≡ verdict.NoTask nearest → bytes ≡ [] → IsTold clock table until ending asked walked given bytes
+told_of_none clock table until ending asked walked about nearest given bytes h e is text =
     let k = subst (IsAsked asked walked) e h in inr (nearest, about_none asked walked nearest.items k.0 k.1 k.2 k.3, is, text)
 
 -- ---- the verdict on a job
@@ -144,7 +145,7 @@ verdict_is job input limit asked Late task bytes h about is = (record { task = t
 
 by_told : (job : Tree) (input : List ℕ) (limit : ℕ) (asked : Option (List ℕ)) (ending : Ending) (given : StoryVerdict) (bytes : List ℕ) →
     IsEnding job input limit ending →
-    IsTold (meaning_table job input) (until_of ending limit) ending asked (story_events limit job input) given bytes →
+    IsTold (clock_of job.format) (meaning_table job input) (until_of ending limit) ending asked (story_events limit job input) given bytes →
     IsJobVerdict job input limit asked given bytes
 by_told job input limit asked ending given bytes h (inl t) =
     subst (λ (v : StoryVerdict). IsJobVerdict job input limit asked v bytes) (sym t.2)
@@ -153,19 +154,22 @@ by_told job input limit asked ending given bytes h (inr t) =
     subst (λ (v : StoryVerdict). IsJobVerdict job input limit asked v bytes) (sym t.2) (t.1, t.3)
 
 -- the verdict and the bytes for a job that was read: those of the story by the table of its meaning, up to the limit
-pub job_told : (job : Tree) (input : List ℕ) (limit : ℕ) (asked : Option (List ℕ)) (ending : Ending) (table : Table) (until : Option ℕ)
-    (events walked : List Event) (given : StoryVerdict) (bytes : List ℕ) → IsEnding job input limit ending →
-    table ≡ meaning_table job input → until ≡ until_of ending limit →
-    events ≡ events_of (root_label job.name) (story_by table job input) → walked ≡ events_until until events →
-    IsTold table until ending asked walked given bytes → IsJobVerdict job input limit asked given bytes
-job_told job input limit asked ending table until events walked given bytes h same until_is events_are walked_is t =
+pub job_told : (job : Tree) (input : List ℕ) (limit : ℕ) (asked : Option (List ℕ)) (ending : Ending) (clock : Clock) (table : Table)
+    (until : Option ℕ) (events walked : List Event) (given : StoryVerdict) (bytes : List ℕ) → IsEnding job input limit ending →
+    clock ≡ clock_of job.format → table ≡ meaning_table job input → until ≡ until_of ending limit →
+    events ≡ events_of (root_label job.name) (story_by table job input) → walked ≡ events_until clock until events →
+    IsTold clock table until ending asked walked given bytes → IsJobVerdict job input limit asked given bytes
+job_told job input limit asked ending clock table until events walked given bytes h counts same until_is events_are walked_is t =
     by_told job input limit asked ending given bytes h
-    (subst (λ (es : List Event). IsTold (meaning_table job input) (until_of ending limit) ending asked es given bytes) all
-    (subst (λ (u : Option ℕ). IsTold (meaning_table job input) u ending asked walked given bytes) until_is
-    (subst (λ (k : Table). IsTold k until ending asked walked given bytes) same t)))
+    (subst (λ (es : List Event). IsTold (clock_of job.format) (meaning_table job input) (until_of ending limit) ending asked es given bytes) all
+    (subst (λ (u : Option ℕ). IsTold (clock_of job.format) (meaning_table job input) u ending asked walked given bytes) until_is
+    (subst (λ (k : Table). IsTold (clock_of job.format) k until ending asked walked given bytes) same
+    (subst (λ (c : Clock). IsTold c table until ending asked walked given bytes) counts t))))
   where
     all : walked ≡ story_events limit job input
     all =
-        walked_is ∙ ap (events_until until) (events_are ∙ ap (λ (k : Table). events_of (root_label job.name) (story_by k job input)) same)
-        ∙ ap (λ (u : Option ℕ). events_until u (events_of (root_label job.name) (story_by (meaning_table job input) job input))) until_is
+        walked_is ∙ ap (λ (c : Clock). events_until c until events) counts
+        ∙ ap (events_until (clock_of job.format) until)
+        (events_are ∙ ap (λ (k : Table). events_of (root_label job.name) (story_by k job input)) same)
+        ∙ ap (λ (u : Option ℕ). events_until (clock_of job.format) u (events_of (root_label job.name) (story_by (meaning_table job input) job input))) until_is
         ∙ told_is job input limit ending h

@@ -4,6 +4,7 @@ use Rattle.std.specs.Global.{Vec}
 use Rattle.job_tree.specs.Tree.{Tree}
 use Rattle.exc_groups.specs.Exceptions.{Label}
 use Rattle.job_meaning.specs.Log.{Table}
+use Rattle.job_meaning.specs.Moments.{Clock, tick_of}
 use Rattle.job_meaning.specs.Meaning.{meaning, meaning_end}
 use Rattle.job_meaning.specs.Shown.{Row}
 use Rattle.job_runner.specs.Runs.{root_is_well, root_end}
@@ -42,28 +43,28 @@ until_of Done limit = None
 until_of Raised limit = None
 until_of Late limit = Some limit
 
--- whether a tick is not later than the last one, where there is one
-abbrev pub is_until : Option ℕ → ℕ → Bool
-is_until None t = true
-is_until (Some last) t = nat_le t last
+-- whether a moment is not later than the last tick, where there is one
+abbrev pub is_until : Clock → Option ℕ → ℕ → Bool
+is_until clock None m = true
+is_until clock (Some last) m = nat_le (tick_of clock m) last
 
 -- the events up to a tick, or all of them
-abbrev pub events_until : Option ℕ → List Event → List Event
-events_until None es = es
-events_until (Some t) es = by_limit t es
+abbrev pub events_until : Clock → Option ℕ → List Event → List Event
+events_until clock None es = es
+events_until clock (Some t) es = by_limit clock t es
 
 -- the text of selected events of a story, up to a limit or whole
-abbrev pub text_until : Option ℕ → Table → List Event → List Event → List Event → List ℕ
-text_until None table all sorted walked = kept_text table all sorted
-text_until (Some limit) table all sorted walked = kept_text_to table limit all sorted walked
+abbrev pub text_until : Clock → Option ℕ → Table → List Event → List Event → List Event → List ℕ
+text_until clock None table all sorted walked = kept_text clock table all sorted
+text_until clock (Some limit) table all sorted walked = kept_text_to clock table limit all sorted walked
 
 -- the text of a story, from its events in the order of the walk: of all tasks, or of those that concern one task
-abbrev pub story_told : Table → Option ℕ → Option Label → List Event → List ℕ
-story_told table until None walked = text_until until table (in_order walked) (in_order walked) walked
-story_told table until (Some task) walked =
+abbrev pub story_told : Clock → Table → Option ℕ → Option Label → List Event → List ℕ
+story_told clock table until None walked = text_until clock until table (in_order walked) (in_order walked) walked
+story_told clock table until (Some task) walked =
     let all = in_order walked in
     let tasks = concerned_tasks table all task in
-    text_until until table all (of_tasks tasks all) (of_tasks tasks walked)
+    text_until clock until table all (of_tasks tasks all) (of_tasks tasks walked)
 
 -- which task was asked for among these events
 abbrev pub IsAsked : Option (List ℕ) → List Event → About → Type 0
@@ -74,7 +75,7 @@ IsAsked asked es (NoTask nearest) =
 
 -- a verdict on a story with these events, and its text: of all tasks, or of those that concern one task, or nothing where no task
 -- has the label
-abbrev pub IsTold : Table → Option ℕ → Ending → Option (List ℕ) → List Event → StoryVerdict → List ℕ → Type 0
-IsTold table until ending asked walked given bytes =
-    ((task : Option Label) × IsAbout asked walked task × (given ≡ verdict_of ending) × (bytes ≡ story_told table until task walked))
+abbrev pub IsTold : Clock → Table → Option ℕ → Ending → Option (List ℕ) → List Event → StoryVerdict → List ℕ → Type 0
+IsTold clock table until ending asked walked given bytes =
+    ((task : Option Label) × IsAbout asked walked task × (given ≡ verdict_of ending) × (bytes ≡ story_told clock table until task walked))
     ⊎ ((nearest : Vec ℕ) × IsAboutNone asked walked nearest.items × (given ≡ verdict.NoTask nearest) × (bytes ≡ []))

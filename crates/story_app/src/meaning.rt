@@ -3,6 +3,7 @@ ghost use Rattle.job_meaning.specs.declared.limits.TheConstants.{MAX_INPUT};
 ghost use Rattle.job_meaning.specs.Meaning.{meaning_table};
 ghost use Rattle.job_runner.specs.Runs.{rows_of};
 ghost use Rattle.job_story.specs.Froms.{table_in};
+ghost use Rattle.moments.specs.Moments.{clock_of};
 ghost use Rattle.story_app.specs.Tellings.{IsEnding, ending_by, verdict_of, until_of};
 
 use crate::table::table_of;
@@ -10,6 +11,7 @@ use crate::verdict::StoryVerdict;
 use job_grammar::Job;
 use job_runner::{Gate, Pick, Run, Settings, run_to_end};
 use job_story::{Froms, law_froms_of_meaning};
+use moments::Clock;
 use std::alloc::{AllocError, Global};
 use std::thread::Threads;
 
@@ -52,11 +54,13 @@ impl Ending {
 pub struct Meaning {
     /// How the job ends, compared with the limit.
     pub ending: Ending,
-    /// The ticks from which the scopes and nurseries are cancelled.
+    /// How its time is counted.
+    pub clock: Clock,
+    /// The moments from which the scopes and nurseries are cancelled.
     pub table: Froms,
 }
 
-/// Runs a job over an input to its end, and returns how its meaning ends, compared with the limit, and the ticks from which its
+/// Runs a job over an input to its end, and returns how its meaning ends, compared with the limit, and the moments from which its
 /// scopes and nurseries are cancelled. The picker, the number of workers and the gate change nothing. The caller must ensure that
 /// the input has at most 16,777,216 bytes (`MAX_INPUT`). Returns `AllocError` if memory is refused.
 #[tactic(auto, using(crate::proofs::Told::is_ending, crate::proofs::Tables::is_of_meaning))]
@@ -70,6 +74,7 @@ pub fn meaning_of<R: Threads + Sync, P: Pick, G: Gate + Sync>(
     gate: &G,
 ) -> Result<Meaning, AllocError>
     requires { length input.now ≤ MAX_INPUT }
+    ensures clock { IfOk result (λ meaning. meaning.clock ≡ clock_of job.now.format) }
     ensures ending { IfOk result (λ meaning. IsEnding job.now input.now settings.limit meaning.ending) }
     ensures table { IfOk result (λ meaning. table_in meaning.table ≡ meaning_table job.now input.now) }
 {
@@ -77,7 +82,11 @@ pub fn meaning_of<R: Threads + Sync, P: Pick, G: Gate + Sync>(
     let run = run_to_end(rt, alloc, job, input, settings.workers(), picker, gate)?;
     let ending = ending_of(&run, settings.limit());
     let table = table_of(alloc, run)?;
-    Ok(Meaning { ending, table })
+    Ok(Meaning {
+        ending,
+        clock: Clock::of(job.text_format()),
+        table,
+    })
 }
 
 // Returns how a run ended, compared with a limit.

@@ -57,9 +57,14 @@ fn running_of<R: Threads + Sync, P: Pick, G: Gate + Sync>(
         Ending::Done | Ending::Raised => Ok(Vec::new(alloc)),
         Ending::Late => {
             let events = tell(alloc, job, input, &meaning.table)?;
-            let walked = events_until(alloc, events.as_slice(), Some(settings.limit()))?;
+            let walked = events_until(
+                alloc,
+                meaning.clock,
+                events.as_slice(),
+                Some(settings.limit()),
+            )?;
             let sorted = in_order(alloc, walked.as_slice())?;
-            let lines = running_text(alloc, sorted.as_slice(), walked.as_slice())?;
+            let lines = running_text(alloc, meaning.clock, sorted.as_slice(), walked.as_slice())?;
             Ok(lines)
         }
     }

@@ -1,4 +1,5 @@
-ghost use Rattle.std.specs.Prelude.{◌≡◌, ◌≤◌, length, map, IfOk};
+ghost use Rattle.std.specs.Prelude.{◌≡◌, ℕ, ◌≤◌, length, map, IfOk};
+ghost use Rattle.moments.specs.Moments.{tick_of};
 ghost use Rattle.std.specs.Option.{option_copied};
 ghost use Rattle.job_meaning.specs.declared.limits.TheConstants.{MAX_INPUT};
 ghost use Rattle.job_story.specs.Froms.{table_in};
@@ -15,6 +16,7 @@ use job_grammar::Job;
 use job_runner::{Gate, Pick, Settings};
 use job_story::Event;
 use job_teller::tell;
+use moments::Clock;
 use std::alloc::{AllocError, Global};
 use std::thread::Threads;
 
@@ -35,7 +37,7 @@ pub(crate) fn job_verdict<R: Threads + Sync, P: Pick, G: Gate + Sync>(
     let meaning = meaning_of(rt, alloc, job, input, settings, picker, gate)?;
     let last = meaning.ending.until(settings.limit());
     let events = tell(alloc, job, input, &meaning.table)?;
-    let walked = events_until(alloc, events.as_slice(), last)?;
+    let walked = events_until(alloc, meaning.clock, events.as_slice(), last)?;
     let answer = story_about(alloc, walked.as_slice(), &meaning, last, task)?;
     Ok(answer)
 }
@@ -49,16 +51,23 @@ fn story_about(
     until: Option<u64>,
     task: Option<&[u8]>,
 ) -> Result<(StoryVerdict, Vec<u8>), AllocError>
-    ensures { IfOk result (λ r. IsTold (table_in meaning.now.table) until meaning.now.ending (option_copied task.entry)
+    ensures { IfOk result (λ r. IsTold meaning.now.clock (table_in meaning.now.table) until meaning.now.ending (option_copied task.entry)
         (map event_in walked.now) r.0 r.1.items) }
 {
     match about_of(alloc, walked, task)? {
         About::All => {
-            let bytes = story(alloc, walked, &meaning.table, None, until)?;
+            let bytes = story(alloc, meaning.clock, walked, &meaning.table, None, until)?;
             Ok((meaning.ending.verdict(), bytes))
         }
         About::Task(label) => {
-            let bytes = story(alloc, walked, &meaning.table, Some(label), until)?;
+            let bytes = story(
+                alloc,
+                meaning.clock,
+                walked,
+                &meaning.table,
+                Some(label),
+                until,
+            )?;
             Ok((meaning.ending.verdict(), bytes))
         }
         About::NoTask { nearest } => Ok((StoryVerdict::NoTask { nearest }, Vec::new(alloc))),
@@ -69,14 +78,15 @@ fn story_about(
 /// `AllocError` if memory is refused.
 pub fn events_until<'e>(
     alloc: Global,
+    clock: Clock,
     events: &'e [Event],
     until: Option<u64>,
 ) -> Result<Vec<&'e Event>, AllocError>
-    ensures { IfOk result (λ told. map event_in told.items ≡ events_until until (map event_of events.now)) }
+    ensures { IfOk result (λ told. map event_in told.items ≡ events_until clock until (map event_of events.now)) }
 {
     let mut told = Vec::new(alloc);
     'events: for event in events {
-        if is_by(event.tick, until) {
+        if is_by(clock.tick_of(event.tick), until) {
             told.push(event)?;
         }
     }
@@ -85,7 +95,7 @@ pub fn events_until<'e>(
 
 // Returns whether a tick is not later than the last one, if there is one.
 fn is_by(tick: u64, until: Option<u64>) -> bool
-    ensures { result ≡ is_until until tick }
+    ensures { (clock : Clock) (m : ℕ) → tick ≡ tick_of clock m → result ≡ is_until clock until m }
 {
     match until {
         Some(last) => tick <= last,

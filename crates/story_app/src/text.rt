@@ -3,11 +3,12 @@ ghost use Rattle.job_story.specs.Froms.{table_in};
 ghost use Rattle.story_causes.specs.Knows.{Knows};
 ghost use Rattle.story_causes.specs.Seen.{event_in};
 ghost use Rattle.story_focus.specs.Holds.{label_seen};
-ghost use Rattle.story_text.specs.Told.{events_in, froms_in};
+ghost use Rattle.story_text.specs.Told.{clock_in, events_in, froms_in};
 ghost use Rattle.story_app.specs.Tellings.{story_told, text_until};
 
 use exc_groups::Label;
 use job_story::{Event, Froms};
+use moments::Clock;
 use std::alloc::{AllocError, Global};
 use story_causes::Causes;
 use story_focus::{concerned_tasks, of_tasks};
@@ -17,16 +18,17 @@ use story_text::{Known, in_order, kept_text, kept_text_to};
 // `until` is a tick, the story is cut off at it as a limit.
 pub(crate) fn story<'e>(
     alloc: Global,
+    clock: Clock,
     walked: &[&'e Event],
     table: &'e Froms,
     task: Option<&'e Label>,
     until: Option<u64>,
 ) -> Result<Vec<u8>, AllocError>
-    ensures { IfOk result (λ text. text.items ≡ story_told (table_in table.entry.now) until (label_seen task.entry) (map event_in walked.now)) }
+    ensures { IfOk result (λ text. text.items ≡ story_told clock (table_in table.entry.now) until (label_seen task.entry) (map event_in walked.now)) }
 {
     let all = in_order(alloc, walked)?;
     let causes = Causes::of(alloc, all.as_slice(), table)?;
-    let known = Known::new(all.as_slice(), table, &causes);
+    let known = Known::new(clock, all.as_slice(), table, &causes);
     let Some(task) = task else {
         let text = text_until(alloc, all.as_slice(), walked, &known, until)?;
         return Ok(text);
@@ -47,7 +49,7 @@ fn text_until(
     until: Option<u64>,
 ) -> Result<Vec<u8>, AllocError>
     ensures { IfOk result (λ text. text.items
-        ≡ text_until until (froms_in known.now) (events_in known.now) (map event_in sorted.now) (map event_in walked.now)) }
+        ≡ text_until (clock_in known.now) until (froms_in known.now) (events_in known.now) (map event_in sorted.now) (map event_in walked.now)) }
 {
     match until {
         Some(limit) => kept_text_to(alloc, sorted, walked, limit, known),

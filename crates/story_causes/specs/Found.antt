@@ -28,7 +28,7 @@ abbrev pub sign_at : Label → Option Sign → Option why.Cause
 sign_at l None = None
 sign_at l (Some sign) = if same_label l sign.label.now then Some (cause_in_code sign.cause) else None
 
--- whether the label was entered with a deadline at this tick
+-- whether the label was entered with a deadline at this moment
 abbrev pub is_due_at : Option why.Entering → ℕ → Bool
 is_due_at None t = false
 is_due_at (Some entering) t = is_from entering.deadline t

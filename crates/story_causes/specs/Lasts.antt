@@ -1,5 +1,5 @@
 -- What the code keeps of the tasks of a story: those that have ended, and the last event of each.
-use Rattle.std.specs.Prelude.{Bool, Option, List, map}
+use Rattle.std.specs.Prelude.{Bool, Option}
 use Rattle.std.specs.Option.{option_map}
 use Rattle.std.specs.Borrow.{Bor}
 use Rattle.indexmap.specs.IndexMap.{IndexMap, get_by}

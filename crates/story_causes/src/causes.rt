@@ -21,7 +21,7 @@ use std::alloc::{AllocError, Global};
 pub struct Entering {
     /// Whether it is a scope or a nursery.
     pub kind: Kind,
-    /// The tick from which its deadline cancels it, or `None` if it has no deadline.
+    /// The moment from which its deadline cancels it, or `None` if it has no deadline.
     pub deadline: Option<u64>,
 }
 
@@ -29,11 +29,11 @@ pub struct Entering {
 /// takes constant time. It borrows the events and the table, and copies no label.
 #[derive(Drop)]
 pub struct Causes<'e> {
-    // The tick from which each label is cancelled.
+    // The moment from which each label is cancelled.
     froms: &'e Froms,
     // How each label was first entered.
     entered: IndexMap<&'e Label, Entering>,
-    // Why each label is cancelled, if not by its deadline: the first event that cancelled it, in the tick before the one from which it
+    // Why each label is cancelled, if not by its deadline: the first event that cancelled it, in the moment before the one from which it
     // is cancelled.
     signed: IndexMap<&'e Label, Cause<'e>>,
 }
@@ -41,7 +41,7 @@ pub struct Causes<'e> {
 impl<'e> Causes<'e> {
     /// Creates an index over events. It reads the events once, in the order in which they are given, and does not sort them. It records
     /// for each scope and nursery how it was first entered, and, if `froms` says that it is cancelled, the first event that cancelled it
-    /// in the tick before. First means first in the order given, so for the answers of a story the caller passes its events in order.
+    /// in the moment before. First means first in the order given, so for the answers of a story the caller passes its events in order.
     ///
     /// Each event takes constant time, and only scopes and nurseries take memory. Returns `AllocError` if memory is refused.
     pub fn of(
@@ -80,8 +80,8 @@ impl<'e> Causes<'e> {
         self.entered.get(&label).copied()
     }
 
-    /// Returns why a scope or nursery is cancelled: by its deadline, if that is the tick from which it is cancelled, and otherwise by the
-    /// first event that cancelled it in the tick before. Returns `None` if it never is cancelled, or if there is no such event.
+    /// Returns why a scope or nursery is cancelled: by its deadline, if that is the moment from which it is cancelled, and otherwise by the
+    /// first event that cancelled it in the moment before. Returns `None` if it never is cancelled, or if there is no such event.
     pub fn cause(&self, label: &Label) -> Option<Cause<'e>>
         ensures { (table : Table) (es : List told.Event) → Knows self.now table es →
             option_map cause_in_code result ≡ cause_of table es label.now }
@@ -95,7 +95,7 @@ impl<'e> Causes<'e> {
         self.signed.get(&label).copied()
     }
 
-    /// Returns the tick from which a scope or nursery is cancelled, or `None` if it never is.
+    /// Returns the moment from which a scope or nursery is cancelled, or `None` if it never is.
     pub fn from(&self, label: &Label) -> Option<u64>
         ensures { (table : Table) (es : List told.Event) → Knows self.now table es → result ≡ table label.now }
     {
@@ -103,7 +103,7 @@ impl<'e> Causes<'e> {
     }
 }
 
-// Returns whether the label was entered with a deadline at this tick.
+// Returns whether the label was entered with a deadline at this moment.
 fn is_due(entering: Option<Entering>, tick: u64) -> bool
     ensures { result ≡ is_due_at (option_map entering_in_code entering) tick }
 {

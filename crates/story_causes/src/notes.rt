@@ -42,7 +42,7 @@ pub(crate) fn note_entering<'e>(
     Ok(())
 }
 
-// Records why a label is cancelled, if the event cancels it in the tick before the one from which it is cancelled and no earlier
+// Records why a label is cancelled, if the event cancels it in the moment before the one from which it is cancelled and no earlier
 // event did so.
 pub(crate) fn note_sign<'e>(
     signed: &mut IndexMap<&'e Label, Cause<'e>>,
@@ -64,7 +64,7 @@ pub(crate) fn note_sign<'e>(
     Ok(())
 }
 
-// Returns whether the second tick is the one after the first. `None` is never.
+// Returns whether the second moment is the one after the first. `None` is never.
 fn is_next(tick: u64, from: Option<u64>) -> bool
     ensures { result ≡ is_from from (tick + 1) }
 {

@@ -21,21 +21,21 @@ pub enum Cause<'e> {
     Task {
         /// The label of the task.
         task: &'e Label,
-        /// The tick of the step, which is the one before it is cancelled.
+        /// The moment of the step, which is the one before it is cancelled.
         tick: u64,
     },
     /// A child of the nursery, or its own body, ended with an exception of which not every leaf is `Cancelled`.
     Failure {
         /// The label of the child that ended, or of the task that ran the body of the nursery.
         task: &'e Label,
-        /// The tick of that end, which is the one before the nursery is cancelled.
+        /// The moment of that end, which is the one before the nursery is cancelled.
         tick: u64,
     },
     /// A child of the nursery, or its own body, ended with an exception of which every leaf is `Cancelled`.
     Cancellation {
         /// The label of the child that ended, or of the task that ran the body of the nursery.
         task: &'e Label,
-        /// The tick of that end, which is the one before the nursery is cancelled.
+        /// The moment of that end, which is the one before the nursery is cancelled.
         tick: u64,
     },
 }

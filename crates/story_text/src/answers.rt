@@ -5,22 +5,30 @@ ghost use Rattle.job_story.specs.Froms.{table_in};
 ghost use Rattle.story_causes.specs.Found.{entering_in_code, cause_in_code};
 ghost use Rattle.story_causes.specs.Knows.{Knows};
 ghost use Rattle.story_causes.specs.Seen.{event_in};
-ghost use Rattle.story_text.specs.Told.{events_in, froms_in};
+ghost use Rattle.story_text.specs.Told.{clock_in, events_in, froms_in};
 
 use crate::known::Known;
 use exc_groups::Label;
 use job_story::{Event, Froms};
+use moments::Clock;
 use story_causes::{Cause, Causes, Entering};
 
 impl<'k, 'e> Known<'k, 'e> {
-    /// Puts together the events of a story in order, the table of cancellations, and the index of both. The caller must ensure
-    /// that the index was created from these events and this table.
-    pub fn new(events: &'k [&'e Event], froms: &'k Froms, causes: &'k Causes<'e>) -> Known<'k, 'e>
+    /// Puts together the clock of a story's moments, its events in order, the table of cancellations, and the index of both. The
+    /// caller must ensure that the index was created from these events and this table.
+    pub fn new(
+        clock: Clock,
+        events: &'k [&'e Event],
+        froms: &'k Froms,
+        causes: &'k Causes<'e>,
+    ) -> Known<'k, 'e>
         requires { Knows causes.now (table_in froms.now) (map event_in events.now) }
+        ensures clock { clock_in result ≡ clock }
         ensures events { events_in result ≡ map event_in events.now }
         ensures froms { froms_in result ≡ table_in froms.now }
     {
         Known {
+            clock,
             events,
             froms,
             causes,
@@ -41,7 +49,7 @@ impl<'k, 'e> Known<'k, 'e> {
         self.causes.cause(label)
     }
 
-    // Returns the tick from which a scope or nursery is cancelled, or `None` if it never is.
+    // Returns the moment from which a scope or nursery is cancelled, or `None` if it never is.
     pub(crate) fn from(&self, label: &Label) -> Option<u64>
         ensures { result ≡ froms_in self.now label.now }
     {

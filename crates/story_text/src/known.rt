@@ -4,12 +4,14 @@ ghost use Rattle.story_causes.specs.Knows.{Knows};
 ghost use Rattle.story_causes.specs.Seen.{event_in};
 
 use job_story::{Event, Froms};
+use moments::Clock;
 use story_causes::Causes;
 
-/// What is needed to write the sentences of a story: its events in order, the table with the ticks from which its scopes and
-/// nurseries are cancelled, and the index of both.
+/// What is needed to write the sentences of a story: the clock of its moments, its events in order, the table with the moments
+/// from which its scopes and nurseries are cancelled, and the index of both.
 #[derive(Drop)]
 pub struct Known<'k, 'e> {
+    pub(crate) clock: Clock,
     pub(crate) events: &'k [&'e Event],
     pub(crate) froms: &'k Froms,
     pub(crate) causes: &'k Causes<'e>,

@@ -4,7 +4,8 @@ ghost use Rattle.job_story.specs.Held.{happening_of, what_of};
 ghost use Rattle.job_story.specs.Events as told;
 ghost use Rattle.job_story.specs.Limit.{has_ended, start_if, is_start, running_in, doing_text, last_event, last_text, running_text, kept_text_to};
 ghost use Rattle.job_story.specs.Sentences.{label_width};
-ghost use Rattle.story_text.specs.Told.{events_in, froms_in};
+ghost use Rattle.moments.specs.Moments.{tick_of};
+ghost use Rattle.story_text.specs.Told.{clock_in, events_in, froms_in};
 ghost use Rattle.story_causes.specs.Tasks.{sorted_in, walked_in};
 ghost use Rattle.story_causes.specs.Lasts.{seen_last};
 ghost use Rattle.story_causes.specs.Seen.{event_in};
@@ -17,6 +18,7 @@ use digits::push_number;
 use exc_groups::Label;
 use exc_text::push_label;
 use job_story::{Event, Happening, What};
+use moments::Clock;
 use std::alloc::{AllocError, Global};
 use story_causes::Tasks;
 
@@ -31,31 +33,34 @@ pub fn kept_text_to<'e>(
     known: &Known<'_, '_>,
 ) -> Result<Vec<u8>, AllocError>
     ensures { IfOk result (λ text. text.items
-        ≡ kept_text_to (froms_in known.now) limit (events_in known.now) (map event_in sorted.now) (map event_in walked.now)) }
+        ≡ kept_text_to (clock_in known.now) (froms_in known.now) limit (events_in known.now)
+        (map event_in sorted.now) (map event_in walked.now)) }
 {
     let width = label_width(alloc, sorted)?;
     let mut out = Vec::new(alloc);
     push_lines(&mut out, known, sorted, width)?;
     push_limit(&mut out, limit)?;
     let tasks = Tasks::of(alloc, sorted, walked)?;
-    push_running(&mut out, width, &tasks, walked)?;
+    push_running(&mut out, known.clock, width, &tasks, walked)?;
     Ok(out)
 }
 
 /// Returns a line for each task that has not ended in these events, with what it is doing, as at the end of `kept_text_to`. The
-/// events are given in order (`sorted`) and in the order of the walk (`walked`). Returns `AllocError` if memory is refused.
+/// events are given in order (`sorted`) and in the order of the walk (`walked`), with the clock of their moments. Returns
+/// `AllocError` if memory is refused.
 pub fn running_text(
     alloc: Global,
+    clock: Clock,
     sorted: &[&Event],
     walked: &[&Event],
 ) -> Result<Vec<u8>, AllocError>
-    ensures { IfOk result (λ text. text.items ≡ running_text (label_width (map event_in sorted.now)) (map event_in sorted.now)
+    ensures { IfOk result (λ text. text.items ≡ running_text clock (label_width (map event_in sorted.now)) (map event_in sorted.now)
         (running_in (map event_in walked.now) (map event_in walked.now))) }
 {
     let width = label_width(alloc, sorted)?;
     let tasks = Tasks::of(alloc, sorted, walked)?;
     let mut out = Vec::new(alloc);
-    push_running(&mut out, width, &tasks, walked)?;
+    push_running(&mut out, clock, width, &tasks, walked)?;
     Ok(out)
 }
 
@@ -71,15 +76,16 @@ fn push_limit(out: &mut Vec<u8>, limit: u64) -> Result<(), AllocError>
 // Appends a line for each task that has not ended, in the order in which the walk starts them.
 fn push_running(
     out: &mut Vec<u8>,
+    clock: Clock,
     width: usize,
     tasks: &Tasks<'_, '_>,
     walked: &[&Event],
 ) -> Result<(), AllocError>
     ensures { OnOk result (out.new.items ≡ out.old.items
-        ++ running_text width (sorted_in tasks.now) (running_in (walked_in tasks.now) (map event_in walked.now))) }
+        ++ running_text clock width (sorted_in tasks.now) (running_in (walked_in tasks.now) (map event_in walked.now))) }
 {
     'walked: for event in walked {
-        push_if_running(out, width, tasks, event)?;
+        push_if_running(out, clock, width, tasks, event)?;
     }
     Ok(())
 }
@@ -87,81 +93,88 @@ fn push_running(
 // Appends the line for a task, if this event is its start and it has not ended.
 fn push_if_running(
     out: &mut Vec<u8>,
+    clock: Clock,
     width: usize,
     tasks: &Tasks<'_, '_>,
     event: &Event,
 ) -> Result<(), AllocError>
-    ensures { OnOk result ((others : List tree.Label) → out.new.items ++ running_text width (sorted_in tasks.now) others
-        ≡ out.old.items ++ running_text width (sorted_in tasks.now)
+    ensures { OnOk result ((others : List tree.Label) → out.new.items ++ running_text clock width (sorted_in tasks.now) others
+        ≡ out.old.items ++ running_text clock width (sorted_in tasks.now)
         (start_if (is_start (what_of event.now.what) && not (has_ended event.now.task (walked_in tasks.now))) event.now.task others)) }
 {
     if !tasks.is_running(event) {
         return Ok(());
     }
-    push_task(out, width, tasks, &event.task)?;
+    push_task(out, clock, width, tasks, &event.task)?;
     Ok(())
 }
 
 // Appends the line for a task that has not ended.
 fn push_task(
     out: &mut Vec<u8>,
+    clock: Clock,
     width: usize,
     tasks: &Tasks<'_, '_>,
     label: &Label,
 ) -> Result<(), AllocError>
-    ensures { OnOk result (out.new.items ≡ out.old.items ++ running_text width (sorted_in tasks.now) (label.now ∷ [])) }
+    ensures { OnOk result (out.new.items ≡ out.old.items ++ running_text clock width (sorted_in tasks.now) (label.now ∷ [])) }
 {
     out.extend_from_slice(b"  ")?;
     push_padded(out, width, label)?;
     out.extend_from_slice(b"  ")?;
-    push_last(out, tasks.last(label))?;
+    push_last(out, clock, tasks.last(label))?;
     out.extend_from_slice(b"\n")
 }
 
 // Appends what a task is doing, by the last of its events.
-fn push_last(out: &mut Vec<u8>, last: Option<&Event>) -> Result<(), AllocError>
-    ensures { OnOk result (out.new.items ≡ out.old.items ++ last_text (seen_last last.entry)) }
+fn push_last(out: &mut Vec<u8>, clock: Clock, last: Option<&Event>) -> Result<(), AllocError>
+    ensures { OnOk result (out.new.items ≡ out.old.items ++ last_text clock (seen_last last.entry)) }
 {
     match last {
-        Some(event) => push_doing(out, event.tick, &event.what),
+        Some(event) => push_doing(out, clock, event.tick, &event.what),
         None => Ok(()),
     }
 }
 
 // Appends what a task is doing after an event: it sleeps, or it waits for a nursery.
-fn push_doing(out: &mut Vec<u8>, tick: u64, what: &What) -> Result<(), AllocError>
-    ensures { OnOk result (out.new.items ≡ out.old.items ++ doing_text tick (what_of what.now)) }
+fn push_doing(out: &mut Vec<u8>, clock: Clock, moment: u64, what: &What) -> Result<(), AllocError>
+    ensures { OnOk result (out.new.items ≡ out.old.items ++ doing_text clock moment (what_of what.now)) }
 {
     match what {
         What::Starts { .. } => Ok(()),
-        What::Happens(happening) => push_doing_in(out, tick, happening),
+        What::Happens(happening) => push_doing_in(out, clock, moment, happening),
         What::Ends { .. } => Ok(()),
     }
 }
 
 // The same of what happens to a task between its start and its end.
-fn push_doing_in(out: &mut Vec<u8>, tick: u64, happening: &Happening) -> Result<(), AllocError>
-    ensures { OnOk result (out.new.items ≡ out.old.items ++ doing_text tick (told.happens (happening_of happening.now))) }
+fn push_doing_in(
+    out: &mut Vec<u8>,
+    clock: Clock,
+    moment: u64,
+    happening: &Happening,
+) -> Result<(), AllocError>
+    ensures { OnOk result (out.new.items ≡ out.old.items ++ doing_text clock moment (told.happens (happening_of happening.now))) }
 {
     match happening {
         Happening::Sleeps { until } => {
             out.extend_from_slice(b"sleeping ")?;
-            push_until(out, *until)?;
-            push_since(out, tick)
+            push_until(out, clock, *until)?;
+            push_since(out, clock, moment)
         }
         Happening::Waits { nursery, .. } => {
             out.extend_from_slice(b"waiting for nursery ")?;
             push_label(out, nursery)?;
-            push_since(out, tick)
+            push_since(out, clock, moment)
         }
         _ => Ok(()),
     }
 }
 
 // Appends since when a task does what it is doing.
-fn push_since(out: &mut Vec<u8>, tick: u64) -> Result<(), AllocError>
-    ensures { OnOk result (out.new.items ≡ out.old.items ++ (codes " since " ++ decimal tick)) }
+fn push_since(out: &mut Vec<u8>, clock: Clock, moment: u64) -> Result<(), AllocError>
+    ensures { OnOk result (out.new.items ≡ out.old.items ++ (codes " since " ++ decimal (tick_of clock moment))) }
 {
     out.extend_from_slice(b" since ")?;
-    push_number(out, tick)
+    push_number(out, clock.tick_of(moment))
 }

@@ -1,7 +1,7 @@
 ghost use Rattle.std.specs.Prelude.{◌≡◌, ◌++◌, [], None, IfOk, OnOk, map, max, codes, decimal};
 ghost use Rattle.job_story.specs.Held.{event_of};
 ghost use Rattle.job_story.specs.Sentences.{label_width, tick_text, line_text, lines_text, kept_text};
-ghost use Rattle.story_text.specs.Told.{events_in, froms_in};
+ghost use Rattle.story_text.specs.Told.{clock_in, events_in, froms_in};
 ghost use Rattle.story_causes.specs.Seen.{event_in};
 
 use crate::known::Known;
@@ -11,6 +11,7 @@ use crate::ticks::is_tick;
 use digits::push_number;
 use exc_text::push_label;
 use job_story::Event;
+use moments::Clock;
 use std::alloc::{AllocError, Global};
 
 /// Returns the text of selected events of a story, in order: a line for each tick in which one happens, and a line for each
@@ -20,7 +21,8 @@ pub fn kept_text(
     kept: &[&Event],
     known: &Known<'_, '_>,
 ) -> Result<Vec<u8>, AllocError>
-    ensures { IfOk result (λ text. text.items ≡ kept_text (froms_in known.now) (events_in known.now) (map event_in kept.now)) }
+    ensures { IfOk result (λ text. text.items
+        ≡ kept_text (clock_in known.now) (froms_in known.now) (events_in known.now) (map event_in kept.now)) }
 {
     let width = label_width(alloc, kept)?;
     let mut out = Vec::new(alloc);
@@ -50,21 +52,28 @@ pub(crate) fn push_lines(
     width: usize,
 ) -> Result<(), AllocError>
     ensures { OnOk result (out.new.items
-        ≡ out.old.items ++ lines_text (froms_in known.now) (events_in known.now) width None (map event_in events.now)) }
+        ≡ out.old.items
+        ++ lines_text (clock_in known.now) (froms_in known.now) (events_in known.now) width None (map event_in events.now)) }
 {
     let mut before = None;
     'events: for event in events {
-        push_tick(out, before, event.tick)?;
+        push_tick(out, known.clock, before, event.tick)?;
         push_line(out, known, width, event)?;
-        before = Some(event.tick);
+        before = Some(known.clock.tick_of(event.tick));
     }
     Ok(())
 }
 
-// Appends the line for a tick, unless the event before was in the same tick.
-fn push_tick(out: &mut Vec<u8>, before: Option<u64>, tick: u64) -> Result<(), AllocError>
-    ensures { OnOk result (out.new.items ≡ out.old.items ++ tick_text before tick) }
+// Appends the line for the tick of a moment, unless the event before was in the same tick.
+fn push_tick(
+    out: &mut Vec<u8>,
+    clock: Clock,
+    before: Option<u64>,
+    moment: u64,
+) -> Result<(), AllocError>
+    ensures { OnOk result (out.new.items ≡ out.old.items ++ tick_text clock before moment) }
 {
+    let tick = clock.tick_of(moment);
     if is_tick(before, tick) {
         return Ok(());
     }
@@ -81,7 +90,7 @@ fn push_line(
     event: &Event,
 ) -> Result<(), AllocError>
     ensures { OnOk result (out.new.items
-        ≡ out.old.items ++ line_text (froms_in known.now) (events_in known.now) width (event_of event.now)) }
+        ≡ out.old.items ++ line_text (clock_in known.now) (froms_in known.now) (events_in known.now) width (event_of event.now)) }
 {
     out.extend_from_slice(b"  ")?;
     push_padded(out, width, &event.task)?;

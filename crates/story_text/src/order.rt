@@ -5,7 +5,7 @@ ghost use Rattle.story_causes.specs.Seen.{event_in};
 use job_story::Event;
 use std::alloc::{AllocError, Global};
 
-/// Returns the events of a walk sorted by tick. Events of the same tick keep the order of the walk. Returns `AllocError` if
+/// Returns the events of a walk sorted by moment. Events of the same moment keep the order of the walk. Returns `AllocError` if
 /// memory is refused.
 pub fn in_order<'e>(alloc: Global, walked: &[&'e Event]) -> Result<Vec<&'e Event>, AllocError>
     ensures { IfOk result (λ sorted. map event_in sorted.items ≡ ordered (map event_in walked.now)) }
@@ -15,7 +15,7 @@ pub fn in_order<'e>(alloc: Global, walked: &[&'e Event]) -> Result<Vec<&'e Event
     Ok(events)
 }
 
-// Sorts events by tick. Events of the same tick keep their order.
+// Sorts events by moment. Events of the same moment keep their order.
 fn sort_by_tick(alloc: Global, events: &mut [&Event]) -> Result<(), AllocError>
     ensures { OnOk result (map event_in events.new ≡ ordered (map event_in events.old)) }
 {

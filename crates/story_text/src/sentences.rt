@@ -6,8 +6,9 @@ ghost use Rattle.block_exits.specs.Held.{kind_of};
 ghost use Rattle.job_story.specs.Held.{unboxed_exc, happening_of, what_of};
 ghost use Rattle.job_story.specs.Sentences.{kind_text, with_exc, entering_text, until_text, since_text, cleanup_text, cause_text, entered_text, count_text, caught_text, leaving_text, sign_text, cancel_text, cancelled_text, happening_text, home_text, what_text};
 ghost use Rattle.exc_text.specs.Texts.{label_text, exc_text, end_text};
+ghost use Rattle.moments.specs.declared.clock.Clock.{Clock};
 ghost use Rattle.story_causes.specs.Found.{entering_in_code, cause_in_code};
-ghost use Rattle.story_text.specs.Told.{events_in, froms_in};
+ghost use Rattle.story_text.specs.Told.{clock_in, events_in, froms_in};
 
 use crate::known::Known;
 use crate::ticks::next_from;
@@ -16,6 +17,7 @@ use exc_groups::{Exc, Label};
 use exc_text::{push_exc, push_label, push_raised};
 use job_story::{Event, Happening, Kind, What};
 use job_tree::Name;
+use moments::Clock;
 use std::alloc::AllocError;
 use story_causes::{Cause, Entering, is_cancellation};
 
@@ -26,7 +28,8 @@ pub(crate) fn push_what(
     event: &Event,
 ) -> Result<(), AllocError>
     ensures { OnOk result (out.new.items
-        ≡ out.old.items ++ what_text (froms_in known.now) (events_in known.now) event.now.tick (what_of event.now.what)) }
+        ≡ out.old.items
+        ++ what_text (clock_in known.now) (froms_in known.now) (events_in known.now) event.now.tick (what_of event.now.what)) }
 {
     match &event.what {
         What::Starts { home, .. } => {
@@ -46,11 +49,12 @@ pub(crate) fn push_what(
 fn push_happening(
     out: &mut Vec<u8>,
     known: &Known<'_, '_>,
-    tick: u64,
+    moment: u64,
     happening: &Happening,
 ) -> Result<(), AllocError>
     ensures { OnOk result (out.new.items
-        ≡ out.old.items ++ happening_text (froms_in known.now) (events_in known.now) tick (happening_of happening.now)) }
+        ≡ out.old.items
+        ++ happening_text (clock_in known.now) (froms_in known.now) (events_in known.now) moment (happening_of happening.now)) }
 {
     match happening {
         Happening::Enters {
@@ -58,8 +62,8 @@ fn push_happening(
             label,
             deadline,
             shield,
-        } => push_enters(out, *kind, label, *deadline, *shield),
-        Happening::Sleeps { until } => push_sleeps(out, *until),
+        } => push_enters(out, known.clock, *kind, label, *deadline, *shield),
+        Happening::Sleeps { until } => push_sleeps(out, known.clock, *until),
         Happening::IsCancelled {
             by,
             since,
@@ -68,11 +72,11 @@ fn push_happening(
         Happening::Finds { lines } => push_finds(out, lines.len()),
         Happening::Misses { name } => push_verb(out, b"misses ", *name),
         Happening::Raises { name } => push_verb(out, b"raises ", *name),
-        Happening::Cancels { label } => push_cancels(out, known, label, tick),
+        Happening::Cancels { label } => push_cancels(out, known, label, moment),
         Happening::Handles { matched, rest } => push_handles(out, matched, rest),
         Happening::Cleans { exc } => push_cleans(out, exc),
         Happening::Replaces { lost, fresh } => push_replaces(out, lost, fresh),
-        Happening::Waits { nursery, exc } => push_waits(out, known, nursery, exc, tick),
+        Happening::Waits { nursery, exc } => push_waits(out, known, nursery, exc, moment),
         Happening::Leaves {
             kind,
             label,
@@ -94,18 +98,19 @@ fn push_verb(out: &mut Vec<u8>, verb: &[u8], name: Name) -> Result<(), AllocErro
 // Appends that a task enters a scope or nursery.
 fn push_enters(
     out: &mut Vec<u8>,
+    clock: Clock,
     kind: Kind,
     label: &Label,
     deadline: Option<u64>,
     shield: bool,
 ) -> Result<(), AllocError>
     ensures { OnOk result (out.new.items
-        ≡ out.old.items ++ (codes "enters " ++ kind_text (kind_of kind) ++ label_text label.now ++ entering_text deadline shield)) }
+        ≡ out.old.items ++ (codes "enters " ++ kind_text (kind_of kind) ++ label_text label.now ++ entering_text clock deadline shield)) }
 {
     out.extend_from_slice(b"enters ")?;
     push_kind(out, kind)?;
     push_label(out, label)?;
-    push_entering(out, deadline, shield)
+    push_entering(out, clock, deadline, shield)
 }
 
 // Appends the word for a scope or nursery.
@@ -119,14 +124,19 @@ fn push_kind(out: &mut Vec<u8>, kind: Kind) -> Result<(), AllocError>
 }
 
 // Appends the deadline and the shield of a scope or nursery that is entered.
-fn push_entering(out: &mut Vec<u8>, deadline: Option<u64>, shield: bool) -> Result<(), AllocError>
-    ensures { OnOk result (out.new.items ≡ out.old.items ++ entering_text deadline shield) }
+fn push_entering(
+    out: &mut Vec<u8>,
+    clock: Clock,
+    deadline: Option<u64>,
+    shield: bool,
+) -> Result<(), AllocError>
+    ensures { OnOk result (out.new.items ≡ out.old.items ++ entering_text clock deadline shield) }
 {
-    let Some(tick) = deadline else {
+    let Some(moment) = deadline else {
         return push_shield(out, shield);
     };
     out.extend_from_slice(b" (deadline ")?;
-    push_number(out, tick)?;
+    push_number(out, clock.tick_of(moment))?;
     if shield {
         out.extend_from_slice(b", shielded)")
     } else {
@@ -136,7 +146,7 @@ fn push_entering(out: &mut Vec<u8>, deadline: Option<u64>, shield: bool) -> Resu
 
 // Appends the shield of a scope or nursery that has no deadline.
 fn push_shield(out: &mut Vec<u8>, shield: bool) -> Result<(), AllocError>
-    ensures { OnOk result (out.new.items ≡ out.old.items ++ entering_text None shield) }
+    ensures { OnOk result ((clock : Clock) → out.new.items ≡ out.old.items ++ entering_text clock None shield) }
 {
     if shield {
         out.extend_from_slice(b" (shielded)")
@@ -146,23 +156,27 @@ fn push_shield(out: &mut Vec<u8>, shield: bool) -> Result<(), AllocError>
 }
 
 // Appends that a task sleeps, and until when.
-fn push_sleeps(out: &mut Vec<u8>, until: Option<u64>) -> Result<(), AllocError>
-    ensures { OnOk result (out.new.items ≡ out.old.items ++ (codes "sleeps " ++ until_text until)) }
+fn push_sleeps(out: &mut Vec<u8>, clock: Clock, until: Option<u64>) -> Result<(), AllocError>
+    ensures { OnOk result (out.new.items ≡ out.old.items ++ (codes "sleeps " ++ until_text clock until)) }
 {
     out.extend_from_slice(b"sleeps ")?;
-    push_until(out, until)?;
+    push_until(out, clock, until)?;
     Ok(())
 }
 
 // Appends the tick until which a task sleeps, or that it sleeps forever.
-pub(crate) fn push_until(out: &mut Vec<u8>, until: Option<u64>) -> Result<(), AllocError>
-    ensures { OnOk result (out.new.items ≡ out.old.items ++ until_text until) }
+pub(crate) fn push_until(
+    out: &mut Vec<u8>,
+    clock: Clock,
+    until: Option<u64>,
+) -> Result<(), AllocError>
+    ensures { OnOk result (out.new.items ≡ out.old.items ++ until_text clock until) }
 {
-    let Some(tick) = until else {
+    let Some(moment) = until else {
         return out.extend_from_slice(b"forever");
     };
     out.extend_from_slice(b"until ")?;
-    push_number(out, tick)
+    push_number(out, clock.tick_of(moment))
 }
 
 // Appends that a task is cancelled, where, and by which scope or nursery.
@@ -173,12 +187,13 @@ fn push_is_cancelled(
     since: Option<u64>,
     in_cleanup: bool,
 ) -> Result<(), AllocError>
-    ensures { OnOk result (out.new.items ≡ out.old.items ++ (codes "is cancelled" ++ cleanup_text in_cleanup ++ since_text since
-        ++ cancelled_text (froms_in known.now) (events_in known.now) by.now)) }
+    ensures { OnOk result (out.new.items
+        ≡ out.old.items ++ (codes "is cancelled" ++ cleanup_text in_cleanup ++ since_text (clock_in known.now) since
+        ++ cancelled_text (clock_in known.now) (froms_in known.now) (events_in known.now) by.now)) }
 {
     out.extend_from_slice(b"is cancelled")?;
     push_cleanup(out, in_cleanup)?;
-    push_since(out, since)?;
+    push_since(out, known.clock, since)?;
     push_by(out, known, by)?;
     Ok(())
 }
@@ -195,19 +210,20 @@ fn push_cleanup(out: &mut Vec<u8>, in_cleanup: bool) -> Result<(), AllocError>
 }
 
 // Appends the tick since which a task slept that is cancelled, or that it was cancelled at a checkpoint.
-fn push_since(out: &mut Vec<u8>, since: Option<u64>) -> Result<(), AllocError>
-    ensures { OnOk result (out.new.items ≡ out.old.items ++ since_text since) }
+fn push_since(out: &mut Vec<u8>, clock: Clock, since: Option<u64>) -> Result<(), AllocError>
+    ensures { OnOk result (out.new.items ≡ out.old.items ++ since_text clock since) }
 {
-    let Some(tick) = since else {
+    let Some(moment) = since else {
         return out.extend_from_slice(b" at a checkpoint");
     };
     out.extend_from_slice(b" while sleeping since ")?;
-    push_number(out, tick)
+    push_number(out, clock.tick_of(moment))
 }
 
 // Appends the scope or nursery by which a task is cancelled, and why that is cancelled.
 fn push_by(out: &mut Vec<u8>, known: &Known<'_, '_>, by: &Option<Label>) -> Result<(), AllocError>
-    ensures { OnOk result (out.new.items ≡ out.old.items ++ cancelled_text (froms_in known.now) (events_in known.now) by.now) }
+    ensures { OnOk result (out.new.items
+        ≡ out.old.items ++ cancelled_text (clock_in known.now) (froms_in known.now) (events_in known.now) by.now) }
 {
     let Some(label) = by else {
         return Ok(());
@@ -217,19 +233,29 @@ fn push_by(out: &mut Vec<u8>, known: &Known<'_, '_>, by: &Option<Label>) -> Resu
     let Some(cause) = known.cause(label) else {
         return Ok(());
     };
-    push_cause(out, &cause)
+    push_cause(out, known.clock, &cause)
 }
 
 // Appends why a scope or nursery is cancelled.
-fn push_cause(out: &mut Vec<u8>, cause: &Cause<'_>) -> Result<(), AllocError>
-    ensures { OnOk result (out.new.items ≡ out.old.items ++ cause_text (Some (cause_in_code cause.now))) }
+fn push_cause(out: &mut Vec<u8>, clock: Clock, cause: &Cause<'_>) -> Result<(), AllocError>
+    ensures { OnOk result (out.new.items ≡ out.old.items ++ cause_text clock (Some (cause_in_code cause.now))) }
 {
     match cause {
         Cause::Deadline => out.extend_from_slice(b" (deadline)"),
-        Cause::Task { task, tick } => push_act(out, b" (cancelled by ", task, b" at ", *tick),
-        Cause::Failure { task, tick } => push_act(out, b" (", task, b" failed at ", *tick),
+        Cause::Task { task, tick } => {
+            push_act(out, b" (cancelled by ", task, b" at ", clock.tick_of(*tick))
+        }
+        Cause::Failure { task, tick } => {
+            push_act(out, b" (", task, b" failed at ", clock.tick_of(*tick))
+        }
         Cause::Cancellation { task, tick } => {
-            push_act(out, b" (", task, b" was cancelled at ", *tick)
+            push_act(
+                out,
+                b" (",
+                task,
+                b" was cancelled at ",
+                clock.tick_of(*tick),
+            )
         }
     }
 }
@@ -242,7 +268,8 @@ fn push_act(
     between: &[u8],
     tick: u64,
 ) -> Result<(), AllocError>
-    ensures { OnOk result (out.new.items ≡ out.old.items ++ (before.now ++ label_text task.now ++ between.now ++ decimal tick ++ codes ")")) }
+    ensures { OnOk result (out.new.items
+        ≡ out.old.items ++ (before.now ++ label_text task.now ++ between.now ++ decimal tick ++ codes ")")) }
 {
     out.extend_from_slice(before)?;
     push_label(out, task)?;
@@ -284,20 +311,21 @@ fn push_cancels(
     out: &mut Vec<u8>,
     known: &Known<'_, '_>,
     label: &Option<Label>,
-    tick: u64,
+    moment: u64,
 ) -> Result<(), AllocError>
-    ensures { OnOk result (out.new.items ≡ out.old.items ++ cancel_text (froms_in known.now) (events_in known.now) label.now tick) }
+    ensures { OnOk result (out.new.items
+        ≡ out.old.items ++ cancel_text (clock_in known.now) (froms_in known.now) (events_in known.now) label.now moment) }
 {
     let Some(label) = label else {
         return Ok(());
     };
     out.extend_from_slice(b"cancels ")?;
     push_entered(out, known.entering_of(label), label)?;
-    let Some(from) = next_from(known, label, tick) else {
+    let Some(from) = next_from(known, label, moment) else {
         return out.extend_from_slice(b", which is cancelled already");
     };
     out.extend_from_slice(b" from ")?;
-    push_number(out, from)
+    push_number(out, known.clock.tick_of(from))
 }
 
 // Appends what a handler handles, and the rest of the exception.
@@ -353,39 +381,39 @@ fn push_waits(
     known: &Known<'_, '_>,
     nursery: &Label,
     exc: &Option<Box<Exc>>,
-    tick: u64,
+    moment: u64,
 ) -> Result<(), AllocError>
     ensures { OnOk result (out.new.items ≡ out.old.items
         ++ (codes "waits for nursery " ++ label_text nursery.now ++ with_exc (codes " after ") (unboxed_exc exc.now) []
-        ++ sign_text (froms_in known.now) (Some nursery.now) (unboxed_exc exc.now) tick)) }
+        ++ sign_text (clock_in known.now) (froms_in known.now) (Some nursery.now) (unboxed_exc exc.now) moment)) }
 {
     out.extend_from_slice(b"waits for nursery ")?;
     push_label(out, nursery)?;
     push_after(out, exc)?;
-    push_sign(out, known, nursery, exc, tick)
+    push_sign(out, known, nursery, exc, moment)
 }
 
-// Appends that the nursery is cancelled from the next tick on, if it is and its child or body ends with an exception.
+// Appends that the nursery is cancelled from the next moment on, if it is and its child or body ends with an exception.
 fn push_sign(
     out: &mut Vec<u8>,
     known: &Known<'_, '_>,
     nursery: &Label,
     exc: &Option<Box<Exc>>,
-    tick: u64,
+    moment: u64,
 ) -> Result<(), AllocError>
     ensures { OnOk result (out.new.items
-        ≡ out.old.items ++ sign_text (froms_in known.now) (Some nursery.now) (unboxed_exc exc.now) tick) }
+        ≡ out.old.items ++ sign_text (clock_in known.now) (froms_in known.now) (Some nursery.now) (unboxed_exc exc.now) moment) }
 {
     let Some(_) = exc else {
         return Ok(());
     };
-    let Some(from) = next_from(known, nursery, tick) else {
+    let Some(from) = next_from(known, nursery, moment) else {
         return Ok(());
     };
     out.extend_from_slice(b"; nursery ")?;
     push_label(out, nursery)?;
     out.extend_from_slice(b" is cancelled from ")?;
-    push_number(out, from)
+    push_number(out, known.clock.tick_of(from))
 }
 
 // Appends the same for the nursery in which a task was started, if there is one.
@@ -394,15 +422,15 @@ fn push_home_sign(
     known: &Known<'_, '_>,
     home: &Option<Label>,
     exc: &Option<Box<Exc>>,
-    tick: u64,
+    moment: u64,
 ) -> Result<(), AllocError>
     ensures { OnOk result (out.new.items
-        ≡ out.old.items ++ sign_text (froms_in known.now) home.now (unboxed_exc exc.now) tick) }
+        ≡ out.old.items ++ sign_text (clock_in known.now) (froms_in known.now) home.now (unboxed_exc exc.now) moment) }
 {
     let Some(nursery) = home else {
         return Ok(());
     };
-    push_sign(out, known, nursery, exc, tick)
+    push_sign(out, known, nursery, exc, moment)
 }
 
 // Appends that a task leaves a scope or nursery, and how.

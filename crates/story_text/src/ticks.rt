@@ -15,15 +15,15 @@ pub(crate) fn is_tick(from: Option<u64>, tick: u64) -> bool
     }
 }
 
-// Returns the tick after this one, if the scope or nursery is cancelled from exactly that tick on.
-pub(crate) fn next_from(known: &Known<'_, '_>, label: &Label, tick: u64) -> Option<u64>
-    ensures value { IfSome result (λ from. from ≡ tick + 1) }
-    ensures some { is_some result ≡ is_from (froms_in known.now label.now) (tick + 1) }
+// Returns the moment after this one, if the scope or nursery is cancelled from exactly that moment on.
+pub(crate) fn next_from(known: &Known<'_, '_>, label: &Label, moment: u64) -> Option<u64>
+    ensures value { IfSome result (λ from. from ≡ moment + 1) }
+    ensures some { is_some result ≡ is_from (froms_in known.now label.now) (moment + 1) }
 {
     let Some(from) = known.from(label) else {
         return None;
     };
-    if tick < from && from - tick == 1 {
+    if moment < from && from - moment == 1 {
         Some(from)
     } else {
         None

@@ -9,8 +9,9 @@ use Rattle.cancel_scopes.specs.Sight.{Tick}
 use Rattle.cancel_scopes.specs.Tree.{Stack, Tree, stack_of, IsOpen, after_cancel}
 use Rattle.job_meaning.specs.Log.{Table}
 use Rattle.job_meaning.specs.Log as log
+use Rattle.job_meaning.specs.Moments.{Clock}
 use Rattle.job_meaning.specs.Walk.{Here, label_over}
-use Rattle.job_meaning.specs.Rest.{Event, noted, signs, enters, starts, starts_over, Stopped, to_begin, asking, asleep, awaiting, at_end}
+use Rattle.job_meaning.specs.Rest.{Event, noted, signs, enters, starts, starts_over, Stopped, to_begin, asking, asleep, giving_up, awaiting, at_end}
 use Rattle.nursery_book.specs.declared.book.NurseryBook.{NurseryBook}
 use Rattle.buffer_parts.specs.declared.part.Part.{Part}
 use Rattle.buffer_parts.specs.Lines.{Span}
@@ -18,7 +19,7 @@ use Rattle.turn_semantics.specs.Midway.{Place, Move}
 use Rattle.turn_semantics.specs.Steps.{signs_to, signs_home}
 use Rattle.turn_semantics.specs.Wakes.{lines_made}
 use Rattle.task_machine.specs.declared.stop.TaskState.{TaskState}
-use Rattle.task_machine.specs.declared.stop.TaskState.TheVariants.{ToBegin, Asked, Asleep, Awaits, Over}
+use Rattle.task_machine.specs.declared.stop.TaskState.TheVariants.{ToBegin, Asked, Asleep, GivingUp, Awaits, Over}
 use Rattle.task_machine.specs.declared.stop.Moved.{Moved}
 use Rattle.task_machine.specs.declared.stop.Moved.TheVariants.{On, Stops}
 use Rattle.task_machine.specs.declared.task.Own.{Own}
@@ -35,36 +36,40 @@ abbrev pub WaitsNot : Option Stopped → Type 0
 WaitsNot None = Unit {0}
 WaitsNot (Some to_begin) = Unit {0}
 WaitsNot (Some (asking kernel purpose)) = Unit {0}
-WaitsNot (Some (asleep n since)) = Unit {0}
+WaitsNot (Some (asleep paced n since)) = Unit {0}
+WaitsNot (Some (giving_up since)) = Unit {0}
 WaitsNot (Some (awaiting children ended exc)) = ⊥
 WaitsNot (Some (at_end u e)) = Unit {0}
 
 task_states_not : (numbers : Numbers) (book : NurseryBook) (task_state : TaskState) (s : Stopped) → WaitsNot (Some s) → IsTaskState numbers book task_state s →
     waits_of task_state ≡ None
-task_states_not numbers book ToBegin s not h = refl
+task_states_not numbers book (ToBegin at) s not h = refl
 task_states_not numbers book (Asked kernel purpose) s not h = refl
-task_states_not numbers book (Asleep ticks since) s not h = refl
+task_states_not numbers book (Asleep paced ticks since) s not h = refl
+task_states_not numbers book (GivingUp since) s not h = refl
 task_states_not numbers book (Awaits id since) to_begin not h = absurd h
 task_states_not numbers book (Awaits id since) (asking kernel purpose) not h = absurd h
-task_states_not numbers book (Awaits id since) (asleep n u) not h = absurd h
+task_states_not numbers book (Awaits id since) (asleep paced n u) not h = absurd h
+task_states_not numbers book (Awaits id since) (giving_up u) not h = absurd h
 task_states_not numbers book (Awaits id since) (awaiting children ended exc) not h = absurd not
 task_states_not numbers book (Awaits id since) (at_end u e) not h = absurd h
 task_states_not numbers book Over s not h = refl
 
 -- after a move that does not stop to wait for children the task waits for no nursery
-pub waits_not : (numbers : Numbers) (book : NurseryBook) (part : Part) (goes : Moved) (task_state : TaskState) (o : Move) → WaitsNot o.stopped →
-    MovesAs numbers book part goes task_state o →
+pub waits_not : (clock : Clock) (numbers : Numbers) (book : NurseryBook) (part : Part) (goes : Moved) (task_state : TaskState) (o : Move) →
+    WaitsNot o.stopped →
+    MovesAs clock numbers book part goes task_state o →
     waits_by goes task_state ≡ None
-waits_not numbers book part (On exc) task_state o not h = refl
-waits_not numbers book part (Stops stop) task_state o not h = by_stop o.stopped refl
+waits_not clock numbers book part (On exc) task_state o not h = refl
+waits_not clock numbers book part (Stops stop) task_state o not h = by_stop o.stopped refl
   where
     by_stop : (s : Option Stopped) → o.stopped ≡ s → waits_of task_state ≡ None
     by_stop None e =
-        absurd (let f : MovesAs numbers book part (Stops stop) task_state (record o { stopped = None }) =
-        subst (λ (x : Option Stopped). MovesAs numbers book part (Stops stop) task_state (record o { stopped = x })) e h in f.1)
+        absurd (let f : MovesAs clock numbers book part (Stops stop) task_state (record o { stopped = None }) =
+        subst (λ (x : Option Stopped). MovesAs clock numbers book part (Stops stop) task_state (record o { stopped = x })) e h in f.1)
     by_stop (Some s) e =
-        let f : MovesAs numbers book part (Stops stop) task_state (record o { stopped = Some s }) =
-        subst (λ (x : Option Stopped). MovesAs numbers book part (Stops stop) task_state (record o { stopped = x })) e h in
+        let f : MovesAs clock numbers book part (Stops stop) task_state (record o { stopped = Some s }) =
+        subst (λ (x : Option Stopped). MovesAs clock numbers book part (Stops stop) task_state (record o { stopped = x })) e h in
         task_states_not numbers book task_state s (subst WaitsNot e not) f.1.0
 
 -- a nursery of a task that waits for none is among its blocks

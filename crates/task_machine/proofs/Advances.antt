@@ -32,7 +32,7 @@ use Rattle.task_machine.specs.Exits.{ExitsAt, FailsAt}
 use Rattle.task_machine.specs.Fitting.{Block, a_scope, a_nursery, blocks_of}
 use Rattle.task_machine.specs.Frames.{unboxed_exc, frame_of, frames_onto, frames_of}
 use Rattle.task_machine.specs.Standing.{Stands, Took, StepsAs, with_frames}
-use Rattle.task_machine.specs.States.{State, here_at}
+use Rattle.task_machine.specs.States.{State, here_at, now_at}
 use Rattle.task_machine.specs.Stops.{Numbers}
 use Rattle.task_machine.proofs.FrameLemmas.{frames_pushed}
 use Rattle.task_machine.proofs.Nurseries.{blocks_pushed}
@@ -44,11 +44,12 @@ use Rattle.task_machine.proofs.Tooks.{took_onward, took_end, took_exit, took_bod
 pub takes_step : (b u : State) (whole fs : List Frame) (f : Frame) (goes : Moved) (exc : Option Exc) → whole ≡ fs ++ f ∷ [] →
     ((froms : Table) (numbers : Numbers) (ps : List Place) (count : ℕ) → Stands (with_frames b whole) froms numbers None ps →
     Took (with_frames b whole) u goes froms numbers
-    (step_frames froms b.tick (here_at b) (frame_of numbers f ∷ frames_of numbers fs) ps exc count)) →
+    (step_frames froms (now_at b) (here_at b) (frame_of numbers f ∷ frames_of numbers fs) ps exc count)) →
     StepsAs (with_frames b whole) u exc goes
 unfolding step_of
 takes_step b u whole fs f goes exc popped takes froms numbers ps count stands =
-    subst (λ (gs : List rest.Frame). Took (with_frames b whole) u goes froms numbers (step_frames froms b.tick (here_at b) gs ps exc count))
+    subst (λ (gs : List rest.Frame). Took (with_frames b whole) u goes froms numbers
+    (step_frames froms (now_at b) (here_at b) gs ps exc count))
     (sym (frames_pushed numbers fs whole f popped)) (takes froms numbers ps count stands)
 
 -- ---- the blocks among frames
@@ -112,11 +113,11 @@ takes_end b u whole tree exc goes popped none goes_is stays fails froms numbers 
     let e = option_map exc_of exc in
     let empty : whole ≡ [] = none_left whole none in
     subst (λ (m : Moved). Took (with_frames b whole) u m froms numbers
-    (step_frames froms b.tick (here_at b) (frames_of numbers whole) ps e count)) (sym goes_is)
+    (step_frames froms (now_at b) (here_at b) (frames_of numbers whole) ps e count)) (sym goes_is)
     (subst (λ (fs : List Frame). Took (with_frames b whole) u (Stops (Ended exc)) froms numbers
-    (step_frames froms b.tick (here_at b) (frames_of numbers fs) ps e count)) (sym empty)
+    (step_frames froms (now_at b) (here_at b) (frames_of numbers fs) ps e count)) (sym empty)
     (subst (λ (v : State). FailsAt b v e → Took (with_frames b whole) v (Stops (Ended exc)) froms numbers
-    (step_frames froms b.tick (here_at b) [] ps e count)) (sym stays)
+    (step_frames froms (now_at b) (here_at b) [] ps e count)) (sym stays)
     (took_end b whole froms numbers None ps stands tree exc empty (sym (append-nil b.frames) ∙ sym popped ∙ empty)) fails))
 
 -- the innermost scope is left
@@ -127,22 +128,23 @@ pub takes_exit : (b u : State) (whole : List Frame) (fail : Bool) (exc goes : Op
 takes_exit b u whole fail exc goes popped stays exits one =
     takes_step b u whole b.frames (Scope fail) (On goes) (option_map exc_of exc) popped
     (λ froms numbers ps count stands.
-    took_exit b whole froms numbers ps stands u fail exc goes (here_at b) count popped (ap (λ (s : State). s.frames) stays)
-    (ap (λ (s : State). s.book) stays) (ap (λ (s : State). s.started) stays) exits one)
+    took_exit b whole froms numbers ps stands u fail exc goes count popped (ap (λ (s : State). s.frames) stays)
+    (ap (λ (s : State). s.book) stays) (ap (λ (s : State). s.started) stays) (ap (λ (s : State). s.cancelled) stays) exits one)
 
 -- the body of the innermost nursery has ended
 pub takes_body : (b u : State) (whole : List Frame) (id : ℕ) (tree : Tree) (book : NurseryBook) (exc : Option held.Exc) (goes : Moved) →
     whole ≡ b.frames ++ Nursery id ∷ [] → goes ≡ Stops (Wait id) →
-    u ≡ record b { task_state = Awaits id b.tick; tree = tree; book = book } → Changes b.book book id (with_body (option_map exc_of exc)) →
+    u ≡ record b { task_state = Awaits id b.tick; tree = tree; book = book } →
+    Changes b.book book id (with_body (option_map exc_of exc) b.tick) →
     FailsAt b u (option_map exc_of exc) → StepsAs (with_frames b whole) u (option_map exc_of exc) goes
 takes_body b u whole id tree book exc goes popped goes_is stays changes fails =
     takes_step b u whole b.frames (Nursery id) goes e popped
     (λ froms numbers ps count stands.
     subst (λ (m : Moved). Took (with_frames b whole) u m froms numbers
-    (step_frames froms b.tick (here_at b) (rest.in_nursery (numbers id) ∷ frames_of numbers b.frames) ps e count)) (sym goes_is)
+    (step_frames froms (now_at b) (here_at b) (rest.in_nursery (numbers id) ∷ frames_of numbers b.frames) ps e count)) (sym goes_is)
     (subst (λ (v : State). FailsAt b v e → Took (with_frames b whole) v (Stops (Wait id)) froms numbers
-    (step_frames froms b.tick (here_at b) (rest.in_nursery (numbers id) ∷ frames_of numbers b.frames) ps e count)) (sym stays)
-    (took_body b whole froms numbers ps stands id exc tree book (here_at b) count popped changes) fails))
+    (step_frames froms (now_at b) (here_at b) (rest.in_nursery (numbers id) ∷ frames_of numbers b.frames) ps e count)) (sym stays)
+    (took_body b whole froms numbers ps stands id exc tree book count popped changes) fails))
   where
     e : Option Exc
     e = option_map exc_of exc
@@ -153,14 +155,14 @@ takes_body b u whole id tree book exc goes popped goes_is stays changes fails =
 pub takes_onward : (b u : State) (whole : List Frame) (f : Frame) (exc : Option Exc) (goes : Option held.Exc) → whole ≡ b.frames ++ f ∷ [] →
     blocks_of (f ∷ []) ≡ [] → u ≡ with_frames b u.frames → blocks_of u.frames ≡ blocks_of b.frames →
     ((froms : Table) (numbers : Numbers) (ps : List Place) (count : ℕ) →
-    step_frames froms b.tick (here_at b) (frame_of numbers f ∷ frames_of numbers b.frames) ps exc count
+    step_frames froms (now_at b) (here_at b) (frame_of numbers f ∷ frames_of numbers b.frames) ps exc count
     ≡ onward (frames_of numbers u.frames) ps (option_map exc_of goes)) →
     StepsAs (with_frames b whole) u exc (On goes)
 takes_onward b u whole f exc goes popped none stays same step =
     takes_step b u whole b.frames f (On goes) exc popped
     (λ froms numbers ps count stands.
     subst (λ (v : State). Took (with_frames b whole) v (On goes) froms numbers
-    (step_frames froms b.tick (here_at b) (frame_of numbers f ∷ frames_of numbers b.frames) ps exc count)) (sym stays)
+    (step_frames froms (now_at b) (here_at b) (frame_of numbers f ∷ frames_of numbers b.frames) ps exc count)) (sym stays)
     (took_onward b whole froms numbers None ps stands u.frames goes _ (same ∙ blocks_off b.frames whole f popped none)
     (step froms numbers ps count)))
 
@@ -250,7 +252,8 @@ takes_last b steps exc none well =
     subst (λ (x : Option held.Exc). StepsAs (with_frames b (b.frames ++ Steps steps ∷ [])) b (option_map exc_of x) (On None)) (sym well)
     (takes_onward b b (b.frames ++ Steps steps ∷ []) (Steps steps) None None refl refl refl refl
     (λ froms numbers ps count.
-    ap (λ (ss : List Step). step_frames froms b.tick (here_at b) (rest.steps_left (steps_of ss) ∷ frames_of numbers b.frames) ps None count)
+    ap (λ (ss : List Step). step_frames froms (now_at b) (here_at b)
+    (rest.steps_left (steps_of ss) ∷ frames_of numbers b.frames) ps None count)
     none))
 
 -- where nothing was raised

@@ -1,5 +1,5 @@
 -- A step of the code that is one of the steps of a block, as the definitions' step: one lemma for each kind.
-use Rattle.std.proofs.Common.{◌≡◌, ℕ, Bool, Option, Some, None, List, [], ◌∷◌, ◌++◌, refl, ap, sym, ◌∙◌, subst, append_assoc, Bor}
+use Rattle.std.proofs.Common.{◌≡◌, ℕ, Bool, false, Option, Some, None, List, [], ◌∷◌, ◌++◌, refl, ap, sym, ◌∙◌, subst, append_assoc, Bor}
 use Rattle.exc_groups.specs.Exceptions.{Label}
 use Rattle.job_tree.specs.Tree as tree
 use Rattle.job_tree.specs.InRange.{AreInRange}
@@ -9,7 +9,8 @@ use Rattle.job_tree.specs.declared.step.Step.{Step}
 use Rattle.job_tree.specs.declared.step.Step.TheVariants as code
 use Rattle.job_tree.specs.declared.step.Handler.{Handler}
 use Rattle.job_meaning.specs.Log.{Table}
-use Rattle.job_meaning.specs.Walk.{Here, due}
+use Rattle.job_meaning.specs.Moments.{due}
+use Rattle.job_meaning.specs.Walk.{Here}
 use Rattle.job_meaning.specs.Rest as rest
 use Rattle.job_meaning.specs.Rest.{inside, path_in, asking}
 use Rattle.nursery_book.specs.declared.book.NurseryBook.{NurseryBook}
@@ -27,7 +28,7 @@ use Rattle.task_machine.specs.Frames.{frames_of}
 use Rattle.task_machine.specs.Stacked.{AreAt}
 use Rattle.task_machine.specs.Standing.{AtStep, before_step, HasBlock, Stands, Took, StepsAs, with_frames}
 use Rattle.task_machine.specs.Started.{StartsOne, StartsOver}
-use Rattle.task_machine.specs.States.{State, here_at, path_at, scope_at, stack_in}
+use Rattle.task_machine.specs.States.{State, here_at, now_at, path_at, scope_at, stack_in}
 use Rattle.task_machine.specs.Stops.{Numbers, MovesAs}
 use Rattle.task_machine.proofs.FrameLemmas.{frames_pushed, path_inside}
 use Rattle.task_machine.proofs.Tooks.{LeavesAlone, took_onward, took_task_states, took_sleep, took_cancel}
@@ -72,24 +73,24 @@ module _ (b : State) (first : Step) (a : AtStep b first) where
   -- what the definitions do for the step
   abbrev step_there : Table → Numbers → List Place → ℕ → Move
   step_there froms numbers ps count =
-      step_on froms b.tick (here_inside b) (step_in first) (steps_of a.left.now) (frames_of numbers a.outer) ps count
+      step_on froms (now_at b) (here_inside b) (step_in first) (steps_of a.left.now) (frames_of numbers a.outer) ps count
 
   -- what the definitions do for the step is their step; its scope, if it enters one, has a name that no enclosing one has
   pub takes_on : (u : State) (goes : Moved) →
       ((froms : Table) (numbers : Numbers) (ps : List Place) (count : ℕ) → Stands (before_step b first a) froms numbers None ps →
       IsNew (names_at ps) (step_in first) →
       Took (before_step b first a) u goes froms numbers
-      (step_on froms b.tick (here_inside b) (step_in first) (steps_of a.left.now) (frames_of numbers a.outer) ps count)) →
+      (step_on froms (now_at b) (here_inside b) (step_in first) (steps_of a.left.now) (frames_of numbers a.outer) ps count)) →
       StepsAs (before_step b first a) u None goes
   takes_on u goes takes =
       takes_step b u whole a.outer (Steps a.steps) goes None refl
       (λ froms numbers ps count stands.
       subst
       (λ (ss : List Step). Took (before_step b first a) u goes froms numbers
-      (step_frames froms b.tick (here_at b) (rest.steps_left (steps_of ss) ∷ frames_of numbers a.outer) ps None count))
+      (step_frames froms (now_at b) (here_at b) (rest.steps_left (steps_of ss) ∷ frames_of numbers a.outer) ps None count))
       (sym a.first_is)
       (subst (λ (h : Here). Took (before_step b first a) u goes froms numbers
-      (step_on froms b.tick h (step_in first) (steps_of a.left.now) (frames_of numbers a.outer) ps count))
+      (step_on froms (now_at b) h (step_in first) (steps_of a.left.now) (frames_of numbers a.outer) ps count))
       (sym (inside_is numbers))
       (takes froms numbers ps count stands
       (subst (λ (ss : List Step). AreNew (names_at ps) (steps_of ss)) a.first_is
@@ -97,20 +98,22 @@ module _ (b : State) (first : Step) (a : AtStep b first) where
 
   -- the definitions' step, for a step that is known
   on_known : (s : Step) → first ≡ s → (froms : Table) (numbers : Numbers) (ps : List Place) (count : ℕ) →
-      step_on froms b.tick (here_inside b) (step_in first) (steps_of a.left.now) (frames_of numbers a.outer) ps count
-      ≡ step_on froms b.tick (here_inside b) (step_in s) (steps_of a.left.now) (frames_of numbers a.outer) ps count
+      step_on froms (now_at b) (here_inside b) (step_in first) (steps_of a.left.now) (frames_of numbers a.outer) ps count
+      ≡ step_on froms (now_at b) (here_inside b) (step_in s) (steps_of a.left.now) (frames_of numbers a.outer) ps count
   on_known s is froms numbers ps count =
-      ap (λ (x : Step). step_on froms b.tick (here_inside b) (step_in x) (steps_of a.left.now) (frames_of numbers a.outer) ps count) is
+      ap (λ (x : Step). step_on froms (now_at b) (here_inside b) (step_in x) (steps_of a.left.now) (frames_of numbers a.outer) ps count) is
 
   -- ---- a sleep
 
   -- a step that sleeps so many ticks, if the code stops or continues as a sleep of its ticks does, is the definitions' step
   pub takes_sleeps : (s : Step) (u : State) (goes : Moved) (ticks : ℕ) → first ≡ s →
-      ((froms : Table) (here : Here) (ss : tree.Steps) (fs : List rest.Frame) (ps : List Place) (count : ℕ) →
-      step_on froms b.tick here (step_in s) ss fs ps count ≡ sleeps froms ticks b.tick (rest.steps_left ss ∷ fs) ps) →
+      ((froms : Table) (ss : tree.Steps) (fs : List rest.Frame) (ps : List Place) (count : ℕ) →
+      step_on froms (now_at b) (here_inside b) (step_in s) ss fs ps count
+      ≡ sleeps b.clock froms false ticks b.tick (rest.steps_left ss ∷ fs) ps) →
       u ≡ record b { task_state = u.task_state } →
       ((froms : Table) (numbers : Numbers) (book : NurseryBook) (fs : List rest.Frame) (ps : List Place) →
-      AreAt b.labels froms (stack_in b) ps → MovesAs numbers book b.part goes u.task_state (sleeps froms ticks b.tick fs ps)) →
+      AreAt b.labels froms (stack_in b) ps →
+      MovesAs b.clock numbers book b.part goes u.task_state (sleeps b.clock froms false ticks b.tick fs ps)) →
       StepsAs (before_step b first a) u None goes
   takes_sleeps s u goes ticks is known stays sleep =
       takes_on u goes
@@ -118,9 +121,9 @@ module _ (b : State) (first : Step) (a : AtStep b first) where
       subst (λ (v : State). Took (before_step b first a) v goes froms numbers
       (step_there froms numbers ps count)) (sym stays)
       (subst (λ (o : Move). Took (before_step b first a) (record b { task_state = u.task_state }) goes froms numbers o)
-      (ap (λ (gs : List rest.Frame). sleeps froms ticks b.tick gs ps) (frames_put numbers)
-      ∙ sym (on_known s is froms numbers ps count ∙ known froms (here_inside b) (steps_of a.left.now) (frames_of numbers a.outer) ps count))
-      (took_sleep b whole froms numbers None ps stands u.task_state goes ticks blocks_put
+      (ap (λ (gs : List rest.Frame). sleeps b.clock froms false ticks b.tick gs ps) (frames_put numbers)
+      ∙ sym (on_known s is froms numbers ps count ∙ known froms (steps_of a.left.now) (frames_of numbers a.outer) ps count))
+      (took_sleep b whole froms numbers None ps stands u.task_state goes false ticks blocks_put
       (λ at. sleep froms numbers b.book (frames_of numbers b.frames) ps at))))
 
   -- ---- a kernel is asked, or an exception raised
@@ -128,10 +131,10 @@ module _ (b : State) (first : Step) (a : AtStep b first) where
   -- a step at which the task stops or continues, with its scopes and nurseries as they were
   pub takes_alone : (s : Step) (u : State) (goes : Moved) (move : List rest.Frame → List Place → Move) → first ≡ s →
       ((froms : Table) (ss : tree.Steps) (fs : List rest.Frame) (ps : List Place) (count : ℕ) →
-      step_on froms b.tick (here_inside b) (step_in s) ss fs ps count ≡ move (rest.steps_left ss ∷ fs) ps) →
+      step_on froms (now_at b) (here_inside b) (step_in s) ss fs ps count ≡ move (rest.steps_left ss ∷ fs) ps) →
       ((fs : List rest.Frame) (ps : List Place) → LeavesAlone (move fs ps) fs ps) → u ≡ record b { task_state = u.task_state } →
       ((numbers : Numbers) (book : NurseryBook) (fs : List rest.Frame) (ps : List Place) →
-      MovesAs numbers book b.part goes u.task_state (move fs ps)) →
+      MovesAs b.clock numbers book b.part goes u.task_state (move fs ps)) →
       StepsAs (before_step b first a) u None goes
   takes_alone s u goes move is known alone stays moves =
       takes_on u goes
@@ -148,23 +151,26 @@ module _ (b : State) (first : Step) (a : AtStep b first) where
   -- ---- a scope is cancelled
 
   -- a `cancel`, where the code signs the innermost scope of its name, if there is one, is the definitions' step
-  pub takes_cancel : (u : State) (name : List ℕ) → first ≡ code.Cancel name → u ≡ record b { tree = u.tree } → CancelsAt b u name →
+  pub takes_cancel : (u : State) (name : List ℕ) → first ≡ code.Cancel name → u ≡ record b { tree = u.tree; cancelled = u.cancelled } →
+      CancelsAt b u name →
       StepsAs (before_step b first a) u None (On None)
   takes_cancel u name is stays cancels =
       takes_on u (On None)
       (λ froms numbers ps count stands new.
       subst (λ (v : State). Took (before_step b first a) v (On None) froms numbers
       (step_there froms numbers ps count)) (sym stays)
-      (subst (λ (o : Move). Took (before_step b first a) (record b { tree = u.tree }) (On None) froms numbers o)
+      (subst (λ (o : Move). Took (before_step b first a) (record b { tree = u.tree; cancelled = u.cancelled }) (On None) froms numbers o)
       (ap (λ (gs : List rest.Frame). makes (signs_to (label_among name ps) b.tick) gs ps) (frames_put numbers)
       ∙ sym (on_known (code.Cancel name) is froms numbers ps count))
-      (took_cancel b whole froms numbers None ps stands u.tree name blocks_put (subst (λ (v : State). CancelsAt b v name) stays cancels))))
+      (took_cancel b whole froms numbers None ps stands u.tree u.cancelled name blocks_put
+      (subst (λ (v : State). CancelsAt b v name) stays cancels))))
 
   -- ---- a scope or nursery is entered
 
   module _ (u : State) (name : List ℕ) (deadline : Deadline) (shield : Bool) (body : tree.Steps) (started : u.started ≡ b.started)
-      (entries : u.entries ≡ b.entries) (enters : EntersAt b u (label_there b name) shield (due deadline b.tick))
-      (one : Enters (scope_at b) (label_there b name) (due deadline b.tick) (scoping_in b) (scoping_in u)) where
+      (entries : u.entries ≡ b.entries) (cancelled : u.cancelled ≡ b.cancelled)
+      (enters : EntersAt b u (label_there b name) shield (due b.clock deadline b.tick))
+      (one : Enters (scope_at b) (label_there b name) (due b.clock deadline b.tick) (scoping_in b) (scoping_in u)) where
     -- a `scope`, where the code enters one with its label, shield and deadline, is the definitions' step
     pub takes_scope : (fail : Bool) → first ≡ code.Scope name deadline shield fail body → u.book ≡ b.book →
         EntersBlock b.frames u.frames (Scope fail) body → StepsAs (before_step b first a) u None (On None)
@@ -175,11 +181,11 @@ module _ (b : State) (first : Step) (a : AtStep b first) where
         (sym (on_known (code.Scope name deadline shield fail body) is froms numbers ps count))
         (subst
         (λ (gs : List rest.Frame). Took (before_step b first a) u (On None) froms numbers
-        (makes (rest.enters (label_there b name) b.tick (due deadline b.tick) ∷ []) (rest.steps_left body ∷ rest.in_scope fail ∷ gs)
+        (makes (rest.enters (label_there b name) b.tick (due b.clock deadline b.tick) ∷ []) (rest.steps_left body ∷ rest.in_scope fail ∷ gs)
         (record { label = label_there b name; shield = shield } ∷ ps)))
         (frames_put numbers)
-        (took_scope b whole froms numbers None ps stands u (label_there b name) shield (due deadline b.tick) body blocks_put
-        (subst (λ (s : Step). IsNew (names_at ps) (step_in s)) is fresh).0 started entries enters one fail book block)))
+        (took_scope b whole froms numbers None ps stands u (label_there b name) shield (due b.clock deadline b.tick) body blocks_put
+        (subst (λ (s : Step). IsNew (names_at ps) (step_in s)) is fresh).0 started entries cancelled enters one fail book block)))
 
     -- a `nursery`, where the code enters one with its label, shield and deadline, is the definitions' step
     pub takes_nursery : (me : ℕ) → first ≡ code.Nursery name deadline shield body → EntersNursery me b u (label_there b name) body →
@@ -191,11 +197,11 @@ module _ (b : State) (first : Step) (a : AtStep b first) where
         (sym (on_known (code.Nursery name deadline shield body) is froms numbers ps count))
         (subst
         (λ (gs : List rest.Frame). Took (before_step b first a) u (On None) froms numbers
-        (makes (rest.enters (label_there b name) b.tick (due deadline b.tick) ∷ [])
+        (makes (rest.enters (label_there b name) b.tick (due b.clock deadline b.tick) ∷ [])
         (rest.steps_left body ∷ rest.in_nursery [] ∷ gs) (record { label = label_there b name; shield = shield } ∷ ps)))
         (frames_put numbers)
-        (took_nursery b whole froms numbers None ps stands u (label_there b name) shield (due deadline b.tick) body blocks_put
-        (subst (λ (s : Step). IsNew (names_at ps) (step_in s)) is fresh).0 started entries enters one me n)))
+        (took_nursery b whole froms numbers None ps stands u (label_there b name) shield (due b.clock deadline b.tick) body blocks_put
+        (subst (λ (s : Step). IsNew (names_at ps) (step_in s)) is fresh).0 started entries cancelled enters one me n)))
 
   -- ---- children are started
 
@@ -209,7 +215,8 @@ module _ (b : State) (first : Step) (a : AtStep b first) where
         takes_on u (On None)
         (λ froms numbers ps count stands new.
         subst (λ (o : Move). Took (before_step b first a) u (On None) froms numbers o)
-        (ap (λ (gs : List rest.Frame). step_on froms b.tick (here_inside b) (tree.start name None body) (steps_of a.left.now) gs ps count)
+        (ap (λ (gs : List rest.Frame). step_on froms (now_at b) (here_inside b) (tree.start name None body)
+        (steps_of a.left.now) gs ps count)
         (sym (frames_pushed numbers fs a.outer (Nursery id) within))
         ∙ sym (on_known (code.Start name None body) is froms numbers ps count))
         (took_start b whole fs id a.left u froms numbers None ps stands (in_body fs a.outer b.frames id a.left a.held within) blocks_put apart
@@ -222,7 +229,8 @@ module _ (b : State) (first : Step) (a : AtStep b first) where
         takes_on u (On None)
         (λ froms numbers ps count stands new.
         subst (λ (o : Move). Took (before_step b first a) u (On None) froms numbers o)
-        (ap (λ (gs : List rest.Frame). step_on froms b.tick (here_inside b) (tree.start name (Some k) body) (steps_of a.left.now) gs ps count)
+        (ap (λ (gs : List rest.Frame). step_on froms (now_at b) (here_inside b) (tree.start name (Some k) body)
+        (steps_of a.left.now) gs ps count)
         (sym (frames_pushed numbers fs a.outer (Nursery id) within))
         ∙ sym (on_known (code.Start name (Some k) body) is froms numbers ps count))
         (took_start_over b whole fs id a.left u froms numbers None ps stands (in_body fs a.outer b.frames id a.left a.held within) blocks_put

@@ -1,6 +1,7 @@
 -- Children that begin at their places, among others.
 use Rattle.std.proofs.Common.{inl, inr, ℕ, Option, List, [], ◌∷◌, ◌++◌}
 use Rattle.nursery_book.specs.declared.book.NurseryBook.{NurseryBook}
+use Rattle.job_meaning.specs.Moments.{Clock}
 use Rattle.turn_semantics.specs.Midway.{Begun}
 use Rattle.task_machine.specs.declared.task.Task.{Task}
 use Rattle.task_machine.specs.Fitting.{Block}
@@ -16,11 +17,12 @@ begins_more id place number (t ∷ ts) us (b ∷ bs) cs (inl h) = inl h
 begins_more id place number (t ∷ ts) us (b ∷ bs) cs (inr h) = inr (begins_more id place number ts us bs cs h)
 
 -- one of the last
-pub begins_last : (id place number : ℕ) (numbers : Numbers) (book : NurseryBook) (blocks : List Block) (waits : Option ℕ)
+pub begins_last : (clock : Clock) (begins : ℕ) (id place number : ℕ) (numbers : Numbers) (book : NurseryBook) (blocks : List Block)
+    (waits : Option ℕ)
     (ts us : List Task) (bs cs : List Begun) →
-    AreBegun numbers book blocks waits ts bs → BeginsAt id place number us cs → BeginsAt id place number (ts ++ us) (bs ++ cs)
-begins_last id place number numbers book blocks waits [] us [] cs a h = h
-begins_last id place number numbers book blocks waits [] us (b ∷ bs) cs a h = absurd a
-begins_last id place number numbers book blocks waits (t ∷ ts) us [] cs a h = absurd a
-begins_last id place number numbers book blocks waits (t ∷ ts) us (b ∷ bs) cs a h =
-    inr (begins_last id place number numbers book blocks waits ts us bs cs a.1 h)
+    AreBegun clock begins numbers book blocks waits ts bs → BeginsAt id place number us cs → BeginsAt id place number (ts ++ us) (bs ++ cs)
+begins_last clock begins id place number numbers book blocks waits [] us [] cs a h = h
+begins_last clock begins id place number numbers book blocks waits [] us (b ∷ bs) cs a h = absurd a
+begins_last clock begins id place number numbers book blocks waits (t ∷ ts) us [] cs a h = absurd a
+begins_last clock begins id place number numbers book blocks waits (t ∷ ts) us (b ∷ bs) cs a h =
+    inr (begins_last clock begins id place number numbers book blocks waits ts us bs cs a.1 h)

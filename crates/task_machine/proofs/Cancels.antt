@@ -1,17 +1,19 @@
 -- A scope that encloses a task and is cancelled by its name.
-use Rattle.std.proofs.Common.{◌≡◌, inl, inr, ℕ, Option, Some, None, List, [], ◌∷◌, ◌++◌, append_assoc, refl, ap, sym, ◌∙◌, subst}
+use Rattle.std.proofs.Common.{◌≡◌, inl, inr, ℕ, Bool, true, false, Option, Some, None, List, [], ◌∷◌, ◌++◌, append_assoc, refl, ap, sym, ◌∙◌, subst}
 use Rattle.std.specs.Prelude.{IsSome}
 use Rattle.std.specs.Option.{option_map, unwrap_or}
 use Rattle.exc_groups.specs.Exceptions.{Label}
 use Rattle.cancel_scopes.specs.Sight.{Level}
 use Rattle.cancel_scopes.specs.Tree.{Stack, Tree, stack_of, IsOpen, outer_of, IsChain, after_cancel}
 use Rattle.job_meaning.specs.Log.{Table}
+use Rattle.job_meaning.specs.Moments.{Clock, by_ticks, by_rounds}
+use Rattle.job_meaning.specs.Walk.{with_own}
 use Rattle.turn_semantics.specs.Midway.{Place}
 use Rattle.turn_semantics.specs.Names.{names_at, OwnNames}
 use Rattle.turn_semantics.specs.Steps.{label_among, signs_to, froms_after, froms_after_sign}
-use Rattle.task_machine.specs.Labels.{Labels, scope_named}
+use Rattle.task_machine.specs.Labels.{Labels, is_named, key_if, scope_named}
 use Rattle.task_machine.specs.Stacked.{AreAt, IsKey, FoundAs}
-use Rattle.task_machine.proofs.Stacked.{named_at, named_is_in, signed_alike}
+use Rattle.task_machine.proofs.Stacked.{one_of, named_at, named_is_in, signed_alike}
 
 some_is : (o : Option Stack) (st : Stack) → o ≡ Some st → IsSome o
 some_is o st e = subst IsSome (sym e) refl
@@ -78,3 +80,40 @@ cancels_none labels st name t none froms ps a =
     let found : label_among name ps ≡ None =
     subst (λ (o : Option ℕ). FoundAs labels o (label_among name ps)) none (named_at labels froms name st ps a) in
     subst (λ (o : Option Label). AreAt labels (froms_after froms (signs_to o t)) st ps) (sym found) a
+
+-- ---- what the task has cancelled itself
+
+-- a scope that is found by its name has a label
+pub found_labelled : (labels : Labels) (name : List ℕ) (st : Stack) (key : ℕ) → scope_named labels name st ≡ Some key → IsSome (labels key)
+found_labelled labels name [] key e = absurd (let f : None ≡ Some key = e in cc)
+found_labelled labels name (l ∷ ls) key e = by_label (λ f. found_labelled labels name ls key f) (labels l.label) refl e
+  where
+    by_label : (scope_named labels name ls ≡ Some key → IsSome (labels key)) → (o : Option Label) → labels l.label ≡ o →
+        key_if (is_named name o) l.label (scope_named labels name ls) ≡ Some key → IsSome (labels key)
+    by_label further None f g = further g
+    by_label further (Some label) f g = by_name (is_named name (Some label)) g
+      where
+        by_name : (b : Bool) → key_if b l.label (scope_named labels name ls) ≡ Some key → IsSome (labels key)
+        by_name true h = subst (λ (k : ℕ). IsSome (labels k)) (one_of l.label key h) (subst IsSome (sym f) refl)
+        by_name false h = further h
+
+-- it is the label among the places that the name finds
+pub cancels_kept : (clock : Clock) (labels : Labels) (froms : Table) (st : Stack) (ps : List Place) (name : List ℕ) (key : ℕ)
+    (own : List Label) → scope_named labels name st ≡ Some key → AreAt labels froms st ps →
+    with_own clock (labels key) own ≡ with_own clock (label_among name ps) own
+cancels_kept clock labels froms st ps name key own found a =
+    let at : FoundAs labels (Some key) (label_among name ps) =
+    subst (λ (o : Option ℕ). FoundAs labels o (label_among name ps)) found (named_at labels froms name st ps a) in
+    ap (λ (o : Option Label). with_own clock o own) at.0
+
+own_none : (clock : Clock) (own : List Label) → own ≡ with_own clock None own
+own_none by_ticks own = refl
+own_none by_rounds own = refl
+
+-- a task that finds no scope of a name has cancelled nothing more
+pub cancels_no_more : (clock : Clock) (labels : Labels) (froms : Table) (st : Stack) (ps : List Place) (name : List ℕ) (own : List Label) →
+    scope_named labels name st ≡ None → AreAt labels froms st ps → own ≡ with_own clock (label_among name ps) own
+cancels_no_more clock labels froms st ps name own none a =
+    let found : label_among name ps ≡ None =
+    subst (λ (o : Option ℕ). FoundAs labels o (label_among name ps)) none (named_at labels froms name st ps a) in
+    own_none clock own ∙ ap (λ (o : Option Label). with_own clock o own) (sym found)

@@ -8,6 +8,7 @@ use Rattle.exc_groups.specs.Held.{exc_of}
 use Rattle.exc_groups.specs.Exceptions.{Label, Exc}
 use Rattle.cancel_scopes.specs.Tree.{Stack, Tree, stack_of, outer_of, own_label, IsOwn, after_cancel}
 use Rattle.job_meaning.specs.Log.{Table}
+use Rattle.job_meaning.specs.Moments.{Clock, tick_of}
 use Rattle.job_meaning.specs.Shown.{shown_at}
 use Rattle.job_meaning.specs.Walk.{Kind, Left, left_as, left_with, exc_after}
 use Rattle.job_meaning.specs.Rest.{noted}
@@ -29,10 +30,11 @@ pub exc_goes_on : (kind : Kind) (l p : Label) (t u : ℕ) (b c : Bool) (left : L
 exc_goes_on kind l p t u b c left e after h i j k m = cc
 
 -- and what is noted
-pub leaving_noted : (input : List ℕ) (entry : Entry) (kind : Kind) (l p : Label) (t u : ℕ) (b c : Bool) (left : Left) (e : Option Exc) →
-    entry_of entry ≡ shown_at input t (left_as kind l left.caught) → IsSlice input entry → left ≡ left_with b e → l ≡ p → b ≡ c → t ≡ u →
-    AreNoted input (entry ∷ []) (noted u (left_as kind p (left_with c e).caught) ∷ [])
-leaving_noted input entry kind l p t u b c left e h s i j k m =
+pub leaving_noted : (clock : Clock) (input : List ℕ) (entry : Entry) (kind : Kind) (l p : Label) (t u : ℕ) (b c : Bool) (left : Left)
+    (e : Option Exc) →
+    entry_of entry ≡ shown_at input t (left_as kind l left.caught) → IsSlice input entry → left ≡ left_with b e → l ≡ p → b ≡ c →
+    t ≡ tick_of clock u → AreNoted clock input (entry ∷ []) (noted u (left_as kind p (left_with c e).caught) ∷ [])
+leaving_noted clock input entry kind l p t u b c left e h s i j k m =
     record {
       shown = ap (λ x. x ∷ []) (h ∙ by_left left (left_with b e) (left_with c e) i (ap (λ x. left_with x e) k) ∙ by_label ∙ by_tick);
       slices = All-cons (IsSlice input) entry [] s (All-nil (IsSlice input));
@@ -44,7 +46,8 @@ leaving_noted input entry kind l p t u b c left e h s i j k m =
     by_label : shown_at input t (left_as kind l (left_with c e).caught) ≡ shown_at input t (left_as kind p (left_with c e).caught)
     by_label = ap (λ x. shown_at input t (left_as kind x (left_with c e).caught)) j
 
-    by_tick : shown_at input t (left_as kind p (left_with c e).caught) ≡ shown_at input u (left_as kind p (left_with c e).caught)
+    by_tick : shown_at input t (left_as kind p (left_with c e).caught) ≡ shown_at input (tick_of clock u)
+        (left_as kind p (left_with c e).caught)
     by_tick = ap (λ x. shown_at input x (left_as kind p (left_with c e).caught)) m
 
 -- ---- a task or body that fails

@@ -6,13 +6,13 @@ use Rattle.cancel_scopes.specs.Tree.{Stack, Tree, stack_of, outer_of, outer_leve
 use Rattle.task_machine.specs.Labels.{Labels, is_named, scope_named}
 
 -- an open scope's stack begins with it
-record Begins (tree : Tree) (id : ℕ) : Type 0 where
-  first : Level ℕ
-  outer : Stack
-  stack : stack_of tree id ≡ Some (first ∷ outer)
-  own : first.label ≡ id
+pub record Begins (tree : Tree) (id : ℕ) : Type 0 where
+  pub first : Level ℕ
+  pub outer : Stack
+  pub stack : stack_of tree id ≡ Some (first ∷ outer)
+  pub own : first.label ≡ id
 
-begins : (tree : Tree) (id : ℕ) → IsOwn tree → IsOpen tree id → Begins tree id
+pub begins : (tree : Tree) (id : ℕ) → IsOwn tree → IsOpen tree id → Begins tree id
 begins tree id own whole = by_stack (stack_of tree id) refl
   where
     by_stack : (o : Option Stack) → stack_of tree id ≡ o → Begins tree id

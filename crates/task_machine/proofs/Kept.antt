@@ -306,10 +306,10 @@ inside_of fs id part home own n tree labels book h = by_nursery (nursery_at book
 
 -- what holds of a task is kept when the body of its innermost nursery ends, and it waits for that one
 pub fits_awaits : (fs : List Frame) (id : ℕ) (part : Part) (home : Option ℕ) (own : List Own) (n : ℕ) (tree : Tree) (labels : Labels)
-    (book after : NurseryBook) (exc : Option Exc) →
-    Changes book after id (with_body exc) → FitsIn (fs ++ Nursery id ∷ []) part home own n tree labels book None →
+    (book after : NurseryBook) (exc : Option Exc) (moment : ℕ) →
+    Changes book after id (with_body exc moment) → FitsIn (fs ++ Nursery id ∷ []) part home own n tree labels book None →
     FitsIn fs part home own n tree labels after (Some id)
-fits_awaits fs id part home own n tree labels book after exc changes h =
+fits_awaits fs id part home own n tree labels book after exc moment changes h =
     record {
       runs = record {
         in_range = subst AreInRangeFrames (frames_push (λ key. []) fs (Nursery id)) h.runs.in_range;
@@ -337,8 +337,8 @@ fits_awaits fs id part home own n tree labels book after exc changes h =
     i : Inside fs part home n tree labels book id own
     i = inside_of fs id part home own n tree labels book h
 
-    u : Updates book after id (Some (with_body exc i.members))
-    u = subst (λ (m : Option Members). IsSomeAnd m (λ x. Updates book after id (Some (with_body exc x)))) i.at changes
+    u : Updates book after id (Some (with_body exc moment i.members))
+    u = subst (λ (m : Option Members). IsSomeAnd m (λ x. Updates book after id (Some (with_body exc moment x)))) i.at changes
 
     run : (key : ℕ) → HasRunning book (Some key) → HasRunning after (Some key)
     run key r = by_key (key == id) refl

@@ -3,6 +3,7 @@ pub mod OwnLemmas
 pub mod FindLemmas
 pub mod Acting
 pub mod Stacked
+pub mod Catching
 pub mod Moves
 pub mod Enters
 pub mod Cancels
@@ -14,6 +15,7 @@ pub mod Blocks
 pub mod Others
 pub mod Fits
 pub mod Begins
+pub mod Cancelled
 pub mod Lists
 pub mod Nurseries
 pub mod Taking

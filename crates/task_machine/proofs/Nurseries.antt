@@ -52,8 +52,8 @@ blocks_pushed fs gs f e = ap blocks_of e ∙ blocks_append fs (f ∷ [])
 -- ---- one nursery of the book
 
 -- a nursery that stays as it was
-pub not_grown : (n : Members) (ns : List ℕ) → Grown n n ns ns
-not_grown n ns =
+pub not_grown : (at : ℕ) (n : Members) (ns : List ℕ) → Grown at n n ns ns
+not_grown at n ns =
     record {
       scope = refl;
       waiter = refl;
@@ -63,6 +63,7 @@ not_grown n ns =
       run = All-nil (λ (e : End). e ≡ None);
       added = [];
       numbers = sym (append-nil ns);
+      last = inl refl;
     }
 
 -- what is at a key, as a fact about it
@@ -108,13 +109,15 @@ pub nurseries_same : (s u : State) (waits : Option ℕ) (numbers : Numbers) → 
 nurseries_same s u waits numbers none book kept back numbered =
     record {
       grow = λ id has n e.
-          subst (λ (o : Option Members). IsSomeAnd o (λ m. Grown n m (numbers id) (numbers id))) (sym (same id ∙ e)) (not_grown n (numbers id));
+          subst (λ (o : Option Members). IsSomeAnd o (λ m. Grown s.tick n m (numbers id) (numbers id))) (sym (same id ∙ e))
+          (not_grown s.tick n (numbers id));
       kept = λ id has. inl (kept id has);
       numbered = λ id has.
           subst (λ (b : NurseryBook). HasNursery b id (λ n. length (numbers id) ≡ length n.children)) (sym book)
           (numbered id (there id has));
       owned = λ id has. inl (there id has);
       covered = λ id place number has e. inl (there id has, e);
+      ends = λ id has. inl (there id has);
       others = λ id n e apart other. same id ∙ e;
     }
   where
@@ -129,7 +132,7 @@ nurseries_same s u waits numbers none book kept back numbered =
 module _ (s u : State) (waits : Option ℕ) (numbers : Numbers) (id : ℕ) (n : Members) (after : Members)
     (was : nursery_at s.book id ≡ Some n) (put : Updates s.book u.book id (Some after)) (mine : HasBlock id (blocks_of s.frames))
     (there : (key : ℕ) → HasNurseryOf key (blocks_of u.frames) waits → HasBlock key (blocks_of s.frames)) where
-  pub nurseries_put : (are : Numbers) (tasks : List Task) (begun : List Begun) → Grown n after (numbers id) (are id) →
+  pub nurseries_put : (are : Numbers) (tasks : List Task) (begun : List Begun) → Grown s.tick n after (numbers id) (are id) →
       ((key : ℕ) → key ≢ id → are key ≡ numbers key) → (length (numbers id) ≡ length n.children → length (are id) ≡ length after.children) →
       ((key : ℕ) → HasBlock key (blocks_of s.frames) → HasNurseryOf key (blocks_of u.frames) waits) →
       Covers (blocks_of s.frames) numbers are (blocks_of u.frames) waits tasks begun → AreNumbered numbers s.book s.frames →
@@ -137,11 +140,11 @@ module _ (s u : State) (waits : Option ℕ) (numbers : Numbers) (id : ℕ) (n : 
   nurseries_put are tasks begun grown same long kept covered numbered =
       record {
         grow = λ key has m at.
-            updated_has s.book u.book id (Some after) key (λ x. x ≡ m) (λ x. Grown m x (numbers key) (are key)) put
+            updated_has s.book u.book id (Some after) key (λ x. x ≡ m) (λ x. Grown s.tick m x (numbers key) (are key)) put
             (λ is x found one. at_id key m is (same_Some m n (sym at ∙ ap (nursery_at s.book) is ∙ was)))
             (λ differs x found one.
-            subst (λ (ns : List ℕ). Grown m x (numbers key) ns) (sym (same key differs))
-            (subst (λ (y : Members). Grown y x (numbers key) (numbers key)) one (not_grown x (numbers key))))
+            subst (λ (ns : List ℕ). Grown s.tick m x (numbers key) ns) (sym (same key differs))
+            (subst (λ (y : Members). Grown s.tick y x (numbers key) (numbers key)) one (not_grown s.tick x (numbers key))))
             (is_at (nursery_at s.book key) m at);
         kept = kept;
         numbered = λ key has.
@@ -152,13 +155,14 @@ module _ (s u : State) (waits : Option ℕ) (numbers : Numbers) (id : ℕ) (n : 
             (λ differs x found count. ap (λ (ns : List ℕ). length ns) (same key differs) ∙ count) (numbered key (there key has));
         owned = λ key has. inl (there key has);
         covered = covered;
+        ends = λ key has. inl (there key has);
         others = λ key m at apart other. put.others key (λ is. apart (subst (λ (k : ℕ). HasBlock k (blocks_of s.frames)) (sym is) mine)) ∙ at;
       }
     where
-      at_id : (key : ℕ) (m : Members) → key ≡ id → m ≡ n → Grown m after (numbers key) (are key)
+      at_id : (key : ℕ) (m : Members) → key ≡ id → m ≡ n → Grown s.tick m after (numbers key) (are key)
       at_id key m is one =
-          subst (λ (k : ℕ). Grown m after (numbers k) (are k)) (sym is)
-          (subst (λ (x : Members). Grown x after (numbers id) (are id)) (sym one) grown)
+          subst (λ (k : ℕ). Grown s.tick m after (numbers k) (are k)) (sym is)
+          (subst (λ (x : Members). Grown s.tick x after (numbers id) (are id)) (sym one) grown)
 
       long_at : (key : ℕ) → key ≡ id → length (numbers key) ≡ length n.children → length (are key) ≡ length after.children
       long_at key is e =
@@ -166,8 +170,8 @@ module _ (s u : State) (waits : Option ℕ) (numbers : Numbers) (id : ℕ) (n : 
           (long (subst (λ (k : ℕ). length (numbers k) ≡ length n.children) is e))
 
 -- a nursery with a body that ended has the same children
-pub body_grown : (n : Members) (exc : Option Exc) (ns : List ℕ) → Grown n (with_body exc n) ns ns
-body_grown n exc ns =
+pub body_grown : (n : Members) (exc : Option Exc) (at : ℕ) (ns : List ℕ) → Grown at n (with_body exc at n) ns ns
+body_grown n exc at ns =
     record {
       scope = refl;
       waiter = refl;
@@ -177,6 +181,7 @@ body_grown n exc ns =
       run = All-nil (λ (x : End). x ≡ None);
       added = [];
       numbers = sym (append-nil ns);
+      last = inr refl;
     }
 
 -- a nursery that was none of the task's blocks, and which no other task has, was closed
@@ -186,9 +191,10 @@ pub nurseries_closed : (s u : State) (numbers : Numbers) (id : ℕ) → Updates 
 nurseries_closed s u numbers id ended apart mine left numbered =
     record {
       grow = λ key has n at.
-          updated_has s.book u.book id None key (λ m. m ≡ n) (λ m. Grown n m (numbers key) (numbers key)) ended
+          updated_has s.book u.book id None key (λ m. m ≡ n) (λ m. Grown s.tick n m (numbers key) (numbers key)) ended
           (λ is m found one. absurd (differs key has is))
-          (λ other m found one. subst (λ (y : Members). Grown y m (numbers key) (numbers key)) one (not_grown m (numbers key)))
+          (λ other m found one. subst (λ (y : Members). Grown s.tick y m (numbers key) (numbers key)) one
+          (not_grown s.tick m (numbers key)))
           (is_at (nursery_at s.book key) n at);
       kept = λ key has. inl (subst (λ (fs : List Frame). HasBlock key (blocks_of fs)) (sym left) has);
       numbered = λ key has.
@@ -197,6 +203,7 @@ nurseries_closed s u numbers id ended apart mine left numbered =
           (λ is m found long. absurd (differs key (there key has) is)) (λ other m found long. long) (numbered key (there key has));
       owned = λ key has. inl (there key has);
       covered = λ key place number has at. inl (there key has, at);
+      ends = λ key has. inl (there key has);
       others = λ key n at out other. ended.others key (λ is. absurd (mine n (ap (nursery_at s.book) (sym is) ∙ at) other)) ∙ at;
     }
   where

@@ -8,13 +8,13 @@ use Rattle.cancel_scopes.specs.Sight.{Tick, Level, earlier, is_reached, sight, s
 use Rattle.cancel_scopes.specs.Tree.{after_cancel}
 use Rattle.cancel_scopes.specs.Tree as scopes
 use Rattle.job_meaning.specs.Log.{Table, same_label}
-use Rattle.job_meaning.specs.Walk.{label_if}
+use Rattle.job_meaning.specs.Walk.{Stack, label_if, is_among, from_for, stack_for}
 use Rattle.job_meaning.proofs.Distinct.{same_label_equal, same_label_itself}
 use Rattle.turn_semantics.specs.Midway.{Place, stack_at}
 use Rattle.turn_semantics.specs.Steps.{label_among, froms_after_sign, from_lowered_if, froms_after_entry, from_entered_if}
 use Rattle.turn_semantics.specs.Turned.{Known, labels_of}
 use Rattle.turn_semantics.specs.Names.{IsName, names_at, OwnNames}
-use Rattle.task_machine.specs.Labels.{Labels, is_named, key_if, scope_named}
+use Rattle.task_machine.specs.Labels.{Labels, is_named, key_if, scope_named, has_label_among, level_from, seen_levels}
 use Rattle.task_machine.specs.Stacked.{AreAt, IsKey, Alone, SameOn, FoundAs}
 
 -- two options that are the same hold the same
@@ -46,6 +46,59 @@ catches_at labels froms l ls p ps t a = both l.from (froms p.label) l.shield p.s
   where
     both : (x y : Tick) (b c : Bool) {u v : Bool} → x ≡ y → b ≡ c → u ≡ v → (is_reached x t && (b || not u)) ≡ (is_reached y t && (c || not v))
     both x y b c e f g = cc
+
+-- ---- what a task sees that has cancelled some labels itself in this moment
+
+-- the froms as such a task sees them
+abbrev pub own_froms : List Label → ℕ → Table → Table
+own_froms own t froms label = from_for own t label (froms label)
+
+level_from_if : (b : Bool) (t : ℕ) (x : Tick) → level_from b t x ≡ (if b then earlier x (Some t) else x)
+level_from_if true t x = refl
+level_from_if false t x = refl
+
+-- a stack as such a task sees it is at the same places, with the froms as it sees them
+pub seen_places : (labels : Labels) (own : List Label) (t : ℕ) (froms : Table) (st : scopes.Stack) (ps : List Place) →
+    AreAt labels froms st ps → AreAt labels (own_froms own t froms) (seen_levels labels own t st) ps
+seen_places labels own t froms [] [] a = tt
+seen_places labels own t froms [] (p ∷ ps) a = a
+seen_places labels own t froms (l ∷ ls) [] a = a
+seen_places labels own t froms (l ∷ ls) (p ∷ ps) a = (
+  a.0,
+  a.1,
+  ap (λ (o : Option Label). level_from (has_label_among o own) t l.from) a.0
+      ∙ ap (λ (x : Tick). level_from (is_among p.label own) t x) a.2
+      ∙ level_from_if (is_among p.label own) t (froms p.label),
+  seen_places labels own t froms ls ps a.3,
+)
+
+-- places with the froms as such a task sees them
+pub own_stack : (own : List Label) (t : ℕ) (froms : Table) (ps : List Place) →
+    stack_at (own_froms own t froms) ps ≡ stack_for own t (stack_at froms ps)
+own_stack own t froms [] = refl
+own_stack own t froms (p ∷ ps) =
+    ap (λ (st : Stack). record { label = p.label; shield = p.shield; from = own_froms own t froms p.label } ∷ st) (own_stack own t froms ps)
+
+-- the innermost scope catches for such a task as its place does
+pub catches_for : (labels : Labels) (own : List Label) (froms : Table) (l : Level ℕ) (ls : scopes.Stack) (p : Place) (ps : List Place)
+    (t : ℕ) → AreAt labels froms (l ∷ ls) (p ∷ ps) →
+    scopes.catches (seen_levels labels own t (l ∷ ls)) t
+    ≡ catches (from_for own t p.label (froms p.label)) p.shield (stack_for own t (stack_at froms ps)) t
+catches_for labels own froms l ls p ps t a =
+    catches_at labels (own_froms own t froms) (record l { from = level_from (has_label_among (labels l.label) own) t l.from })
+    (seen_levels labels own t ls) p ps t (seen_places labels own t froms (l ∷ ls) (p ∷ ps) a)
+    ∙ ap (λ (st : Stack). catches (from_for own t p.label (froms p.label)) p.shield st t) (own_stack own t froms ps)
+
+-- a task that has cancelled nothing sees the stack as it is
+pub seen_as_is : (labels : Labels) (t : ℕ) (st : scopes.Stack) → seen_levels labels [] t st ≡ st
+seen_as_is labels t [] = refl
+seen_as_is labels t (l ∷ ls) =
+    ap (λ (b : Bool). record l { from = level_from b t l.from } ∷ seen_levels labels [] t ls) (none_among (labels l.label))
+    ∙ ap (λ (st : scopes.Stack). l ∷ st) (seen_as_is labels t ls)
+  where
+    none_among : (o : Option Label) → has_label_among o [] ≡ false
+    none_among None = refl
+    none_among (Some label) = refl
 
 -- ---- the scope of a name
 

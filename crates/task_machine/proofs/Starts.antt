@@ -9,9 +9,10 @@ use Rattle.exc_groups.specs.Exceptions.{Label}
 use Rattle.job_tree.specs.Tree.{Steps}
 use Rattle.nursery_book.specs.Nursery.{End, Nursery, with_start}
 use Rattle.nursery_book.specs.Book.{nursery_at, HasNursery, Updates, Changes}
+use Rattle.task_machine.specs.declared.stop.TaskState.TheVariants.{ToBegin}
 use Rattle.task_machine.specs.declared.task.Home.{Home}
 use Rattle.task_machine.specs.declared.task.Task.{Task}
-use Rattle.task_machine.specs.Started.{IsChild, running_children, home_at, StartsOne, StartsOver}
+use Rattle.task_machine.specs.Started.{IsChild, running_children, home_at, begins_in, StartsOne, StartsOver}
 use Rattle.task_machine.specs.States.{State, path_at}
 use Rattle.task_machine.proofs.Stacked.{one_of}
 
@@ -24,7 +25,7 @@ pub starts_one : (s u : State) (id : ℕ) (label : Label) (part : Part) (body : 
     HasNursery s.book id (λ n. scope ≡ n.scope) →
     HasNursery s.book id (λ n. place ≡ length n.children) → Changes s.book u.book id with_start →
     u.started ≡ s.started ++ task ∷ [] →
-    IsChild task label (buffer_of part) (range_of part) body (record { nursery = id; place = place; scope = scope }) →
+    IsChild (begins_in s) task label (buffer_of part) (range_of part) body (record { nursery = id; place = place; scope = scope }) →
     StartsOne s u id label part body
 starts_one s u id label part body task scope place has p b started child = by_nursery (nursery_at s.book id) refl has p b
   where
@@ -50,6 +51,7 @@ starts_one s u id label part body task scope place has p b started child = by_nu
                 task_state = child.task_state;
                 entries = child.entries;
                 froms = child.froms;
+                cancelled = child.cancelled;
               };
         }
 
@@ -88,10 +90,11 @@ starts_none s id k name body P has = by_nursery (nursery_at s.book id) refl has
 
 -- with one child more, on the next cut, one more of the children over cuts is started
 pub starts_more : (s m u : State) (id k i : ℕ) (name : List ℕ) (label : Label) (part : Part) (body : Steps) →
-    StartsOver s m id name k body i → StartsOne m u id label part body → label ≡ record { name = name; indices = path_at s ++ i ∷ [] } →
+    begins_in m ≡ begins_in s → StartsOver s m id name k body i → StartsOne m u id label part body →
+    label ≡ record { name = name; indices = path_at s ++ i ∷ [] } →
     buffer_of part ≡ buffer_of s.part → range_of part ≡ cut_of (buffer_of s.part) (range_of s.part) k i →
     StartsOver s u id name k body (suc i)
-starts_more s m u id k i name label part body h g named input cut =
+starts_more s m u id k i name label part body begins h g named input cut =
     record {
       nursery = h.nursery;
       was = h.was;
@@ -118,9 +121,10 @@ starts_more s m u id k i name label part body h g named input cut =
               ∙ ap (λ (x : Home). Some x) (next_home id i h.nursery);
           frames = g.child.frames;
           own = g.child.own;
-          task_state = g.child.task_state;
+          task_state = g.child.task_state ∙ ap (λ (x : ℕ). ToBegin x) begins;
           entries = g.child.entries;
           froms = g.child.froms;
+          cancelled = g.child.cancelled;
         },
       );
     }

@@ -8,14 +8,15 @@ use Rattle.exc_groups.specs.Exceptions.{Exc}
 use Rattle.nursery_book.specs.Nursery.{Nursery as Members}
 use Rattle.nursery_book.specs.Book.{nursery_at, HasNursery}
 use Rattle.nursery_book.specs.declared.book.NurseryBook.{NurseryBook}
+use Rattle.job_meaning.specs.Moments.{Clock}
 use Rattle.job_meaning.specs.Rest as rest
-use Rattle.job_meaning.specs.Rest.{Stopped, to_begin, asking, asleep, awaiting, at_end}
+use Rattle.job_meaning.specs.Rest.{Stopped, to_begin, asking, asleep, giving_up, awaiting, at_end}
 use Rattle.task_machine.specs.declared.frame.Frame.{Frame}
 use Rattle.task_machine.specs.declared.frame.Frame.TheVariants.{Steps, Scope, Nursery, Repeat, Try, Handler, Cleanup}
 use Rattle.task_machine.specs.declared.stop.TaskState.{TaskState}
-use Rattle.task_machine.specs.declared.stop.TaskState.TheVariants.{ToBegin, Asked, Asleep, Awaits, Over}
+use Rattle.task_machine.specs.declared.stop.TaskState.TheVariants.{ToBegin, Asked, Asleep, GivingUp, Awaits, Over}
 use Rattle.task_machine.specs.declared.stop.Stop.{Stop}
-use Rattle.task_machine.specs.declared.stop.Stop.TheVariants.{Ask, Sleep, Wait, Ended}
+use Rattle.task_machine.specs.declared.stop.Stop.TheVariants.{Ask, Sleep, GiveUp, Wait, Ended}
 use Rattle.task_machine.specs.declared.task.Own.{Own}
 use Rattle.task_machine.specs.declared.task.Task.{Task}
 use Rattle.task_machine.specs.declared.world.World.{World}
@@ -111,51 +112,66 @@ keyed_by P now labels book fs own waits ks has h = keyed_onto P now labels book 
 -- ---- how a task stopped
 
 -- a task that stopped at its end returned so
-pub told_end : (numbers : Numbers) (book : NurseryBook) (part : Part) (stop : Stop) (task_state : TaskState) (u : ℕ) (e : Option Exc) →
+pub told_end : (clock : Clock) (numbers : Numbers) (book : NurseryBook) (part : Part) (stop : Stop) (task_state : TaskState) (u : ℕ)
+    (e : Option Exc) →
     IsTaskState numbers book task_state (at_end u e) →
-    IsTold part stop task_state (at_end u e) → (exc : Option held.Exc) × (stop ≡ Ended exc)
-told_end numbers book part stop ToBegin u e h told = absurd h
-told_end numbers book part stop (Asked kernel purpose) u e h told = absurd h
-told_end numbers book part stop (Asleep ticks since) u e h told = absurd h
-told_end numbers book part stop (Awaits id since) u e h told = absurd h
-told_end numbers book part (Ask request) Over u e h told = absurd told
-told_end numbers book part (Sleep due) Over u e h told = absurd told
-told_end numbers book part (Wait id) Over u e h told = absurd told
-told_end numbers book part (Ended exc) Over u e h told = (exc, refl)
+    IsTold clock part stop task_state (at_end u e) → (exc : Option held.Exc) × (stop ≡ Ended exc)
+told_end clock numbers book part stop (ToBegin at) u e h told = absurd h
+told_end clock numbers book part stop (Asked kernel purpose) u e h told = absurd h
+told_end clock numbers book part stop (Asleep paced ticks since) u e h told = absurd h
+told_end clock numbers book part stop (GivingUp since) u e h told = absurd h
+told_end clock numbers book part stop (Awaits id since) u e h told = absurd h
+told_end clock numbers book part (Ask request) Over u e h told = absurd told
+told_end clock numbers book part (Sleep due) Over u e h told = absurd told
+told_end clock numbers book part (GiveUp due) Over u e h told = absurd told
+told_end clock numbers book part (Wait id) Over u e h told = absurd told
+told_end clock numbers book part (Ended exc) Over u e h told = (exc, refl)
 
 -- a stop that is a wait is for a nursery, whose children are those numbered there, and no other stop is one
 abbrev pub WaitsAs : Numbers → Option ℕ → Stopped → Type 0
 WaitsAs numbers waits to_begin = waits ≡ None
 WaitsAs numbers waits (asking kernel purpose) = waits ≡ None
-WaitsAs numbers waits (asleep n since) = waits ≡ None
+WaitsAs numbers waits (asleep paced n since) = waits ≡ None
+WaitsAs numbers waits (giving_up since) = waits ≡ None
 WaitsAs numbers waits (awaiting children ended exc) = (id : ℕ) × (waits ≡ Some id) × (numbers id ≡ children)
 WaitsAs numbers waits (at_end u e) = waits ≡ None
 
 -- a task that stopped to wait for children waits for their nursery by its blocked state, and any other for none
 pub task_state_waits : (numbers : Numbers) (book : NurseryBook) (task_state : TaskState) (stopped : Stopped) → IsTaskState numbers book task_state stopped →
     WaitsAs numbers (waits_of task_state) stopped
-task_state_waits numbers book ToBegin to_begin h = refl
-task_state_waits numbers book ToBegin (asking k p) h = absurd h
-task_state_waits numbers book ToBegin (asleep n u) h = absurd h
-task_state_waits numbers book ToBegin (awaiting kids u exc) h = absurd h
-task_state_waits numbers book ToBegin (at_end u e) h = absurd h
+task_state_waits numbers book (ToBegin at) to_begin h = refl
+task_state_waits numbers book (ToBegin at) (asking k p) h = absurd h
+task_state_waits numbers book (ToBegin at) (asleep q n u) h = absurd h
+task_state_waits numbers book (ToBegin at) (giving_up u) h = absurd h
+task_state_waits numbers book (ToBegin at) (awaiting kids u exc) h = absurd h
+task_state_waits numbers book (ToBegin at) (at_end u e) h = absurd h
 task_state_waits numbers book (Asked kernel purpose) to_begin h = absurd h
 task_state_waits numbers book (Asked kernel purpose) (asking k p) h = refl
-task_state_waits numbers book (Asked kernel purpose) (asleep n u) h = absurd h
+task_state_waits numbers book (Asked kernel purpose) (asleep q n u) h = absurd h
+task_state_waits numbers book (Asked kernel purpose) (giving_up u) h = absurd h
 task_state_waits numbers book (Asked kernel purpose) (awaiting kids u exc) h = absurd h
 task_state_waits numbers book (Asked kernel purpose) (at_end u e) h = absurd h
-task_state_waits numbers book (Asleep ticks since) to_begin h = absurd h
-task_state_waits numbers book (Asleep ticks since) (asking k p) h = absurd h
-task_state_waits numbers book (Asleep ticks since) (asleep n u) h = refl
-task_state_waits numbers book (Asleep ticks since) (awaiting kids u exc) h = absurd h
-task_state_waits numbers book (Asleep ticks since) (at_end u e) h = absurd h
+task_state_waits numbers book (Asleep paced ticks since) to_begin h = absurd h
+task_state_waits numbers book (Asleep paced ticks since) (asking k p) h = absurd h
+task_state_waits numbers book (Asleep paced ticks since) (asleep q n u) h = refl
+task_state_waits numbers book (Asleep paced ticks since) (giving_up u) h = absurd h
+task_state_waits numbers book (Asleep paced ticks since) (awaiting kids u exc) h = absurd h
+task_state_waits numbers book (Asleep paced ticks since) (at_end u e) h = absurd h
+task_state_waits numbers book (GivingUp since) to_begin h = absurd h
+task_state_waits numbers book (GivingUp since) (asking k p) h = absurd h
+task_state_waits numbers book (GivingUp since) (asleep q n u) h = absurd h
+task_state_waits numbers book (GivingUp since) (giving_up u) h = refl
+task_state_waits numbers book (GivingUp since) (awaiting kids u exc) h = absurd h
+task_state_waits numbers book (GivingUp since) (at_end u e) h = absurd h
 task_state_waits numbers book (Awaits id since) to_begin h = absurd h
 task_state_waits numbers book (Awaits id since) (asking k p) h = absurd h
-task_state_waits numbers book (Awaits id since) (asleep n u) h = absurd h
+task_state_waits numbers book (Awaits id since) (asleep q n u) h = absurd h
+task_state_waits numbers book (Awaits id since) (giving_up u) h = absurd h
 task_state_waits numbers book (Awaits id since) (awaiting kids u exc) h = (id, refl, h.0)
 task_state_waits numbers book (Awaits id since) (at_end u e) h = absurd h
 task_state_waits numbers book Over to_begin h = absurd h
 task_state_waits numbers book Over (asking k p) h = absurd h
-task_state_waits numbers book Over (asleep n u) h = absurd h
+task_state_waits numbers book Over (asleep q n u) h = absurd h
+task_state_waits numbers book Over (giving_up u) h = absurd h
 task_state_waits numbers book Over (awaiting kids u exc) h = absurd h
 task_state_waits numbers book Over (at_end u e) h = refl

@@ -2,6 +2,7 @@
 use Rattle.std.proofs.Common.{◌≡◌, true, ℕ, Option, Some, None, List, [], ◌∷◌, refl, subst}
 use Rattle.buffer_parts.specs.declared.part.Part.{Part}
 use Rattle.job_tree.specs.Tree.{Steps}
+use Rattle.job_meaning.specs.Moments.{Clock}
 use Rattle.job_meaning.specs.Rest.{Stopped}
 use Rattle.job_meaning.specs.Rest as rest
 use Rattle.nursery_book.specs.Nursery.{is_settled}
@@ -11,7 +12,7 @@ use Rattle.turn_semantics.specs.Midway.{Move}
 use Rattle.task_machine.specs.declared.frame.Frame.{Frame}
 use Rattle.task_machine.specs.declared.frame.Frame.TheVariants as frames
 use Rattle.task_machine.specs.declared.stop.TaskState.{TaskState}
-use Rattle.task_machine.specs.declared.stop.TaskState.TheVariants.{ToBegin, Asked, Asleep, Awaits, Over}
+use Rattle.task_machine.specs.declared.stop.TaskState.TheVariants.{ToBegin, Asked, Asleep, GivingUp, Awaits, Over}
 use Rattle.task_machine.specs.declared.stop.Moved.TheVariants.{Stops}
 use Rattle.task_machine.specs.declared.stop.Stop.{Stop}
 use Rattle.task_machine.specs.declared.stop.Wake.{Wake}
@@ -25,11 +26,13 @@ use Rattle.task_machine.specs.Waking.{WakesFrom}
 pub settled_from : (task_state : TaskState) (part : Part) (book : NurseryBook) (wake : Wake) (id : ℕ) → WakesFrom task_state part book wake →
     waits_of task_state ≡ Some id →
     HasNursery book id (λ n. is_settled n ≡ true)
-settled_from ToBegin part book wake id h e = absurd (let f : None ≡ Some id = e in cc)
+settled_from (ToBegin at) part book wake id h e = absurd (let f : None ≡ Some id = e in cc)
 settled_from (Asked kernel purpose) part book wake id h e = absurd (let f : None ≡ Some id = e in cc)
-settled_from (Asleep ticks since) part book wake id h e = absurd (let f : None ≡ Some id = e in cc)
+settled_from (Asleep paced ticks since) part book wake id h e = absurd (let f : None ≡ Some id = e in cc)
+settled_from (GivingUp since) part book wake id h e = absurd (let f : None ≡ Some id = e in cc)
 settled_from (Awaits key since) part book Begin id h e = absurd h
-settled_from (Awaits key since) part book Due id h e = absurd h
+settled_from (Awaits key since) part book Due id h e =
+    let f : Some key ≡ Some id = e in let g : key ≡ id = cc in subst (λ (x : ℕ). HasNursery book x (λ n. is_settled n ≡ true)) g h
 settled_from (Awaits key since) part book Seen id h e = absurd h
 settled_from (Awaits key since) part book (Answer answer) id h e = absurd h
 settled_from (Awaits key since) part book Settled id h e =
@@ -37,12 +40,13 @@ settled_from (Awaits key since) part book Settled id h e =
 settled_from Over part book wake id h e = absurd (let f : None ≡ Some id = e in cc)
 
 -- where the move of the definitions stops
-pub stop_of : (numbers : Numbers) (book : NurseryBook) (part : Part) (stop : Stop) (task_state : TaskState) (o : Move) →
-    MovesAs numbers book part (Stops stop) task_state o →
+pub stop_of : (clock : Clock) (numbers : Numbers) (book : NurseryBook) (part : Part) (stop : Stop) (task_state : TaskState) (o : Move) →
+    MovesAs clock numbers book part (Stops stop) task_state o →
     (s : Stopped) × (o.stopped ≡ Some s) × IsTaskState numbers book task_state s
-stop_of numbers book part stop task_state o h = by_stop o.stopped refl h.1
+stop_of clock numbers book part stop task_state o h = by_stop o.stopped refl h.1
   where
-    by_stop : (x : Option Stopped) → o.stopped ≡ x → StopsAs numbers book part stop task_state x → (s : Stopped) × (o.stopped ≡ Some s)
+    by_stop : (x : Option Stopped) → o.stopped ≡ x → StopsAs clock numbers book part stop task_state x →
+        (s : Stopped) × (o.stopped ≡ Some s)
         × IsTaskState numbers book task_state s
     by_stop None e g = absurd g
     by_stop (Some s) e g = (s, e, g.0)

@@ -1,5 +1,5 @@
 -- Moves of the code, one after another.
-use Rattle.std.proofs.Common.{◌≡◌, ◌⊎◌, inl, inr, ℕ, zero, suc, ◌+◌, Option, Some, None, List, [], ◌∷◌, ◌++◌, map, length, refl, ap, sym, ◌∙◌, subst, append_assoc, length-append, arith}
+use Rattle.std.proofs.Common.{◌≡◌, ◌⊎◌, inl, inr, ℕ, zero, suc, ◌+◌, ◌≤◌, Option, Some, None, List, [], ◌∷◌, ◌++◌, map, length, refl, ap, sym, ◌∙◌, subst, append_assoc, length-append, arith}
 use Rattle.std.proofs.lemmas.List.{append-nil, map-append}
 use Rattle.std.proofs.lemmas.List.Elements.{All-nil, All-append}
 use Rattle.std.specs.Option.{IsSomeAnd, option_map}
@@ -14,16 +14,18 @@ use Rattle.nursery_book.specs.Book.{nursery_at, HasNursery}
 use Rattle.nursery_book.specs.declared.book.NurseryBook.{NurseryBook}
 use Rattle.job_meaning.specs.Log.{Table}
 use Rattle.job_meaning.specs.Shown.{shown_at}
+use Rattle.exc_groups.specs.Exceptions.{Label}
+use Rattle.job_meaning.specs.Moments.{Clock, tick_of, a_round_after, Now}
 use Rattle.job_meaning.specs.Walk.{Here}
 use Rattle.job_meaning.specs.Rest as rest
 use Rattle.job_meaning.specs.Rest.{Event, noted, signs, enters, starts, Stopped}
 use Rattle.task_machine.specs.declared.entry.Entry.{Entry}
 use Rattle.task_machine.specs.Noted.{entry_of, IsSlice, shown_made, AreNoted}
-use Rattle.turn_semantics.specs.Midway.{Place, Midway, Begun, Move, after_move, no_move, then_move}
+use Rattle.turn_semantics.specs.Midway.{Place, Midway, Begun, Move, after_move, no_move, then_move, now_after}
 use Rattle.turn_semantics.specs.Steps.{froms_after, step_of, turn_of}
 use Rattle.turn_semantics.specs.Placed.{PlacedAfter, outer_places}
 use Rattle.turn_semantics.specs.Names.{NewIn}
-use Rattle.turn_semantics.proofs.Events.{froms_append}
+use Rattle.turn_semantics.proofs.Events.{froms_append, own_append}
 use Rattle.turn_semantics.proofs.Turns.{turned_step}
 use Rattle.turn_semantics.proofs.Names.{step_stays_new}
 use Rattle.task_machine.specs.declared.frame.Frame.{Frame}
@@ -35,11 +37,12 @@ use Rattle.task_machine.specs.Acts.{Acts, no_act, scoping_in}
 use Rattle.task_machine.specs.Fitting.{Block, blocks_of}
 use Rattle.task_machine.specs.Frames.{frames_of}
 use Rattle.task_machine.specs.Stacked.{AreAt}
-use Rattle.task_machine.specs.Standing.{HasBlock, HasNurseryOf, waits_by, Stands, IsBegun, AreBegun, BeginsAt, Grown, Grow, IsOfOther, Owns, Covers, ChangesNurseries, Took, midway_at}
-use Rattle.task_machine.specs.Stops.{Numbers, StopsAs, MovesAs}
+use Rattle.task_machine.specs.Standing.{HasBlock, HasNurseryOf, waits_by, Stands, IsBegun, AreBegun, BeginsAt, Grown, Grow, IsOfOther, EndsBy, Owns, Covers, ChangesNurseries, Took, midway_at}
+use Rattle.task_machine.specs.Stops.{Numbers, StopsAs, MovesAs, OwnAfter}
 use Rattle.task_machine.specs.States.{State, stack_in}
 use Rattle.task_machine.proofs.Acting.{has_or_not, acts_append, acts_stay}
 use Rattle.task_machine.proofs.Begins.{begins_more, begins_last}
+use Rattle.task_machine.proofs.Cancelled.{own_on, own_then}
 use Rattle.task_machine.proofs.Lists.{got_first}
 use Rattle.task_machine.proofs.Nurseries.{nurseries_same}
 
@@ -62,17 +65,6 @@ nothing_then : (m : Midway) (s : Option Stopped) (o : Move) → o.stopped ≡ s 
 nothing_then m None o e = nothing_more m o e
 nothing_then m (Some s) o e = refl
 
--- a move after no move is that move
-after_nothing : (f : Table → Midway → Move) (froms : Table) (m : Midway) →
-    f froms m ≡ then_move None (no_move m) (f froms (after_move m (no_move m)))
-after_nothing f froms m = ap (f froms) by_count
-  where
-    zero_more : (n : ℕ) → n ≡ n + 0
-    zero_more n = omega arith
-
-    by_count : m ≡ after_move m (no_move m)
-    by_count = ap (λ (n : ℕ). record m { count = n }) (zero_more m.count)
-
 -- moves one after another are grouped as one likes
 grouped : (o p q : Move) (s : Option Stopped) → then_move None o (then_move s p q) ≡ then_move s (then_move None o p) q
 grouped o p q (Some s) = refl
@@ -80,57 +72,84 @@ grouped o p q None =
     ap (λ (es : List Event). record q { made = es; begun = o.begun ++ (p.begun ++ q.begun) }) (sym (append_assoc o.made p.made q.made))
     ∙ ap (λ (bs : List Begun). record q { made = o.made ++ p.made ++ q.made; begun = bs }) (sym (append_assoc o.begun p.begun q.begun))
 
--- the task after two moves, and the froms then
-after_both : (f : Table → Midway → Move) (froms : Table) (m : Midway) (o p : Move) →
-    f (froms_after (froms_after froms o.made) p.made) (after_move (after_move m o) p)
-    ≡ f (froms_after froms (then_move None o p).made) (after_move m (then_move None o p))
-after_both f froms m o p =
-    ap (λ (fr : Table). f fr (after_move (after_move m o) p)) (sym (froms_append o.made p.made froms))
-    ∙ ap (λ (n : ℕ). f (froms_after froms (o.made ++ p.made)) (record { frames = p.frames; places = p.places; exc = p.exc; count = n }))
-    (by_lengths m.count (length o.begun) (length p.begun) (length (o.begun ++ p.begun)) (length-append o.begun p.begun))
-  where
-    by_lengths : (n a b c : ℕ) → c ≡ a + b → n + a + b ≡ n + c
-    by_lengths n a b c e = omega arith
+-- what a task does by the froms of its world, by where it is in time, and by how far it is
+module _ (f : Table → Now → Midway → Move) (clock : Clock) (froms : Table) (now : Now) (m : Midway) where
+  -- a move after no move is that move
+  after_nothing : f froms now m ≡ then_move None (no_move m) (f froms now (after_move m (no_move m)))
+  after_nothing = ap (f froms now) by_count
+    where
+      zero_more : (n : ℕ) → n ≡ n + 0
+      zero_more n = omega arith
 
-then_both : (f : Table → Midway → Move) (froms : Table) (m : Midway) (s : Option Stopped) (o p : Move) → o.stopped ≡ s →
-    then_move s o (then_move p.stopped p (f (froms_after (froms_after froms o.made) p.made) (after_move (after_move m o) p)))
-    ≡ (let b = then_move s o p in then_move b.stopped b (f (froms_after froms b.made) (after_move m b)))
-then_both f froms m None o p e =
-    grouped o p (f (froms_after (froms_after froms o.made) p.made) (after_move (after_move m o) p)) p.stopped
-    ∙ ap (λ (q : Move). then_move p.stopped (then_move None o p) q) (after_both f froms m o p)
-then_both f froms m (Some s) o p e = ap (λ (z : Option Stopped). then_move z o (f (froms_after froms o.made) (after_move m o))) (sym e)
+      by_count : m ≡ after_move m (no_move m)
+      by_count = ap (λ (n : ℕ). record m { count = n }) (zero_more m.count)
+
+  -- the task after two moves, and the froms then
+  after_both : (o p : Move) →
+      f (froms_after (froms_after froms o.made) p.made) (now_after clock (now_after clock now o.made) p.made)
+      (after_move (after_move m o) p)
+      ≡ f (froms_after froms (then_move None o p).made) (now_after clock now (then_move None o p).made) (after_move m (then_move None o p))
+  after_both o p =
+      ap (λ (fr : Table). f fr (now_after clock (now_after clock now o.made) p.made) (after_move (after_move m o) p))
+      (sym (froms_append o.made p.made froms))
+      ∙ ap (λ (own : List Label). f (froms_after froms (o.made ++ p.made)) (record { at = now.at; own = own })
+      (after_move (after_move m o) p))
+      (sym (own_append clock o.made p.made now.own))
+      ∙ ap (λ (n : ℕ). f (froms_after froms (o.made ++ p.made)) (now_after clock now (o.made ++ p.made))
+      (record { frames = p.frames; places = p.places; exc = p.exc; count = n }))
+      (by_lengths m.count (length o.begun) (length p.begun) (length (o.begun ++ p.begun)) (length-append o.begun p.begun))
+    where
+      by_lengths : (n a b c : ℕ) → c ≡ a + b → n + a + b ≡ n + c
+      by_lengths n a b c e = omega arith
+
+  then_both : (s : Option Stopped) (o p : Move) → o.stopped ≡ s →
+      then_move s o (then_move p.stopped p
+      (f (froms_after (froms_after froms o.made) p.made) (now_after clock (now_after clock now o.made) p.made)
+      (after_move (after_move m o) p)))
+      ≡ (let b = then_move s o p in then_move b.stopped b (f (froms_after froms b.made) (now_after clock now b.made) (after_move m b)))
+  then_both None o p e =
+      grouped o p
+      (f (froms_after (froms_after froms o.made) p.made) (now_after clock (now_after clock now o.made) p.made)
+      (after_move (after_move m o) p))
+      p.stopped
+      ∙ ap (λ (q : Move). then_move p.stopped (then_move None o p) q) (after_both o p)
+  then_both (Some s) o p e =
+      ap (λ (z : Option Stopped). then_move z o (f (froms_after froms o.made) (now_after clock now o.made) (after_move m o))) (sym e)
 
 -- a turn of one step more is the turn, and a step from where it led
-pub turn_snoc : (n : ℕ) (froms : Table) (t : ℕ) (here : Here) (m : Midway) →
-    (let o = turn_of n froms t here m in turn_of (suc n) froms t here m
-    ≡ then_move o.stopped o (step_of (froms_after froms o.made) t here (after_move m o)))
+pub turn_snoc : (n : ℕ) (froms : Table) (now : Now) (here : Here) (m : Midway) →
+    (let o = turn_of n froms now here m in turn_of (suc n) froms now here m
+    ≡ then_move o.stopped o (step_of (froms_after froms o.made) (now_after here.clock now o.made) here (after_move m o)))
 unfolding turn_of
-turn_snoc zero froms t here m =
-    let o = step_of froms t here m in
-    nothing_then m o.stopped o refl ∙ after_nothing (λ (fr : Table) (k : Midway). step_of fr t here k) froms m
-turn_snoc (suc n) froms t here m =
-    let o = step_of froms t here m in
-    ap (λ (q : Move). then_move o.stopped o q) (turn_snoc n (froms_after froms o.made) t here (after_move m o))
-    ∙ then_both (λ (fr : Table) (k : Midway). step_of fr t here k) froms m o.stopped o
-    (turn_of n (froms_after froms o.made) t here (after_move m o)) refl
+turn_snoc zero froms now here m =
+    let o = step_of froms now here m in
+    nothing_then m o.stopped o refl ∙ after_nothing (λ (fr : Table) (u : Now) (k : Midway). step_of fr u here k) here.clock froms now m
+turn_snoc (suc n) froms now here m =
+    let o = step_of froms now here m in
+    ap (λ (q : Move). then_move o.stopped o q)
+    (turn_snoc n (froms_after froms o.made) (now_after here.clock now o.made) here (after_move m o))
+    ∙ then_both (λ (fr : Table) (u : Now) (k : Midway). step_of fr u here k) here.clock froms now m o.stopped o
+    (turn_of n (froms_after froms o.made) (now_after here.clock now o.made) here (after_move m o)) refl
 
 -- ---- what two moves noted and began
 
 -- what is shown of events, and of more of them
-pub shown_append : (input : List ℕ) (es fs : List Event) → shown_made input (es ++ fs) ≡ shown_made input es ++ shown_made input fs
-shown_append input [] fs = refl
-shown_append input (noted t e ∷ es) fs = ap (λ x. shown_at input t e ∷ x) (shown_append input es fs)
-shown_append input (signs l t ∷ es) fs = shown_append input es fs
-shown_append input (enters l t d ∷ es) fs = shown_append input es fs
-shown_append input (starts i l t ∷ es) fs = shown_append input es fs
+pub shown_append : (clock : Clock) (input : List ℕ) (es fs : List Event) →
+    shown_made clock input (es ++ fs) ≡ shown_made clock input es ++ shown_made clock input fs
+shown_append clock input [] fs = refl
+shown_append clock input (noted t e ∷ es) fs = ap (λ x. shown_at input (tick_of clock t) e ∷ x) (shown_append clock input es fs)
+shown_append clock input (signs l t ∷ es) fs = shown_append clock input es fs
+shown_append clock input (enters l t d ∷ es) fs = shown_append clock input es fs
+shown_append clock input (starts i l t ∷ es) fs = shown_append clock input es fs
 
-noted_append : (input : List ℕ) (xs ys : List Entry) (es fs : List Event) → AreNoted input xs es → AreNoted input ys fs →
-    AreNoted input (xs ++ ys) (es ++ fs)
-noted_append input xs ys es fs h k =
+noted_append : (clock : Clock) (input : List ℕ) (xs ys : List Entry) (es fs : List Event) → AreNoted clock input xs es →
+    AreNoted clock input ys fs →
+    AreNoted clock input (xs ++ ys) (es ++ fs)
+noted_append clock input xs ys es fs h k =
     record {
       shown =
-          map-append entry_of xs ys ∙ ap (λ x. x ++ map entry_of ys) h.shown ∙ ap (λ x. shown_made input es ++ x) k.shown
-          ∙ sym (shown_append input es fs);
+          map-append entry_of xs ys ∙ ap (λ x. x ++ map entry_of ys) h.shown ∙ ap (λ x. shown_made clock input es ++ x) k.shown
+          ∙ sym (shown_append clock input es fs);
       slices = All-append (IsSlice input) xs ys h.slices k.slices;
     }
 
@@ -138,33 +157,41 @@ noted_append input xs ys es fs h k =
 grew_twice : {A : Type 0} (xs ys zs more rest : List A) → ys ≡ xs ++ more → zs ≡ ys ++ rest → zs ≡ xs ++ (more ++ rest)
 grew_twice xs ys zs more rest e f = f ∙ (ap (λ l. l ++ rest) e ∙ append_assoc xs more rest)
 
-begun_append : (numbers : Numbers) (book : NurseryBook) (blocks : List Block) (waits : Option ℕ) (ts us : List Task) (bs cs : List Begun) →
-    AreBegun numbers book blocks waits ts bs → AreBegun numbers book blocks waits us cs →
-    AreBegun numbers book blocks waits (ts ++ us) (bs ++ cs)
-begun_append numbers book blocks waits [] us [] cs h k = k
-begun_append numbers book blocks waits [] us (b ∷ bs) cs h k = absurd h
-begun_append numbers book blocks waits (t ∷ ts) us [] cs h k = absurd h
-begun_append numbers book blocks waits (t ∷ ts) us (b ∷ bs) cs h k = (h.0, begun_append numbers book blocks waits ts us bs cs h.1 k)
+begun_append : (clock : Clock) (at : ℕ) (numbers : Numbers) (book : NurseryBook) (blocks : List Block) (waits : Option ℕ)
+    (ts us : List Task) (bs cs : List Begun) →
+    AreBegun clock at numbers book blocks waits ts bs → AreBegun clock at numbers book blocks waits us cs →
+    AreBegun clock at numbers book blocks waits (ts ++ us) (bs ++ cs)
+begun_append clock at numbers book blocks waits [] us [] cs h k = k
+begun_append clock at numbers book blocks waits [] us (b ∷ bs) cs h k = absurd h
+begun_append clock at numbers book blocks waits (t ∷ ts) us [] cs h k = absurd h
+begun_append clock at numbers book blocks waits (t ∷ ts) us (b ∷ bs) cs h k =
+    (h.0, begun_append clock at numbers book blocks waits ts us bs cs h.1 k)
 
 -- ---- nurseries that grew
 
-grown_number : (o : Option Nursery) (n : Nursery) (was are : List ℕ) (i x : ℕ) → IsSomeAnd o (λ m. Grown n m was are) →
+grown_number : (at : ℕ) (o : Option Nursery) (n : Nursery) (was are : List ℕ) (i x : ℕ) → IsSomeAnd o (λ m. Grown at n m was are) →
     slice_get was i ≡ Some x → slice_get are i ≡ Some x
-grown_number None n was are i x h e = absurd h
-grown_number (Some m) n was are i x h e = subst (λ (l : List ℕ). slice_get l i ≡ Some x) (sym h.numbers) (got_first was h.added i x e)
+grown_number at None n was are i x h e = absurd h
+grown_number at (Some m) n was are i x h e = subst (λ (l : List ℕ). slice_get l i ≡ Some x) (sym h.numbers) (got_first was h.added i x e)
 
-grown_home : (o : Option Nursery) (n : Nursery) (was are : List ℕ) (scope place : ℕ) → IsSomeAnd o (λ m. Grown n m was are) →
+grown_home : (at : ℕ) (o : Option Nursery) (n : Nursery) (was are : List ℕ) (scope place : ℕ) → IsSomeAnd o (λ m. Grown at n m was are) →
     (n.scope ≡ scope) × (slice_get n.children place ≡ Some None) →
     IsSomeAnd o (λ m. (m.scope ≡ scope) × (slice_get m.children place ≡ Some None))
-grown_home None n was are scope place h e = absurd h
-grown_home (Some m) n was are scope place h e = (
+grown_home at None n was are scope place h e = absurd h
+grown_home at (Some m) n was are scope place h e = (
   h.scope ∙ e.0,
   subst (λ (es : List End). slice_get es place ≡ Some None) (sym h.children)
       (got_first n.children h.more place None e.1),
 )
 
-grown_twice : (a b c : Nursery) (ns ms ks : List ℕ) → Grown a b ns ms → Grown b c ms ks → Grown a c ns ks
-grown_twice a b c ns ms ks h k =
+-- where a member ended last, in both moves
+last_twice : (at a b c : ℕ) → (b ≡ a) ⊎ (b ≡ at) → (c ≡ b) ⊎ (c ≡ at) → (c ≡ a) ⊎ (c ≡ at)
+last_twice at a b c (inl e) (inl f) = inl (f ∙ e)
+last_twice at a b c (inr e) (inl f) = inr (f ∙ e)
+last_twice at a b c e (inr f) = inr f
+
+grown_twice : (at : ℕ) (a b c : Nursery) (ns ms ks : List ℕ) → Grown at a b ns ms → Grown at b c ms ks → Grown at a c ns ks
+grown_twice at a b c ns ms ks h k =
     record {
       scope = k.scope ∙ h.scope;
       waiter = k.waiter ∙ h.waiter;
@@ -174,12 +201,14 @@ grown_twice a b c ns ms ks h k =
       run = All-append (λ (e : End). e ≡ None) h.more k.more h.run k.run;
       added = h.added ++ k.added;
       numbers = grew_twice ns ms ks h.added k.added h.numbers k.numbers;
+      last = last_twice at a.last b.last c.last h.last k.last;
     }
 
-grown_then : (o : Option Nursery) (a b : Nursery) (ns ms ks : List ℕ) → Grown a b ns ms → IsSomeAnd o (λ c. Grown b c ms ks) →
-    IsSomeAnd o (λ c. Grown a c ns ks)
-grown_then None a b ns ms ks h k = absurd k
-grown_then (Some c) a b ns ms ks h k = grown_twice a b c ns ms ks h k
+grown_then : (at : ℕ) (o : Option Nursery) (a b : Nursery) (ns ms ks : List ℕ) → Grown at a b ns ms →
+    IsSomeAnd o (λ c. Grown at b c ms ks) →
+    IsSomeAnd o (λ c. Grown at a c ns ks)
+grown_then at None a b ns ms ks h k = absurd k
+grown_then at (Some c) a b ns ms ks h k = grown_twice at a b c ns ms ks h k
 
 -- a task that continues waits for no nursery, so one that it has is among its blocks
 goes_with : (id : ℕ) (bs : List Block) → HasNurseryOf id bs None → HasBlock id bs
@@ -189,22 +218,24 @@ goes_with id bs (inr e) = absurd (let f : None ≡ Some id = e in cc)
 -- ---- a move, and another from where it led
 
 -- nurseries that grew by both moves, where the first kept them
-grow_then : (fs gs : List Frame) (numbers between after : Numbers) (old mid new : NurseryBook) → Grow fs numbers between old mid →
-    ((id : ℕ) → HasBlock id (blocks_of fs) → HasBlock id (blocks_of gs)) → Grow gs between after mid new → Grow fs numbers after old new
-grow_then fs gs numbers between after old mid new h kept k id has n e = by_nursery (nursery_at mid id) refl (h id has n e)
+grow_then : (at : ℕ) (fs gs : List Frame) (numbers between after : Numbers) (old mid new : NurseryBook) →
+    Grow at fs numbers between old mid → ((id : ℕ) → HasBlock id (blocks_of fs) → HasBlock id (blocks_of gs)) →
+    Grow at gs between after mid new → Grow at fs numbers after old new
+grow_then at fs gs numbers between after old mid new h kept k id has n e = by_nursery (nursery_at mid id) refl (h id has n e)
   where
-    by_nursery : (o : Option Nursery) → nursery_at mid id ≡ o → IsSomeAnd o (λ m. Grown n m (numbers id) (between id)) →
-        HasNursery new id (λ m. Grown n m (numbers id) (after id))
+    by_nursery : (o : Option Nursery) → nursery_at mid id ≡ o → IsSomeAnd o (λ m. Grown at n m (numbers id) (between id)) →
+        HasNursery new id (λ m. Grown at n m (numbers id) (after id))
     by_nursery None f g = absurd g
-    by_nursery (Some m) f g = grown_then (nursery_at new id) n m (numbers id) (between id) (after id) g (k id (kept id has) m f)
+    by_nursery (Some m) f g = grown_then at (nursery_at new id) n m (numbers id) (between id) (after id) g (k id (kept id has) m f)
 
 -- a child that was begun is still the same after a move of its starter
-begun_on : (gs : List Frame) (between after : Numbers) (mid new : NurseryBook) (blocks : List Block) (waits : Option ℕ) →
-    Grow gs between after mid new →
+begun_on : (clock : Clock) (begins at : ℕ) (gs : List Frame) (between after : Numbers) (mid new : NurseryBook) (blocks : List Block)
+    (waits : Option ℕ) →
+    Grow at gs between after mid new →
     ((id : ℕ) → HasBlock id (blocks_of gs) → HasNurseryOf id blocks waits) → (task : Task) (b : Begun) →
-    IsBegun between mid (blocks_of gs) None task b →
-    IsBegun after new blocks waits task b
-begun_on gs between after mid new blocks waits grow kept task b h =
+    IsBegun clock begins between mid (blocks_of gs) None task b →
+    IsBegun clock begins after new blocks waits task b
+begun_on clock begins at gs between after mid new blocks waits grow kept task b h =
     record {
       here = h.here;
       frames = h.frames;
@@ -212,6 +243,7 @@ begun_on gs between after mid new blocks waits grow kept task b h =
       task_state = h.task_state;
       entries = h.entries;
       froms = h.froms;
+      cancelled = h.cancelled;
       home = h.home;
       at_home = h.at_home;
       number = by_number (nursery_at mid h.home.nursery) refl h.nursery;
@@ -228,7 +260,7 @@ begun_on gs between after mid new blocks waits grow kept task b h =
         slice_get (after h.home.nursery) h.home.place ≡ Some b.number
     by_number None e s = absurd s
     by_number (Some n) e s =
-        grown_number (nursery_at new h.home.nursery) n (between h.home.nursery) (after h.home.nursery) h.home.place b.number
+        grown_number at (nursery_at new h.home.nursery) n (between h.home.nursery) (after h.home.nursery) h.home.place b.number
         (grow h.home.nursery among n e) h.number
 
     by_nursery : (o : Option Nursery) → nursery_at mid h.home.nursery ≡ o →
@@ -236,33 +268,37 @@ begun_on gs between after mid new blocks waits grow kept task b h =
         HasNursery new h.home.nursery (λ n. (n.scope ≡ h.home.scope) × (slice_get n.children h.home.place ≡ Some None))
     by_nursery None e s = absurd s
     by_nursery (Some n) e s =
-        grown_home (nursery_at new h.home.nursery) n (between h.home.nursery) (after h.home.nursery) h.home.scope h.home.place
+        grown_home at (nursery_at new h.home.nursery) n (between h.home.nursery) (after h.home.nursery) h.home.scope h.home.place
         (grow h.home.nursery among n e) s
 
-all_begun_on : (gs : List Frame) (between after : Numbers) (mid new : NurseryBook) (blocks : List Block) (waits : Option ℕ) →
-    Grow gs between after mid new →
+all_begun_on : (clock : Clock) (begins at : ℕ) (gs : List Frame) (between after : Numbers) (mid new : NurseryBook) (blocks : List Block)
+    (waits : Option ℕ) →
+    Grow at gs between after mid new →
     ((id : ℕ) → HasBlock id (blocks_of gs) → HasNurseryOf id blocks waits) → (ts : List Task) (bs : List Begun) →
-    AreBegun between mid (blocks_of gs) None ts bs →
-    AreBegun after new blocks waits ts bs
-all_begun_on gs between after mid new blocks waits grow kept [] [] h = tt
-all_begun_on gs between after mid new blocks waits grow kept [] (b ∷ bs) h = absurd h
-all_begun_on gs between after mid new blocks waits grow kept (t ∷ ts) [] h = absurd h
-all_begun_on gs between after mid new blocks waits grow kept (t ∷ ts) (b ∷ bs) h = (
-  begun_on gs between after mid new blocks waits grow kept t b h.0,
-  all_begun_on gs between after mid new blocks waits grow kept ts bs h.1,
+    AreBegun clock begins between mid (blocks_of gs) None ts bs →
+    AreBegun clock begins after new blocks waits ts bs
+all_begun_on clock begins at gs between after mid new blocks waits grow kept [] [] h = tt
+all_begun_on clock begins at gs between after mid new blocks waits grow kept [] (b ∷ bs) h = absurd h
+all_begun_on clock begins at gs between after mid new blocks waits grow kept (t ∷ ts) [] h = absurd h
+all_begun_on clock begins at gs between after mid new blocks waits grow kept (t ∷ ts) (b ∷ bs) h = (
+  begun_on clock begins at gs between after mid new blocks waits grow kept t b h.0,
+  all_begun_on clock begins at gs between after mid new blocks waits grow kept ts bs h.1,
 )
 
 -- how the second of two moves continues is how both do
-moves_then : (numbers : Numbers) (book : NurseryBook) (was part : Part) (goes : Moved) (task_state : TaskState) (o q : Move) → part ≡ was →
-    MovesAs numbers book part goes task_state q →
-    MovesAs numbers book was goes task_state (then_move None o q)
-moves_then numbers book was part (On exc) task_state o q e h = h
-moves_then numbers book was part (Stops stop) task_state o q e h = (h.0, subst (λ (p : Part). StopsAs numbers book p stop task_state q.stopped) e h.1)
+moves_then : (clock : Clock) (numbers : Numbers) (book : NurseryBook) (was part : Part) (goes : Moved) (task_state : TaskState)
+    (o q : Move) → part ≡ was →
+    MovesAs clock numbers book part goes task_state q →
+    MovesAs clock numbers book was goes task_state (then_move None o q)
+moves_then clock numbers book was part (On exc) task_state o q e h = h
+moves_then clock numbers book was part (Stops stop) task_state o q e h =
+    (h.0, subst (λ (p : Part). StopsAs clock numbers book p stop task_state q.stopped) e h.1)
 
 -- what two moves do to nurseries, one after the other
 module _ (s m u : State) (waits : Option ℕ) (was between are : Numbers) (ts us : List Task) (bs cs : List Begun) (made : List Event)
     (first : ChangesNurseries s m None was between ts bs) (second : ChangesNurseries m u waits between are us cs)
-    (acts : Acts s.tick (scoping_in s) made (scoping_in m)) (begun : AreBegun between m.book (blocks_of m.frames) None ts bs) where
+    (acts : Acts s.tick (scoping_in s) made (scoping_in m)) (clock : Clock) (begins : ℕ)
+    (begun : AreBegun clock begins between m.book (blocks_of m.frames) None ts bs) (tick : m.tick ≡ s.tick) where
   kept : (id : ℕ) → HasBlock id (blocks_of s.frames) → HasBlock id (blocks_of m.frames)
   kept id has = goes_with id (blocks_of m.frames) (first.kept id has)
 
@@ -303,16 +339,46 @@ module _ (s m u : State) (waits : Option ℕ) (was between are : Numbers) (ts us
       by_second : (HasBlock id (blocks_of m.frames) × (slice_get (between id) place ≡ Some number)) ⊎ BeginsAt id place number us cs →
           (HasBlock id (blocks_of s.frames) × (slice_get (was id) place ≡ Some number)) ⊎ BeginsAt id place number (ts ++ us) (bs ++ cs)
       by_second (inl h) = by_first (first.covered id place number (inl h.0) h.1)
-      by_second (inr h) = inr (begins_last id place number between m.book (blocks_of m.frames) None ts us bs cs begun h)
+      by_second (inr h) = inr (begins_last clock begins id place number between m.book (blocks_of m.frames) None ts us bs cs begun h)
+
+  grow_next : Grow s.tick m.frames between are m.book u.book
+  grow_next = subst (λ (t : ℕ). Grow t m.frames between are m.book u.book) tick second.grow
+
+  ends_then : EndsBy s.tick (blocks_of s.frames) u.book (blocks_of u.frames) waits
+  ends_then id has = by_second (second.ends id has)
+    where
+      by_last : (n x : ℕ) → n ≤ s.tick → (x ≡ n) ⊎ (x ≡ s.tick) → x ≤ s.tick
+      by_last n x le (inl e) = omega (arith, le, e)
+      by_last n x le (inr e) = omega (arith, e)
+
+      by_nursery : (o p : Option Nursery) → nursery_at m.book id ≡ o → nursery_at u.book id ≡ p → IsSomeAnd o (λ n. n.last ≤ s.tick) →
+          HasBlock id (blocks_of m.frames) → IsSomeAnd p (λ n. n.last ≤ s.tick)
+      by_nursery None p e f h g = absurd h
+      by_nursery (Some n) None e f h g =
+          absurd (subst (λ (x : Option Nursery). IsSomeAnd x (λ y. Grown s.tick n y (between id) (are id))) f (grow_next id g n e))
+      by_nursery (Some n) (Some x) e f h g =
+          by_last n.last x.last h
+          (subst (λ (y : Option Nursery). IsSomeAnd y (λ z. Grown s.tick n z (between id) (are id))) f (grow_next id g n e)).last
+
+      by_first : HasBlock id (blocks_of m.frames) → HasBlock id (blocks_of s.frames) ⊎ HasNursery m.book id (λ n. n.last ≤ s.tick) →
+          HasBlock id (blocks_of s.frames) ⊎ HasNursery u.book id (λ n. n.last ≤ s.tick)
+      by_first g (inl h) = inl h
+      by_first g (inr h) = inr (by_nursery (nursery_at m.book id) (nursery_at u.book id) refl refl h g)
+
+      by_second : HasBlock id (blocks_of m.frames) ⊎ HasNursery u.book id (λ n. n.last ≤ m.tick) →
+          HasBlock id (blocks_of s.frames) ⊎ HasNursery u.book id (λ n. n.last ≤ s.tick)
+      by_second (inl h) = by_first h (first.ends id (inl h))
+      by_second (inr h) = inr (subst (λ (t : ℕ). HasNursery u.book id (λ n. n.last ≤ t)) tick h)
 
   pub nurseries_then : ChangesNurseries s u waits was are (ts ++ us) (bs ++ cs)
   nurseries_then =
       record {
-        grow = grow_then s.frames m.frames was between are s.book m.book u.book first.grow kept second.grow;
+        grow = grow_then s.tick s.frames m.frames was between are s.book m.book u.book first.grow kept grow_next;
         kept = λ id has. second.kept id (kept id has);
         numbered = second.numbered;
         owned = owned_then;
         covered = covered_then;
+        ends = ends_then;
         others = λ id n at apart other.
             second.others id n (first.others id n at apart other) (stays_there id n at apart other) (still_other n other);
       }
@@ -320,30 +386,43 @@ module _ (s m u : State) (waits : Option ℕ) (was between are : Numbers) (ts us
 -- a move after which the task continues, and another from where it led: the move of both, with the numbers of the second
 pub took_both : (s m u : State) (exc : Option held.Exc) (goes : Moved) (froms : Table) (numbers : Numbers) (o q : Move) →
     (first : Took s m (On exc) froms numbers o) →
-    (second : Took m u goes (froms_after froms o.made) first.numbers_after q) → m.part ≡ s.part → m.tick ≡ s.tick →
+    (second : Took m u goes (froms_after froms o.made) first.numbers_after q) → m.part ≡ s.part → m.clock ≡ s.clock → m.tick ≡ s.tick →
     (took : Took s u goes froms numbers (then_move None o q)) × (took.numbers_after ≡ second.numbers_after)
-took_both s m u exc goes froms numbers o q first second part tick = (
+took_both s m u exc goes froms numbers o q first second part clock tick = (
   record {
     numbers_after = second.numbers_after;
     frames_after = second.frames_after;
     places = subst (λ (f : Table). AreAt u.labels f (stack_in u) q.places) (sym (froms_append o.made q.made froms)) second.places;
-    moves = moves_then second.numbers_after u.book s.part m.part goes u.task_state o q part second.moves;
+    moves =
+        moves_then s.clock second.numbers_after u.book s.part m.part goes u.task_state o q part
+        (subst (λ (c : Clock). MovesAs c second.numbers_after u.book m.part goes u.task_state q) clock second.moves);
     entries = first.entries ++ second.entries;
     noted = grew_twice s.entries m.entries u.entries first.entries second.entries first.noted second.noted;
-    shown = noted_append (buffer_of s.part) first.entries second.entries o.made q.made first.shown
-        (subst (λ (p : Part). AreNoted (buffer_of p) second.entries q.made) part second.shown);
+    shown = noted_append s.clock (buffer_of s.part) first.entries second.entries o.made q.made first.shown
+        (subst (λ (p : Part). AreNoted s.clock (buffer_of p) second.entries q.made) part
+        (subst (λ (c : Clock). AreNoted c (buffer_of m.part) second.entries q.made) clock second.shown));
     tasks = first.tasks ++ second.tasks;
     started = grew_twice s.started m.started u.started first.tasks second.tasks first.started second.started;
     begun =
-        begun_append second.numbers_after u.book (blocks_of u.frames) (waits_by goes u.task_state) first.tasks second.tasks o.begun q.begun
-        (all_begun_on m.frames first.numbers_after second.numbers_after m.book u.book (blocks_of u.frames) (waits_by goes u.task_state)
+        begun_append s.clock (a_round_after s.clock s.tick) second.numbers_after u.book (blocks_of u.frames)
+        (waits_by goes u.task_state) first.tasks second.tasks o.begun q.begun
+        (all_begun_on s.clock (a_round_after s.clock s.tick) m.tick m.frames first.numbers_after second.numbers_after m.book u.book
+        (blocks_of u.frames) (waits_by goes u.task_state)
         second.nurseries.grow second.nurseries.kept first.tasks o.begun first.begun)
-        second.begun;
+        (subst (λ (t : ℕ). AreBegun s.clock (a_round_after s.clock t) second.numbers_after u.book (blocks_of u.frames)
+        (waits_by goes u.task_state) second.tasks q.begun) tick
+        (subst (λ (c : Clock). AreBegun c (a_round_after c m.tick) second.numbers_after u.book (blocks_of u.frames)
+        (waits_by goes u.task_state) second.tasks q.begun) clock second.begun));
+    last = second.last;
     nurseries =
         nurseries_then s m u (waits_by goes u.task_state) numbers first.numbers_after second.numbers_after first.tasks second.tasks o.begun
-        q.begun o.made first.nurseries second.nurseries first.acts first.begun;
+        q.begun o.made first.nurseries second.nurseries first.acts s.clock (a_round_after s.clock s.tick) first.begun tick;
     acts = acts_append s.tick (scoping_in s) (scoping_in m) (scoping_in u) o.made q.made first.acts
         (subst (λ (t : ℕ). Acts t (scoping_in m) q.made (scoping_in u)) tick second.acts);
+    own =
+        own_then s.clock s.cancelled m.cancelled u.cancelled o.made q.made q.stopped
+        (own_on s.clock s.cancelled m.cancelled o.made o.stopped first.moves.1 first.own)
+        (subst (λ (c : Clock). OwnAfter c m.cancelled u.cancelled q.made q.stopped) clock second.own);
   },
   refl,
 )
@@ -351,23 +430,23 @@ took_both s m u exc goes froms numbers o q first second part tick = (
 -- A move of the code after which the task continues, and another from where it led, are the move of both.
 pub took_then : (s m u : State) (exc : Option held.Exc) (goes : Moved) (froms : Table) (numbers : Numbers) (o q : Move) →
     (first : Took s m (On exc) froms numbers o) → Took m u goes (froms_after froms o.made) first.numbers_after q →
-    m.part ≡ s.part → m.tick ≡ s.tick → Took s u goes froms numbers (then_move o.stopped o q)
-took_then s m u exc goes froms numbers o q first second part tick =
+    m.part ≡ s.part → m.clock ≡ s.clock → m.tick ≡ s.tick → Took s u goes froms numbers (then_move o.stopped o q)
+took_then s m u exc goes froms numbers o q first second part clock tick =
     subst (λ (x : Option Stopped). Took s u goes froms numbers (then_move x o q)) (sym first.moves.1)
-    (took_both s m u exc goes froms numbers o q first second part tick).0
+    (took_both s m u exc goes froms numbers o q first second part clock tick).0
 
 -- ---- the state of a task after a step
 
 -- a task has the state to which a step led, whether it continues or stops
-pub stands_where : (s u : State) (froms : Table) (numbers : Numbers) (ps : List Place) (t : ℕ) (here : Here) →
+pub stands_where : (s u : State) (froms : Table) (numbers : Numbers) (ps : List Place) (now : Now) (here : Here) →
     Stands s froms numbers None ps → (count : ℕ) (exc : Option Exc) (goes : Moved) →
-    (let o = step_of froms t here (midway_at s exc numbers ps count) in (took : Took s u goes froms numbers o) →
+    (let o = step_of froms now here (midway_at s exc numbers ps count) in (took : Took s u goes froms numbers o) →
     Stands u (froms_after froms o.made) took.numbers_after o.stopped o.places)
-stands_where s u froms numbers ps t here stands count exc goes took =
+stands_where s u froms numbers ps now here stands count exc goes took =
     let m : Midway = midway_at s exc numbers ps count in
-    let o = step_of froms t here m in
-    let step = turned_step t here froms m stands.placed in
-    let names = step_stays_new froms t here m stands.new stands.own in
+    let o = step_of froms now here m in
+    let step = turned_step now here froms m stands.placed in
+    let names = step_stays_new froms now here m stands.new stands.own in
     record {
       places = took.places;
       numbered = λ id has. took.nurseries.numbered id (inl has);
@@ -379,12 +458,12 @@ stands_where s u froms numbers ps t here stands count exc goes took =
 -- ---- the steps of a turn of the code, one after another
 
 -- Before its first step a task has taken a turn of no steps.
-pub took_nothing : (s : State) (exc : Option held.Exc) (froms : Table) (numbers : Numbers) (t : ℕ) (here : Here) (ps : List Place)
+pub took_nothing : (s : State) (exc : Option held.Exc) (froms : Table) (numbers : Numbers) (now : Now) (here : Here) (ps : List Place)
     (count : ℕ) → Stands s froms numbers None ps →
-    (took : Took s s (On exc) froms numbers (turn_of zero froms t here (midway_at s (option_map exc_of exc) numbers ps count)))
+    (took : Took s s (On exc) froms numbers (turn_of zero froms now here (midway_at s (option_map exc_of exc) numbers ps count)))
     × (took.numbers_after ≡ numbers)
 unfolding turn_of
-took_nothing s exc froms numbers t here ps count stands = (
+took_nothing s exc froms numbers now here ps count stands = (
   record {
     numbers_after = numbers;
     frames_after = refl;
@@ -396,53 +475,55 @@ took_nothing s exc froms numbers t here ps count stands = (
     tasks = [];
     started = sym (append-nil s.started);
     begun = tt;
+    last = tt;
     nurseries = nurseries_same s s None numbers refl refl (λ id has. has) (λ id has. has) stands.numbered;
     acts = no_act (scoping_in s);
+    own = refl;
   },
   refl,
 )
 
 -- the definitions' turn of one step more, by what the code holds after the turn so far
-one_more : (n : ℕ) (froms : Table) (t : ℕ) (here : Here) (m : Midway) (gs : List rest.Frame) (exc : Option Exc) →
-    (let o = turn_of n froms t here m in
+one_more : (n : ℕ) (froms : Table) (now : Now) (here : Here) (m : Midway) (gs : List rest.Frame) (exc : Option Exc) →
+    (let o = turn_of n froms now here m in
     gs ≡ o.frames → exc ≡ o.exc → o.stopped ≡ None →
-    then_move None o (step_of (froms_after froms o.made) t here (record
+    then_move None o (step_of (froms_after froms o.made) (now_after here.clock now o.made) here (record
     { frames = gs; places = o.places; exc = exc; count = m.count + length o.begun }))
-    ≡ turn_of (suc n) froms t here m)
-one_more n froms t here m gs exc frames raised going =
-    let o = turn_of n froms t here m in
-    let step : Midway → Move = λ k. step_of (froms_after froms o.made) t here k in
+    ≡ turn_of (suc n) froms now here m)
+one_more n froms now here m gs exc frames raised going =
+    let o = turn_of n froms now here m in
+    let step : Midway → Move = λ k. step_of (froms_after froms o.made) (now_after here.clock now o.made) here k in
     ap (λ (s : Option Stopped). then_move s o
     (step (record { frames = gs; places = o.places; exc = exc; count = m.count + length o.begun }))) (sym going)
     ∙ ap (λ (fs : List rest.Frame).
     then_move o.stopped o (step (record { frames = fs; places = o.places; exc = exc; count = m.count + length o.begun }))) frames
     ∙ ap (λ (e : Option Exc). then_move o.stopped o
     (step (record { frames = o.frames; places = o.places; exc = e; count = m.count + length o.begun }))) raised
-    ∙ sym (turn_snoc n froms t here m)
+    ∙ sym (turn_snoc n froms now here m)
 
 -- A turn of some steps, and a step from where it led, are the turn with one step more, and the task has the state to which they
 -- led, with the same numbers, whether it continues or stops.
-pub goes_and_stands : (n : ℕ) (s m u : State) (exc : Option held.Exc) (goes : Moved) (froms : Table) (numbers : Numbers) (t : ℕ)
+pub goes_and_stands : (n : ℕ) (s m u : State) (exc : Option held.Exc) (goes : Moved) (froms : Table) (numbers : Numbers) (now : Now)
     (here : Here) (ps : List Place) (count : ℕ) (exc0 : Option Exc) →
-    (let o = turn_of n froms t here (midway_at s exc0 numbers ps count) in
-    let more = turn_of (suc n) froms t here (midway_at s exc0 numbers ps count) in
+    (let o = turn_of n froms now here (midway_at s exc0 numbers ps count) in
+    let more = turn_of (suc n) froms now here (midway_at s exc0 numbers ps count) in
     (first : Took s m (On exc) froms numbers o) → Stands m (froms_after froms o.made) first.numbers_after None o.places →
-    m.part ≡ s.part → m.tick ≡ s.tick →
+    m.part ≡ s.part → m.clock ≡ s.clock → m.tick ≡ s.tick →
     Took m u goes (froms_after froms o.made) first.numbers_after
-    (step_of (froms_after froms o.made) t here
+    (step_of (froms_after froms o.made) (now_after here.clock now o.made) here
     (midway_at m (option_map exc_of exc) first.numbers_after o.places (count + length o.begun))) →
     (took : Took s u goes froms numbers more) × Stands u (froms_after froms more.made) took.numbers_after more.stopped more.places)
-goes_and_stands n s m u exc goes froms numbers t here ps count exc0 first stands part tick second =
+goes_and_stands n s m u exc goes froms numbers now here ps count exc0 first stands part clock tick second =
     let k : Midway = midway_at s exc0 numbers ps count in
-    let o = turn_of n froms t here k in
-    let q = step_of (froms_after froms o.made) t here
+    let o = turn_of n froms now here k in
+    let q = step_of (froms_after froms o.made) (now_after here.clock now o.made) here
     (midway_at m (option_map exc_of exc) first.numbers_after o.places (count + length o.begun)) in
-    let both = took_both s m u exc goes froms numbers o q first second part tick in
-    let there = stands_where m u (froms_after froms o.made) first.numbers_after o.places t here stands
+    let both = took_both s m u exc goes froms numbers o q first second part clock tick in
+    let there = stands_where m u (froms_after froms o.made) first.numbers_after o.places (now_after here.clock now o.made) here stands
     (count + length o.begun) _ goes second in
     subst
     (λ (p : Move). (took : Took s u goes froms numbers p) × Stands u (froms_after froms p.made) took.numbers_after p.stopped p.places)
-    (one_more n froms t here k (frames_of first.numbers_after m.frames) (option_map exc_of exc) first.frames_after first.moves.0
+    (one_more n froms now here k (frames_of first.numbers_after m.frames) (option_map exc_of exc) first.frames_after first.moves.0
     first.moves.1) (
       both.0,
       subst (λ (ns : Numbers). Stands u (froms_after froms (o.made ++ q.made)) ns q.stopped q.places) (sym both.1)

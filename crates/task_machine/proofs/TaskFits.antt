@@ -113,18 +113,25 @@ exited_fits fail s u laws h l first stays =
 -- ---- a body that ended, and a task
 
 -- scopes were signed, and the nursery's body ended
-pub waits_fits : (id : ℕ) (exc : Option Exc) (s u : State) → Fits (with_frames s (s.frames ++ Nursery id ∷ [])) None →
-    SameKeys s.tree u.tree → Changes s.book u.book id (with_body exc) →
+pub waits_fits : (id : ℕ) (exc : Option Exc) (at : ℕ) (s u : State) → Fits (with_frames s (s.frames ++ Nursery id ∷ [])) None →
+    SameKeys s.tree u.tree → Changes s.book u.book id (with_body exc at) →
     u ≡ record s { task_state = u.task_state; tree = u.tree; book = u.book } → Fits u (Some id)
-waits_fits id exc s u h same changes stays =
+waits_fits id exc at s u h same changes stays =
     subst (λ (x : State). Fits x (Some id)) (sym stays)
     (fits_signed s.frames s.part (home_in s) s.own (length s.froms) s.tree u.tree s.labels u.book (Some id) same
-    (fits_awaits s.frames id s.part (home_in s) s.own (length s.froms) s.tree s.labels s.book u.book exc changes h))
+    (fits_awaits s.frames id s.part (home_in s) s.own (length s.froms) s.tree s.labels s.book u.book exc at changes h))
 
 -- scopes were signed
 pub signed_fits : (s u : State) (waits : Option ℕ) → Fits s waits → SameKeys s.tree u.tree →
     u ≡ record s { task_state = u.task_state; tree = u.tree } → Fits u waits
 signed_fits s u waits h same stays =
+    subst (λ (x : State). Fits x waits) (sym stays)
+    (fits_signed s.frames s.part (home_in s) s.own (length s.froms) s.tree u.tree s.labels s.book waits same h)
+
+-- a scope was signed by a task that keeps its label
+pub cancelled_fits : (s u : State) (waits : Option ℕ) → Fits s waits → SameKeys s.tree u.tree →
+    u ≡ record s { tree = u.tree; cancelled = u.cancelled } → Fits u waits
+cancelled_fits s u waits h same stays =
     subst (λ (x : State). Fits x waits) (sym stays)
     (fits_signed s.frames s.part (home_in s) s.own (length s.froms) s.tree u.tree s.labels s.book waits same h)
 

@@ -15,7 +15,8 @@ use Rattle.nursery_book.specs.Nursery.{Nursery as Members, with_body}
 use Rattle.nursery_book.specs.Book.{nursery_at, Updates, Changes}
 use Rattle.nursery_book.specs.declared.book.NurseryBook.{NurseryBook}
 use Rattle.job_meaning.specs.Log.{Table}
-use Rattle.job_meaning.specs.Walk.{Here, left_with}
+use Rattle.job_meaning.specs.Moments.{Clock, by_ticks, by_rounds, a_round_after}
+use Rattle.job_meaning.specs.Walk.{left_with, from_for, stack_for}
 use Rattle.job_meaning.specs.Walk as meaning
 use Rattle.job_meaning.specs.Rest as rest
 use Rattle.job_meaning.specs.Rest.{Stopped, awaiting, at_end}
@@ -39,9 +40,10 @@ use Rattle.task_machine.specs.Frames.{frames_of}
 use Rattle.task_machine.specs.Noted.{IsSlice, shown_made, AreNoted}
 use Rattle.task_machine.specs.Stacked.{AreAt}
 use Rattle.task_machine.specs.Standing.{HasBlock, HasNurseryOf, waits_by, Stands, AreBegun, ChangesNurseries, Took, with_frames}
-use Rattle.task_machine.specs.States.{State, stack_in}
-use Rattle.task_machine.specs.Stops.{Numbers, MovesAs}
+use Rattle.task_machine.specs.States.{State, here_at, now_at, stack_in}
+use Rattle.task_machine.specs.Stops.{Numbers, MovesAs, OwnAfter}
 use Rattle.task_machine.proofs.Acting.{WaitsNot, waits_not, no_acts, found_signed, home_signed, left_acts}
+use Rattle.task_machine.proofs.Cancelled.{own_same, own_signed, ends_none}
 use Rattle.task_machine.proofs.FrameLemmas.{frames_pushed}
 use Rattle.task_machine.proofs.Nurseries.{has_more, has_last, has_either, blocks_pushed, change_of, nurseries_same, nurseries_put, body_grown}
 use Rattle.task_machine.proofs.Stacked.{named_at}
@@ -49,19 +51,20 @@ use Rattle.task_machine.proofs.Stacked.{named_at}
 -- ---- what is not shown, and what stays
 
 -- a sign is not shown
-quiet_signs : (input : List ℕ) (label : Option Label) (t : ℕ) → shown_made input (signs_to label t) ≡ []
-quiet_signs input None t = refl
-quiet_signs input (Some l) t = refl
+quiet_signs : (clock : Clock) (input : List ℕ) (label : Option Label) (t : ℕ) → shown_made clock input (signs_to label t) ≡ []
+quiet_signs clock input None t = refl
+quiet_signs clock input (Some l) t = refl
 
 -- the sign of a task or body that fails is not shown
-quiet_home : (input : List ℕ) (exc : Option Exc) (ps : List Place) (t : ℕ) → shown_made input (signs_home exc ps t) ≡ []
-quiet_home input None ps t = refl
-quiet_home input (Some e) [] t = refl
-quiet_home input (Some e) (p ∷ ps) t = refl
+quiet_home : (clock : Clock) (input : List ℕ) (exc : Option Exc) (ps : List Place) (t : ℕ) →
+    shown_made clock input (signs_home exc ps t) ≡ []
+quiet_home clock input None ps t = refl
+quiet_home clock input (Some e) [] t = refl
+quiet_home clock input (Some e) (p ∷ ps) t = refl
 
 -- nothing was noted for these events
-pub none_noted : (input : List ℕ) (made : List rest.Event) → shown_made input made ≡ [] → AreNoted input [] made
-none_noted input made quiet = record { shown = sym quiet; slices = All-nil (IsSlice input) }
+pub none_noted : (clock : Clock) (input : List ℕ) (made : List rest.Event) → shown_made clock input made ≡ [] → AreNoted clock input [] made
+none_noted clock input made quiet = record { shown = sym quiet; slices = All-nil (IsSlice input) }
 
 -- The book and the started tasks stay as they are, and the task, whose frames were these, has the same nurseries as before. It noted
 -- these entries.
@@ -92,10 +95,12 @@ pub record LeavesAlone (o : Move) (fs : List rest.Frame) (ps : List Place) : Typ
   pub begun : o.begun ≡ []
   pub waits : WaitsNot o.stopped
 
-falls_alone : (b : Bool) (n t : ℕ) (fs : List rest.Frame) (ps : List Place) → LeavesAlone (falls_asleep b n t fs ps) fs ps
-falls_alone true n t fs ps = record { frames = refl; places = refl; made = refl; begun = refl; waits = tt }
-falls_alone false zero t fs ps = record { frames = refl; places = refl; made = refl; begun = refl; waits = tt }
-falls_alone false (suc n) t fs ps = record { frames = refl; places = refl; made = refl; begun = refl; waits = tt }
+falls_alone : (clock : Clock) (b paced : Bool) (n t : ℕ) (fs : List rest.Frame) (ps : List Place) →
+    LeavesAlone (falls_asleep clock b paced n t fs ps) fs ps
+falls_alone by_ticks true paced n t fs ps = record { frames = refl; places = refl; made = refl; begun = refl; waits = tt }
+falls_alone by_ticks false paced zero t fs ps = record { frames = refl; places = refl; made = refl; begun = refl; waits = tt }
+falls_alone by_ticks false paced (suc n) t fs ps = record { frames = refl; places = refl; made = refl; begun = refl; waits = tt }
+falls_alone by_rounds b paced n t fs ps = record { frames = refl; places = refl; made = refl; begun = refl; waits = tt }
 
 -- a scope frame has a place, so the list of places is not empty
 by_place : (P : List Place → Type 0) (fail : Bool) (gs : List rest.Frame) (ps : List Place) → Placed (rest.in_scope fail ∷ gs) ps →
@@ -117,11 +122,12 @@ module _ (b : State) (whole : List Frame) (froms : Table) (numbers : Numbers) (s
     (stands : Stands (with_frames b whole) froms numbers stopped ps) where
   -- any move that leaves the book as it is, and starts nothing, is a move of the definitions if its parts correspond
   pub took_quiet : (u : State) (goes : Moved) (o : Move) (entries : List Entry) → IsQuiet b whole u entries →
-      AreNoted (buffer_of b.part) entries o.made → o.begun ≡ [] → frames_of numbers u.frames ≡ o.frames →
-      AreAt u.labels (froms_after froms o.made) (stack_in u) o.places → MovesAs numbers u.book b.part goes u.task_state o →
+      AreNoted b.clock (buffer_of b.part) entries o.made → o.begun ≡ [] → frames_of numbers u.frames ≡ o.frames →
+      AreAt u.labels (froms_after froms o.made) (stack_in u) o.places → MovesAs b.clock numbers u.book b.part goes u.task_state o →
       waits_by goes u.task_state ≡ None → Acts b.tick (scoping_in b) o.made (scoping_in u) →
+      OwnAfter b.clock b.cancelled u.cancelled o.made o.stopped →
       Took (with_frames b whole) u goes froms numbers o
-  took_quiet u goes o entries quiet shown none gs at moves waits acts =
+  took_quiet u goes o entries quiet shown none gs at moves waits acts own =
       record {
         numbers_after = numbers;
         frames_after = gs;
@@ -132,24 +138,31 @@ module _ (b : State) (whole : List Frame) (froms : Table) (numbers : Numbers) (s
         shown = shown;
         tasks = [];
         started = quiet.started ∙ sym (append-nil b.started);
-        begun = subst (λ (bs : List Begun). AreBegun numbers u.book (blocks_of u.frames) (waits_by goes u.task_state) [] bs) (sym none) tt;
+        begun =
+            subst (λ (bs : List Begun). AreBegun b.clock (a_round_after b.clock b.tick) numbers u.book (blocks_of u.frames)
+            (waits_by goes u.task_state) [] bs)
+            (sym none) tt;
+        last = ends_none goes u.task_state u.book waits;
         nurseries =
             subst (λ (bs : List Begun). ChangesNurseries (with_frames b whole) u (waits_by goes u.task_state) numbers numbers [] bs) (sym none)
             (nurseries_same (with_frames b whole) u (waits_by goes u.task_state) numbers waits quiet.book quiet.kept quiet.back
             stands.numbered);
         acts = acts;
+        own = own;
       }
 
   -- the task stops, or continues, with other frames of the same blocks and another blocked state
   pub took_task_states : (fs : List Frame) (h : TaskState) (goes : Moved) (o : Move) → blocks_of fs ≡ blocks_of whole →
       o.frames ≡ frames_of numbers fs → o.places ≡ ps → o.made ≡ [] → o.begun ≡ [] → WaitsNot o.stopped →
-      MovesAs numbers b.book b.part goes h o →
+      MovesAs b.clock numbers b.book b.part goes h o →
       Took (with_frames b whole) (record b { frames = fs; task_state = h }) goes froms numbers o
   took_task_states fs h goes o same gs around made none not moves =
       let u : State = record b { frames = fs; task_state = h } in
       took_quiet u goes o [] (quiet_by b whole u refl refl refl same)
-      (none_noted (buffer_of b.part) o.made (ap (λ (es : List rest.Event). shown_made (buffer_of b.part) es) made)) none (sym gs) at moves
-      (waits_not numbers b.book b.part goes h o not moves) (no_acts b.tick (scoping_in b) (scoping_in b) o.made made refl)
+      (none_noted b.clock (buffer_of b.part) o.made (ap (λ (es : List rest.Event). shown_made b.clock (buffer_of b.part) es) made)) none
+      (sym gs) at moves
+      (waits_not b.clock numbers b.book b.part goes h o not moves) (no_acts b.tick (scoping_in b) (scoping_in b) o.made made refl)
+      (own_same b.clock b.cancelled b.cancelled o.made o.stopped made refl)
     where
       at : AreAt b.labels (froms_after froms o.made) (stack_in b) o.places
       at =
@@ -166,27 +179,32 @@ module _ (b : State) (whole : List Frame) (froms : Table) (numbers : Numbers) (s
       (refl, refl))
 
   -- a task that stops or continues as the sleep of the definitions does makes that move
-  pub took_sleep : (h : TaskState) (goes : Moved) (ticks : ℕ) → blocks_of b.frames ≡ blocks_of whole →
+  pub took_sleep : (h : TaskState) (goes : Moved) (paced : Bool) (ticks : ℕ) → blocks_of b.frames ≡ blocks_of whole →
       (AreAt b.labels froms (stack_in b) ps →
-      MovesAs numbers b.book b.part goes h (sleeps froms ticks b.tick (frames_of numbers b.frames) ps)) →
-      Took (with_frames b whole) (record b { task_state = h }) goes froms numbers (sleeps froms ticks b.tick (frames_of numbers b.frames) ps)
-  took_sleep h goes ticks same sleep =
+      MovesAs b.clock numbers b.book b.part goes h (sleeps b.clock froms paced ticks b.tick (frames_of numbers b.frames) ps)) →
+      Took (with_frames b whole) (record b { task_state = h }) goes froms numbers
+      (sleeps b.clock froms paced ticks b.tick (frames_of numbers b.frames) ps)
+  took_sleep h goes paced ticks same sleep =
       let gs = frames_of numbers b.frames in
-      let alone : LeavesAlone (sleeps froms ticks b.tick gs ps) gs ps = falls_alone _ ticks b.tick gs ps in
-      took_task_states b.frames h goes (sleeps froms ticks b.tick gs ps) same alone.frames alone.places alone.made alone.begun alone.waits
+      let alone : LeavesAlone (sleeps b.clock froms paced ticks b.tick gs ps) gs ps = falls_alone b.clock _ paced ticks b.tick gs ps in
+      took_task_states b.frames h goes
+      (sleeps b.clock froms paced ticks b.tick gs ps) same alone.frames alone.places alone.made alone.begun alone.waits
       (sleep stands.places)
 
   -- a scope of a name is cancelled
-  pub took_cancel : (tree : Tree) (name : List ℕ) → blocks_of b.frames ≡ blocks_of whole → CancelsAt b (record b { tree = tree }) name →
-      Took (with_frames b whole) (record b { tree = tree }) (On None) froms numbers
+  pub took_cancel : (tree : Tree) (cancelled : List Label) (name : List ℕ) → blocks_of b.frames ≡ blocks_of whole →
+      CancelsAt b (record b { tree = tree; cancelled = cancelled }) name →
+      Took (with_frames b whole) (record b { tree = tree; cancelled = cancelled }) (On None) froms numbers
       (makes (signs_to (label_among name ps) b.tick) (frames_of numbers b.frames) ps)
-  took_cancel tree name same cancels =
+  took_cancel tree cancelled name same cancels =
       let made = signs_to (label_among name ps) b.tick in
-      let u : State = record b { tree = tree } in
+      let u : State = record b { tree = tree; cancelled = cancelled } in
+      let at = cancels.1 froms ps stands.own stands.places in
       took_quiet u (On None) (makes made (frames_of numbers b.frames) ps) [] (quiet_by b whole u refl refl refl same)
-      (none_noted (buffer_of b.part) made (quiet_signs (buffer_of b.part) (label_among name ps) b.tick)) refl refl
-      (cancels.1 froms ps stands.own stands.places) (refl, refl) refl
+      (none_noted b.clock (buffer_of b.part) made (quiet_signs b.clock (buffer_of b.part) (label_among name ps) b.tick)) refl refl
+      at.0 (refl, refl) refl
       (found_signed b.tick (scoping_in b) tree _ (label_among name ps) (named_at b.labels froms name (stack_in b) ps stands.places) cancels.0)
+      (at.1 ∙ own_signed b.clock b.cancelled (label_among name ps) b.tick)
 
   -- the task ends, with no frame left
   pub took_end : (tree : Tree) (exc : Option held.Exc) → whole ≡ [] → b.frames ≡ [] →
@@ -198,21 +216,23 @@ module _ (b : State) (whole : List Frame) (froms : Table) (numbers : Numbers) (s
       let u : State = record b { task_state = Over; tree = tree } in
       took_quiet u (Stops (Ended exc)) (ends_as (at_end b.tick e) e b.tick [] ps) []
       (quiet_by b whole u refl refl refl (ap blocks_of (left ∙ sym empty)))
-      (none_noted (buffer_of b.part) (signs_home e ps b.tick) (quiet_home (buffer_of b.part) e ps b.tick)) refl (ap (frames_of numbers) left)
+      (none_noted b.clock (buffer_of b.part) (signs_home e ps b.tick) (quiet_home b.clock (buffer_of b.part) e ps b.tick)) refl
+      (ap (frames_of numbers) left)
       (fails.1 froms ps stands.own stands.places) (refl, (tt, refl)) refl
-      (home_signed b.tick (scoping_in b) tree e froms (stack_in b) ps stands.places fails.0)
+      (home_signed b.tick (scoping_in b) tree e froms (stack_in b) ps stands.places fails.0) tt
 
   -- ---- blocks that are left
 
   -- A block is left that is enclosed by these places. The nursery, if it is one, was removed from the book before.
   pub took_leaves : (u : State) (book : NurseryBook) (k : meaning.Kind) (exc : Option Exc) (goes : Option held.Exc) (p : Place)
       (qs : List Place) →
-      ExitsFrom (record b { book = book }) u k (left_with (catches (froms p.label) p.shield (stack_at froms qs) b.tick) exc)
+      ExitsFrom (record b { book = book }) u k (left_with (catches (from_for b.cancelled b.tick p.label (froms p.label)) p.shield
+      (stack_for b.cancelled b.tick (stack_at froms qs)) b.tick) exc)
       (option_map exc_of goes) froms p qs →
-      u.started ≡ b.started → ChangesNurseries (with_frames b whole) u None numbers numbers [] [] →
+      u.started ≡ b.started → u.cancelled ≡ b.cancelled → ChangesNurseries (with_frames b whole) u None numbers numbers [] [] →
       Leaves (scoping_in b) (scoping_in u) →
-      Took (with_frames b whole) u (On goes) froms numbers (leaves froms b.tick k (frames_of numbers u.frames) p qs exc)
-  took_leaves u book k exc goes p qs x started nurseries one =
+      Took (with_frames b whole) u (On goes) froms numbers (leaves b.clock froms (now_at b) k (frames_of numbers u.frames) p qs exc)
+  took_leaves u book k exc goes p qs x started cancelled nurseries one =
       record {
         numbers_after = numbers;
         frames_after = refl;
@@ -224,8 +244,10 @@ module _ (b : State) (whole : List Frame) (froms : Table) (numbers : Numbers) (s
         tasks = [];
         started = started ∙ sym (append-nil b.started);
         begun = tt;
+        last = tt;
         nurseries = nurseries;
         acts = left_acts b.tick (scoping_in b) (scoping_in u) b.tick _ one;
+        own = cancelled;
       }
 
 -- ---- moves of a task that is in the middle of its turn
@@ -233,14 +255,14 @@ module _ (b : State) (whole : List Frame) (froms : Table) (numbers : Numbers) (s
 module _ (b : State) (whole : List Frame) (froms : Table) (numbers : Numbers) (ps : List Place)
     (stands : Stands (with_frames b whole) froms numbers None ps) where
   -- the innermost scope is left
-  pub took_exit : (u : State) (fail : Bool) (exc goes : Option held.Exc) (here : Here) (count : ℕ) → whole ≡ b.frames ++ Scope fail ∷ [] →
-      u.frames ≡ b.frames → u.book ≡ b.book → u.started ≡ b.started →
+  pub took_exit : (u : State) (fail : Bool) (exc goes : Option held.Exc) (count : ℕ) → whole ≡ b.frames ++ Scope fail ∷ [] →
+      u.frames ≡ b.frames → u.book ≡ b.book → u.started ≡ b.started → u.cancelled ≡ b.cancelled →
       ExitsAt b u (kind.Scope fail) (option_map exc_of exc) (option_map exc_of goes) → Leaves (scoping_in b) (scoping_in u) →
       Took (with_frames b whole) u (On goes) froms numbers
-      (step_frames froms b.tick here (rest.in_scope fail ∷ frames_of numbers b.frames) ps (option_map exc_of exc) count)
-  took_exit u fail exc goes here count popped left book started exits one =
+      (step_frames froms (now_at b) (here_at b) (rest.in_scope fail ∷ frames_of numbers b.frames) ps (option_map exc_of exc) count)
+  took_exit u fail exc goes count popped left book started cancelled exits one =
       by_place (λ (qs : List Place). Took (with_frames b whole) u (On goes) froms numbers
-      (step_frames froms b.tick here (rest.in_scope fail ∷ gs) qs e count)) fail gs ps
+      (step_frames froms (now_at b) (here_at b) (rest.in_scope fail ∷ gs) qs e count)) fail gs ps
       (subst (λ (hs : List rest.Frame). Placed hs ps) (frames_pushed numbers b.frames whole (Scope fail) popped) stands.placed) at_place
     where
       e : Option Exc
@@ -265,23 +287,24 @@ module _ (b : State) (whole : List Frame) (froms : Table) (numbers : Numbers) (p
           (has_more id (blocks_of b.frames) (a_scope ∷ []) (subst (λ (fs : List Frame). HasBlock id (blocks_of fs)) left has))
 
       at_place : (p : Place) (qs : List Place) → ps ≡ p ∷ qs → Took (with_frames b whole) u (On goes) froms numbers
-          (leaves froms b.tick (meaning.a_scope fail) gs p qs e)
+          (leaves b.clock froms (now_at b) (meaning.a_scope fail) gs p qs e)
       at_place p qs is =
           subst (λ (fs : List Frame). Took (with_frames b whole) u (On goes) froms numbers
-          (leaves froms b.tick (meaning.a_scope fail) (frames_of numbers fs) p qs e)) left
+          (leaves b.clock froms (now_at b) (meaning.a_scope fail) (frames_of numbers fs) p qs e)) left
           (took_leaves b whole froms numbers None ps stands u b.book (meaning.a_scope fail) e goes p qs
-          (exits froms p qs (subst (λ (rs : List Place). AreAt b.labels froms (stack_in b) rs) is stands.places)) started
+          (exits froms p qs (subst (λ (rs : List Place). AreAt b.labels froms (stack_in b) rs) is stands.places)) started cancelled
           (nurseries_same (with_frames b whole) u None numbers refl book kept back stands.numbered) one)
 
   -- the body of the innermost nursery has ended
-  pub took_body : (id : ℕ) (exc : Option held.Exc) (tree : Tree) (book : NurseryBook) (here : Here) (count : ℕ) →
-      whole ≡ b.frames ++ Nursery id ∷ [] → Changes b.book book id (with_body (option_map exc_of exc)) →
+  pub took_body : (id : ℕ) (exc : Option held.Exc) (tree : Tree) (book : NurseryBook) (count : ℕ) →
+      whole ≡ b.frames ++ Nursery id ∷ [] → Changes b.book book id (with_body (option_map exc_of exc) b.tick) →
       (let u : State = record b { task_state = Awaits id b.tick; tree = tree; book = book } in FailsAt b u (option_map exc_of exc) →
       Took (with_frames b whole) u (Stops (Wait id)) froms numbers
-      (step_frames froms b.tick here (rest.in_nursery (numbers id) ∷ frames_of numbers b.frames) ps (option_map exc_of exc) count))
-  took_body id exc tree book here count popped changes fails =
+      (step_frames froms (now_at b) (here_at b) (rest.in_nursery (numbers id) ∷ frames_of numbers b.frames) ps
+      (option_map exc_of exc) count))
+  took_body id exc tree book count popped changes fails =
       by_nursery_place (λ (qs : List Place). Took (with_frames b whole) u (Stops (Wait id)) froms numbers
-      (step_frames froms b.tick here (rest.in_nursery (numbers id) ∷ gs) qs e count)) (numbers id) gs ps
+      (step_frames froms (now_at b) (here_at b) (rest.in_nursery (numbers id) ∷ gs) qs e count)) (numbers id) gs ps
       (subst (λ (hs : List rest.Frame). Placed hs ps) (frames_pushed numbers b.frames whole (Nursery id) popped) stands.placed) at_place
     where
       e : Option Exc
@@ -296,8 +319,8 @@ module _ (b : State) (whole : List Frame) (froms : Table) (numbers : Numbers) (p
       same : blocks_of whole ≡ blocks_of b.frames ++ a_nursery id ∷ []
       same = blocks_pushed b.frames whole (Nursery id) popped
 
-      c : (n : Members) × (nursery_at b.book id ≡ Some n) × Updates b.book book id (Some (with_body e n))
-      c = change_of b.book book id (with_body e) changes
+      c : (n : Members) × (nursery_at b.book id ≡ Some n) × Updates b.book book id (Some (with_body e b.tick n))
+      c = change_of b.book book id (with_body e b.tick) changes
 
       innermost : HasBlock id (blocks_of whole)
       innermost = subst (λ (bs : List Block). HasBlock id bs) (sym same) (has_last id (blocks_of b.frames) (a_nursery id ∷ []) (inl refl))
@@ -317,8 +340,9 @@ module _ (b : State) (whole : List Frame) (froms : Table) (numbers : Numbers) (p
 
       nurseries : ChangesNurseries (with_frames b whole) u (Some id) numbers numbers [] []
       nurseries =
-          nurseries_put (with_frames b whole) u (Some id) numbers id c.0 (with_body e c.0) c.1 c.2 innermost back numbers [] []
-          (body_grown c.0 e (numbers id)) (λ key differs. refl) (λ long. long) kept (λ key place number has at. inl (back key has, at))
+          nurseries_put (with_frames b whole) u (Some id) numbers id c.0 (with_body e b.tick c.0) c.1 c.2 innermost back numbers [] []
+          (body_grown c.0 e b.tick (numbers id)) (λ key differs. refl) (λ long. long) kept
+          (λ key place number has at. inl (back key has, at))
           stands.numbered
 
       at_place : (p : Place) (qs : List Place) → ps ≡ p ∷ qs → Took (with_frames b whole) u (Stops (Wait id)) froms numbers
@@ -333,12 +357,15 @@ module _ (b : State) (whole : List Frame) (froms : Table) (numbers : Numbers) (p
             moves = (refl, ((refl, refl, subst (λ (o : Option Members). IsSomeAnd o (λ n. n.body ≡ Some e)) (sym c.2.changed) refl), refl));
             entries = [];
             noted = sym (append-nil b.entries);
-            shown = none_noted (buffer_of b.part) (signs_home e (p ∷ qs) b.tick) (quiet_home (buffer_of b.part) e (p ∷ qs) b.tick);
+            shown = none_noted b.clock (buffer_of b.part) (signs_home e (p ∷ qs) b.tick)
+                (quiet_home b.clock (buffer_of b.part) e (p ∷ qs) b.tick);
             tasks = [];
             started = sym (append-nil b.started);
             begun = tt;
+            last = subst (λ (o : Option Members). IsSomeAnd o (λ n. n.last ≡ b.tick)) (sym c.2.changed) refl;
             nurseries = nurseries;
             acts =
                 subst (λ (rs : List Place). Acts b.tick (scoping_in b) (signs_home e rs b.tick) (scoping_in u)) is
                 (home_signed b.tick (scoping_in b) tree e froms (stack_in b) ps stands.places fails.0);
+            own = tt;
           }

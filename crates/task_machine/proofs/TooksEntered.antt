@@ -1,6 +1,6 @@
 -- A task that enters a scope or a nursery, as a move of the definitions. The state is the one in which the steps that come after were put
 -- back.
-use Rattle.std.proofs.Common.{◌≡◌, ◌≢◌, ◌⊎◌, inl, inr, ℕ, ◌==◌, Bool, true, false, Option, Some, None, List, [], ◌∷◌, ◌++◌, length, refl, ap, sym, ◌∙◌, subst, append_assoc}
+use Rattle.std.proofs.Common.{◌≡◌, ◌≢◌, ◌⊎◌, inl, inr, ℕ, ◌==◌, ◌≤◌, arith, Bool, true, false, Option, Some, None, List, [], ◌∷◌, ◌++◌, length, refl, ap, sym, ◌∙◌, subst, append_assoc}
 use Rattle.std.proofs.lemmas.Bool.{eqb-true, eq-eqb}
 use Rattle.std.proofs.lemmas.List.{append-nil}
 use Rattle.std.proofs.lemmas.Option.{none-some}
@@ -123,7 +123,8 @@ frames_others numbers more fs same = onto_others numbers more fs [] same
 module _ (b : State) (whole : List Frame) (froms : Table) (numbers : Numbers) (stopped : Option Stopped) (ps : List Place)
     (stands : Stands (with_frames b whole) froms numbers stopped ps) (u : State) (label : Label) (shield : Bool) (deadline : Tick)
     (body : tree.Steps) (same : blocks_of b.frames ≡ blocks_of whole) (fresh : IsName label.name (names_at ps) → ⊥)
-    (started : u.started ≡ b.started) (entries : u.entries ≡ b.entries) (enters : EntersAt b u label shield deadline)
+    (started : u.started ≡ b.started) (entries : u.entries ≡ b.entries) (cancelled : u.cancelled ≡ b.cancelled)
+    (enters : EntersAt b u label shield deadline)
     (one : Enters (scope_at b) label deadline (scoping_in b) (scoping_in u)) where
   -- a scope
   pub took_scope : (fail : Bool) → u.book ≡ b.book → EntersBlock b.frames u.frames (Scope fail) body →
@@ -133,10 +134,10 @@ module _ (b : State) (whole : List Frame) (froms : Table) (numbers : Numbers) (s
       took_quiet b whole froms numbers stopped ps stands u (On None)
       (enters_block label shield deadline b.tick body (rest.in_scope fail) (frames_of numbers b.frames) ps) []
       (record { book = book; started = started; noted = entries ∙ sym (append-nil b.entries); kept = kept; back = back })
-      (none_noted (buffer_of b.part) (rest.enters label b.tick deadline ∷ []) refl) refl
+      (none_noted b.clock (buffer_of b.part) (rest.enters label b.tick deadline ∷ []) refl) refl
       (entered_frames numbers b.frames u.frames (Scope fail) block.top body block.block block.frames)
       (enters froms ps fresh stands.places) (refl, refl) refl
-      (entered_acts b.tick (scope_at b) (scoping_in b) (scoping_in u) label deadline one)
+      (entered_acts b.tick (scope_at b) (scoping_in b) (scoping_in u) label deadline one) cancelled
     where
       blocks : blocks_of u.frames ≡ blocks_of whole ++ a_scope ∷ []
       blocks =
@@ -169,12 +170,14 @@ module _ (b : State) (whole : List Frame) (froms : Table) (numbers : Numbers) (s
         moves = (refl, refl);
         entries = [];
         noted = entries ∙ sym (append-nil b.entries);
-        shown = none_noted (buffer_of b.part) (rest.enters label b.tick deadline ∷ []) refl;
+        shown = none_noted b.clock (buffer_of b.part) (rest.enters label b.tick deadline ∷ []) refl;
         tasks = [];
         started = started ∙ sym (append-nil b.started);
         begun = tt;
+        last = tt;
         nurseries = nurseries;
         acts = entered_acts b.tick (scope_at b) (scoping_in b) (scoping_in u) label deadline one;
+        own = cancelled;
       }
     where
       more : Numbers
@@ -232,21 +235,30 @@ module _ (b : State) (whole : List Frame) (froms : Table) (numbers : Numbers) (s
           (numbers_put numbers n.id [] key is))
       by_either key (inr (inr h)) = absurd h
 
+      by_ends : (key : ℕ) → HasBlock key (blocks_of whole) ⊎ ((key ≡ n.id) ⊎ ⊥) →
+          HasBlock key (blocks_of whole) ⊎ HasNursery u.book key (λ x. x.last ≤ b.tick)
+      by_ends key (inl has) = inl has
+      by_ends key (inr (inl is)) =
+          inr (subst (λ (o : Option Members). IsSomeAnd o (λ x. x.last ≤ b.tick)) (sym (ap (nursery_at u.book) is ∙ n.stands.changed))
+          (omega arith))
+      by_ends key (inr (inr h)) = absurd h
+
       nurseries : ChangesNurseries (with_frames b whole) u None numbers more [] []
       nurseries =
           record {
             grow = λ key has m at.
                 updated_has b.book u.book n.id (Some (new_nursery n.scope me label)) key (λ x. x ≡ m)
-                (λ x. Grown m x (numbers key) (more key)) n.stands
+                (λ x. Grown b.tick m x (numbers key) (more key)) n.stands
                 (λ is x found one. absurd (closed key x is found))
                 (λ differs x found one.
-                subst (λ (ns : List ℕ). Grown m x (numbers key) ns) (sym (numbers_else numbers n.id [] key differs))
-                (subst (λ (y : Members). Grown y x (numbers key) (numbers key)) one (not_grown x (numbers key))))
+                subst (λ (ns : List ℕ). Grown b.tick m x (numbers key) ns) (sym (numbers_else numbers n.id [] key differs))
+                (subst (λ (y : Members). Grown b.tick y x (numbers key) (numbers key)) one (not_grown b.tick x (numbers key))))
                 (is_at (nursery_at b.book key) m at);
             kept = λ key has. inl (subst (λ (bs : List Block). HasBlock key bs) (sym blocks)
                 (has_more key (blocks_of whole) (a_nursery n.id ∷ []) has));
             numbered = λ key has. by_either key (old_or_new key has);
             owned = λ key has. by_owned key (old_or_new key has);
             covered = λ key place number has at. by_covered key place number (old_or_new key has) at;
+            ends = λ key has. by_ends key (old_or_new key has);
             others = λ key m at apart other. n.stands.others key (λ is. absurd (closed key m is at)) ∙ at;
           }

@@ -18,6 +18,7 @@ use Rattle.job_tree.specs.Blocks.{steps_of}
 use Rattle.job_tree.specs.InRange.{AreInRange}
 use Rattle.job_tree.specs.declared.step.Step.{Step}
 use Rattle.job_meaning.specs.Log.{Table}
+use Rattle.job_meaning.specs.Moments.{Clock, a_round_after}
 use Rattle.job_meaning.specs.Walk.{Here, here_in, label_here, label_over}
 use Rattle.job_meaning.specs.Rest as rest
 use Rattle.job_meaning.specs.Rest.{Event, starts, starts_over, consecutive, Stopped}
@@ -25,7 +26,7 @@ use Rattle.nursery_book.specs.Nursery.{End, Nursery as Members}
 use Rattle.nursery_book.specs.Book.{nursery_at, HasNursery, Updates}
 use Rattle.nursery_book.specs.declared.book.NurseryBook.{NurseryBook}
 use Rattle.task_machine.specs.Noted.{shown_made}
-use Rattle.turn_semantics.specs.Midway.{Place, Begun}
+use Rattle.turn_semantics.specs.Midway.{Place, Begun, own_after}
 use Rattle.turn_semantics.specs.Steps.{begun_one, begun_over, froms_after, step_on}
 use Rattle.turn_semantics.proofs.Events.{froms_append}
 use Rattle.task_machine.specs.declared.frame.Frame.{Frame}
@@ -38,11 +39,12 @@ use Rattle.task_machine.specs.Fitting.{Block, a_nursery, blocks_of}
 use Rattle.task_machine.specs.Frames.{frames_of}
 use Rattle.task_machine.specs.Stacked.{AreAt}
 use Rattle.task_machine.specs.Standing.{HasBlock, HasNurseryOf, Stands, IsBegun, AreBegun, BeginsAt, Took, with_frames}
-use Rattle.task_machine.specs.Started.{IsChild, running_children, home_at, StartsOne, AreChildren, StartsOver}
-use Rattle.task_machine.specs.States.{State, here_at, path_at, stack_in}
+use Rattle.task_machine.specs.Started.{IsChild, running_children, home_at, begins_in, StartsOne, AreChildren, StartsOver}
+use Rattle.task_machine.specs.States.{State, here_at, now_at, path_at, stack_in}
 use Rattle.task_machine.specs.Stops.{Numbers}
 use Rattle.task_machine.proofs.Acting.{block_of, start_acts, starts_acts}
 use Rattle.task_machine.proofs.Begins.{begins_more}
+use Rattle.task_machine.proofs.Cancelled.{own_started}
 use Rattle.task_machine.proofs.Lists.{got_after, got_first, GotAfter, got_either}
 use Rattle.task_machine.proofs.Nurseries.{has_last, nurseries_put}
 use Rattle.task_machine.proofs.Taking.{shown_append}
@@ -131,9 +133,11 @@ module _ (b : State) (whole fs : List Frame) (id : ℕ) (left : Bor (List Step))
   pub took_starts : (n : Members) (ends : List End) (added : List ℕ) (tasks : List Task) (bs : List Begun) (made : List Event) →
       nursery_at b.book id ≡ Some n → Updates b.book u.book id (Some (record n { children = n.children ++ ends })) →
       All (λ (e : End). e ≡ None) ends → length added ≡ length ends → u.started ≡ b.started ++ tasks →
-      AreBegun (with_numbers numbers id (numbers id ++ added)) u.book (blocks_of b.frames) None tasks bs → froms_after froms made ≡ froms →
-      shown_made (buffer_of b.part) made ≡ [] → Acts b.tick (scoping_in b) made (scoping_in b) →
+      AreBegun b.clock (a_round_after b.clock b.tick) (with_numbers numbers id (numbers id ++ added)) u.book
+      (blocks_of b.frames) None tasks bs → froms_after froms made ≡ froms →
+      shown_made b.clock (buffer_of b.part) made ≡ [] → Acts b.tick (scoping_in b) made (scoping_in b) →
       ((i number : ℕ) → slice_get added i ≡ Some number → BeginsAt id (length n.children + i) number tasks bs) →
+      b.cancelled ≡ own_after b.clock b.cancelled made →
       Took (with_frames b whole) u (On None) froms numbers
       (record {
         frames = rest.steps_left (steps_of left.now) ∷ rest.in_nursery (numbers id ++ added) ∷ frames_of numbers fs;
@@ -143,7 +147,7 @@ module _ (b : State) (whole fs : List Frame) (id : ℕ) (left : Bor (List Step))
         begun = bs;
         stopped = None;
       })
-  took_starts n ends added tasks bs made was put run long started begun quiet unshown acts begins =
+  took_starts n ends added tasks bs made was put run long started begun quiet unshown acts begins own =
       record {
         numbers_after = more;
         frames_after =
@@ -160,16 +164,30 @@ module _ (b : State) (whole fs : List Frame) (id : ℕ) (left : Bor (List Step))
         moves = (refl, refl);
         entries = [];
         noted = ap (λ (s : State). s.entries) world ∙ sym (append-nil b.entries);
-        shown = none_noted (buffer_of b.part) made unshown;
+        shown = none_noted b.clock (buffer_of b.part) made unshown;
         tasks = tasks;
         started = started;
-        begun = subst (λ (gs : List Frame). AreBegun more u.book (blocks_of gs) None tasks bs) (sym frames_after) begun;
+        begun =
+            subst (λ (gs : List Frame). AreBegun b.clock (a_round_after b.clock b.tick) more u.book (blocks_of gs) None tasks bs)
+            (sym frames_after) begun;
+        last = tt;
         nurseries =
             nurseries_put (with_frames b whole) u None numbers id n (record n { children = n.children ++ ends }) was put innermost there more
             tasks bs
-            (record { scope = refl; waiter = refl; label = refl; more = ends; children = refl; run = run; added = added; numbers = put_at id refl })
+            (record {
+              scope = refl;
+              waiter = refl;
+              label = refl;
+              more = ends;
+              children = refl;
+              run = run;
+              added = added;
+              numbers = put_at id refl;
+              last = inl refl;
+            })
             (λ key differs. numbers_else numbers id (numbers id ++ added) key differs) by_lengths kept covered stands.numbered;
         acts = subst (λ (s : State). Acts b.tick (scoping_in b) made (scoping_in s)) (sym world) acts;
+        own = ap (λ (s : State). s.cancelled) world ∙ own;
       }
     where
       more : Numbers
@@ -225,33 +243,38 @@ module _ (b : State) (whole fs : List Frame) (id : ℕ) (left : Bor (List Step))
       covered key place number has at = by_key key place number has at (key == id) refl
 
 -- a child that was started is the one that began, at its place
-begun_child : (more : Numbers) (book : NurseryBook) (blocks : List Block) (waits : Option ℕ) (task : Task) (label : Label) (input : List ℕ)
+begun_child : (clock : Clock) (begins : ℕ) (more : Numbers) (book : NurseryBook) (blocks : List Block) (waits : Option ℕ) (task : Task)
+    (label : Label) (input : List ℕ)
     (range : Range) (body : tree.Steps)
     (id i : ℕ)
-    (n : Members) (ps : List Place) (number : ℕ) → IsChild task label input range body (home_at id n i) →
+    (n : Members) (ps : List Place) (number : ℕ) → IsChild begins task label input range body (home_at id n i) →
     slice_get (more id) (length n.children + i) ≡ Some number →
     HasNursery book id (λ m. (m.scope ≡ n.scope) × (slice_get m.children (length n.children + i) ≡ Some None)) → HasBlock id blocks →
     AreInRange body →
-    IsBegun more book blocks waits task (begun_one number (record { input = input; part = range; task = label; path = label.indices }) body
-    ps)
-begun_child more book blocks waits task label input range body id i n ps number c at scope has in_range =
+    IsBegun clock begins more book blocks waits task
+    (begun_one number (record { clock = clock; input = input; part = range; task = label; path = label.indices }) body ps)
+begun_child clock begins more book blocks waits task label input range body id i n ps number c at scope has in_range =
     record {
       here =
           ap (λ (x : List ℕ). (let h : Here = record {
+            clock = clock;
             input = x;
             part = range_of task.part;
             task = task.label;
             path =
                 task.label.indices;
           } in h)) c.input_is
-          ∙ ap (λ (x : Range). (let h : Here = record { input = input; part = x; task = task.label; path = task.label.indices } in h))
+          ∙ ap (λ (x : Range). (let h : Here =
+          record { clock = clock; input = input; part = x; task = task.label; path = task.label.indices } in h))
           c.range_is
-          ∙ ap (λ (x : Label). (let h : Here = record { input = input; part = range; task = x; path = x.indices } in h)) c.label_is;
+          ∙ ap (λ (x : Label). (let h : Here =
+          record { clock = clock; input = input; part = range; task = x; path = x.indices } in h)) c.label_is;
       frames = c.frames;
       own = c.own;
       task_state = c.task_state;
       entries = c.entries;
       froms = c.froms;
+      cancelled = c.cancelled;
       home = home_at id n i;
       at_home = c.home_is;
       number = at;
@@ -267,12 +290,13 @@ over_froms name here t first zero froms = refl
 over_froms name here t first (suc k) froms = froms_append (starts_over name here t first k) (starts (first + k)
     (label_over name here k) t ∷ []) froms ∙ over_froms name here t first k froms
 
-over_unshown : (input name : List ℕ) (here : Here) (t first k : ℕ) → shown_made input (starts_over name here t first k) ≡ []
-over_unshown input name here t first zero = refl
-over_unshown input name here t first (suc k) =
-    shown_append input (starts_over name here t first k) (starts (first + k) (label_over name here k) t ∷ [])
-    ∙ append-nil (shown_made input (starts_over name here t first k))
-    ∙ over_unshown input name here t first k
+over_unshown : (clock : Clock) (input name : List ℕ) (here : Here) (t first k : ℕ) →
+    shown_made clock input (starts_over name here t first k) ≡ []
+over_unshown clock input name here t first zero = refl
+over_unshown clock input name here t first (suc k) =
+    shown_append clock input (starts_over name here t first k) (starts (first + k) (label_over name here k) t ∷ [])
+    ∙ append-nil (shown_made clock input (starts_over name here t first k))
+    ∙ over_unshown clock input name here t first k
 
 -- as many tasks as children begun
 abbrev AreAsMany : List Task → List Begun → Type 0
@@ -302,13 +326,15 @@ children_long self id n name k body ps first (suc i) tasks c =
     subst (λ (ts : List Task). AreAsMany ts (begun_over name (here_inside self) k body ps first (suc i))) (sym c.2)
     (long_more c.1 _ c.0 (begun_over name (here_inside self) k body ps first i) (children_long self id n name k body ps first i c.0 c.3))
 
-begun_more : (numbers : Numbers) (book : NurseryBook) (blocks : List Block) (waits : Option ℕ) (ts us : List Task) (bs cs : List Begun) →
-    AreBegun numbers book blocks waits ts bs →
-    AreBegun numbers book blocks waits us cs → AreBegun numbers book blocks waits (ts ++ us) (bs ++ cs)
-begun_more numbers book blocks waits [] us [] cs h k = k
-begun_more numbers book blocks waits [] us (b ∷ bs) cs h k = absurd h
-begun_more numbers book blocks waits (t ∷ ts) us [] cs h k = absurd h
-begun_more numbers book blocks waits (t ∷ ts) us (b ∷ bs) cs h k = (h.0, begun_more numbers book blocks waits ts us bs cs h.1 k)
+begun_more : (clock : Clock) (at : ℕ) (numbers : Numbers) (book : NurseryBook) (blocks : List Block) (waits : Option ℕ)
+    (ts us : List Task) (bs cs : List Begun) →
+    AreBegun clock at numbers book blocks waits ts bs →
+    AreBegun clock at numbers book blocks waits us cs → AreBegun clock at numbers book blocks waits (ts ++ us) (bs ++ cs)
+begun_more clock at numbers book blocks waits [] us [] cs h k = k
+begun_more clock at numbers book blocks waits [] us (b ∷ bs) cs h k = absurd h
+begun_more clock at numbers book blocks waits (t ∷ ts) us [] cs h k = absurd h
+begun_more clock at numbers book blocks waits (t ∷ ts) us (b ∷ bs) cs h k =
+    (h.0, begun_more clock at numbers book blocks waits ts us bs cs h.1 k)
 
 -- the first i of them began
 begun_first : (more : Numbers) (book : NurseryBook) (blocks : List Block) (waits : Option ℕ) (self : State) (id : ℕ) (n : Members)
@@ -318,16 +344,17 @@ begun_first : (more : Numbers) (book : NurseryBook) (blocks : List Block) (waits
     ((i : ℕ) → i < k → HasNursery book id (λ m. (m.scope ≡ n.scope) × (slice_get m.children (length n.children + i) ≡ Some None))) →
     HasBlock id blocks →
     AreInRange body → (i : ℕ) → i ≤ k → (tasks : List Task) → AreChildren self id n name k body tasks i →
-    AreBegun more book blocks waits tasks (begun_over name (here_inside self) k body ps first i)
+    AreBegun self.clock (begins_in self) more book blocks waits tasks (begun_over name (here_inside self) k body ps first i)
 begun_first more book blocks waits self id n name k body ps first got scope has in_range zero few tasks c =
-    subst (λ (ts : List Task). AreBegun more book blocks waits ts []) (sym c) tt
+    subst (λ (ts : List Task). AreBegun self.clock (begins_in self) more book blocks waits ts []) (sym c) tt
 begun_first more book blocks waits self id n name k body ps first got scope has in_range (suc i) few tasks c =
-    subst (λ (ts : List Task). AreBegun more book blocks waits ts (begun_over name (here_inside self) k body ps first (suc i))) (sym c.2)
-    (begun_more more book blocks waits c.0 (c.1 ∷ []) (begun_over name (here_inside self) k body ps first i)
+    subst (λ (ts : List Task). AreBegun self.clock (begins_in self) more book blocks waits ts
+    (begun_over name (here_inside self) k body ps first (suc i))) (sym c.2)
+    (begun_more self.clock (begins_in self) more book blocks waits c.0 (c.1 ∷ []) (begun_over name (here_inside self) k body ps first i)
     (begun_one (first + i) (here_in (label_over name (here_inside self) i) (cut_of (buffer_of self.part) (range_of self.part) k i)
     (here_inside self)) body ps ∷ [])
     (begun_first more book blocks waits self id n name k body ps first got scope has in_range i (omega (arith, few)) c.0 c.3) (
-      begun_child more book blocks waits c.1 (label_over name (here_inside self) i) (buffer_of self.part)
+      begun_child self.clock (begins_in self) more book blocks waits c.1 (label_over name (here_inside self) i) (buffer_of self.part)
           (cut_of (buffer_of self.part) (range_of self.part) k i) body id i n ps
           (first + i) c.4
           (got i (omega (arith, few))) (scope i (omega (arith, few))) has in_range,
@@ -382,22 +409,22 @@ module _ (b : State) (whole fs : List Frame) (id : ℕ) (left : Bor (List Step))
   -- one child is started
   pub took_start : StartsOne b u id (record { name = name; indices = path_at b }) b.part body →
       Took (with_frames b whole) u (On None) froms numbers
-      (step_on froms b.tick (here_inside b) (tree.start name None body) (steps_of left.now)
+      (step_on froms (now_at b) (here_inside b) (tree.start name None body) (steps_of left.now)
       (rest.in_nursery (numbers id) ∷ frames_of numbers fs) ps count)
   took_start s =
       took_starts b whole fs id left u froms numbers stopped ps stands held same apart world s.nursery (None ∷ []) (count ∷ []) (s.task ∷ [])
       (begun_one count (here_in (label_here name (here_inside b)) (range_of b.part) (here_inside b)) body ps ∷ [])
-      (starts count (label_here name (here_inside b)) b.tick ∷ [])
+      (starts count (label_here name (here_inside b)) (begins_in b) ∷ [])
       s.was s.book (All-cons (λ (e : End). e ≡ None) None [] refl (All-nil (λ (e : End). e ≡ None))) refl
       s.started (
-        begun_child more u.book (blocks_of b.frames) None s.task (label_here name (here_inside b)) (buffer_of b.part)
+        begun_child b.clock (begins_in b) more u.book (blocks_of b.frames) None s.task (label_here name (here_inside b)) (buffer_of b.part)
             (range_of b.part) body id 0 s.nursery ps count s.child got
             (subst (λ (o : Option Members). IsSomeAnd o (λ m. (m.scope ≡ s.nursery.scope)
             × (slice_get m.children (length s.nursery.children + 0) ≡ Some None)))
             (sym s.book.changed) (refl, got_after s.nursery.children (None ∷ []) 0 (length s.nursery.children + 0) refl))
             (mine b whole fs id left u froms numbers stopped ps stands held same apart world) in_range,
         tt,
-      ) refl refl (start_acts b.tick count (label_here name (here_inside b)) b.tick (scoping_in b) (scoping_in b) refl) begins
+      ) refl refl (start_acts b.tick count (label_here name (here_inside b)) (begins_in b) (scoping_in b) (scoping_in b) refl) begins refl
     where
       more : Numbers
       more = with_numbers numbers id (numbers id ++ count ∷ [])
@@ -417,12 +444,12 @@ module _ (b : State) (whole fs : List Frame) (id : ℕ) (left : Bor (List Step))
   -- the given number of children are started
   pub took_start_over : (k : ℕ) → StartsOver b u id name k body k →
       Took (with_frames b whole) u (On None) froms numbers
-      (step_on froms b.tick (here_inside b) (tree.start name (Some k) body) (steps_of left.now)
+      (step_on froms (now_at b) (here_inside b) (tree.start name (Some k) body) (steps_of left.now)
       (rest.in_nursery (numbers id) ∷ frames_of numbers fs) ps count)
   took_start_over k s =
       took_starts b whole fs id left u froms numbers stopped ps stands held same apart world s.nursery (running_children k)
       (consecutive count k) s.tasks (begun_over name (here_inside b) k body ps count k)
-      (starts_over name (here_inside b) b.tick count k) s.was s.book (all_running k)
+      (starts_over name (here_inside b) (begins_in b) count k) s.was s.book (all_running k)
       (numbered_length count k ∙ sym (running_length k)) s.started
       (begun_first more u.book (blocks_of b.frames) None b id s.nursery name k body ps count got
       (λ i less.
@@ -430,10 +457,11 @@ module _ (b : State) (whole fs : List Frame) (id : ℕ) (left : Bor (List Step))
       × (slice_get m.children (length s.nursery.children + i) ≡ Some None)))
       (sym s.book.changed) (refl, got_after s.nursery.children (running_children k) i (length s.nursery.children + i) refl ∙ running_at k i less))
       (mine b whole fs id left u froms numbers stopped ps stands held same apart world) in_range k (omega arith) s.tasks s.children)
-      (over_froms name (here_inside b) b.tick count k froms)
-      (over_unshown (buffer_of b.part) name (here_inside b) b.tick count k)
-      (starts_acts b.tick name (here_inside b) b.tick count k (scoping_in b) (scoping_in b) refl)
+      (over_froms name (here_inside b) (begins_in b) count k froms)
+      (over_unshown b.clock (buffer_of b.part) name (here_inside b) (begins_in b) count k)
+      (starts_acts b.tick name (here_inside b) (begins_in b) count k (scoping_in b) (scoping_in b) refl)
       (begins_over b id s.nursery name k body ps count k s.tasks s.children)
+      (own_started b.clock b.cancelled name (here_inside b) (begins_in b) count k)
     where
       more : Numbers
       more = with_numbers numbers id (numbers id ++ consecutive count k)

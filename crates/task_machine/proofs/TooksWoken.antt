@@ -11,6 +11,7 @@ use Rattle.exc_groups.specs.Held.{exc_of}
 use Rattle.exc_groups.specs.Exceptions.{Exc}
 use Rattle.line_kernels.specs.Answers.{AreLinesAt}
 use Rattle.job_meaning.specs.Log.{Table}
+use Rattle.job_meaning.specs.Moments.{Clock}
 use Rattle.job_meaning.specs.Walk as meaning
 use Rattle.job_meaning.specs.Rest as rest
 use Rattle.job_meaning.specs.Rest.{Stopped, awaiting}
@@ -33,9 +34,10 @@ use Rattle.task_machine.specs.Fitting.{blocks_of}
 use Rattle.task_machine.specs.Frames.{frames_of}
 use Rattle.task_machine.specs.Stacked.{AreAt}
 use Rattle.task_machine.specs.Standing.{HasBlock, Stands, IsOfOther, Took}
-use Rattle.task_machine.specs.States.{State, stack_in}
+use Rattle.task_machine.specs.States.{State, now_at, stack_in}
 use Rattle.task_machine.specs.Stops.{Numbers}
 use Rattle.task_machine.proofs.Acting.{lines_acts}
+use Rattle.task_machine.proofs.Cancelled.{own_lines}
 use Rattle.task_machine.proofs.Nurseries.{nurseries_closed}
 use Rattle.task_machine.proofs.Tooks.{took_quiet, took_leaves}
 
@@ -55,9 +57,10 @@ pub took_settled : (b u : State) (book : NurseryBook) (id : ℕ) (kids : List �
     u ≡ record b { own = u.own; froms = u.froms; entries = u.entries; tree = u.tree; labels = u.labels; book = book } →
     ExitsAt (record b { book = book }) u kind.Nursery (option_map exc_of exc) (option_map exc_of goes) →
     Leaves (scoping_in b) (scoping_in u) → ((n : Members) → nursery_at b.book id ≡ Some n → IsOfOther b.own b.tree n → ⊥) →
-    Took b u (On goes) froms numbers (leaves_settled froms b.tick (option_map exc_of exc) (frames_of numbers b.frames) ps)
+    Took b u (On goes) froms numbers (leaves_settled b.clock froms (now_at b) (option_map exc_of exc) (frames_of numbers b.frames) ps)
 took_settled b u book id kids ended earlier exc goes froms numbers ps stands apart closed stays exits one mine =
-    by_wait (λ (qs : List Place). Took b u (On goes) froms numbers (leaves_settled froms b.tick e gs qs)) kids ended earlier gs ps
+    by_wait (λ (qs : List Place). Took b u (On goes) froms numbers
+    (leaves_settled b.clock froms (now_at b) e gs qs)) kids ended earlier gs ps
     stands.placed at_place
   where
     e : Option Exc
@@ -73,12 +76,13 @@ took_settled b u book id kids ended earlier exc goes froms numbers ps stands apa
     ended_there = subst (λ (x : NurseryBook). Updates b.book x id None) (sym (ap (λ (s : State). s.book) stays)) closed
 
     at_place : (p : Place) (qs : List Place) → ps ≡ p ∷ qs → Took b u (On goes) froms numbers
-        (leaves froms b.tick meaning.a_nursery gs p qs e)
+        (leaves b.clock froms (now_at b) meaning.a_nursery gs p qs e)
     at_place p qs is =
-        subst (λ (fs : List Frame). Took b u (On goes) froms numbers (leaves froms b.tick meaning.a_nursery (frames_of numbers fs) p qs e)) left
+        subst (λ (fs : List Frame). Took b u (On goes) froms numbers
+        (leaves b.clock froms (now_at b) meaning.a_nursery (frames_of numbers fs) p qs e)) left
         (took_leaves b b.frames froms numbers (Some (awaiting kids ended earlier)) ps stands u book meaning.a_nursery e goes p qs
         (exits froms p qs (subst (λ (rs : List Place). AreAt b.labels froms (stack_in b) rs) is stands.places))
-        (ap (λ (s : State). s.started) stays)
+        (ap (λ (s : State). s.started) stays) (ap (λ (s : State). s.cancelled) stays)
         (nurseries_closed b u numbers id ended_there apart mine left stands.numbered) one)
 
 -- ---- lines that a kernel answers
@@ -87,13 +91,13 @@ lines_quiet : (t : ℕ) (spans : List Span) (froms : Table) → froms_after from
 lines_quiet t [] froms = refl
 lines_quiet t (s ∷ spans) froms = lines_quiet t spans froms
 
-lines_shown : (input : List ℕ) (t : ℕ) (lines : List Line) → All (IsLineOf input) lines →
-    map entry_of (map entries.Line lines) ≡ shown_made input (lines_made t (map span_of lines))
-lines_shown input t [] a = refl
-lines_shown input t (l ∷ lines) a =
+lines_shown : (clock : Clock) (input : List ℕ) (t : ℕ) (lines : List Line) → All (IsLineOf input) lines →
+    map entry_of (map entries.Line lines) ≡ shown_made clock input (lines_made t (map span_of lines))
+lines_shown clock input t [] a = refl
+lines_shown clock input t (l ∷ lines) a =
     ap (λ (x : List ℕ). line_shown (span_of l).at x ∷ map entry_of (map entries.Line lines)) (All-head (IsLineOf input) l lines a).text
     ∙ ap (λ (xs : List Shown). line_shown (span_of l).at (text_of input (span_of l)) ∷ xs)
-    (lines_shown input t lines (All-tail (IsLineOf input) l lines a))
+    (lines_shown clock input t lines (All-tail (IsLineOf input) l lines a))
 
 lines_slices : (input : List ℕ) (lines : List Line) → All (IsLineOf input) lines → All (IsSlice input) (map entries.Line lines)
 lines_slices input [] a = All-nil (IsSlice input)
@@ -113,9 +117,9 @@ took_lines b froms numbers stopped ps spans lines stands at =
     (record { book = refl; started = refl; noted = refl; kept = λ id has. has; back = λ id has. has })
     (record {
       shown =
-          lines_shown (buffer_of b.part) b.tick lines at.texts
-          ∙ ap (λ (ss : List Span). shown_made (buffer_of b.part) (lines_made b.tick ss)) at.places;
+          lines_shown b.clock (buffer_of b.part) b.tick lines at.texts
+          ∙ ap (λ (ss : List Span). shown_made b.clock (buffer_of b.part) (lines_made b.tick ss)) at.places;
       slices = lines_slices (buffer_of b.part) lines at.texts;
     })
     refl refl (subst (λ (f : Table). AreAt b.labels f (stack_in b) ps) (sym (lines_quiet b.tick spans froms)) stands.places) (refl, refl) refl
-    (lines_acts b.tick b.tick spans (scoping_in b) (scoping_in b) refl)
+    (lines_acts b.tick b.tick spans (scoping_in b) (scoping_in b) refl) (own_lines b.clock b.cancelled b.tick spans)

@@ -1,23 +1,25 @@
 -- A turn continues by one step more.
 use Rattle.std.proofs.Common.{◌≡◌, ℕ, zero, suc, ◌+◌, Option, None, List, length, sym, subst}
 use Rattle.std.specs.Option.{option_map}
-use Rattle.exc_groups.specs.Exceptions.{Exc}
+use Rattle.exc_groups.specs.Exceptions.{Label, Exc}
 use Rattle.exc_groups.specs.Held.{exc_of}
 use Rattle.exc_groups.specs.declared.exc.Exc as held
 use Rattle.job_meaning.specs.Log.{Table}
+use Rattle.job_meaning.specs.Moments.{Now}
 use Rattle.job_meaning.specs.Walk.{Here}
-use Rattle.turn_semantics.specs.Midway.{Place, Move}
+use Rattle.turn_semantics.specs.Midway.{Place, Move, own_after, now_after}
 use Rattle.turn_semantics.specs.Steps.{froms_after, step_of, turn_of}
 use Rattle.task_machine.specs.declared.stop.Moved.{Moved}
 use Rattle.task_machine.specs.declared.stop.Moved.TheVariants.{On}
 use Rattle.task_machine.specs.Standing.{Stands, Took, StepsAs, midway_at}
-use Rattle.task_machine.specs.States.{State, here_at}
+use Rattle.task_machine.specs.States.{State, here_at, now_at}
 use Rattle.task_machine.specs.Stops.{Numbers}
+use Rattle.task_machine.proofs.Cancelled.{own_on}
 use Rattle.task_machine.proofs.Taking.{took_nothing, goes_and_stands}
 
 -- the given number of steps of a turn from a state
 abbrev pub so_many : ℕ → State → Option Exc → Table → Numbers → List Place → ℕ → Move
-so_many n s exc froms numbers ps count = turn_of n froms s.tick (here_at s) (midway_at s exc numbers ps count)
+so_many n s exc froms numbers ps count = turn_of n froms (now_at s) (here_at s) (midway_at s exc numbers ps count)
 
 -- a task continued by some steps, and is in this state
 pub record GoneOn (s u : State) (first : Option Exc) (exc : Option held.Exc) (froms : Table) (numbers : Numbers) (ps : List Place)
@@ -36,24 +38,40 @@ pub record MoreGone (s u : State) (first : Option Exc) (goes : Moved) (froms : T
       Stands u (froms_after froms (so_many n s first froms numbers ps count).made) took.numbers_after
       (so_many n s first froms numbers ps count).stopped (so_many n s first froms numbers ps count).places
 
+-- where a task is in time
+pub now_is : (t u : ℕ) (own more : List Label) → t ≡ u → own ≡ more →
+    (let n : Now = record { at = t; own = own } in n) ≡ record { at = u; own = more }
+now_is t u own more e f = cc
+
 -- a task that continued by some steps of a turn and makes one more continued by one more
 pub goes_further : (s m u : State) (first : Option Exc) (exc : Option held.Exc) (goes : Moved) (froms : Table) (numbers : Numbers)
-    (ps : List Place) (count : ℕ) → m.part ≡ s.part → m.label ≡ s.label → m.tick ≡ s.tick →
+    (ps : List Place) (count : ℕ) → m.part ≡ s.part → m.label ≡ s.label →
+    m.clock ≡ s.clock → m.tick ≡ s.tick →
     (g : GoneOn s m first exc froms numbers ps count) → StepsAs m u (option_map exc_of exc) goes →
     MoreGone s u first goes froms numbers ps count (suc g.steps)
-goes_further s m u first exc goes froms numbers ps count part label tick g step =
-    let o = so_many g.steps s first froms numbers ps count in
+goes_further s m u first exc goes froms numbers ps count part label clock tick g step =
     let second = step (froms_after froms o.made) g.took.numbers_after o.places (count + length o.begun) g.stands in
     let k = midway_at m (option_map exc_of exc) g.took.numbers_after o.places (count + length o.begun) in
     let both =
-    goes_and_stands g.steps s m u exc goes froms numbers s.tick (here_at s) ps count first g.took g.stands part tick
-    (subst (λ (t : ℕ). Took m u goes (froms_after froms o.made) g.took.numbers_after (step_of (froms_after froms o.made) t (here_at s) k)) tick
-    (subst (λ (h : Here). Took m u goes (froms_after froms o.made) g.took.numbers_after (step_of (froms_after froms o.made) m.tick h k)) here
+    goes_and_stands g.steps s m u exc goes froms numbers (now_at s) (here_at s) ps count first g.took g.stands part clock tick
+    (subst (λ (t : Now). Took m u goes (froms_after froms o.made) g.took.numbers_after
+    (step_of (froms_after froms o.made) t (here_at s) k)) now
+    (subst (λ (h : Here). Took m u goes (froms_after froms o.made) g.took.numbers_after
+    (step_of (froms_after froms o.made) (now_at m) h k)) here
     second)) in
     record { took = both.0; stands = both.1 }
   where
     here : here_at m ≡ here_at s
     here = cc
+
+    o : Move
+    o = so_many g.steps s first froms numbers ps count
+
+    own : m.cancelled ≡ own_after s.clock s.cancelled o.made
+    own = own_on s.clock s.cancelled m.cancelled o.made o.stopped g.took.moves.1 g.took.own
+
+    now : now_at m ≡ now_after s.clock (now_at s) o.made
+    now = now_is m.tick s.tick m.cancelled (own_after s.clock s.cancelled o.made) tick own
 
 -- it continues from there
 pub goes_on : (s u : State) (first : Option Exc) (exc : Option held.Exc) (froms : Table) (numbers : Numbers) (ps : List Place)
@@ -74,7 +92,7 @@ pub goes_nothing : (s : State) (exc : Option held.Exc) (froms : Table) (numbers 
     Stands s froms numbers None ps → GoneOn s s (option_map exc_of exc) exc froms numbers ps count
 unfolding turn_of
 goes_nothing s exc froms numbers ps count stands =
-    let nothing = took_nothing s exc froms numbers s.tick (here_at s) ps count stands in
+    let nothing = took_nothing s exc froms numbers (now_at s) (here_at s) ps count stands in
     record {
       steps = zero;
       took = nothing.0;

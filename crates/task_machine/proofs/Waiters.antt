@@ -53,13 +53,14 @@ grown_waiters old new key before after at u waits named =
     itself old key before n.waiter n.label at (sym waits ∙ ap (λ (m : Nursery). m.waiter) (same_Some after n e))
     (sym named ∙ ap (λ (m : Nursery). m.label) (same_Some after n e))) (λ id n h. h)
 
-pub ended_waiters : (old new : NurseryBook) (key : ℕ) (exc : Option Exc) → Changes old new key (with_body exc) → SameWaiters old new
-ended_waiters old new key exc h = by_nursery (nursery_at old key) refl h
+pub ended_waiters : (old new : NurseryBook) (key : ℕ) (exc : Option Exc) (at : ℕ) → Changes old new key (with_body exc at) →
+    SameWaiters old new
+ended_waiters old new key exc at h = by_nursery (nursery_at old key) refl h
   where
     by_nursery : (o : Option Nursery) → nursery_at old key ≡ o →
-        IsSomeAnd o (λ n. Updates old new key (Some (with_body exc n))) → SameWaiters old new
+        IsSomeAnd o (λ n. Updates old new key (Some (with_body exc at n))) → SameWaiters old new
     by_nursery None e u = absurd u
-    by_nursery (Some n) e u = grown_waiters old new key n (with_body exc n) e u refl refl
+    by_nursery (Some n) e u = grown_waiters old new key n (with_body exc at n) e u refl refl
 
 pub started_waiters : (s u : State) (name : List ℕ) (over : Option ℕ) (body : Steps) → StartsChildren s u name over body →
     SameWaiters s.book u.book
@@ -115,6 +116,7 @@ keeps_then me before mid after old w new h k =
             task_state = after.task_state;
             entries = after.entries;
             froms = after.froms;
+            cancelled = after.cancelled;
           }) h.task;
       world =
           k.world
@@ -123,15 +125,18 @@ keeps_then me before mid after old w new h k =
       waiters = opened_then me old.book w.book new.book h.waiters k.waiters;
     }
 
--- what a wake leaves as it was
-pub keeps_woken : (me : ℕ) (before after : Task) (old new : World) →
-    after ≡ record before { own = after.own; task_state = after.task_state; entries = after.entries; froms = after.froms } →
+-- what a wake leaves as it was, after what the task had cancelled itself was forgotten
+pub keeps_woken : (me : ℕ) (before mid after : Task) (old new : World) → mid ≡ record before { cancelled = mid.cancelled } →
+    after ≡ record mid { own = after.own; task_state = after.task_state; entries = after.entries; froms = after.froms } →
     new ≡ record old { scopes = new.scopes; labels = new.labels; book = new.book } → IsInRangeTaskState after.task_state →
     SameWaiters old.book new.book → KeepsRest me before after old new
-keeps_woken me before after old new task world in_range waiters =
+keeps_woken me before mid after old new forgot task world in_range waiters =
+    let whole =
+    task
+    ∙ ap (λ (t : Task). record t { own = after.own; task_state = after.task_state; entries = after.entries; froms = after.froms }) forgot in
     record {
       task =
-          task
+          whole
           ∙ ap
           (λ (t : Task).
           record before {
@@ -140,7 +145,8 @@ keeps_woken me before after old new task world in_range waiters =
             task_state = after.task_state;
             entries = after.entries;
             froms = after.froms;
-          }) (sym task);
+            cancelled = t.cancelled;
+          }) (sym whole);
       world = world ∙ ap (λ (w : World). record old { scopes = new.scopes; labels = new.labels; book = new.book; started = w.started }) (sym world);
       in_range = in_range;
       waiters = opened_none me old.book new.book waiters;
@@ -162,6 +168,7 @@ keeps_task me before after world task in_range =
             task_state = after.task_state;
             entries = t.entries;
             froms = t.froms;
+            cancelled = t.cancelled;
           }) (sym task);
       world = refl;
       in_range = in_range;
@@ -185,8 +192,33 @@ keeps_entered me before after old new task world in_range waiters =
             task_state = t.task_state;
             entries = t.entries;
             froms = after.froms;
+            cancelled = t.cancelled;
           }) (sym task);
       world = world ∙ ap (λ (w : World). record old { scopes = new.scopes; labels = new.labels; book = new.book; started = w.started }) (sym world);
       in_range = subst IsInRangeTaskState (sym (ap (λ (t : Task). t.task_state) task)) in_range;
       waiters = waiters;
+    }
+
+-- what a task that cancelled a scope left as it was
+pub keeps_cancelled : (me : ℕ) (before after : Task) (old new : World) → after ≡ record before { cancelled = after.cancelled } →
+    new ≡ record old { scopes = new.scopes } → IsInRangeTaskState before.task_state → KeepsRest me before after old new
+keeps_cancelled me before after old new task world in_range =
+    record {
+      task =
+          task
+          ∙ ap
+          (λ (t : Task).
+          record before {
+            frames = t.frames;
+            own = t.own;
+            task_state = t.task_state;
+            entries = t.entries;
+            froms = t.froms;
+            cancelled = after.cancelled;
+          }) (sym task);
+      world =
+          world
+          ∙ ap (λ (w : World). record old { scopes = new.scopes; labels = w.labels; book = w.book; started = w.started }) (sym world);
+      in_range = subst IsInRangeTaskState (sym (ap (λ (t : Task). t.task_state) task)) in_range;
+      waiters = subst (OpenedBy me old.book) (sym (ap (λ (w : World). w.book) world)) (opened_still me old.book);
     }

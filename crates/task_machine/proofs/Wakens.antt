@@ -1,5 +1,5 @@
 -- What the code does first for a task that wakes, as the definitions' wake: one lemma for each way.
-use Rattle.std.proofs.Common.{◌≡◌, ℕ, Option, Some, None, List, ◌++◌, map, refl, ap, sym, ◌∙◌, subst}
+use Rattle.std.proofs.Common.{◌≡◌, ◌⊎◌, inl, inr, ℕ, zero, suc, Bool, true, false, Option, Some, None, List, ◌++◌, map, refl, ap, sym, ◌∙◌, subst}
 use Rattle.std.specs.Option.{option_map}
 use Rattle.buffer_parts.specs.Lines.{Span}
 use Rattle.buffer_parts.specs.Part.{buffer_of}
@@ -10,22 +10,24 @@ use Rattle.exc_groups.specs.Exceptions.{Exc, cancelled, raised}
 use Rattle.line_kernels.specs.Answers.{AreLinesAt}
 use Rattle.line_kernels.specs.declared.kernel.Kernel.{Kernel}
 use Rattle.job_meaning.specs.Log.{Table}
+use Rattle.job_meaning.specs.Moments.{tick_of}
 use Rattle.job_meaning.specs.Walk.{pace_ticks}
 use Rattle.job_meaning.specs.Rest as rest
-use Rattle.job_meaning.specs.Rest.{Stopped, to_begin, asking, asleep, awaiting, at_end}
+use Rattle.job_meaning.specs.Rest.{Stopped, to_begin, asking, asleep, giving_up, awaiting, at_end}
 use Rattle.job_meaning.specs.Asking as ask
 use Rattle.nursery_book.specs.Nursery.{Nursery}
 use Rattle.nursery_book.specs.Book.{nursery_at, HasNursery, Updates}
 use Rattle.nursery_book.specs.declared.book.NurseryBook.{NurseryBook}
 use Rattle.task_machine.specs.declared.entry.Entry.TheVariants as entries
 use Rattle.turn_semantics.specs.Midway.{Place, Move}
-use Rattle.turn_semantics.specs.Steps.{onward, sleeps}
-use Rattle.turn_semantics.specs.Wakes.{Wake, begins, sees, is_due, has_answer, settles, goes_on_with, wake_of}
+use Rattle.turn_semantics.specs.Steps.{onward, blocks_on, sleeps}
+use Rattle.turn_semantics.specs.Wakes.{Wake, begins, sees, gives_up, is_due, has_answer, settles, goes_on_with, sees_from, wake_of}
 use Rattle.block_exits.specs.declared.kind.Kind.TheVariants as kind
 use Rattle.task_machine.specs.declared.stop.TaskState.{TaskState}
-use Rattle.task_machine.specs.declared.stop.TaskState.TheVariants.{Asked, Awaits}
+use Rattle.task_machine.specs.declared.stop.TaskState.TheVariants.{Asked, Asleep, GivingUp, Awaits}
 use Rattle.task_machine.specs.declared.stop.Moved.{Moved}
-use Rattle.task_machine.specs.declared.stop.Moved.TheVariants.{On}
+use Rattle.task_machine.specs.declared.stop.Moved.TheVariants.{On, Stops}
+use Rattle.task_machine.specs.declared.stop.Stop.TheVariants.{GiveUp}
 use Rattle.task_machine.specs.declared.stop.Purpose.{Purpose}
 use Rattle.task_machine.specs.Acts.{Leaves, scoping_in}
 use Rattle.task_machine.specs.Exits.{ExitsAt}
@@ -33,7 +35,7 @@ use Rattle.task_machine.specs.Fitting.{blocks_of}
 use Rattle.task_machine.specs.Frames.{frames_of}
 use Rattle.task_machine.specs.Stacked.{AreAt}
 use Rattle.task_machine.specs.Standing.{Wakens, wake_at, HasBlock, Stands, IsOfOther, Took}
-use Rattle.task_machine.specs.States.{State, here_at, stack_in}
+use Rattle.task_machine.specs.States.{State, here_at, now_at, stack_in}
 use Rattle.task_machine.specs.Stops.{Numbers, kernel_in, purpose_in, IsTaskState, MovesAs}
 use Rattle.task_machine.proofs.Tooks.{took_task_states, took_sleep}
 use Rattle.task_machine.proofs.TooksWoken.{took_settled, took_lines}
@@ -47,9 +49,21 @@ pub task_states_asked : (numbers : Numbers) (book : NurseryBook) (kernel : Kerne
 task_states_asked numbers book kernel purpose to_begin h = absurd h
 task_states_asked numbers book kernel purpose (asking k p) h =
     sym (ap (λ (x : ask.Kernel). asking x (purpose_in purpose)) h.0 ∙ ap (λ (x : ask.Purpose). asking k x) h.1)
-task_states_asked numbers book kernel purpose (asleep n u) h = absurd h
+task_states_asked numbers book kernel purpose (asleep p n u) h = absurd h
+task_states_asked numbers book kernel purpose (giving_up u) h = absurd h
 task_states_asked numbers book kernel purpose (awaiting kids u exc) h = absurd h
 task_states_asked numbers book kernel purpose (at_end u e) h = absurd h
+
+-- a task that sleeps stopped to sleep as long
+pub task_states_asleep : (numbers : Numbers) (book : NurseryBook) (paced : Bool) (ticks since : ℕ) (stopped : Stopped) →
+    IsTaskState numbers book (Asleep paced ticks since) stopped → stopped ≡ asleep paced ticks since
+task_states_asleep numbers book paced ticks since to_begin h = absurd h
+task_states_asleep numbers book paced ticks since (asking k p) h = absurd h
+task_states_asleep numbers book paced ticks since (asleep p n u) h =
+    sym (ap (λ (b : Bool). asleep b ticks since) h.0 ∙ ap (λ (m : ℕ). asleep p m since) h.1 ∙ ap (λ (v : ℕ). asleep p n v) h.2)
+task_states_asleep numbers book paced ticks since (giving_up u) h = absurd h
+task_states_asleep numbers book paced ticks since (awaiting kids u exc) h = absurd h
+task_states_asleep numbers book paced ticks since (at_end u e) h = absurd h
 
 -- a wait is for the nursery's children, as they are numbered, and its body ended so
 pub record AwaitsSo (numbers : Numbers) (book : NurseryBook) (id since : ℕ) (stopped : Stopped) : Type 0 where
@@ -62,7 +76,8 @@ pub task_states_awaits : (numbers : Numbers) (book : NurseryBook) (id since : �
     IsTaskState numbers book (Awaits id since) stopped → AwaitsSo numbers book id since stopped
 task_states_awaits numbers book id since to_begin h = absurd h
 task_states_awaits numbers book id since (asking k p) h = absurd h
-task_states_awaits numbers book id since (asleep n u) h = absurd h
+task_states_awaits numbers book id since (asleep p n u) h = absurd h
+task_states_awaits numbers book id since (giving_up u) h = absurd h
 task_states_awaits numbers book id since (awaiting kids u exc) h =
     record { exc = exc; is = sym (ap (λ (ns : List ℕ). awaiting ns since exc) h.0 ∙ ap (λ (n : ℕ). awaiting kids n exc) h.1); body = h.2 }
 task_states_awaits numbers book id since (at_end u e) h = absurd h
@@ -73,7 +88,7 @@ task_states_awaits numbers book id since (at_end u e) h = absurd h
 wakes_onward : (s : State) (exc : Option held.Exc) (w : Wake) →
     ((froms : Table) (numbers : Numbers) (stopped : Stopped) (fs : List rest.Frame) (ps : List Place) →
     IsTaskState numbers s.book s.task_state stopped →
-    wake_of froms s.tick (here_at s) w stopped fs ps ≡ onward fs ps (option_map exc_of exc)) →
+    wake_of froms (now_at s) (here_at s) w stopped fs ps ≡ onward fs ps (option_map exc_of exc)) →
     Wakens s s (On exc) w
 wakes_onward s exc w is froms numbers stopped ps stands task_state =
     subst (λ (o : Move). Took s s (On exc) froms numbers o) (sym (is froms numbers stopped (frames_of numbers s.frames) ps task_state))
@@ -88,9 +103,50 @@ wakes_begin s = wakes_onward s None begins (λ froms numbers stopped fs ps h. re
 pub wakes_due : (s : State) → Wakens s s (On None) is_due
 wakes_due s = wakes_onward s None is_due (λ froms numbers stopped fs ps h. refl)
 
--- it sees a cancellation in its sleep
-pub wakes_seen : (s : State) (exc : Option held.Exc) → option_map exc_of exc ≡ Some cancelled → Wakens s s (On exc) sees
-wakes_seen s exc is = wakes_onward s exc sees (λ froms numbers stopped fs ps h. ap (λ (e : Option Exc). onward fs ps e) (sym is))
+-- a round ago it was cancelled at a checkpoint
+pub wakes_gives_up : (s : State) (exc : Option held.Exc) → option_map exc_of exc ≡ Some cancelled → Wakens s s (On exc) gives_up
+wakes_gives_up s exc is = wakes_onward s exc gives_up (λ froms numbers stopped fs ps h. ap (λ (e : Option Exc). onward fs ps e) (sym is))
+
+-- a task that sleeps
+module _ (s : State) (paced : Bool) (ticks since : ℕ) (sleeps_so : s.task_state ≡ Asleep paced ticks since) where
+  slept : (numbers : Numbers) (stopped : Stopped) → IsTaskState numbers s.book s.task_state stopped → stopped ≡ asleep paced ticks since
+  slept numbers stopped h =
+      task_states_asleep numbers s.book paced ticks since stopped
+      (subst (λ (x : TaskState). IsTaskState numbers s.book x stopped) sleeps_so h)
+
+  -- it sees a cancellation, and raises if it is not at a checkpoint
+  pub wakes_seen : (exc : Option held.Exc) → option_map exc_of exc ≡ Some cancelled → (paced ≡ true) ⊎ (ticks ≡ 0 → ⊥) →
+      Wakens s s (On exc) sees
+  wakes_seen exc is some =
+      wakes_onward s exc sees
+      (λ froms numbers stopped fs ps h.
+      ap (λ (x : Stopped). sees_from s.tick x fs ps) (slept numbers stopped h) ∙ by_sleep paced ticks some fs ps
+      ∙ ap (λ (e : Option Exc). onward fs ps e) (sym is))
+    where
+      by_sleep : (b : Bool) (n : ℕ) → (b ≡ true) ⊎ (n ≡ 0 → ⊥) → (fs : List rest.Frame) (ps : List Place) →
+          sees_from s.tick (asleep b n since) fs ps ≡ onward fs ps (Some cancelled)
+      by_sleep true n some fs ps = refl
+      by_sleep false zero (inl e) fs ps = absurd (let f : false ≡ true = e in cc)
+      by_sleep false zero (inr e) fs ps = absurd (e refl)
+      by_sleep false (suc n) some fs ps = refl
+
+  -- at a checkpoint it gives up, and raises a round later
+  pub wakes_at_checkpoint : (u : State) (goes : Moved) (due : ℕ) → paced ≡ false → ticks ≡ 0 → due ≡ suc s.tick →
+      u ≡ record s { task_state = GivingUp s.tick } → goes ≡ Stops (GiveUp due) → Wakens s u goes sees
+  wakes_at_checkpoint u goes due is none later stays stops froms numbers stopped ps stands task_state =
+      let gs = frames_of numbers s.frames in
+      subst (λ (g : Moved). Took s u g froms numbers (sees_from s.tick stopped gs ps)) (sym stops)
+      (subst (λ (v : State). Took s v (Stops (GiveUp due)) froms numbers (sees_from s.tick stopped gs ps)) (sym stays)
+      (subst (λ (o : Move). Took s (record s { task_state = GivingUp s.tick }) (Stops (GiveUp due)) froms numbers o)
+      (sym (ap (λ (x : Stopped). sees_from s.tick x gs ps) (slept numbers stopped task_state) ∙ by_sleep paced ticks is none gs))
+      (took_task_states s s.frames froms numbers (Some stopped) ps stands s.frames (GivingUp s.tick) (Stops (GiveUp due))
+      (blocks_on (giving_up s.tick) gs ps) refl refl refl refl refl tt (refl, (refl, later)))))
+    where
+      by_sleep : (b : Bool) (n : ℕ) → b ≡ false → n ≡ 0 → (fs : List rest.Frame) →
+          sees_from s.tick (asleep b n since) fs ps ≡ blocks_on (giving_up s.tick) fs ps
+      by_sleep true n e f fs = absurd (let g : true ≡ false = e in cc)
+      by_sleep false zero e f fs = refl
+      by_sleep false (suc n) e f fs = absurd (let g : suc n ≡ 0 = f in cc)
 
 -- ---- a kernel's answer
 
@@ -99,10 +155,10 @@ module _ (s : State) (kernel : Kernel) (purpose : Purpose) (asked : s.task_state
   -- what it does is what it does with the answer for its purpose
   answered_as : (froms : Table) (numbers : Numbers) (stopped : Stopped) (fs : List rest.Frame) (ps : List Place) (answer : ask.Answer) →
       IsTaskState numbers s.book s.task_state stopped →
-      wake_of froms s.tick (here_at s) (has_answer answer) stopped fs ps
+      wake_of froms (now_at s) (here_at s) (has_answer answer) stopped fs ps
       ≡ goes_on_with froms s.tick (here_at s) answer (purpose_in purpose) fs ps
   answered_as froms numbers stopped fs ps answer h =
-      ap (λ (x : Stopped). wake_of froms s.tick (here_at s) (has_answer answer) x fs ps)
+      ap (λ (x : Stopped). wake_of froms (now_at s) (here_at s) (has_answer answer) x fs ps)
       (task_states_asked numbers s.book kernel purpose stopped (subst (λ (x : TaskState). IsTaskState numbers s.book x stopped) asked h))
 
   -- there is nothing more to do with the answer
@@ -117,7 +173,8 @@ module _ (s : State) (kernel : Kernel) (purpose : Purpose) (asked : s.task_state
   -- no line was there that was needed: it raises
   pub wakes_missing : (goes : Moved) (name : List ℕ) → purpose_in purpose ≡ ask.needs name →
       ((numbers : Numbers) (book : NurseryBook) (fs : List rest.Frame) (ps : List Place) →
-      MovesAs numbers book s.part goes s.task_state (onward fs ps (Some (raised name s.label s.tick)))) →
+      MovesAs s.clock numbers book s.part goes s.task_state
+      (onward fs ps (Some (raised name s.label (tick_of s.clock s.tick))))) →
       Wakens s s goes (has_answer ask.missing)
   wakes_missing goes name for_name raises froms numbers stopped ps stands task_state =
       let gs = frames_of numbers s.frames in
@@ -125,13 +182,14 @@ module _ (s : State) (kernel : Kernel) (purpose : Purpose) (asked : s.task_state
       (sym (answered_as froms numbers stopped gs ps ask.missing task_state
       ∙ ap (λ (p : ask.Purpose). goes_on_with froms s.tick (here_at s) ask.missing p gs ps) for_name))
       (took_task_states s s.frames froms numbers (Some stopped) ps stands s.frames s.task_state goes
-      (onward gs ps (Some (raised name s.label s.tick))) refl refl refl refl refl tt (raises numbers s.book gs ps))
+      (onward gs ps (Some (raised name s.label (tick_of s.clock s.tick)))) refl refl refl refl refl tt (raises numbers s.book gs ps))
 
   -- lines were counted to sleep by
   pub wakes_counted : (u : State) (goes : Moved) (k n ticks : ℕ) → purpose_in purpose ≡ ask.paces k → ticks ≡ pace_ticks n k →
       u ≡ record s { task_state = u.task_state } →
       ((froms : Table) (numbers : Numbers) (book : NurseryBook) (fs : List rest.Frame) (ps : List Place) →
-      AreAt s.labels froms (stack_in s) ps → MovesAs numbers book s.part goes u.task_state (sleeps froms ticks s.tick fs ps)) →
+      AreAt s.labels froms (stack_in s) ps →
+      MovesAs s.clock numbers book s.part goes u.task_state (sleeps s.clock froms true ticks s.tick fs ps)) →
       Wakens s u goes (has_answer (ask.counted n))
   wakes_counted u goes k n ticks by_count long stays sleep froms numbers stopped ps stands task_state =
       let gs = frames_of numbers s.frames in
@@ -139,8 +197,8 @@ module _ (s : State) (kernel : Kernel) (purpose : Purpose) (asked : s.task_state
       (subst (λ (o : Move). Took s (record s { task_state = u.task_state }) goes froms numbers o)
       (sym (answered_as froms numbers stopped gs ps (ask.counted n) task_state
       ∙ ap (λ (p : ask.Purpose). goes_on_with froms s.tick (here_at s) (ask.counted n) p gs ps) by_count
-      ∙ ap (λ (x : ℕ). sleeps froms x s.tick gs ps) (sym long)))
-      (took_sleep s s.frames froms numbers (Some stopped) ps stands u.task_state goes ticks refl
+      ∙ ap (λ (x : ℕ). sleeps s.clock froms true x s.tick gs ps) (sym long)))
+      (took_sleep s s.frames froms numbers (Some stopped) ps stands u.task_state goes true ticks refl
       (λ at. sleep froms numbers s.book gs ps at)))
 
   -- lines were found: it notes them

@@ -28,7 +28,7 @@ scoping_of task world = record { tree = world.scopes; labels = label_at world; o
 abbrev pub scoping_in : State → Scoping
 scoping_in s = record { tree = s.tree; labels = s.labels; own = s.own; froms = s.froms }
 
--- the scope with this key is cancelled in a tick: this changes it in each stack, and each scope whose effective deadline
+-- the scope with this key is cancelled in a moment: this changes it in each stack, and each scope whose effective deadline
 -- (`sight`) is lowered by it is marked as changed
 pub record Cancels (key tick : ℕ) (old new : Tree) : Type 0 where
   pub stacks : (other : ℕ) → stack_of new other ≡ option_map (after_cancel key tick) (stack_of old other)
@@ -36,7 +36,7 @@ pub record Cancels (key tick : ℕ) (old new : Tree) : Type 0 where
       (other : ℕ) → ForSome (stack_of old other) (λ st. is_changed new other
       ≡ (is_changed old other || before (sight (after_cancel key tick st)) (sight st)))
 
--- a scope of this label is cancelled in a tick
+-- a scope of this label is cancelled in a moment
 pub record Signs (tick : ℕ) (label : Label) (old new : Scoping) : Type 0 where
   pub key : ℕ
   pub labelled : old.labels key ≡ Some label
@@ -77,7 +77,7 @@ pub record Leaves (old new : Scoping) : Type 0 where
   pub marks : OtherMarksKeep old.tree new.tree scope.id
   pub unlabelled : Updates old.labels new.labels scope.id None
 
--- From one state to another in a tick, while these events are made: for each sign a scope is cancelled, for each scope or
+-- From one state to another in a moment, while these events are made: for each sign a scope is cancelled, for each scope or
 -- nursery that is entered one is opened, and between events scopes may be closed.
 pub data Acts (tick : ℕ) : Scoping → List Event → Scoping → Type 0 where
   no_act : (s : Scoping) → Acts tick s [] s
@@ -88,7 +88,7 @@ pub data Acts (tick : ℕ) : Scoping → List Event → Scoping → Type 0 where
       Acts tick m es u → Acts tick s (enters l t d ∷ es) u
   act_leaves : (s m u : Scoping) (es : List Event) → Leaves s m → Acts tick m es u → Acts tick s es u
 
--- the scope of this key is cancelled in a tick, or none is
+-- the scope of this key is cancelled in a moment, or none is
 abbrev pub Signed : ℕ → Tree → Tree → Option ℕ → Type 0
 Signed tick old new None = new ≡ old
 Signed tick old new (Some key) = Cancels key tick old new

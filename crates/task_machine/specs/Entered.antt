@@ -8,6 +8,7 @@ use Rattle.nursery_book.specs.Book as book
 use Rattle.exc_groups.specs.Exceptions.{Label}
 use Rattle.cancel_scopes.specs.Sight.{Tick}
 use Rattle.job_meaning.specs.Log.{Table}
+use Rattle.job_meaning.specs.Walk.{with_own}
 use Rattle.turn_semantics.specs.Midway.{Place}
 use Rattle.turn_semantics.specs.Names.{IsName, names_at, OwnNames}
 use Rattle.turn_semantics.specs.Steps.{froms_after_entry, label_among, signs_to, froms_after}
@@ -52,9 +53,10 @@ pub record EntersNursery (me : ℕ) (before after : State) (label : Label) (body
   pub frames : EntersBlock before.frames after.frames (frame.Nursery id) body
 
 -- The innermost scope of this name is cancelled, if there is one, and the froms of the scopes and nurseries that enclose the task are
--- lowered by that sign.
+-- lowered by that sign. The task itself sees it in this moment, where there are rounds.
 abbrev pub CancelsAt : State → State → List ℕ → Type 0
 CancelsAt before after name =
     Signed before.tick before.tree after.tree (scope_named before.labels name (stack_in before))
     × ((froms : Table) (ps : List Place) → OwnNames (names_at ps) → AreAt before.labels froms (stack_in before) ps →
-    AreAt after.labels (froms_after froms (signs_to (label_among name ps) before.tick)) (stack_in after) ps)
+    AreAt after.labels (froms_after froms (signs_to (label_among name ps) before.tick)) (stack_in after) ps
+    × (after.cancelled ≡ with_own before.clock (label_among name ps) before.cancelled))

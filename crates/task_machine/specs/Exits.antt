@@ -4,7 +4,8 @@ use Rattle.buffer_parts.specs.Part.{buffer_of}
 use Rattle.exc_groups.specs.Exceptions.{Exc}
 use Rattle.cancel_scopes.specs.Sight.{catches}
 use Rattle.job_meaning.specs.Log.{Table}
-use Rattle.job_meaning.specs.Walk.{left_as, left_with, exc_after}
+use Rattle.job_meaning.specs.Moments.{tick_of}
+use Rattle.job_meaning.specs.Walk.{from_for, stack_for, left_as, left_with, exc_after}
 use Rattle.job_meaning.specs.Walk as meaning
 use Rattle.job_meaning.specs.Rest.{noted}
 use Rattle.task_machine.specs.declared.entry.Entry.{Entry}
@@ -24,16 +25,19 @@ pub record ExitsFrom
     (before after : State) (kind : meaning.Kind) (left : meaning.Left) (goes_on : Option Exc) (froms : Table) (p : Place) (ps : List Place) :
     Type 0
   where
-    pub exc : goes_on ≡ exc_after kind p.label before.tick left
+    pub exc : goes_on ≡ exc_after kind p.label (tick_of before.clock before.tick) left
     pub entry : Entry
     pub entries : after.entries ≡ before.entries ++ entry ∷ []
-    pub shown : AreNoted (buffer_of before.part) (entry ∷ []) (noted before.tick (left_as kind p.label left.caught) ∷ [])
+    pub shown : AreNoted before.clock (buffer_of before.part) (entry ∷ []) (noted before.tick (left_as kind p.label left.caught) ∷ [])
     pub around : AreAt after.labels froms (stack_in after) ps
 
 abbrev pub ExitsAt : State → State → Kind → Option Exc → Option Exc → Type 0
 ExitsAt before after kind exc goes_on =
     (froms : Table) (p : Place) (ps : List Place) → AreAt before.labels froms (stack_in before) (p ∷ ps) →
-    ExitsFrom before after (kind_of kind) (left_with (catches (froms p.label) p.shield (stack_at froms ps) before.tick) exc) goes_on
+    ExitsFrom before after (kind_of kind)
+    (left_with (catches (from_for before.cancelled before.tick p.label (froms p.label)) p.shield
+    (stack_for before.cancelled before.tick (stack_at froms ps)) before.tick) exc)
+    goes_on
     froms p ps
 
 -- A task or body that ends with an exception signs for the innermost scope, if there is one, and so lowers its from.

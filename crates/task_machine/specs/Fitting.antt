@@ -19,7 +19,7 @@ use Rattle.job_meaning.specs.declared.limits.TheConstants.{MAX_INPUT}
 use Rattle.task_machine.specs.declared.frame.Frame.{Frame}
 use Rattle.task_machine.specs.declared.frame.Frame.TheVariants.{Steps, Scope, Nursery, Repeat, Try, Handler, Cleanup}
 use Rattle.task_machine.specs.declared.stop.TaskState.{TaskState}
-use Rattle.task_machine.specs.declared.stop.TaskState.TheVariants.{ToBegin, Asked, Asleep, Awaits, Over}
+use Rattle.task_machine.specs.declared.stop.TaskState.TheVariants.{ToBegin, Asked, Asleep, GivingUp, Awaits, Over}
 use Rattle.task_machine.specs.declared.task.Home.{Home}
 use Rattle.task_machine.specs.declared.task.Own.{Own}
 use Rattle.task_machine.specs.Frames.{frames_of}
@@ -142,9 +142,10 @@ RunsIn book (b ∷ bs) (suc i) waits = RunsIn book bs i waits
 
 -- the nursery that a task in this blocked state waits for, if it does
 abbrev pub waits_of : TaskState → Option ℕ
-waits_of ToBegin = None
+waits_of (ToBegin at) = None
 waits_of (Asked kernel purpose) = None
-waits_of (Asleep ticks since) = None
+waits_of (Asleep paced ticks since) = None
+waits_of (GivingUp since) = None
 waits_of (Awaits id since) = Some id
 waits_of Over = None
 

@@ -1,7 +1,9 @@
 -- The labels of the open scopes, by the keys of the scopes.
 use Rattle.std.specs.Prelude.{◌≡◌, ◌≢◌, ℕ, Bool, true, false, List, [], ◌∷◌, Option, Some, None, slice_index_or}
 use Rattle.std.specs.Str.{bytes_eq}
+use Rattle.cancel_scopes.specs.Sight.{Tick, earlier}
 use Rattle.cancel_scopes.specs.Tree.{Stack}
+use Rattle.job_meaning.specs.Walk.{is_among}
 use Rattle.exc_groups.specs.Exceptions.{Label}
 
 -- which label each key has, if it has one
@@ -30,3 +32,19 @@ key_if false key o = o
 abbrev pub scope_named : Labels → List ℕ → Stack → Option ℕ
 scope_named labels name [] = None
 scope_named labels name (l ∷ outer) = key_if (is_named name (labels l.label)) l.label (scope_named labels name outer)
+
+-- whether a key with this label, if it has one, has one of these
+abbrev pub has_label_among : Option Label → List Label → Bool
+has_label_among None own = false
+has_label_among (Some label) own = is_among label own
+
+-- the from of a level for a task that has cancelled some labels in this moment
+abbrev pub level_from : Bool → ℕ → Tick → Tick
+level_from true m from = earlier from (Some m)
+level_from false m from = from
+
+-- a stack as a task sees it that has cancelled some labels in this moment
+abbrev pub seen_levels : Labels → List Label → ℕ → Stack → Stack
+seen_levels labels own m [] = []
+seen_levels labels own m (l ∷ ls) =
+    record l { from = level_from (has_label_among (labels l.label) own) m l.from } ∷ seen_levels labels own m ls

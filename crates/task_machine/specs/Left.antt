@@ -4,6 +4,7 @@ use Rattle.std.specs.List.{last_or}
 use Rattle.cancel_scopes.specs.Sight.{Level, catches}
 use Rattle.cancel_scopes.specs.Tree.{Tree, Stack, outer_of}
 use Rattle.job_meaning.specs.Log.{Table}
+use Rattle.job_meaning.specs.Walk.{from_for, stack_for}
 use Rattle.turn_semantics.specs.Midway.{Place, stack_at}
 use Rattle.task_machine.specs.declared.leaving.Closed.{Closed}
 use Rattle.task_machine.specs.declared.task.Own.{Own}
@@ -27,7 +28,9 @@ OwnFirst tree home own = keys_of (outer_of tree (last_or home (map (λ (o : Own)
 -- left catches as its place does.
 pub record LeavesFrom (before after : State) (closed : Closed) (froms : Table) (p : Place) (ps : List Place) : Type 0 where
   pub label : closed.label ≡ p.label
-  pub caught : closed.catches ≡ catches (froms p.label) p.shield (stack_at froms ps) before.tick
+  pub caught :
+      closed.catches ≡ catches (from_for before.cancelled before.tick p.label (froms p.label)) p.shield
+      (stack_for before.cancelled before.tick (stack_at froms ps)) before.tick
   pub around : AreAt after.labels froms (stack_in after) ps
 
 abbrev pub LeavesAt : State → State → Closed → Type 0

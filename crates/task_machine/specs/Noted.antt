@@ -1,6 +1,7 @@
 -- What clauses state about what tasks note.
 use Rattle.std.specs.Prelude.{◌≡◌, ℕ, List, [], ◌∷◌, map, All}
 use Rattle.buffer_parts.specs.Part.{span_of, line_text, IsLineOf}
+use Rattle.job_meaning.specs.Moments.{Clock, tick_of}
 use Rattle.job_meaning.specs.Meaning.{From}
 use Rattle.job_meaning.specs.Rest.{Event, noted, signs, enters, starts}
 use Rattle.job_meaning.specs.Shown.{Shown, line_shown, scope_shown, nursery_shown, shown_at}
@@ -20,19 +21,19 @@ IsSlice input (Line shown_line) = IsLineOf input shown_line
 IsSlice input (Scope label tick caught) = Unit {0}
 IsSlice input (Nursery label tick caught) = Unit {0}
 
--- a scope or nursery with the tick from which it was cancelled
+-- a scope or nursery with the moment from which it was cancelled
 abbrev pub from_of : ScopeFrom → From
 from_of f = record { label = f.label; seen = f.seen }
 
 -- the entries among these events as they are shown, in order
-abbrev pub shown_made : List ℕ → List Event → List Shown
-shown_made input [] = []
-shown_made input (noted t e ∷ es) = shown_at input t e ∷ shown_made input es
-shown_made input (signs l t ∷ es) = shown_made input es
-shown_made input (enters l t d ∷ es) = shown_made input es
-shown_made input (starts i l t ∷ es) = shown_made input es
+abbrev pub shown_made : Clock → List ℕ → List Event → List Shown
+shown_made clock input [] = []
+shown_made clock input (noted t e ∷ es) = shown_at input (tick_of clock t) e ∷ shown_made clock input es
+shown_made clock input (signs l t ∷ es) = shown_made clock input es
+shown_made clock input (enters l t d ∷ es) = shown_made clock input es
+shown_made clock input (starts i l t ∷ es) = shown_made clock input es
 
 -- the entries that a task noted correspond to these events, and their lines are slices of the input
-pub record AreNoted (input : List ℕ) (entries : List Entry) (made : List Event) : Type 0 where
-  pub shown : map entry_of entries ≡ shown_made input made
+pub record AreNoted (clock : Clock) (input : List ℕ) (entries : List Entry) (made : List Event) : Type 0 where
+  pub shown : map entry_of entries ≡ shown_made clock input made
   pub slices : All (IsSlice input) entries

@@ -8,7 +8,7 @@ use Rattle.turn_semantics.specs.Midway.{Place}
 use Rattle.task_machine.specs.Labels.{Labels}
 
 -- A stack of open scopes corresponds to these places with the froms of a table: each scope has the place's label and
--- shield, and is cancelled from the tick that the table has for its label.
+-- shield, and is cancelled from the moment that the table has for its label.
 abbrev pub AreAt : Labels → Table → scopes.Stack → List Place → Type 0
 AreAt labels froms [] [] = Unit {0}
 AreAt labels froms [] (p ∷ ps) = ⊥

@@ -1,5 +1,5 @@
 -- The state of a task between two moves, and what a move of the code does to it.
-use Rattle.std.specs.Prelude.{◌≡◌, ◌⊎◌, ℕ, List, [], ◌∷◌, ◌++◌, Option, Some, None, All, length, slice_get}
+use Rattle.std.specs.Prelude.{◌≡◌, ◌≤◌, ◌⊎◌, ℕ, List, [], ◌∷◌, ◌++◌, Option, Some, None, All, length, slice_get}
 use Rattle.std.specs.Borrow.{Bor}
 use Rattle.buffer_parts.specs.Part.{buffer_of, range_of}
 use Rattle.cancel_scopes.specs.Tree.{Tree, IsOpen}
@@ -10,6 +10,7 @@ use Rattle.exc_groups.specs.Exceptions.{Exc}
 use Rattle.job_tree.specs.declared.step.Step as held
 use Rattle.job_tree.specs.InRange.{AreInRange}
 use Rattle.job_meaning.specs.Log.{Table}
+use Rattle.job_meaning.specs.Moments.{Clock, a_round_after, Now, only_at}
 use Rattle.job_meaning.specs.Walk.{Here}
 use Rattle.job_meaning.specs.Rest as rest
 use Rattle.job_meaning.specs.Rest.{Stopped}
@@ -24,11 +25,12 @@ use Rattle.turn_semantics.specs.Wakes.{wake_of, turn_from}
 use Rattle.task_machine.specs.declared.frame.Frame.{Frame}
 use Rattle.task_machine.specs.declared.frame.Frame.TheVariants as code
 use Rattle.task_machine.specs.declared.stop.TaskState.{TaskState}
-use Rattle.task_machine.specs.declared.stop.TaskState.TheVariants.{ToBegin}
+use Rattle.task_machine.specs.declared.stop.TaskState.TheVariants.{ToBegin, Asked, Asleep, GivingUp, Awaits, Over}
 use Rattle.task_machine.specs.declared.stop.Moved.TheVariants.{On, Stops}
 use Rattle.task_machine.specs.declared.stop.Moved.{Moved}
 use Rattle.task_machine.specs.declared.stop.Stop.{Stop}
 use Rattle.task_machine.specs.declared.stop.Wake.{Wake}
+use Rattle.task_machine.specs.declared.stop.Wake.TheVariants.{Begin, Due, Seen, Answer, Settled}
 use Rattle.task_machine.specs.declared.task.Home.{Home}
 use Rattle.task_machine.specs.declared.task.Own.{Own}
 use Rattle.task_machine.specs.declared.task.Task.{Task}
@@ -36,14 +38,15 @@ use Rattle.task_machine.specs.Acts.{Acts, scoping_in}
 use Rattle.task_machine.specs.Fitting.{Block, a_scope, a_nursery, blocks_of, waits_of, AreOthers}
 use Rattle.task_machine.specs.Frames.{frames_of}
 use Rattle.task_machine.specs.Stacked.{AreAt}
-use Rattle.task_machine.specs.Stops.{Numbers, IsTaskState, MovesAs}
-use Rattle.task_machine.specs.States.{State, here_at, stack_in}
+use Rattle.task_machine.specs.Stops.{Numbers, IsTaskState, MovesAs, OwnAfter}
+use Rattle.task_machine.specs.States.{State, here_at, now_at, stack_in}
 use Rattle.task_machine.specs.Tasks.{home_of}
 use Rattle.task_machine.specs.Waking.{wake_in}
 
 -- where a task is
-abbrev pub here_of : Task → Here
-here_of task = record { input = buffer_of task.part; part = range_of task.part; task = task.label; path = task.label.indices }
+abbrev pub here_of : Clock → Task → Here
+here_of clock task = record
+    { clock = clock; input = buffer_of task.part; part = range_of task.part; task = task.label; path = task.label.indices }
 
 -- a nursery is among blocks
 abbrev pub HasBlock : ℕ → List Block → Type 0
@@ -85,25 +88,30 @@ pub record Stands (s : State) (froms : Table) (numbers : Numbers) (stopped : Opt
 
 -- A task that was started is this child: it has not begun its steps, and runs at its place of its nursery, which has its
 -- number there.
-pub record IsBegun (numbers : Numbers) (book : NurseryBook) (bs : List Block) (waits : Option ℕ) (task : Task) (b : Begun) : Type 0 where
-  pub here : here_of task ≡ b.here
-  pub frames : (others : Numbers) → frames_of others task.frames.items ≡ rest.steps_left b.body ∷ []
-  pub own : task.own.items ≡ []
-  pub task_state : task.task_state ≡ ToBegin
-  pub entries : task.entries.items ≡ []
-  pub froms : task.froms.items ≡ []
-  pub home : Home
-  pub at_home : task.home ≡ Some home
-  pub number : slice_get (numbers home.nursery) home.place ≡ Some b.number
-  pub nursery : HasNursery book home.nursery (λ n. (n.scope ≡ home.scope) × (slice_get n.children home.place ≡ Some None))
-  pub owned : HasNurseryOf home.nursery bs waits
-  pub in_range : AreInRange b.body
+pub record IsBegun
+    (clock : Clock) (at : ℕ) (numbers : Numbers) (book : NurseryBook) (bs : List Block) (waits : Option ℕ) (task : Task)
+    (b : Begun) : Type 0
+  where
+    pub here : here_of clock task ≡ b.here
+    pub frames : (others : Numbers) → frames_of others task.frames.items ≡ rest.steps_left b.body ∷ []
+    pub own : task.own.items ≡ []
+    pub task_state : task.task_state ≡ ToBegin at
+    pub entries : task.entries.items ≡ []
+    pub froms : task.froms.items ≡ []
+    pub cancelled : task.cancelled.items ≡ []
+    pub home : Home
+    pub at_home : task.home ≡ Some home
+    pub number : slice_get (numbers home.nursery) home.place ≡ Some b.number
+    pub nursery : HasNursery book home.nursery (λ n. (n.scope ≡ home.scope) × (slice_get n.children home.place ≡ Some None))
+    pub owned : HasNurseryOf home.nursery bs waits
+    pub in_range : AreInRange b.body
 
-abbrev pub AreBegun : Numbers → NurseryBook → List Block → Option ℕ → List Task → List Begun → Type 0
-AreBegun numbers book bs waits [] [] = Unit {0}
-AreBegun numbers book bs waits [] (c ∷ cs) = ⊥
-AreBegun numbers book bs waits (t ∷ ts) [] = ⊥
-AreBegun numbers book bs waits (t ∷ ts) (c ∷ cs) = IsBegun numbers book bs waits t c × AreBegun numbers book bs waits ts cs
+abbrev pub AreBegun : Clock → ℕ → Numbers → NurseryBook → List Block → Option ℕ → List Task → List Begun → Type 0
+AreBegun clock at numbers book bs waits [] [] = Unit {0}
+AreBegun clock at numbers book bs waits [] (c ∷ cs) = ⊥
+AreBegun clock at numbers book bs waits (t ∷ ts) [] = ⊥
+AreBegun clock at numbers book bs waits (t ∷ ts) (c ∷ cs) =
+    IsBegun clock at numbers book bs waits t c × AreBegun clock at numbers book bs waits ts cs
 
 -- a task that was started in this nursery has this place there, and began as the child with this number
 abbrev pub BeginsAt : ℕ → ℕ → ℕ → List Task → List Begun → Type 0
@@ -111,8 +119,9 @@ BeginsAt id place number [] bs = ⊥
 BeginsAt id place number (t ∷ ts) [] = ⊥
 BeginsAt id place number (t ∷ ts) (b ∷ bs) = ((home_of t ≡ Some (id, place)) × (b.number ≡ number)) ⊎ BeginsAt id place number ts bs
 
--- A nursery after a move: it has the same scope, waiter and label, and more children, which run and have numbers.
-pub record Grown (before after : Nursery) (was are : List ℕ) : Type 0 where
+-- A nursery after a move in this moment: it has the same scope, waiter and label, and more children, which run and have numbers. No
+-- member of it ended, or its body did.
+pub record Grown (at : ℕ) (before after : Nursery) (was are : List ℕ) : Type 0 where
   pub scope : after.scope ≡ before.scope
   pub waiter : after.waiter ≡ before.waiter
   pub label : after.label ≡ before.label
@@ -121,11 +130,30 @@ pub record Grown (before after : Nursery) (was are : List ℕ) : Type 0 where
   pub run : All (λ (e : End). e ≡ None) more
   pub added : List ℕ
   pub numbers : are ≡ was ++ added
+  pub last : (after.last ≡ before.last) ⊎ (after.last ≡ at)
 
 -- each nursery among the frames grew so
-abbrev pub Grow : List Frame → Numbers → Numbers → NurseryBook → NurseryBook → Type 0
-Grow fs numbers after old new = (id : ℕ) → HasBlock id (blocks_of fs) → (n : Nursery) → nursery_at old id ≡ Some n →
-    HasNursery new id (λ m. Grown n m (numbers id) (after id))
+abbrev pub Grow : ℕ → List Frame → Numbers → Numbers → NurseryBook → NurseryBook → Type 0
+Grow at fs numbers after old new = (id : ℕ) → HasBlock id (blocks_of fs) → (n : Nursery) → nursery_at old id ≡ Some n →
+    HasNursery new id (λ m. Grown at n m (numbers id) (after id))
+
+-- each nursery of a task after a move in this moment was among its blocks, or no member of it ended later
+abbrev pub EndsBy : ℕ → List Block → NurseryBook → List Block → Option ℕ → Type 0
+EndsBy at bs new cs waits = (id : ℕ) → HasNurseryOf id cs waits → HasBlock id bs ⊎ HasNursery new id (λ n. n.last ≤ at)
+
+-- the body of a nursery that a task waits for ended in this moment, and no member ended later
+abbrev pub BodyEnds : TaskState → NurseryBook → Type 0
+BodyEnds (ToBegin at) book = Unit {0}
+BodyEnds (Asked kernel purpose) book = Unit {0}
+BodyEnds (Asleep paced ticks since) book = Unit {0}
+BodyEnds (GivingUp since) book = Unit {0}
+BodyEnds (Awaits id since) book = HasNursery book id (λ n. n.last ≡ since)
+BodyEnds Over book = Unit {0}
+
+-- after a move that stops, this holds of the nursery that the task waits for
+abbrev pub EndsLast : Moved → TaskState → NurseryBook → Type 0
+EndsLast (On exc) task_state book = Unit {0}
+EndsLast (Stops stop) task_state book = BodyEnds task_state book
 
 -- a nursery whose scope is open, and is none of those that the task opened
 abbrev pub IsOfOther : List Own → Tree → Nursery → Type 0
@@ -151,13 +179,14 @@ OthersStay bs own tree old new =
 pub record ChangesNurseries
     (before after : State) (waits : Option ℕ) (was are : Numbers) (tasks : List Task) (begun : List Begun) : Type 0
   where
-    pub grow : Grow before.frames was are before.book after.book
+    pub grow : Grow before.tick before.frames was are before.book after.book
     pub kept : (id : ℕ) → HasBlock id (blocks_of before.frames) → HasNurseryOf id (blocks_of after.frames) waits
     pub numbered : AllNumbered are after.book after.frames waits
     -- a nursery of the task was one before, or was opened
     pub owned : Owns (blocks_of before.frames) before.own before.tree before.book (blocks_of after.frames) waits
     -- each number of a child was there before, or is that of a child begun
     pub covered : Covers (blocks_of before.frames) was are (blocks_of after.frames) waits tasks begun
+    pub ends : EndsBy before.tick (blocks_of before.frames) after.book (blocks_of after.frames) waits
     -- the nurseries of other tasks stay as they are
     pub others : OthersStay (blocks_of before.frames) before.own before.tree before.book after.book
 
@@ -166,15 +195,18 @@ pub record Took (before after : State) (moved : Moved) (froms : Table) (numbers 
   pub numbers_after : Numbers
   pub frames_after : frames_of numbers_after after.frames ≡ o.frames
   pub places : AreAt after.labels (froms_after froms o.made) (stack_in after) o.places
-  pub moves : MovesAs numbers_after after.book before.part moved after.task_state o
+  pub moves : MovesAs before.clock numbers_after after.book before.part moved after.task_state o
   pub entries : List Entry
   pub noted : after.entries ≡ before.entries ++ entries
-  pub shown : AreNoted (buffer_of before.part) entries o.made
+  pub shown : AreNoted before.clock (buffer_of before.part) entries o.made
   pub tasks : List Task
   pub started : after.started ≡ before.started ++ tasks
-  pub begun : AreBegun numbers_after after.book (blocks_of after.frames) (waits_by moved after.task_state) tasks o.begun
+  pub begun : AreBegun before.clock (a_round_after before.clock before.tick) numbers_after after.book (blocks_of after.frames)
+      (waits_by moved after.task_state) tasks o.begun
+  pub last : EndsLast moved after.task_state after.book
   pub nurseries : ChangesNurseries before after (waits_by moved after.task_state) numbers numbers_after tasks o.begun
   pub acts : Acts before.tick (scoping_in before) o.made (scoping_in after)
+  pub own : OwnAfter before.clock before.cancelled after.cancelled o.made o.stopped
 
 -- the same for each table of froms, each numbering, and any places and counts
 abbrev pub Takes : State → State → Moved → (Table → Numbers → List Place → ℕ → Move) → Type 0
@@ -188,7 +220,7 @@ midway_at s exc numbers ps count = record { frames = frames_of numbers s.frames;
 
 -- one step of the definitions from this state, with this exception
 abbrev pub step_at : State → Option Exc → Table → Numbers → List Place → ℕ → Move
-step_at s exc froms numbers ps count = step_of froms s.tick (here_at s) (midway_at s exc numbers ps count)
+step_at s exc froms numbers ps count = step_of froms (now_at s) (here_at s) (midway_at s exc numbers ps count)
 
 -- one step of the code corresponds to that of the definitions
 abbrev pub StepsAs : State → State → Option Exc → Moved → Type 0
@@ -223,7 +255,8 @@ pub record TookSteps
   where
     pub steps : ℕ
     pub took :
-        Took before after (Stops stop) froms numbers (turn_of steps froms before.tick (here_at before) (midway_at before exc numbers ps count))
+        Took before after (Stops stop) froms numbers
+        (turn_of steps froms (now_at before) (here_at before) (midway_at before exc numbers ps count))
 
 abbrev pub StopsAfter : State → State → Option Exc → Stop → Type 0
 StopsAfter before after exc stop =
@@ -232,7 +265,7 @@ StopsAfter before after exc stop =
 
 -- the wake of the definitions in this state
 abbrev pub wake_at : State → wakes.Wake → Stopped → Table → Numbers → List Place → Move
-wake_at s w stopped froms numbers ps = wake_of froms s.tick (here_at s) w stopped (frames_of numbers s.frames) ps
+wake_at s w stopped froms numbers ps = wake_of froms (now_at s) (here_at s) w stopped (frames_of numbers s.frames) ps
 
 -- The code does what the wake of the definitions does, for each stop that the blocked state of the task corresponds to.
 abbrev pub Wakens : State → State → Moved → wakes.Wake → Type 0
@@ -245,6 +278,18 @@ Wakens before after goes w =
 abbrev pub TookTo : State → State → Stop → Table → Numbers → Move → Type 0
 TookTo before after stop = Took before after (Stops stop)
 
+-- Where a task is in time that wakes: what it cancelled itself in the moment of its request counts on when it has the answer.
+abbrev pub now_for : Wake → State → Now
+now_for (Answer answer) s = now_at s
+now_for Begin s = only_at s.tick
+now_for Due s = only_at s.tick
+now_for Seen s = only_at s.tick
+now_for Settled s = only_at s.tick
+
+-- the state in which the wake begins: what the task cancelled itself before counts only if it has an answer
+abbrev pub woken_at : Wake → State → State
+woken_at wake s = record s { cancelled = (now_for wake s).own }
+
 -- A turn of the code corresponds to one of the definitions, with at most the given number of steps.
 pub record TookTurn
     (before after : State) (wake : Wake) (stop : Stop) (froms : Table) (numbers : Numbers) (stopped : Stopped) (ps : List Place)
@@ -252,8 +297,8 @@ pub record TookTurn
   where
     pub steps : ℕ
     pub took :
-        TookTo before after stop froms numbers
-        (turn_from steps froms before.tick (here_at before) (wake_in before.book before.task_state wake) stopped
+        TookTo (woken_at wake before) after stop froms numbers
+        (turn_from steps froms (now_for wake before) (here_at before) (wake_in before.book before.task_state wake) stopped
         (frames_of numbers before.frames) ps count)
 
 abbrev pub TurnsAs : State → State → Wake → Stop → Type 0

@@ -6,6 +6,7 @@ use Rattle.buffer_parts.specs.Cuts.{cut_of}
 use Rattle.buffer_parts.specs.declared.part.Part.{Part}
 use Rattle.exc_groups.specs.Exceptions.{Label}
 use Rattle.job_tree.specs.Tree.{Steps}
+use Rattle.job_meaning.specs.Moments.{a_round_after}
 use Rattle.job_meaning.specs.Rest.{steps_left}
 use Rattle.nursery_book.specs.Nursery.{End, Nursery, with_start}
 use Rattle.nursery_book.specs.Book.{nursery_at, Updates}
@@ -17,17 +18,18 @@ use Rattle.task_machine.specs.Frames.{frames_of}
 use Rattle.task_machine.specs.Stops.{Numbers}
 use Rattle.task_machine.specs.States.{State, path_at}
 
--- a task that was started with this label on this range of an input: it has not begun these steps, at this home
-pub record IsChild (task : Task) (label : Label) (input : List ℕ) (range : Range) (body : Steps) (home : Home) : Type 0 where
+-- a task that was started with this label on this range of an input: it begins these steps in this moment, at this home
+pub record IsChild (at : ℕ) (task : Task) (label : Label) (input : List ℕ) (range : Range) (body : Steps) (home : Home) : Type 0 where
   pub label_is : task.label ≡ label
   pub input_is : buffer_of task.part ≡ input
   pub range_is : range_of task.part ≡ range
   pub home_is : task.home ≡ Some home
   pub frames : (numbers : Numbers) → frames_of numbers task.frames.items ≡ steps_left body ∷ []
   pub own : task.own.items ≡ []
-  pub task_state : task.task_state ≡ ToBegin
+  pub task_state : task.task_state ≡ ToBegin at
   pub entries : task.entries.items ≡ []
   pub froms : task.froms.items ≡ []
+  pub cancelled : task.cancelled.items ≡ []
 
 -- the given number of children that run
 abbrev pub running_children : ℕ → List End
@@ -38,6 +40,10 @@ running_children (suc k) = running_children k ++ None ∷ []
 abbrev pub home_at : ℕ → Nursery → ℕ → Home
 home_at id n before = record { nursery = id; place = length n.children + before; scope = n.scope }
 
+-- the moment in which a child begins that is started now
+abbrev pub begins_in : State → ℕ
+begins_in s = a_round_after s.clock s.tick
+
 -- A child was started: it runs in the nursery with this key, and was not taken yet.
 pub record StartsOne (before after : State) (id : ℕ) (label : Label) (part : Part) (body : Steps) : Type 0 where
   pub nursery : Nursery
@@ -45,14 +51,14 @@ pub record StartsOne (before after : State) (id : ℕ) (label : Label) (part : P
   pub book : Updates before.book after.book id (Some (with_start nursery))
   pub task : Task
   pub started : after.started ≡ before.started ++ task ∷ []
-  pub child : IsChild task label (buffer_of part) (range_of part) body (home_at id nursery 0)
+  pub child : IsChild (begins_in before) task label (buffer_of part) (range_of part) body (home_at id nursery 0)
 
 -- the children 0 to i - 1 of a `start .. over` of k cuts
 abbrev pub AreChildren : State → ℕ → Nursery → List ℕ → ℕ → Steps → List Task → ℕ → Type 0
 AreChildren s id n name k body tasks zero = tasks ≡ []
 AreChildren s id n name k body tasks (suc i) =
     (before : List Task) × (last : Task) × (tasks ≡ before ++ last ∷ []) × AreChildren s id n name k body before i
-    × IsChild last (record { name = name; indices = path_at s ++ i ∷ [] }) (buffer_of s.part)
+    × IsChild (begins_in s) last (record { name = name; indices = path_at s ++ i ∷ [] }) (buffer_of s.part)
     (cut_of (buffer_of s.part) (range_of s.part) k i) body
     (home_at id n i)
 

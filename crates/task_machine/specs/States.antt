@@ -6,6 +6,7 @@ use Rattle.buffer_parts.specs.Part.{buffer_of, range_of}
 use Rattle.buffer_parts.specs.declared.part.Part.{Part}
 use Rattle.cancel_scopes.specs.Tree.{Stack, Tree, outer_of}
 use Rattle.exc_groups.specs.Exceptions.{Label}
+use Rattle.job_meaning.specs.Moments.{Clock, Now}
 use Rattle.job_meaning.specs.Walk.{Here}
 use Rattle.nursery_book.specs.declared.book.NurseryBook.{NurseryBook}
 use Rattle.task_machine.specs.declared.entry.Entry.{Entry}
@@ -21,7 +22,8 @@ use Rattle.task_machine.specs.Labels.{Labels}
 use Rattle.task_machine.specs.Worlds.{label_at}
 
 -- Of the task: its label and part, where it was started, its unfinished blocks and the scopes that it opened (the innermost
--- last), why it is blocked, and what it noted. Of the world: the tick, the open scopes with their labels, the nurseries, and the
+-- last), why it is blocked, what it noted, and what it has cancelled itself in this moment. Of the world: the clock, the moment, the open
+-- scopes with their labels, the nurseries, and the
 -- started tasks that were not taken yet.
 pub record State : Type 0 where
   pub label : Label
@@ -32,6 +34,8 @@ pub record State : Type 0 where
   pub task_state : TaskState
   pub entries : List Entry
   pub froms : List ScopeFrom
+  pub cancelled : List Label
+  pub clock : Clock
   pub tick : ℕ
   pub tree : Tree
   pub labels : Labels
@@ -49,6 +53,8 @@ state_of task world =
       task_state = task.task_state;
       entries = task.entries.items;
       froms = task.froms.items;
+      cancelled = task.cancelled.items;
+      clock = world.clock;
       tick = world.tick;
       tree = world.scopes;
       labels = label_at world;
@@ -58,7 +64,7 @@ state_of task world =
 
 -- where the task is
 abbrev pub here_at : State → Here
-here_at s = record { input = buffer_of s.part; part = range_of s.part; task = s.label; path = s.label.indices }
+here_at s = record { clock = s.clock; input = buffer_of s.part; part = range_of s.part; task = s.label; path = s.label.indices }
 
 -- the path of indices of what the task enters or starts: its own, followed by the numbers of the passes that it is in
 abbrev pub path_at : State → List ℕ
@@ -71,3 +77,7 @@ scope_at s = last_or (option_map (λ (h : Home). h.scope) s.home) (map (λ (o : 
 -- the open scopes that enclose the task
 abbrev pub stack_in : State → Stack
 stack_in s = outer_of s.tree (scope_at s)
+
+-- where the task is in time
+abbrev pub now_at : State → Now
+now_at s = record { at = s.tick; own = s.cancelled }

@@ -22,11 +22,19 @@ abbrev pub OpenedBy : ℕ → NurseryBook → NurseryBook → Type 0
 OpenedBy me old new =
     (id : ℕ) (n : Nursery) → nursery_at new id ≡ Some n → (n.waiter ≡ me) ⊎ HadNursery old id n.waiter n.label
 
--- What a turn leaves as it was. The task keeps its label, its part and its home, and is in range again; the world keeps its tick;
+-- What a turn leaves as it was. The task keeps its label, its part and its home, and is in range again; the world keeps its clock and its
+-- moment;
 -- and each nursery that was opened has the task as its waiter.
 pub record KeepsRest (me : ℕ) (before after : Task) (old new : World) : Type 0 where
   pub task :
-      after ≡ record before { frames = after.frames; own = after.own; task_state = after.task_state; entries = after.entries; froms = after.froms }
+      after ≡ record before {
+        frames = after.frames;
+        own = after.own;
+        task_state = after.task_state;
+        entries = after.entries;
+        froms = after.froms;
+        cancelled = after.cancelled;
+      }
   pub world : new ≡ record old { scopes = new.scopes; labels = new.labels; book = new.book; started = new.started }
   pub in_range : IsInRangeTaskState after.task_state
   pub waiters : OpenedBy me old.book new.book

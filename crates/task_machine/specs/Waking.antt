@@ -13,18 +13,21 @@ use Rattle.nursery_book.specs.declared.book.NurseryBook.{NurseryBook}
 use Rattle.job_meaning.specs.Asking as ask
 use Rattle.turn_semantics.specs.Wakes as wakes
 use Rattle.task_machine.specs.declared.stop.TaskState.{TaskState}
-use Rattle.task_machine.specs.declared.stop.TaskState.TheVariants.{ToBegin, Asked, Asleep, Awaits, Over}
+use Rattle.task_machine.specs.declared.stop.TaskState.TheVariants.{ToBegin, Asked, Asleep, GivingUp, Awaits, Over}
 use Rattle.task_machine.specs.declared.stop.Purpose.{Purpose}
 use Rattle.task_machine.specs.declared.stop.Purpose.TheVariants.{Shows, Needs, Paces}
 use Rattle.task_machine.specs.declared.stop.Wake.{Wake}
 use Rattle.task_machine.specs.declared.stop.Wake.TheVariants.{Begin, Due, Seen, Answer, Settled}
 
 -- A wake fits what a task on this part stopped at: it begins once, an answer is that of the kernel asked, and a nursery that is
--- waited for is settled.
+-- waited for is settled. The moment of a task comes by which it has to wait: to begin, for its sleep, to give up, or for its nursery.
 abbrev pub WakesFrom : TaskState → Part → NurseryBook → Wake → Type 0
-WakesFrom ToBegin part book Begin = Unit {0}
-WakesFrom (Asleep ticks since) part book Due = Unit {0}
-WakesFrom (Asleep ticks since) part book Seen = Unit {0}
+WakesFrom (ToBegin at) part book Begin = Unit {0}
+WakesFrom (ToBegin at) part book Due = Unit {0}
+WakesFrom (Asleep paced ticks since) part book Due = Unit {0}
+WakesFrom (Asleep paced ticks since) part book Seen = Unit {0}
+WakesFrom (GivingUp since) part book Due = Unit {0}
+WakesFrom (Awaits id since) part book Due = HasNursery book id (λ n. is_settled n ≡ true)
 WakesFrom (Asked kernel purpose) part book (Answer answer) = IsAnswer kernel part answer
 WakesFrom (Awaits id since) part book Settled = HasNursery book id (λ n. is_settled n ≡ true)
 WakesFrom task_state part book wake = ⊥
@@ -37,9 +40,10 @@ IsInRangePurpose (Paces k) = (1 ≤ k) × (k ≤ MAX_PACE)
 
 -- and no sleep is of more than 2 to the 40 ticks
 abbrev pub IsInRangeTaskState : TaskState → Type 0
-IsInRangeTaskState ToBegin = Unit {0}
+IsInRangeTaskState (ToBegin at) = Unit {0}
 IsInRangeTaskState (Asked kernel purpose) = IsInRangePurpose purpose
-IsInRangeTaskState (Asleep ticks since) = ticks ≤ 2 ^ 40
+IsInRangeTaskState (Asleep paced ticks since) = ticks ≤ 2 ^ 40
+IsInRangeTaskState (GivingUp since) = Unit {0}
 IsInRangeTaskState (Awaits id since) = Unit {0}
 IsInRangeTaskState Over = Unit {0}
 
@@ -55,16 +59,26 @@ raised_in None = None
 raised_in (Some n) = raised_by n
 
 abbrev pub settled_exc : NurseryBook → TaskState → Option Exc
-settled_exc book ToBegin = None
+settled_exc book (ToBegin at) = None
 settled_exc book (Asked kernel purpose) = None
-settled_exc book (Asleep ticks since) = None
+settled_exc book (Asleep paced ticks since) = None
+settled_exc book (GivingUp since) = None
 settled_exc book (Awaits id since) = raised_in (nursery_at book id)
 settled_exc book Over = None
+
+-- what the moment of a task is, depending on where it stopped
+abbrev pub due_wake : NurseryBook → TaskState → wakes.Wake
+due_wake book (ToBegin at) = wakes.begins
+due_wake book (Asked kernel purpose) = wakes.is_due
+due_wake book (Asleep paced ticks since) = wakes.is_due
+due_wake book (GivingUp since) = wakes.gives_up
+due_wake book (Awaits id since) = wakes.settles (raised_in (nursery_at book id))
+due_wake book Over = wakes.is_due
 
 -- a wake in the terms of the definitions
 abbrev pub wake_in : NurseryBook → TaskState → Wake → wakes.Wake
 wake_in book task_state Begin = wakes.begins
-wake_in book task_state Due = wakes.is_due
+wake_in book task_state Due = due_wake book task_state
 wake_in book task_state Seen = wakes.sees
 wake_in book task_state (Answer answer) = wakes.has_answer (answer_in answer)
 wake_in book task_state Settled = wakes.settles (settled_exc book task_state)

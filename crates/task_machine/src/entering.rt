@@ -7,7 +7,7 @@ ghost use Rattle.task_machine.specs.Entered.{EntersAt, EntersBlock, EntersNurser
 ghost use Rattle.task_machine.specs.States.{state_of};
 ghost use Rattle.task_machine.specs.declared.frame.Frame.TheVariants.{Scope};
 ghost use Rattle.job_tree.specs.InRange.{IsInRangeDeadline};
-ghost use Rattle.job_meaning.specs.Walk.{due};
+ghost use Rattle.moments.specs.Moments.{due};
 
 use crate::entry::ScopeFrom;
 use crate::frame::Frame;
@@ -66,12 +66,12 @@ impl<'a> Task<'a> {
             ≡ record self.old { frames = self.new.frames; own = self.new.own; froms = self.new.froms }) }
         ensures frames { OnOk result (EntersBlock self.old.frames.items self.new.frames.items (Scope fail) body.now) }
         ensures own { OnOk result (Enters (scope_of self.old) (label_in self.old name)
-            (due deadline world.old.tick) (scoping_of self.old world.old) (scoping_of self.new world.new)) }
+            (due world.old.clock deadline world.old.tick) (scoping_of self.old world.old) (scoping_of self.new world.new)) }
         ensures world { OnOk result (world.new ≡ record world.old { scopes = world.new.scopes; labels = world.new.labels }) }
         ensures at { OnOk result (EntersAt (state_of self.old world.old) (state_of self.new world.new)
-            (label_in self.old name) shield (due deadline world.old.tick)) }
+            (label_in self.old name) shield (due world.old.clock deadline world.old.tick)) }
     {
-        let until = due(deadline, world.now());
+        let until = world.clock().due(deadline, world.now());
         let label = self.label_here(name)?;
         self.enter(label, shield, until, world)?;
         self.push(Frame::Scope { fail })?;
@@ -97,13 +97,13 @@ impl<'a> Task<'a> {
         ensures nursery { OnOk result (EntersNursery me (state_of self.old world.old) (state_of self.new world.new)
             (label_in self.old name) body.now) }
         ensures own { OnOk result (Enters (scope_of self.old) (label_in self.old name)
-            (due deadline world.old.tick) (scoping_of self.old world.old) (scoping_of self.new world.new)) }
+            (due world.old.clock deadline world.old.tick) (scoping_of self.old world.old) (scoping_of self.new world.new)) }
         ensures world { OnOk result (world.new
             ≡ record world.old { scopes = world.new.scopes; labels = world.new.labels; book = world.new.book }) }
         ensures at { OnOk result (EntersAt (state_of self.old world.old) (state_of self.new world.new)
-            (label_in self.old name) shield (due deadline world.old.tick)) }
+            (label_in self.old name) shield (due world.old.clock deadline world.old.tick)) }
     {
-        let until = due(deadline, world.now());
+        let until = world.clock().due(deadline, world.now());
         let label = self.label_here(name)?;
         let kept = label.copy(self.alloc)?;
         let scope = self.enter(kept, shield, until, world)?;
@@ -111,19 +111,5 @@ impl<'a> Task<'a> {
         self.push(Frame::Nursery { id })?;
         self.push(Frame::Steps(body.as_slice()))?;
         Ok(())
-    }
-}
-
-// The tick of a deadline for a scope that is entered in a tick.
-fn due(deadline: Deadline, tick: u64) -> Option<u64>
-    requires in_range { IsInRangeDeadline deadline }
-    requires room { tick ≤ 2 ^ 62 }
-    ensures due { result ≡ due deadline tick }
-    ensures bounded { ForSome result (λ from. from < 2 ^ 63) }
-{
-    match deadline {
-        Deadline::Never => None,
-        Deadline::After(ticks) => Some(tick + ticks),
-        Deadline::At(tick) => Some(tick),
     }
 }

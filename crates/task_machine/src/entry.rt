@@ -1,4 +1,4 @@
-//! What tasks leave: what a task noted, and from which tick a scope was cancelled.
+//! What tasks leave: what a task noted, and from which moment a scope was cancelled.
 use buffer_parts::Line;
 use exc_groups::Label;
 
@@ -27,12 +27,12 @@ pub enum Entry<'a> {
     },
 }
 
-/// A cancel scope or nursery, and the tick from which it was cancelled.
+/// A cancel scope or nursery, and the moment from which it was cancelled.
 #[derive(Drop)]
 pub struct ScopeFrom {
     /// The label of the scope or nursery.
     pub label: Label,
-    /// The tick from which the scope or nursery itself was cancelled, by its deadline or by a
+    /// The moment from which the scope or nursery itself was cancelled, by its deadline or by a
     /// `cancel` or a failed member. It is not an effective deadline: cancellations of enclosing
     /// scopes do not count. `None` if it never was cancelled, and until it is left.
     pub seen: Option<u64>,

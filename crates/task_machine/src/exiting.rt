@@ -53,14 +53,14 @@ impl<'a> Task<'a> {
         let Closed { label, catches } = self.leave(world);
         let left = left_with(self.alloc, catches, exc)?;
         let caught = left.caught;
-        let exc = exc_after(self.alloc, kind, &label, world.now(), left)?;
-        let entry = block_entry(self.alloc, kind, label, world.now(), caught)?;
+        let exc = exc_after(self.alloc, kind, &label, world.tick(), left)?;
+        let entry = block_entry(self.alloc, kind, label, world.tick(), caught)?;
         self.entries.push(entry)?;
         Ok(exc)
     }
 
     // A task or body that ends with an exception cancels the innermost enclosing scope, if there is one, from the next
-    // tick on.
+    // moment on.
     fn fail(&self, exc: &Option<Exc>, world: &mut World<'a>)
         requires scope { ForSome (scope_of self.now) (IsOpen world.old.scopes) }
         requires tick { world.old.tick + 1 < 2 ^ 63 }
@@ -90,12 +90,12 @@ impl<'a> Task<'a> {
         ensures moved { result ≡ Stops (Wait nursery) }
         ensures stays { self.new ≡ record self.old { task_state = Awaits nursery world.old.tick } }
         ensures rest { world.new ≡ record world.old { scopes = world.new.scopes; book = world.new.book } }
-        ensures ended { Changes world.old.book world.new.book nursery (with_body (option_map exc_of exc)) }
+        ensures ended { Changes world.old.book world.new.book nursery (with_body (option_map exc_of exc) world.old.tick) }
         ensures keys { SameKeys world.old.scopes world.new.scopes }
         ensures at { FailsAt (state_of self.old world.old) (state_of self.new world.new) (option_map exc_of exc) }
     {
         self.fail(&exc, world);
-        world.book.body_ended(nursery, exc);
+        world.book.body_ended(nursery, exc, world.tick);
         self.task_state = TaskState::Awaits {
             nursery,
             since: world.now(),

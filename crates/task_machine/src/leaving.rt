@@ -39,7 +39,7 @@ impl<'a> Task<'a> {
         let Some(own) = self.own.pop() else {
             unreachable!()
         };
-        let catches = world.catches(own.id);
+        let catches = world.catches(own.id, &self.cancelled);
         let (label, from) = world.leave(own.id);
         self.froms[own.at].seen = from;
         Closed { label, catches }

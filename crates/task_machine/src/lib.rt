@@ -1,8 +1,8 @@
 //! Tasks and what they share, and a task's turn.
 //!
 //! A `Task` holds its unfinished blocks, the cancel scopes that it opened, innermost last, and what it noted. A `World`
-//! holds the tick, the cancel scopes with their labels, the nurseries, and the started tasks that were not taken yet. A task
-//! that is woken (`Wake`) has a turn: it runs until it blocks or ends (`Stop`).
+//! holds the clock, the moment, the cancel scopes with their labels, the nurseries, and the started tasks that were not taken
+//! yet. A task that is woken (`Wake`) has a turn: it runs until it blocks or ends (`Stop`).
 //!
 //! The layer promises that a label belongs to the scope that was entered with it until that scope is left, that a name finds
 //! the innermost scope of that name, that a call of the world changes only the parts that it names, and that a turn does to

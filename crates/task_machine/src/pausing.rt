@@ -13,6 +13,11 @@ ghost use Rattle.task_machine.specs.Waking.{IsInRangeTaskState, IsInRangePurpose
 ghost use Rattle.task_machine.specs.Worlds.{label_at};
 ghost use Rattle.task_machine.specs.Stacked.{AreAt};
 ghost use Rattle.task_machine.specs.Stops.{Numbers, MovesAs, kernel_in, purpose_in};
+ghost use Rattle.task_machine.specs.declared.stop.Moved.TheVariants.{Stops};
+ghost use Rattle.task_machine.specs.declared.stop.Stop.TheVariants.{Sleep};
+ghost use Rattle.task_machine.specs.declared.stop.TaskState.TheVariants.{Asleep};
+ghost use Rattle.moments.specs.declared.clock.Clock.{Clock};
+ghost use Rattle.moments.specs.Moments.{tick_of, wakes_at};
 
 use crate::stop::{Moved, Purpose, Stop, TaskState};
 use crate::task::Task;
@@ -20,11 +25,13 @@ use crate::world::World;
 use exc_groups::Exc;
 use job_tree::Name;
 use line_kernels::{Kernel, Request};
+use moments::Clock;
 use std::alloc::AllocError;
 
 impl<'a> Task<'a> {
-    // A sleep of `ticks` ticks: a checkpoint, which raises if a cancellation is seen.
-    pub(crate) fn sleep(&mut self, ticks: u64, world: &World<'a>) -> Moved<'a>
+    // A sleep of `ticks` ticks, for a `pace` or not. Where a moment is a tick, it is a checkpoint, which raises if a cancellation is
+    // seen; where there are rounds, each sleep takes a round.
+    pub(crate) fn sleep(&mut self, paced: bool, ticks: u64, world: &World<'a>) -> Moved<'a>
         requires scope { ForSome (scope_of self.old) (IsOpen world.now.scopes) }
         requires ticks { ticks ≤ 2 ^ 40 }
         requires tick { world.now.tick ≤ 2 ^ 62 }
@@ -33,31 +40,51 @@ impl<'a> Task<'a> {
         ensures waits { waits_by result self.new.task_state ≡ None }
         ensures sleeps { (froms : Table) (numbers : Numbers) (book : Book) (fs : List Left) (ps : List Place) →
             AreAt (label_at world.now) froms (outer_of world.now.scopes (scope_of self.old)) ps →
-            MovesAs numbers book self.old.part result self.new.task_state (sleeps froms ticks world.now.tick fs ps) }
+            MovesAs world.now.clock numbers book self.old.part result self.new.task_state
+            (sleeps world.now.clock froms paced ticks world.now.tick fs ps) }
     {
-        if world.sees(self.scope()) {
-            return Moved::On(Some(Exc::Cancelled));
+        match world.clock() {
+            Clock::ByTicks => {
+                if world.sees(self.scope()) {
+                    return Moved::On(Some(Exc::Cancelled));
+                }
+                if ticks == 0 {
+                    return Moved::On(None);
+                }
+                self.fall_asleep(paced, ticks, world)
+            }
+            Clock::ByRounds => self.fall_asleep(paced, ticks, world),
         }
-        if ticks == 0 {
-            return Moved::On(None);
-        }
+    }
+
+    // The task sleeps from now on.
+    fn fall_asleep(&mut self, paced: bool, ticks: u64, world: &World<'a>) -> Moved<'a>
+        requires ticks { ticks ≤ 2 ^ 40 }
+        requires tick { world.now.tick ≤ 2 ^ 62 }
+        ensures stops { result ≡ Stops (Sleep (wakes_at world.now.clock ticks world.now.tick)) }
+        ensures stays { self.new ≡ record self.old { task_state = Asleep paced ticks world.now.tick } }
+    {
         let since = world.now();
-        self.task_state = TaskState::Asleep { ticks, since };
-        Moved::Stops(Stop::Sleep(since + ticks))
+        self.task_state = TaskState::Asleep {
+            paced,
+            ticks,
+            since,
+        };
+        Moved::Stops(Stop::Sleep(world.clock().wakes_at(ticks, since)))
     }
 
     // Raises an exception of that name.
     pub(crate) fn raise(&self, name: Name, world: &World<'a>) -> Result<Moved<'a>, AllocError>
         ensures on { IfOk result (λ moved. waits_by moved self.now.task_state ≡ None) }
         ensures raises { IfOk result (λ moved. (numbers : Numbers) (book : Book) (fs : List Left) (ps : List Place) →
-            MovesAs numbers book self.now.part moved self.now.task_state
-            (onward fs ps (Some (raised name self.now.label world.now.tick)))) }
+            MovesAs world.now.clock numbers book self.now.part moved self.now.task_state
+            (onward fs ps (Some (raised name self.now.label (tick_of world.now.clock world.now.tick))))) }
     {
         let task = self.label.copy(self.alloc)?;
         Ok(Moved::On(Some(Exc::Raised {
             name,
             task,
-            tick: world.now(),
+            tick: world.tick(),
         })))
     }
 
@@ -66,8 +93,8 @@ impl<'a> Task<'a> {
         ensures stays { self.new ≡ record self.old { task_state = self.new.task_state } }
         ensures task_state { IsInRangePurpose purpose → IsInRangeTaskState self.new.task_state }
         ensures waits { waits_by result self.new.task_state ≡ None }
-        ensures asks { (numbers : Numbers) (book : Book) (fs : List Left) (ps : List Place) →
-            MovesAs numbers book self.old.part result self.new.task_state
+        ensures asks { (clock : Clock) (numbers : Numbers) (book : Book) (fs : List Left) (ps : List Place) →
+            MovesAs clock numbers book self.old.part result self.new.task_state
             (blocks_on (asking (kernel_in kernel.entry) (purpose_in purpose)) fs ps) }
     {
         self.task_state = TaskState::Asked { kernel, purpose };

@@ -45,9 +45,9 @@ impl<'a> Task<'a> {
     {
         stacks_are_chains(&world.scopes);
         match step {
-            Step::Sleep(ticks) => Ok(self.sleep(*ticks, world)),
-            Step::Checkpoint => Ok(self.sleep(0, world)),
-            Step::Forever => Ok(self.sleep(FAR.saturating_sub(world.now()), world)),
+            Step::Sleep(ticks) => Ok(self.sleep(false, *ticks, world)),
+            Step::Checkpoint => Ok(self.sleep(false, 0, world)),
+            Step::Forever => Ok(self.sleep(false, FAR.saturating_sub(world.tick()), world)),
             Step::Pace(per_tick) => Ok(self.ask(Kernel::Count, Purpose::Paces(*per_tick))),
             Step::Find(text) => Ok(self.ask(Kernel::Find(text.bytes()), Purpose::Shows)),
             Step::Head(count) => Ok(self.ask(Kernel::Head(*count), Purpose::Shows)),
@@ -60,7 +60,7 @@ impl<'a> Task<'a> {
                 Ok(moved)
             }
             Step::Cancel(name) => {
-                self.cancel(*name, world);
+                self.cancel(*name, world)?;
                 Ok(Moved::On(None))
             }
             _ => {

@@ -1,4 +1,4 @@
-ghost use Rattle.std.specs.Prelude.{◌≡◌, ◌≤◌, ◌<◌, ◌++◌, ℕ, List, [], ◌∷◌, Some, None, OnOk, IfOk, IsTrue, length};
+ghost use Rattle.std.specs.Prelude.{◌≡◌, ◌≤◌, ◌<◌, ◌^◌, ◌++◌, ℕ, List, [], ◌∷◌, Some, None, OnOk, IfOk, IsTrue, length};
 ghost use Rattle.buffer_parts.specs.Part.{buffer_of, range_of};
 ghost use Rattle.exc_groups.specs.Exceptions.{Label as Named};
 ghost use Rattle.job_meaning.specs.Rest.{steps_left};
@@ -22,15 +22,17 @@ use job_tree::{Body, Name};
 use nursery_book::NurseryId;
 use smallvec::SmallVec;
 use std::alloc::{AllocError, Global};
+use std::collections::VecDeque;
 
 impl<'a> Task<'a> {
-    // A child that will begin with a body, on its part.
+    // A child that will begin with a body, on its part, in moment `at`.
     fn child(
         alloc: Global,
         label: Label,
         part: Part<'a>,
         body: &'a Body,
         home: Home,
+        at: u64,
     ) -> Result<Task<'a>, AllocError>
         ensures label { IfOk result (λ task. task.label ≡ label) }
         ensures part { IfOk result (λ task. task.part ≡ part.entry) }
@@ -38,9 +40,10 @@ impl<'a> Task<'a> {
         ensures frames { IfOk result (λ task. (numbers : Numbers) →
             frames_of numbers task.frames.items ≡ steps_left body.now ∷ []) }
         ensures own { IfOk result (λ task. task.own.items ≡ []) }
-        ensures task_state { IfOk result (λ task. task.task_state ≡ ToBegin) }
+        ensures task_state { IfOk result (λ task. task.task_state ≡ ToBegin at) }
         ensures entries { IfOk result (λ task. task.entries.items ≡ []) }
         ensures froms { IfOk result (λ task. task.froms.items ≡ []) }
+        ensures cancelled { IfOk result (λ task. task.cancelled.items ≡ []) }
     {
         let mut frames = SmallVec::new(alloc);
         frames.push(Frame::Steps(body.as_slice()))?;
@@ -51,9 +54,10 @@ impl<'a> Task<'a> {
             home: Some(home),
             frames,
             own: Vec::new(alloc),
-            task_state: TaskState::ToBegin,
+            task_state: TaskState::ToBegin { at },
             entries: Vec::new(alloc),
             froms: Vec::new(alloc),
+            cancelled: VecDeque::new(alloc),
         })
     }
 
@@ -66,7 +70,8 @@ impl<'a> Task<'a> {
         body: &'a Body,
         world: &mut World<'a>,
     ) -> Result<(), AllocError>
-        requires { HasNursery world.old.book nursery (λ n. n.body ≡ None) }
+        requires nursery { HasNursery world.old.book nursery (λ n. n.body ≡ None) }
+        requires tick { world.old.tick ≤ 2 ^ 62 }
         ensures rest { OnOk result (world.new ≡ record world.old { book = world.new.book; started = world.new.started }) }
         ensures started { OnOk result (StartsOne (state_of self.now world.old) (state_of self.now world.new) nursery label part.entry body.now) }
     {
@@ -77,7 +82,8 @@ impl<'a> Task<'a> {
             place,
             scope,
         };
-        let child = Task::child(self.alloc, label, part, body, home)?;
+        let at = world.clock().a_round_after(world.now());
+        let child = Task::child(self.alloc, label, part, body, home, at)?;
         world.started.push_back(child)?;
         Ok(())
     }
@@ -94,6 +100,7 @@ impl<'a> Task<'a> {
         requires some { 1 ≤ copies }
         requires few { copies ≤ 64 }
         requires nursery { HasNursery world.old.book nursery (λ n. n.body ≡ None) }
+        requires tick { world.old.tick ≤ 2 ^ 62 }
         ensures rest { OnOk result (world.new ≡ record world.old { book = world.new.book; started = world.new.started }) }
         ensures started { OnOk result (StartsOver (state_of self.now world.old) (state_of self.now world.new) nursery name copies body.now
             copies) }
@@ -117,6 +124,7 @@ impl<'a> Task<'a> {
     ) -> Result<(), AllocError>
         requires fits { Fits (state_of self.now world.old) None }
         requires over { IsInRangeOver over }
+        requires tick { world.old.tick ≤ 2 ^ 62 }
         requires body { IsTrue (in_body (outer_frames (frames_of (λ id. []) self.now.frames.items))) }
         ensures rest { OnOk result (world.new ≡ record world.old { book = world.new.book; started = world.new.started }) }
         ensures fits { OnOk result (Fits (state_of self.now world.new) None) }

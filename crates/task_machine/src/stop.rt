@@ -8,7 +8,8 @@ use nursery_book::NurseryId;
 pub enum Wake<'a> {
     /// It was started, and has its first turn.
     Begin,
-    /// Its sleep is due, and it sees no cancellation.
+    /// Its moment has come: its sleep is due, and it sees no cancellation; or, a round later than something else, it begins, it
+    /// raises `Cancelled` after a checkpoint, or the nursery that it waits for is left.
     Due,
     /// It sees a cancellation while it sleeps.
     Seen,
@@ -23,8 +24,10 @@ pub enum Wake<'a> {
 pub enum Stop<'a> {
     /// It requests an answer of a kernel on its part. It continues with `Wake::Answer`.
     Ask(Request<'a>),
-    /// It sleeps until this tick. It continues with `Wake::Due` or `Wake::Seen`.
+    /// It sleeps until this moment. It continues with `Wake::Due` or `Wake::Seen`.
     Sleep(u64),
+    /// It was cancelled at a checkpoint, and raises `Cancelled` in this moment, a round later. It continues with `Wake::Due`.
+    GiveUp(u64),
     /// It waits for the children of this nursery. It continues with `Wake::Settled`.
     Wait(NurseryId),
     /// It ended, with this exception or none. It does not continue.
@@ -35,7 +38,10 @@ pub enum Stop<'a> {
 #[derive(Drop)]
 pub(crate) enum TaskState<'a> {
     /// It has not begun.
-    ToBegin,
+    ToBegin {
+        /// The moment in which it begins.
+        at: u64,
+    },
     /// It asked a kernel for an answer.
     Asked {
         /// What was asked.
@@ -45,16 +51,23 @@ pub(crate) enum TaskState<'a> {
     },
     /// It sleeps.
     Asleep {
+        /// Whether it sleeps for a `pace`.
+        paced: bool,
         /// The number of ticks.
         ticks: u64,
-        /// From this tick on.
+        /// From this moment on.
+        since: u64,
+    },
+    /// It was cancelled at a checkpoint, and raises `Cancelled` a round later.
+    GivingUp {
+        /// The moment in which it was cancelled.
         since: u64,
     },
     /// It waits for the children of a nursery.
     Awaits {
         /// The nursery.
         nursery: NurseryId,
-        /// The tick in which the nursery's body ended.
+        /// The moment in which the nursery's body ended.
         since: u64,
     },
     /// It ended.

@@ -18,6 +18,7 @@ use job_grammar::Job;
 use nursery_book::{NurseryId, Place};
 use smallvec::SmallVec;
 use std::alloc::{AllocError, Global};
+use std::collections::VecDeque;
 
 /// A cancel scope that a task opened.
 #[derive(Clone, Copy)]
@@ -54,6 +55,9 @@ pub struct Task<'a> {
     pub(crate) task_state: TaskState<'a>,
     pub(crate) entries: Vec<Entry<'a>>,
     pub(crate) froms: Vec<ScopeFrom>,
+    // What it has cancelled itself in this moment, where there are rounds, the latest first. A request takes no round, so it stays
+    // while a kernel is asked.
+    pub(crate) cancelled: VecDeque<Label>,
 }
 
 impl<'a> Task<'a> {
@@ -68,9 +72,10 @@ impl<'a> Task<'a> {
         ensures frames { IfOk result (λ task. (children : ℕ → List ℕ) →
             frames_of children task.frames.items ≡ steps_left job.now.steps ∷ []) }
         ensures own { IfOk result (λ task. task.own.items ≡ []) }
-        ensures task_state { IfOk result (λ task. task.task_state ≡ ToBegin) }
+        ensures task_state { IfOk result (λ task. task.task_state ≡ ToBegin 0) }
         ensures entries { IfOk result (λ task. task.entries.items ≡ []) }
         ensures froms { IfOk result (λ task. task.froms.items ≡ []) }
+        ensures cancelled { IfOk result (λ task. task.cancelled.items ≡ []) }
     {
         let mut frames = SmallVec::new(alloc);
         frames.push(Frame::Steps(job.steps()))?;
@@ -81,9 +86,10 @@ impl<'a> Task<'a> {
             home: None,
             frames,
             own: Vec::new(alloc),
-            task_state: TaskState::ToBegin,
+            task_state: TaskState::ToBegin { at: 0 },
             entries: Vec::new(alloc),
             froms: Vec::new(alloc),
+            cancelled: VecDeque::new(alloc),
         })
     }
 
@@ -133,8 +139,8 @@ impl<'a> Task<'a> {
         self.entries.as_slice()
     }
 
-    /// Returns the scopes and nurseries that the task opened, in that order, each with the tick from which it was
-    /// cancelled. That tick is `None` until the scope or nursery is left.
+    /// Returns the scopes and nurseries that the task opened, in that order, each with the moment from which it was
+    /// cancelled. It is `None` until the scope or nursery is left.
     pub fn froms(&self) -> &[ScopeFrom]
         ensures { result.now ≡ self.now.froms.items }
     {

@@ -1,11 +1,12 @@
-ghost use Rattle.std.specs.Prelude.{ℕ, ◌<◌, ◌≤◌, ◌^◌, ◌++◌, [], ◌∷◌, List, None, IfOk, OnOk};
+ghost use Rattle.std.specs.Prelude.{◌≡◌, ℕ, ◌<◌, ◌≤◌, ◌^◌, ◌++◌, [], ◌∷◌, List, None, IfOk, OnOk};
 ghost use Rattle.std.specs.Option.{option_map};
 ghost use Rattle.exc_groups.specs.Held.{exc_of};
 ghost use Rattle.turn_semantics.specs.Bound.{frames_length};
 ghost use Rattle.task_machine.specs.declared.frame.Frame.TheVariants.{Steps};
 ghost use Rattle.task_machine.specs.Fitting.{Fits, waits_of};
 ghost use Rattle.task_machine.specs.Frames.{frames_of};
-ghost use Rattle.task_machine.specs.Standing.{waits_by, with_frames, GoesOn, StepsAs, BlockStepsAs, StopsAfter, TurnsAs};
+ghost use Rattle.task_machine.specs.Standing.{waits_by, with_frames, GoesOn, StepsAs, BlockStepsAs, StopsAfter, TurnsAs, woken_at};
+ghost use Rattle.task_machine.specs.declared.world.World.{World as WorldOf};
 ghost use Rattle.task_machine.specs.States.{state_of};
 ghost use Rattle.task_machine.specs.Waiters.{KeepsRest};
 ghost use Rattle.task_machine.specs.Waking.{WakesFrom, IsInRangeTaskState};
@@ -23,14 +24,15 @@ use job_tree::Step;
 use std::alloc::AllocError;
 
 impl<'a> Task<'a> {
-    /// Executes one turn: the task continues from a wake to its next stop, in the world's tick. `me` is the id of this task,
+    /// Executes one turn: the task continues from a wake to its next stop, in the world's moment. `me` is the id of this task,
     /// which each nursery that it opens keeps as that of its waiter. Children that it starts are left in the world
     /// (`take_started`).
     ///
-    /// The caller must ensure that the wake fits the last stop: `Begin` for the first turn, `Due` or `Seen` after `Sleep`, the
-    /// answer to the request after `Ask`, and `Settled` after `Wait` once that nursery is settled; that there is no turn after
-    /// `Ended`; that the scopes and nurseries of the task are open in the world; and that the tick is at most 2 to the 62. The
-    /// only error is that memory was refused, after which the task and the world can only be dropped.
+    /// The caller must ensure that the wake fits the last stop: `Begin` for the first turn, `Due` or `Seen` after `Sleep`, `Due`
+    /// after `GiveUp`, the answer to the request after `Ask`, and `Settled` after `Wait` once that nursery is settled (`Due` may
+    /// stand for `Begin` and `Settled`); that there is no turn after `Ended`; that the scopes and nurseries of the task are open in
+    /// the world; and that the moment is at most 2 to the 62. The only error is that memory was refused, after which the task and
+    /// the world can only be dropped.
     pub fn turn(
         &mut self,
         me: TaskId,
@@ -45,12 +47,27 @@ impl<'a> Task<'a> {
         ensures fits { OnOk result (Fits (state_of self.new world.new) (waits_of self.new.task_state)) }
         ensures turn { IfOk result (λ stop. TurnsAs (state_of self.old world.old) (state_of self.new world.new) wake.entry stop) }
     {
+        self.forget_cancelled(&wake);
         match self.wake(wake, world)? {
             Moved::On(exc) => {
                 let stop = self.go_to_stop(me, exc, world)?;
                 Ok(stop)
             }
             Moved::Stops(stop) => Ok(stop),
+        }
+    }
+
+    // What the task cancelled itself before counts on only while a kernel is asked, since a request takes no round.
+    fn forget_cancelled(&mut self, wake: &Wake<'a>)
+        ensures stays { self.new ≡ record self.old { cancelled = self.new.cancelled } }
+        ensures state { (world : WorldOf) → state_of self.new world ≡ woken_at wake.now (state_of self.old world) }
+    {
+        match wake {
+            Wake::Begin => self.cancelled.clear(),
+            Wake::Due => self.cancelled.clear(),
+            Wake::Seen => self.cancelled.clear(),
+            Wake::Answer(_) => {}
+            Wake::Settled => self.cancelled.clear(),
         }
     }
 

@@ -8,7 +8,7 @@ ghost use Rattle.task_machine.specs.declared.stop.Wake.TheVariants as wakes;
 ghost use Rattle.line_kernels.specs.declared.kernel.Kernel.{Kernel};
 ghost use Rattle.job_meaning.specs.Asking.{missing, counted};
 ghost use Rattle.task_machine.specs.declared.stop.TaskState.TheVariants.{Asked};
-ghost use Rattle.turn_semantics.specs.Wakes.{has_answer, settles};
+ghost use Rattle.turn_semantics.specs.Wakes.{has_answer, sees, settles};
 ghost use Rattle.task_machine.specs.Fitting.{Fits, waits_of};
 ghost use Rattle.task_machine.specs.Standing.{waits_by, Wakens};
 ghost use Rattle.task_machine.specs.States.{state_of};
@@ -17,7 +17,7 @@ ghost use Rattle.task_machine.specs.Waiters.{SameWaiters};
 ghost use Rattle.task_machine.specs.Waking.{WakesFrom, wake_in, answer_in, settled_exc, IsInRangeTaskState, IsInRangePurpose};
 
 use crate::entry::Entry;
-use crate::stop::{Moved, Purpose, TaskState, Wake};
+use crate::stop::{Moved, Purpose, Stop, TaskState, Wake};
 use crate::task::Task;
 use crate::world::World;
 use block_exits::Kind;
@@ -50,8 +50,11 @@ impl<'a> Task<'a> {
     {
         match wake {
             Wake::Begin => Ok(Moved::On(None)),
-            Wake::Due => Ok(Moved::On(None)),
-            Wake::Seen => Ok(Moved::On(Some(Exc::Cancelled))),
+            Wake::Due => {
+                let moved = self.come_due(world)?;
+                Ok(moved)
+            }
+            Wake::Seen => Ok(self.see(world)),
             Wake::Answer(answer) => {
                 let moved = self.take_answer(answer, world)?;
                 Ok(moved)
@@ -61,6 +64,55 @@ impl<'a> Task<'a> {
                 Ok(moved)
             }
         }
+    }
+
+    // The moment of the task has come.
+    fn come_due(&mut self, world: &mut World<'a>) -> Result<Moved<'a>, AllocError>
+        requires fits { Fits (state_of self.old world.old) (waits_of self.old.task_state) }
+        requires wake { WakesFrom self.old.task_state self.old.part world.old.book wakes.Due }
+        ensures stays { OnOk result (self.new
+            ≡ record self.old { own = self.new.own; entries = self.new.entries; froms = self.new.froms }) }
+        ensures world { OnOk result (world.new
+            ≡ record world.old { scopes = world.new.scopes; labels = world.new.labels; book = world.new.book }) }
+        ensures fits { IfOk result (λ moved. Fits (state_of self.new world.new) (waits_by moved self.new.task_state)) }
+        ensures waiters { OnOk result (SameWaiters world.old.book world.new.book) }
+        ensures wakes { IfOk result (λ moved. Wakens (state_of self.old world.old) (state_of self.new world.new) moved
+            (wake_in world.old.book self.old.task_state wakes.Due)) }
+    {
+        match &self.task_state {
+            TaskState::ToBegin { .. } => Ok(Moved::On(None)),
+            TaskState::Asleep { .. } => Ok(Moved::On(None)),
+            TaskState::GivingUp { .. } => Ok(Moved::On(Some(Exc::Cancelled))),
+            TaskState::Awaits { .. } => {
+                let moved = self.settle(world)?;
+                Ok(moved)
+            }
+            TaskState::Asked { .. } => unreachable!(),
+            TaskState::Over => unreachable!(),
+        }
+    }
+
+    // The task sees a cancellation: it raises, but for one at a checkpoint where there are rounds, which raises a round later.
+    fn see(&mut self, world: &World<'a>) -> Moved<'a>
+        requires tick { world.now.tick ≤ 2 ^ 62 }
+        requires wake { WakesFrom self.old.task_state self.old.part world.now.book wakes.Seen }
+        ensures stays { self.new ≡ record self.old { task_state = self.new.task_state } }
+        ensures task_state { IsInRangeTaskState self.old.task_state → IsInRangeTaskState self.new.task_state }
+        ensures waits { waits_by result self.new.task_state ≡ None }
+        ensures wakes { Wakens (state_of self.old world.now) (state_of self.new world.now) result sees }
+    {
+        let TaskState::Asleep { paced, ticks, .. } = &self.task_state else {
+            unreachable!()
+        };
+        if *paced {
+            return Moved::On(Some(Exc::Cancelled));
+        }
+        if *ticks != 0 {
+            return Moved::On(Some(Exc::Cancelled));
+        }
+        let since = world.now();
+        self.task_state = TaskState::GivingUp { since };
+        Moved::Stops(Stop::GiveUp(since + 1))
     }
 
     // Takes the kernel's answer: its lines are noted, a missing line raises, and a count determines a sleep.
@@ -125,7 +177,11 @@ impl<'a> Task<'a> {
             Wakens (state_of self.old world.now) (state_of self.new world.now) result (has_answer (counted count)) }
     {
         match purpose {
-            Purpose::Paces(per_tick) => self.sleep((count + (per_tick - 1)) / per_tick, world),
+            Purpose::Paces(per_tick) => self.sleep(
+                true,
+                (count + (per_tick - 1)) / per_tick,
+                world,
+            ),
             Purpose::Shows => Moved::On(None),
             Purpose::Needs(_) => Moved::On(None),
         }

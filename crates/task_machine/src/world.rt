@@ -1,10 +1,11 @@
 ghost use Rattle.std.specs.Prelude.{◌≡◌, ℕ, ◌+◌, ◌<◌, ◌≤◌, ◌^◌, ◌||◌, false, [], ◌∷◌, Some, None, IsSome, IfOk, OnOk};
 ghost use Rattle.std.specs.Option.{ForSome, option_map};
 ghost use Rattle.std.specs.Borrow.{sem};
-ghost use Rattle.cancel_scopes.specs.Sight.{before, seen, sight};
+ghost use Rattle.cancel_scopes.specs.Sight.{before, is_reached, seen, sight};
 ghost use Rattle.cancel_scopes.specs.Tree.{stack_of, is_changed, IsOpen, outer_of, OthersKeep, SameMarks, OtherMarksKeep, after_cancel, own_from, IsInnermost};
 ghost use Rattle.cancel_scopes.specs.Tree as tree;
 ghost use Rattle.nursery_book.specs.Book.{nursery_at};
+ghost use Rattle.moments.specs.Moments.{tick_of};
 ghost use Rattle.task_machine.specs.Labels.{Updates};
 
 use crate::labels::{put_label, take_label};
@@ -12,16 +13,19 @@ use crate::task::Task;
 use cancel_scopes::{ScopeId, ScopeTree, stacks_are_chains};
 use exc_groups::Label;
 use job_tree::Name;
+use moments::Clock;
 use nursery_book::NurseryBook;
 use std::alloc::{AllocError, Global};
 use std::collections::VecDeque;
 
-/// What all tasks of a run share: the tick, the cancel scopes, each with its label, the nurseries, and the started tasks
-/// that were not taken yet.
+/// What all tasks of a run share: the clock, the moment, the cancel scopes, each with its label, the nurseries, and the
+/// started tasks that were not taken yet.
 ///
-/// Ticks are at most 4,611,686,018,427,387,904 (2 to the 62).
+/// Moments are at most 4,611,686,018,427,387,904 (2 to the 62).
 #[derive(Drop)]
 pub struct World<'a> {
+    pub(crate) clock: Clock,
+    // The moment.
     pub(crate) tick: u64,
     pub(crate) scopes: ScopeTree,
     // Indexed by the keys of the scopes.
@@ -31,12 +35,13 @@ pub struct World<'a> {
 }
 
 impl<'a> World<'a> {
-    ghost use Rattle.task_machine.specs.Labels.{is_named, scope_named};
+    ghost use Rattle.task_machine.specs.Labels.{is_named, scope_named, has_label_among, seen_levels};
     ghost use Rattle.task_machine.specs.Worlds.{label_at, TakesFirst};
     ghost use Rattle.task_machine.specs.Lending.{lends_scopes, lends_book};
 
-    /// Returns a world at tick 0, in which nothing is open and nothing was started. Takes no memory.
-    pub fn new(alloc: Global) -> World<'a>
+    /// Returns a world in moment 0 of a clock, in which nothing is open and nothing was started. Takes no memory.
+    pub fn new(alloc: Global, clock: Clock) -> World<'a>
+        ensures clock { result.clock ≡ clock }
         ensures tick { result.tick ≡ 0 }
         ensures scopes { (key : ℕ) → stack_of result.scopes key ≡ None }
         ensures labels { (key : ℕ) → label_at result key ≡ None }
@@ -45,6 +50,7 @@ impl<'a> World<'a> {
         ensures started { result.started.items ≡ [] }
     {
         World {
+            clock,
             tick: 0,
             scopes: ScopeTree::new(alloc),
             labels: Vec::new(alloc),
@@ -53,14 +59,28 @@ impl<'a> World<'a> {
         }
     }
 
-    /// Returns the present tick.
+    /// Returns how time is counted.
+    pub fn clock(&self) -> Clock
+        ensures { result ≡ self.now.clock }
+    {
+        self.clock
+    }
+
+    /// Returns the present moment.
     pub fn now(&self) -> u64
         ensures { result ≡ self.now.tick }
     {
         self.tick
     }
 
-    /// Sets the present tick, which must not be earlier than before, and at most 2 to the 62. Nothing else changes.
+    /// Returns the tick of the present moment.
+    pub fn tick(&self) -> u64
+        ensures { result ≡ tick_of self.now.clock self.now.tick }
+    {
+        self.clock.tick_of(self.tick)
+    }
+
+    /// Sets the present moment, which must not be earlier than before, and at most 2 to the 62. Nothing else changes.
     pub fn set_now(&mut self, tick: u64)
         requires later { self.old.tick ≤ tick }
         requires bounded { tick ≤ 2 ^ 62 }
@@ -132,7 +152,7 @@ impl<'a> World<'a> {
         Ok(id)
     }
 
-    // Closes a cancel scope that has no open children. Returns its label and the tick from which it was cancelled, or
+    // Closes a cancel scope that has no open children. Returns its label and the moment from which it was cancelled, or
     // `None` if it never was.
     pub(crate) fn leave(&mut self, id: ScopeId) -> (Label, Option<u64>)
         requires id { IsOpen self.old.scopes id }
@@ -151,7 +171,7 @@ impl<'a> World<'a> {
         (label, from)
     }
 
-    // Cancels a scope in the present tick, which is seen from the next one on.
+    // Cancels a scope in the present moment, which is seen from the next one on.
     pub(crate) fn sign(&mut self, id: ScopeId)
         requires id { IsOpen self.old.scopes id }
         requires tick { self.old.tick + 1 < 2 ^ 63 }
@@ -202,11 +222,77 @@ impl<'a> World<'a> {
         }
     }
 
-    // Whether the scope catches a cancellation that leaves it now.
-    pub(crate) fn catches(&self, id: ScopeId) -> bool
-        requires { IsOpen self.now.scopes id }
-        ensures { ForSome (stack_of self.now.scopes id) (λ stack. result ≡ tree.catches stack self.now.tick) }
+    // The label of an open scope.
+    pub(crate) fn label(&self, id: ScopeId) -> &Label
+        requires { IsSome (label_at self.now id) }
+        ensures { label_at self.now id ≡ Some result.now }
     {
-        self.scopes.may_catch(id, self.tick)
+        match self.labels.get(id.key()) {
+            Some(Some(label)) => label,
+            _ => unreachable!(),
+        }
+    }
+
+    // Whether the scope catches a cancellation that leaves it now, for a task that has itself cancelled some labels in this moment.
+    pub(crate) fn catches(&self, id: ScopeId, cancelled: &VecDeque<Label>) -> bool
+        requires { IsOpen self.now.scopes id }
+        ensures { ForSome (stack_of self.now.scopes id) (λ stack.
+            result ≡ tree.catches (seen_levels (label_at self.now) cancelled.now.items self.now.tick stack) self.now.tick) }
+    {
+        if cancelled.front().is_none() {
+            return self.scopes.may_catch(id, self.tick);
+        }
+        if !self.is_cancelled(id, cancelled) {
+            return false;
+        }
+        if self.scopes.is_shielded(id) {
+            return true;
+        }
+        !self.sees_with(self.scopes.parent(id), cancelled)
+    }
+
+    // Whether a scope is itself cancelled now, for such a task.
+    fn is_cancelled(&self, id: ScopeId, cancelled: &VecDeque<Label>) -> bool
+        requires { IsOpen self.now.scopes id }
+        ensures { ForSome (stack_of self.now.scopes id) (λ stack.
+            result ≡ is_reached (own_from (seen_levels (label_at self.now) cancelled.now.items self.now.tick stack)) self.now.tick) }
+    {
+        stacks_are_chains(&self.scopes);
+        if self.scopes.is_cancelled(id, self.tick) {
+            return true;
+        }
+        self.is_among(id, cancelled)
+    }
+
+    // Whether a scope has one of these labels.
+    fn is_among(&self, id: ScopeId, cancelled: &VecDeque<Label>) -> bool
+        ensures { result ≡ has_label_among (label_at self.now id) cancelled.now.items }
+    {
+        match self.labels.get(id.key()) {
+            Some(Some(label)) => cancelled.contains(label),
+            Some(None) => false,
+            None => false,
+        }
+    }
+
+    // Whether such a task, in a scope or in none, sees a cancellation: from the scope outwards, up to and including the first shielded
+    // one.
+    fn sees_with(&self, scope: Option<ScopeId>, cancelled: &VecDeque<Label>) -> bool
+        requires { ForSome scope (IsOpen self.now.scopes) }
+        ensures { result
+            ≡ seen (seen_levels (label_at self.now) cancelled.now.items self.now.tick (outer_of self.now.scopes scope)) self.now.tick }
+    {
+        stacks_are_chains(&self.scopes);
+        let mut inside = scope;
+        'outwards: while let Some(id) = inside {
+            if self.is_cancelled(id, cancelled) {
+                return true;
+            }
+            if self.scopes.is_shielded(id) {
+                return false;
+            }
+            inside = self.scopes.parent(id);
+        }
+        false
     }
 }

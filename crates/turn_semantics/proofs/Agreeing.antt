@@ -1,18 +1,19 @@
 -- What a table and the froms of the world show alike, where they agree.
-use Rattle.std.proofs.Common.{◌≡◌, ℕ, suc, ◌+◌, Bool, true, false, ◌&&◌, ◌||◌, not, Option, Some, None, List, [], ◌∷◌, refl, ap, sym, ◌∙◌, arith}
+use Rattle.std.proofs.Common.{◌≡◌, ℕ, suc, ◌+◌, Bool, true, false, ◌&&◌, ◌||◌, not, Option, Some, None, List, [], ◌∷◌, refl, ap, sym, ◌∙◌, arith, if◌then◌else◌}
 use Rattle.std.specs.Str.{bytes_eq}
 use Rattle.exc_groups.specs.Exceptions.{Label, cancelled}
-use Rattle.cancel_scopes.specs.Sight.{Tick, is_reached, sight, seen, catches}
-use Rattle.job_meaning.specs.Log.{Table, same_label}
-use Rattle.job_meaning.specs.Walk.{Stack, sleep_by_sight, sleep_result, raised_at, done_at, label_on, label_if}
+use Rattle.cancel_scopes.specs.Sight.{Tick, earlier, is_reached, sight, seen, catches}
+use Rattle.job_meaning.specs.Log.{Result, Table, same_label}
+use Rattle.job_meaning.specs.Moments.{Clock, by_ticks, only_at}
+use Rattle.job_meaning.specs.Walk.{Stack, is_among, from_for, stack_for, wait_by_sight, sleep_result, pace_result, raised_at, done_at, label_on, label_if}
 use Rattle.job_meaning.specs.Before.{upto, Near}
-use Rattle.job_meaning.proofs.Clips.{upto_most, upto_earlier, reached_near, seen_near}
+use Rattle.job_meaning.proofs.Clips.{upto_most, upto_earlier, upto_earlier_same, reached_near, seen_near}
 use Rattle.job_meaning.proofs.Distinct.{same_label_equal, same_label_itself}
 use Rattle.turn_semantics.specs.Midway.{Place, stack_at}
 use Rattle.turn_semantics.specs.Steps.{label_among, froms_after_sign, from_lowered_if, froms_after_entry, from_entered_if}
 use Rattle.turn_semantics.specs.Turned.{AgreesOn}
 
--- the stacks are near each other as far as the present tick
+-- the stacks are near each other as far as the present moment
 pub near_stacks : (t : ℕ) (table froms : Table) (ps : List Place) → AgreesOn t table froms ps →
     Near (suc t) (stack_at table ps) (stack_at froms ps)
 near_stacks t table froms [] a = tt
@@ -23,11 +24,31 @@ pub seen_alike : (t : ℕ) (table froms : Table) (ps : List Place) → AgreesOn 
     seen (stack_at table ps) t ≡ seen (stack_at froms ps) t
 seen_alike t table froms ps a = seen_near (suc t) (stack_at table ps) (stack_at froms ps) t (near_stacks t table froms ps a) (omega arith)
 
--- and the innermost enclosing scope or nursery catches in the same way
-pub catches_alike : (t : ℕ) (table froms : Table) (p : Place) (ps : List Place) → AgreesOn t table froms (p ∷ ps) →
-    catches (table p.label) p.shield (stack_at table ps) t ≡ catches (froms p.label) p.shield (stack_at froms ps) t
-catches_alike t table froms p ps a =
-    both (reached_near (suc t) (table p.label) (froms p.label) t a.0 (omega arith)) (seen_alike t table froms ps a.1)
+-- a from is near another one for a task that has cancelled some labels, too
+from_for_near : (c : ℕ) (own : List Label) (t : ℕ) (l : Label) (f g : Tick) → upto c f ≡ upto c g →
+    upto c (from_for own t l f) ≡ upto c (from_for own t l g)
+from_for_near c own t l f g e = by_own (is_among l own)
+  where
+    by_own : (b : Bool) → upto c (if b then earlier f (Some t) else f) ≡ upto c (if b then earlier g (Some t) else g)
+    by_own true = upto_earlier_same c f (Some t) g (Some t) e refl
+    by_own false = e
+
+-- and so is a stack
+stack_for_near : (c : ℕ) (own : List Label) (t : ℕ) (table froms : Table) (ps : List Place) → Near c (stack_at table ps) (stack_at froms ps) →
+    Near c (stack_for own t (stack_at table ps)) (stack_for own t (stack_at froms ps))
+stack_for_near c own t table froms [] n = tt
+stack_for_near c own t table froms (p ∷ ps) n =
+    (refl, refl, from_for_near c own t p.label (table p.label) (froms p.label) n.2, stack_for_near c own t table froms ps n.3)
+
+-- and the innermost enclosing scope or nursery catches in the same way, for a task that has cancelled some labels
+pub catches_alike : (own : List Label) (t : ℕ) (table froms : Table) (p : Place) (ps : List Place) → AgreesOn t table froms (p ∷ ps) →
+    catches (from_for own t p.label (table p.label)) p.shield (stack_for own t (stack_at table ps)) t
+    ≡ catches (from_for own t p.label (froms p.label)) p.shield (stack_for own t (stack_at froms ps)) t
+catches_alike own t table froms p ps a =
+    both (reached_near (suc t) (from_for own t p.label (table p.label)) (from_for own t p.label (froms p.label)) t
+    (from_for_near (suc t) own t p.label (table p.label) (froms p.label) a.0) (omega arith))
+    (seen_near (suc t) (stack_for own t (stack_at table ps)) (stack_for own t (stack_at froms ps)) t
+    (stack_for_near (suc t) own t table froms ps (near_stacks t table froms ps a.1)) (omega arith))
   where
     both : {a b x y : Bool} → a ≡ b → x ≡ y → (a && (p.shield || not x)) ≡ (b && (p.shield || not y))
     both e f = cc
@@ -40,26 +61,38 @@ label_at_places table name (p ∷ ps) =
 
 -- ---- sleeps
 
--- a sleep where a cancellation is seen
-pub sleep_seen : (st : Stack) (n t : ℕ) → seen st t ≡ true → sleep_result st n t ≡ raised_at cancelled t
-unfolding sleep_result
-sleep_seen st n t e = by_sight (sight st) e
-  where
-    by_sight : (a : Tick) → is_reached a t ≡ true → sleep_by_sight a n t ≡ raised_at cancelled t
-    by_sight None e = absurd (cc)
-    by_sight (Some from) e = rw e refl
+-- the result of a sleep, by `pace` or not
+abbrev pub slept : Bool → Clock → Stack → ℕ → ℕ → Result
+slept false clock st n t = sleep_result clock st n t
+slept true clock st n t = pace_result clock st n t
 
--- a sleep of no tick where none is seen
-pub sleep_none : (st : Stack) (t : ℕ) → seen st t ≡ false → sleep_result st 0 t ≡ done_at t
-unfolding sleep_result
-sleep_none st t e = by_sight (sight st) e
+-- a wait where a cancellation is seen at once
+waits_seen : (a : Tick) (n t : ℕ) → is_reached a t ≡ true → wait_by_sight a t t (t + n) ≡ raised_at cancelled (only_at t)
+waits_seen None n t e = absurd (cc)
+waits_seen (Some from) n t e = rw e refl
+
+-- a wait of no tick where none is seen
+waits_none : (a : Tick) (t : ℕ) → is_reached a t ≡ false → wait_by_sight a t t (t + 0) ≡ done_at (only_at t)
+waits_none a t e = by_sight a e
   where
     same : t + 0 ≡ t
     same = omega arith
 
-    by_sight : (a : Tick) → is_reached a t ≡ false → sleep_by_sight a 0 t ≡ done_at t
+    by_sight : (a : Tick) → is_reached a t ≡ false → wait_by_sight a t t (t + 0) ≡ done_at (only_at t)
     by_sight None e = rw same refl
     by_sight (Some from) e = rw same (rw e refl)
+
+-- where moments are ticks, a sleep where a cancellation is seen, by `pace` or not
+pub sleep_seen : (paced : Bool) (st : Stack) (n t : ℕ) → seen st t ≡ true → slept paced by_ticks st n t ≡ raised_at cancelled (only_at t)
+unfolding sleep_result pace_result
+sleep_seen false st n t e = waits_seen (sight st) n t e
+sleep_seen true st n t e = waits_seen (sight st) n t e
+
+-- and a sleep of no tick where none is seen
+pub sleep_none : (paced : Bool) (st : Stack) (t : ℕ) → seen st t ≡ false → slept paced by_ticks st 0 t ≡ done_at (only_at t)
+unfolding sleep_result pace_result
+sleep_none false st t e = waits_none (sight st) t e
+sleep_none true st t e = waits_none (sight st) t e
 
 -- ---- how the froms change
 

@@ -9,32 +9,33 @@ use Rattle.exc_groups.specs.Exceptions.{Label, Exc, cancelled}
 use Rattle.exc_groups.specs.Split.{named, keep, drop}
 use Rattle.cancel_scopes.specs.Sight.{Tick, seen}
 use Rattle.job_meaning.specs.Log.{Table}
-use Rattle.job_meaning.specs.Walk.{Here, far, due, here_in, label_here, label_over, label_if, Kind, a_scope}
-use Rattle.job_meaning.specs.Rest.{Event, starts, starts_over, consecutive, Frame, steps_left, in_scope, in_nursery, in_repeat, in_try, in_handler, in_cleanup, inside, asking, frames_weight}
+use Rattle.job_meaning.specs.Moments.{Clock, by_ticks, by_rounds, tick_of, a_round_after, due, Now, far}
+use Rattle.job_meaning.specs.Walk.{Here, here_in, label_here, label_over, label_if, Kind, a_scope}
+use Rattle.job_meaning.specs.Rest.{Event, starts, starts_over, sleep_weight, consecutive, Frame, steps_left, in_scope, in_nursery, in_repeat, in_try, in_handler, in_cleanup, inside, asking, asleep, frames_weight}
 use Rattle.job_meaning.specs.Asking.{Kernel, Purpose, Suits, shows, needs, paces}
 use Rattle.job_meaning.specs.Asking as ask
 use Rattle.turn_semantics.specs.Midway.{Place, stack_at, Midway, Begun, Move}
 use Rattle.turn_semantics.specs.Steps.{froms_after, onward, blocks_on, falls_asleep, sleeps, label_among, signs_to, signs_home, with_started, begun_one, begun_over, enters_block, step_on, step_steps, leaves, handler_if, step_try, step_frames, step_of, begins_passes, step_pass}
 use Rattle.turn_semantics.specs.Placed.{in_body, Placed, PlacedAfter, home_places, home_after}
-use Rattle.turn_semantics.specs.Turned.{Known, labels_of, AllKnown, known_after, MadeAt, Starts, BegunIn, StopsAt, weight_of_stop, weight_of_begun}
+use Rattle.turn_semantics.specs.Turned.{Known, labels_of, AllKnown, known_after, MadeAt, Starts, BegunIn, FallsAsleep, StopsAt, weight_of_stop, weight_of_begun}
 use Rattle.turn_semantics.proofs.Events.{all_own, all_grow, known_stays, begun_append, made_append, starts_append, weight_append}
 use Rattle.std.proofs.Math.Nat.{suc-mul}
 
 -- what a move from these enclosing scopes and nurseries with this weight promises, except for the
 -- result of the task
-pub record Case (t : ℕ) (froms : Table) (weight_before : ℕ) (home ps : List Place) (count : ℕ) (o : Move) : Type 0 where
+pub record Case (clock : Clock) (t : ℕ) (froms : Table) (weight_before : ℕ) (home ps : List Place) (count : ℕ) (o : Move) : Type 0 where
   pub placed : PlacedAfter o.stopped o.frames o.places
   pub at_home : home_after o.stopped o.frames o.places ≡ home
-  pub made_now : MadeAt t (labels_of ps) o.made
+  pub made_now : MadeAt clock t (labels_of ps) o.made
   pub places : AllKnown o.places (known_after (labels_of ps) o.made)
   pub starts_made : Starts count o.made o.begun
   pub begun_in : BegunIn (known_after (labels_of ps) o.made) o.begun
-  pub stops : StopsAt t (froms_after froms o.made) o.stopped o.places
+  pub stops : StopsAt clock t (froms_after froms o.made) o.stopped o.places
   pub weight : weight_of_stop o.stopped + frames_weight o.frames + weight_of_begun o.begun ≤ weight_before
 
 -- a label that is found among enclosing scopes and nurseries belongs to one of them
-found_known : (name : List ℕ) (ps : List Place) (t : ℕ) → MadeAt t (labels_of ps) (signs_to (label_among name ps) t)
-found_known name ps t = by_label (label_among name ps) (found ps)
+found_known : (clock : Clock) (name : List ℕ) (ps : List Place) (t : ℕ) → MadeAt clock t (labels_of ps) (signs_to (label_among name ps) t)
+found_known clock name ps t = by_label (label_among name ps) (found ps)
   where
     Found : Option Label → List Label → Type 0
     Found None ls = Unit {0}
@@ -52,15 +53,15 @@ found_known name ps t = by_label (label_among name ps) (found ps)
     found [] = tt
     found (p ∷ ps) = first (bytes_eq name p.label.name) p.label (label_among name ps) (labels_of ps) (found ps)
 
-    by_label : (o : Option Label) → Found o (labels_of ps) → MadeAt t (labels_of ps) (signs_to o t)
+    by_label : (o : Option Label) → Found o (labels_of ps) → MadeAt clock t (labels_of ps) (signs_to o t)
     by_label None k = tt
     by_label (Some l) k = (refl, k, tt)
 
 -- the innermost enclosing scope or nursery is known
-home_known : (e : Option Exc) (ps : List Place) (t : ℕ) → MadeAt t (labels_of ps) (signs_home e ps t)
-home_known None ps t = tt
-home_known (Some e) [] t = tt
-home_known (Some e) (p ∷ ps) t = (refl, inl refl, tt)
+home_known : (clock : Clock) (e : Option Exc) (ps : List Place) (t : ℕ) → MadeAt clock t (labels_of ps) (signs_home e ps t)
+home_known clock None ps t = tt
+home_known clock (Some e) [] t = tt
+home_known clock (Some e) (p ∷ ps) t = (refl, inl refl, tt)
 
 -- signs begin no child, and enter nothing
 signs_start : (o : Option Label) (t n : ℕ) → Starts n (signs_to o t) []
@@ -78,9 +79,9 @@ still_known ps es = all_grow (labels_of ps) (known_after (labels_of ps) es) (λ 
 -- ---- shapes of moves
 
 -- a move that continues, and makes nothing
-pub onward_case : (t : ℕ) (froms : Table) (w : ℕ) (home : List Place) (fs : List Frame) (ps : List Place) (exc : Option Exc) (count : ℕ) →
-    Placed fs ps → home_places fs ps ≡ home → frames_weight fs ≤ w → Case t froms w home ps count (onward fs ps exc)
-onward_case t froms w home fs ps exc count p h le =
+pub onward_case : (clock : Clock) (t : ℕ) (froms : Table) (w : ℕ) (home : List Place) (fs : List Frame) (ps : List Place) (exc : Option Exc) (count : ℕ) →
+    Placed fs ps → home_places fs ps ≡ home → frames_weight fs ≤ w → Case clock t froms w home ps count (onward fs ps exc)
+onward_case clock t froms w home fs ps exc count p h le =
     record {
       placed = p;
       at_home = h;
@@ -93,15 +94,22 @@ onward_case t froms w home fs ps exc count p h le =
           omega arith;
     }
 
+-- the weight of a sleep
+sleep_weighs : (paced : Bool) (n : ℕ) → sleep_weight paced n ≤ sleep_weight paced 0
+sleep_weighs false zero = omega arith
+sleep_weighs false (suc n) = omega arith
+sleep_weighs true zero = omega arith
+sleep_weighs true (suc n) = omega arith
+
 -- a sleep
-pub sleep_case : (t : ℕ) (froms : Table) (n w : ℕ) (home : List Place) (fs : List Frame) (ps : List Place) (count : ℕ) → Placed fs ps →
-    home_places fs ps ≡ home → 1 + frames_weight fs ≤ w → Case t froms w home ps count (sleeps froms n t fs ps)
-sleep_case t froms n w home fs ps count p h le = by_sight (seen (stack_at froms ps) t) refl n
+pub sleep_case : (clock : Clock) (t : ℕ) (froms : Table) (paced : Bool) (n w : ℕ) (home : List Place) (fs : List Frame) (ps : List Place)
+    (count : ℕ) → Placed fs ps →
+    home_places fs ps ≡ home → sleep_weight paced 0 + frames_weight fs ≤ w → Case clock t froms w home ps count (sleeps clock froms paced n t fs ps)
+sleep_case clock t froms paced n w home fs ps count p h le = by_clock clock (seen (stack_at froms ps) t) refl n
   where
-    by_sight : (b : Bool) → seen (stack_at froms ps) t ≡ b → (n : ℕ) → Case t froms w home ps count (falls_asleep b n t fs ps)
-    by_sight true e n = onward_case t froms w home fs ps (Some cancelled) count p h (omega arith)
-    by_sight false e zero = onward_case t froms w home fs ps None count p h (omega arith)
-    by_sight false e (suc n) =
+    falls : (clock : Clock) (n : ℕ) → FallsAsleep clock n (seen (stack_at froms ps) t) →
+        Case clock t froms w home ps count (blocks_on (asleep paced n t) fs ps)
+    falls clock n f =
         record {
           placed = p;
           at_home = h;
@@ -109,17 +117,23 @@ sleep_case t froms n w home fs ps count p h le = by_sight (seen (stack_at froms 
           places = all_own ps;
           starts_made = tt;
           begun_in = tt;
-          stops =
-              (refl, omega arith, e);
-          weight = omega arith;
+          stops = (refl, f);
+          weight = let i = sleep_weighs paced n in omega arith;
         }
 
+    by_clock : (clock : Clock) (b : Bool) → seen (stack_at froms ps) t ≡ b → (n : ℕ) →
+        Case clock t froms w home ps count (falls_asleep clock b paced n t fs ps)
+    by_clock by_ticks true e n = onward_case by_ticks t froms w home fs ps (Some cancelled) count p h (omega arith)
+    by_clock by_ticks false e zero = onward_case by_ticks t froms w home fs ps None count p h (omega arith)
+    by_clock by_ticks false e (suc n) = falls by_ticks (suc n) (omega arith, e)
+    by_clock by_rounds b e n = falls by_rounds n tt
+
 -- the case of a step that asks a kernel
-asks_case : (t : ℕ) (froms : Table) (kernel : Kernel) (purpose : Purpose) (w : ℕ) (home : List Place) (fs : List Frame) (ps : List Place)
+asks_case : (clock : Clock) (t : ℕ) (froms : Table) (kernel : Kernel) (purpose : Purpose) (w : ℕ) (home : List Place) (fs : List Frame) (ps : List Place)
     (count : ℕ) →
     Suits kernel purpose → Placed fs ps → home_places fs ps ≡ home → weight_of_stop (Some (asking kernel purpose)) + frames_weight fs ≤ w →
-    Case t froms w home ps count (blocks_on (asking kernel purpose) fs ps)
-asks_case t froms kernel purpose w home fs ps count suits p h le =
+    Case clock t froms w home ps count (blocks_on (asking kernel purpose) fs ps)
+asks_case clock t froms kernel purpose w home fs ps count suits p h le =
     record {
       placed = (suits, p);
       at_home = h;
@@ -133,13 +147,13 @@ asks_case t froms kernel purpose w home fs ps count suits p h le =
     }
 
 -- the case of a step that enters a scope or nursery
-enter_case : (t : ℕ) (froms : Table) (label : Label) (shield : Bool) (deadline : Tick) (body : Steps) (exit : Frame) (w : ℕ)
+enter_case : (clock : Clock) (t : ℕ) (froms : Table) (label : Label) (shield : Bool) (deadline : Tick) (body : Steps) (exit : Frame) (w : ℕ)
     (home : List Place) (fs : List Frame) (ps : List Place) (count : ℕ) →
     Placed (steps_left body ∷ exit ∷ fs) (record { label = label; shield = shield } ∷ ps) →
     home_places (steps_left body ∷ exit ∷ fs) (record { label = label; shield = shield } ∷ ps) ≡ home →
     frames_weight (steps_left body ∷ exit ∷ fs) ≤ w →
-    Case t froms w home ps count (enters_block label shield deadline t body exit fs ps)
-enter_case t froms label shield deadline body exit w home fs ps count p h le =
+    Case clock t froms w home ps count (enters_block label shield deadline t body exit fs ps)
+enter_case clock t froms label shield deadline body exit w home fs ps count p h le =
     record {
       placed = p;
       at_home = h;
@@ -152,10 +166,10 @@ enter_case t froms label shield deadline body exit w home fs ps count p h le =
     }
 
 -- a scope or nursery that is left
-pub leaves_case : (t : ℕ) (froms : Table) (kind : Kind) (w : ℕ) (home : List Place) (fs : List Frame) (p : Place) (ps : List Place)
+pub leaves_case : (clock : Clock) (now : Now) (froms : Table) (kind : Kind) (w : ℕ) (home : List Place) (fs : List Frame) (p : Place) (ps : List Place)
     (exc : Option Exc) (count : ℕ) → Placed fs ps → home_places fs ps ≡ home → frames_weight fs ≤ w →
-    Case t froms w home (p ∷ ps) count (leaves froms t kind fs p ps exc)
-leaves_case t froms kind w home fs p ps exc count q h le =
+    Case clock now.at froms w home (p ∷ ps) count (leaves clock froms now kind fs p ps exc)
+leaves_case clock now froms kind w home fs p ps exc count q h le =
     record {
       placed = q;
       at_home = h;
@@ -257,19 +271,21 @@ over_weight name here of body ps first (suc k) =
     times : (x k : ℕ) → suc k * x ≡ x + k * x
     times x k = omega arith
 
-over_made : (name : List ℕ) (here : Here) (t first : ℕ) (ls : List Label) (k : ℕ) → MadeAt t ls (starts_over name here t first k)
-over_made name here t first ls zero = tt
-over_made name here t first ls (suc k) =
-    made_append t (starts_over name here t first k) (starts (first + k) (label_over name here k) t ∷ []) ls
-    (over_made name here t first ls k) (refl, tt)
+over_made : (clock : Clock) (name : List ℕ) (here : Here) (t first : ℕ) (ls : List Label) (k : ℕ) →
+    MadeAt clock t ls (starts_over name here (a_round_after clock t) first k)
+over_made clock name here t first ls zero = tt
+over_made clock name here t first ls (suc k) =
+    made_append clock t (starts_over name here (a_round_after clock t) first k)
+    (starts (first + k) (label_over name here k) (a_round_after clock t) ∷ []) ls
+    (over_made clock name here t first ls k) (refl, tt)
 
 -- the case of a step that starts one child or several
-start_case : (t : ℕ) (froms : Table) (here : Here) (name : List ℕ) (over : Option ℕ) (body ss : Steps) (fs : List Frame) (ps : List Place)
+start_case : (now : Now) (froms : Table) (here : Here) (name : List ℕ) (over : Option ℕ) (body ss : Steps) (fs : List Frame) (ps : List Place)
     (count : ℕ) →
     StartsIn false body → StartsIn (in_body fs) ss → Placed fs ps →
-    Case t froms (frames_weight (steps_left (step (start name over body) ss) ∷ fs)) (home_places fs ps) ps count
-    (step_on froms t here (start name over body) ss fs ps count)
-start_case t froms here name None body ss fs ps count i b p =
+    Case here.clock now.at froms (frames_weight (steps_left (step (start name over body) ss) ∷ fs)) (home_places fs ps) ps count
+    (step_on froms now here (start name over body) ss fs ps count)
+start_case now froms here name None body ss fs ps count i b p =
     record {
       placed = (subst (λ (x : Bool). StartsIn x ss) (sym (body_started (count ∷ []) fs)) b, placed_started (count ∷ []) fs ps p);
       at_home = home_started (count ∷ []) fs ps;
@@ -280,18 +296,18 @@ start_case t froms here name None body ss fs ps count i b p =
       stops = tt;
       weight = let e = weight_started (count ∷ []) fs in omega arith;
     }
-start_case t froms here name (Some k) body ss fs ps count i b p =
+start_case now froms here name (Some k) body ss fs ps count i b p =
     record {
       placed = (
         subst (λ (x : Bool). StartsIn x ss) (sym (body_started (consecutive count k) fs)) b,
         placed_started (consecutive count k) fs ps p,
       );
       at_home = home_started (consecutive count k) fs ps;
-      made_now = over_made name here t count (labels_of ps) k;
-      places = still_known ps (starts_over name here t count k);
-      starts_made = over_starts name here t k body ps count k;
-      begun_in = over_begun name here k body ps count (known_after (labels_of ps) (starts_over name here t count k))
-          (still_known ps (starts_over name here t count k)) i k;
+      made_now = over_made here.clock name here now.at count (labels_of ps) k;
+      places = still_known ps (starts_over name here (a_round_after here.clock now.at) count k);
+      starts_made = over_starts name here (a_round_after here.clock now.at) k body ps count k;
+      begun_in = over_begun name here k body ps count (known_after (labels_of ps) (starts_over name here (a_round_after here.clock now.at) count k))
+          (still_known ps (starts_over name here (a_round_after here.clock now.at) count k)) i k;
       stops = tt;
       weight = let e = weight_started (consecutive count k) fs in let h = over_weight name here k body ps count k in omega arith;
     }
@@ -299,129 +315,129 @@ start_case t froms here name (Some k) body ss fs ps count i b p =
 -- ---- passes
 
 -- the first pass of a `repeat`
-passes_case : (t : ℕ) (froms : Table) (n : ℕ) (body : Steps) (w : ℕ) (home : List Place) (fs : List Frame) (ps : List Place) (count : ℕ) →
+passes_case : (clock : Clock) (t : ℕ) (froms : Table) (n : ℕ) (body : Steps) (w : ℕ) (home : List Place) (fs : List Frame) (ps : List Place) (count : ℕ) →
     StartsIn false body → Placed fs ps → home_places fs ps ≡ home → 2 * (n * (1 + size_of body)) + frames_weight fs ≤ w →
-    Case t froms w home ps count (begins_passes n body fs ps)
-passes_case t froms zero body w home fs ps count b p h le = onward_case t froms _ _ fs ps None count p h (omega arith)
-passes_case t froms (suc k) body w home fs ps count b p h le =
+    Case clock t froms w home ps count (begins_passes n body fs ps)
+passes_case clock t froms zero body w home fs ps count b p h le = onward_case clock t froms _ _ fs ps None count p h (omega arith)
+passes_case clock t froms (suc k) body w home fs ps count b p h le =
     let e = suc-mul k (1 + size_of body) in
-    onward_case t froms _ _ (steps_left body ∷ in_repeat 0 k body ∷ fs) ps None count (b, (b, p)) h (omega arith)
+    onward_case clock t froms _ _ (steps_left body ∷ in_repeat 0 k body ∷ fs) ps None count (b, (b, p)) h (omega arith)
 
 -- a pass has ended
-pass_case : (t : ℕ) (froms : Table) (pass left : ℕ) (body : Steps) (fs : List Frame) (ps : List Place) (exc : Option Exc) (count : ℕ) →
+pass_case : (clock : Clock) (t : ℕ) (froms : Table) (pass left : ℕ) (body : Steps) (fs : List Frame) (ps : List Place) (exc : Option Exc) (count : ℕ) →
     StartsIn false body → Placed fs ps →
-    Case t froms (frames_weight (in_repeat pass left body ∷ fs)) (home_places fs ps) ps count (step_pass pass left body fs ps exc)
-pass_case t froms pass left body fs ps (Some e) count b p = onward_case t froms _ _ fs ps (Some e) count p refl (omega arith)
-pass_case t froms pass zero body fs ps None count b p = onward_case t froms _ _ fs ps None count p refl (omega arith)
-pass_case t froms pass (suc k) body fs ps None count b p =
+    Case clock t froms (frames_weight (in_repeat pass left body ∷ fs)) (home_places fs ps) ps count (step_pass pass left body fs ps exc)
+pass_case clock t froms pass left body fs ps (Some e) count b p = onward_case clock t froms _ _ fs ps (Some e) count p refl (omega arith)
+pass_case clock t froms pass zero body fs ps None count b p = onward_case clock t froms _ _ fs ps None count p refl (omega arith)
+pass_case clock t froms pass (suc k) body fs ps None count b p =
     let e = suc-mul k (1 + size_of body) in
-    onward_case t froms _ _ (steps_left body ∷ in_repeat (suc pass) k body ∷ fs) ps None count (b, (b, p)) refl (omega arith)
+    onward_case clock t froms _ _ (steps_left body ∷ in_repeat (suc pass) k body ∷ fs) ps None count (b, (b, p)) refl (omega arith)
 
 -- ---- each kind of step, and of frame
 
-step_case : (t : ℕ) (froms : Table) (here : Here) (s : Step) (ss : Steps) (fs : List Frame) (ps : List Place) (count : ℕ) →
+step_case : (now : Now) (froms : Table) (here : Here) (s : Step) (ss : Steps) (fs : List Frame) (ps : List Place) (count : ℕ) →
     StartsAt (in_body fs) s → StartsIn (in_body fs) ss → Placed fs ps →
-    Case t froms (frames_weight (steps_left (step s ss) ∷ fs)) (home_places fs ps) ps count (step_on froms t here s ss fs ps count)
-step_case t froms here (sleep n) ss fs ps count a b p = sleep_case t froms n _ _ (steps_left ss ∷ fs) ps count (b, p) refl (omega arith)
-step_case t froms here checkpoint ss fs ps count a b p = sleep_case t froms 0 _ _ (steps_left ss ∷ fs) ps count (b, p) refl (omega arith)
-step_case t froms here forever ss fs ps count a b p =
-    sleep_case t froms (far - t) _ _ (steps_left ss ∷ fs) ps count (b, p) refl (omega arith)
-step_case t froms here (pace k) ss fs ps count a b p =
-    asks_case t froms ask.count (paces k) _ _ (steps_left ss ∷ fs) ps count tt (b, p) refl (omega arith)
-step_case t froms here (find text) ss fs ps count a b p =
-    asks_case t froms (ask.find text) shows _ _ (steps_left ss ∷ fs) ps count tt (b, p) refl (omega arith)
-step_case t froms here (head n) ss fs ps count a b p =
-    asks_case t froms (ask.head n) shows _ _ (steps_left ss ∷ fs) ps count tt (b, p) refl (omega arith)
-step_case t froms here longest ss fs ps count a b p =
-    asks_case t froms ask.longest shows _ _ (steps_left ss ∷ fs) ps count tt (b, p) refl (omega arith)
-step_case t froms here (need text name) ss fs ps count a b p =
-    asks_case t froms (ask.need text) (needs name) _ _ (steps_left ss ∷ fs) ps count tt (b, p) refl (omega arith)
-step_case t froms here (raise name) ss fs ps count a b p = onward_case t froms _ _ (steps_left ss ∷ fs) ps _ count (b, p) refl (omega arith)
-step_case t froms here (cancel name) ss fs ps count a b p =
+    Case here.clock now.at froms (frames_weight (steps_left (step s ss) ∷ fs)) (home_places fs ps) ps count (step_on froms now here s ss fs ps count)
+step_case now froms here (sleep n) ss fs ps count a b p = sleep_case here.clock now.at froms false n _ _ (steps_left ss ∷ fs) ps count (b, p) refl (omega arith)
+step_case now froms here checkpoint ss fs ps count a b p = sleep_case here.clock now.at froms false 0 _ _ (steps_left ss ∷ fs) ps count (b, p) refl (omega arith)
+step_case now froms here forever ss fs ps count a b p =
+    sleep_case here.clock now.at froms false (far - tick_of here.clock now.at) _ _ (steps_left ss ∷ fs) ps count (b, p) refl (omega arith)
+step_case now froms here (pace k) ss fs ps count a b p =
+    asks_case here.clock now.at froms ask.count (paces k) _ _ (steps_left ss ∷ fs) ps count tt (b, p) refl (omega arith)
+step_case now froms here (find text) ss fs ps count a b p =
+    asks_case here.clock now.at froms (ask.find text) shows _ _ (steps_left ss ∷ fs) ps count tt (b, p) refl (omega arith)
+step_case now froms here (head n) ss fs ps count a b p =
+    asks_case here.clock now.at froms (ask.head n) shows _ _ (steps_left ss ∷ fs) ps count tt (b, p) refl (omega arith)
+step_case now froms here longest ss fs ps count a b p =
+    asks_case here.clock now.at froms ask.longest shows _ _ (steps_left ss ∷ fs) ps count tt (b, p) refl (omega arith)
+step_case now froms here (need text name) ss fs ps count a b p =
+    asks_case here.clock now.at froms (ask.need text) (needs name) _ _ (steps_left ss ∷ fs) ps count tt (b, p) refl (omega arith)
+step_case now froms here (raise name) ss fs ps count a b p = onward_case here.clock now.at froms _ _ (steps_left ss ∷ fs) ps _ count (b, p) refl (omega arith)
+step_case now froms here (cancel name) ss fs ps count a b p =
     record {
       placed = (b, p);
       at_home = refl;
-      made_now = found_known name ps t;
-      places = still_known ps (signs_to (label_among name ps) t);
-      starts_made = signs_start (label_among name ps) t count;
+      made_now = found_known here.clock name ps now.at;
+      places = still_known ps (signs_to (label_among name ps) now.at);
+      starts_made = signs_start (label_among name ps) now.at count;
       begun_in = tt;
       stops = tt;
       weight = omega arith;
     }
-step_case t froms here (scope name d shield fail body) ss fs ps count a b p =
-    enter_case t froms (label_here name here) shield (due d t) body (in_scope fail) _ _ (steps_left ss ∷ fs) ps count (a, (b, p)) refl
+step_case now froms here (scope name d shield fail body) ss fs ps count a b p =
+    enter_case here.clock now.at froms (label_here name here) shield (due here.clock d now.at) body (in_scope fail) _ _ (steps_left ss ∷ fs) ps count (a, (b, p)) refl
     (omega arith)
-step_case t froms here (nursery name d shield body) ss fs ps count a b p =
-    enter_case t froms (label_here name here) shield (due d t) body (in_nursery []) _ _ (steps_left ss ∷ fs) ps count (a, (b, p)) refl
+step_case now froms here (nursery name d shield body) ss fs ps count a b p =
+    enter_case here.clock now.at froms (label_here name here) shield (due here.clock d now.at) body (in_nursery []) _ _ (steps_left ss ∷ fs) ps count (a, (b, p)) refl
     (omega arith)
-step_case t froms here (start name over body) ss fs ps count a b p = start_case t froms here name over body ss fs ps count a.1 b p
-step_case t froms here (repeat n body) ss fs ps count a b p =
-    passes_case t froms n body _ _ (steps_left ss ∷ fs) ps count a (b, p) refl (omega arith)
-step_case t froms here (attempt body handler cleanup) ss fs ps count a b p =
-    onward_case t froms _ _ (steps_left body ∷ in_try handler cleanup ∷ steps_left ss ∷ fs) ps None count (a.0, (a.1, a.2, (b, p))) refl
+step_case now froms here (start name over body) ss fs ps count a b p = start_case now froms here name over body ss fs ps count a.1 b p
+step_case now froms here (repeat n body) ss fs ps count a b p =
+    passes_case here.clock now.at froms n body _ _ (steps_left ss ∷ fs) ps count a (b, p) refl (omega arith)
+step_case now froms here (attempt body handler cleanup) ss fs ps count a b p =
+    onward_case here.clock now.at froms _ _ (steps_left body ∷ in_try handler cleanup ∷ steps_left ss ∷ fs) ps None count (a.0, (a.1, a.2, (b, p))) refl
     (omega arith)
 
-steps_case : (t : ℕ) (froms : Table) (here : Here) (ss : Steps) (fs : List Frame) (ps : List Place) (exc : Option Exc) (count : ℕ) →
-    StartsIn (in_body fs) ss → Placed fs ps → Case t froms (frames_weight (steps_left ss ∷ fs)) (home_places fs ps) ps count
-    (step_steps froms t here ss fs ps exc count)
-steps_case t froms here ss fs ps (Some e) count b p = onward_case t froms _ _ fs ps (Some e) count p refl (omega arith)
-steps_case t froms here stop fs ps None count b p = onward_case t froms _ _ fs ps None count p refl (omega arith)
-steps_case t froms here (step s ss) fs ps None count b p = step_case t froms (inside fs here) s ss fs ps count b.0 b.1 p
+steps_case : (now : Now) (froms : Table) (here : Here) (ss : Steps) (fs : List Frame) (ps : List Place) (exc : Option Exc) (count : ℕ) →
+    StartsIn (in_body fs) ss → Placed fs ps → Case here.clock now.at froms (frames_weight (steps_left ss ∷ fs)) (home_places fs ps) ps count
+    (step_steps froms now here ss fs ps exc count)
+steps_case now froms here ss fs ps (Some e) count b p = onward_case here.clock now.at froms _ _ fs ps (Some e) count p refl (omega arith)
+steps_case now froms here stop fs ps None count b p = onward_case here.clock now.at froms _ _ fs ps None count p refl (omega arith)
+steps_case now froms here (step s ss) fs ps None count b p = step_case now froms (inside fs here) s ss fs ps count b.0 b.1 p
 
-try_case : (t : ℕ) (froms : Table) (handler : Handled) (cleanup : Cleaned) (fs : List Frame) (ps : List Place) (exc : Option Exc)
+try_case : (clock : Clock) (t : ℕ) (froms : Table) (handler : Handled) (cleanup : Cleaned) (fs : List Frame) (ps : List Place) (exc : Option Exc)
     (count : ℕ) →
     HandlerStarts handler → CleanupStarts cleanup → Placed fs ps →
-    Case t froms (frames_weight (in_try handler cleanup ∷ fs)) (home_places fs ps) ps count (step_try handler cleanup fs ps exc)
-try_case t froms unhandled uncleaned fs ps exc count a b p = onward_case t froms _ _ fs ps exc count p refl (omega arith)
-try_case t froms unhandled (finally body) fs ps exc count a b p =
-    onward_case t froms _ _ (steps_left body ∷ in_cleanup exc ∷ fs) ps None count (b, p) refl (omega arith)
-try_case t froms (except name body) cleanup fs ps None count a b p =
-    onward_case t froms _ _ (in_try unhandled cleanup ∷ fs) ps None count (tt, b, p) refl (omega arith)
-try_case t froms (except name body) cleanup fs ps (Some e) count a b p = by_match (keep (named name) e)
+    Case clock t froms (frames_weight (in_try handler cleanup ∷ fs)) (home_places fs ps) ps count (step_try handler cleanup fs ps exc)
+try_case clock t froms unhandled uncleaned fs ps exc count a b p = onward_case clock t froms _ _ fs ps exc count p refl (omega arith)
+try_case clock t froms unhandled (finally body) fs ps exc count a b p =
+    onward_case clock t froms _ _ (steps_left body ∷ in_cleanup exc ∷ fs) ps None count (b, p) refl (omega arith)
+try_case clock t froms (except name body) cleanup fs ps None count a b p =
+    onward_case clock t froms _ _ (in_try unhandled cleanup ∷ fs) ps None count (tt, b, p) refl (omega arith)
+try_case clock t froms (except name body) cleanup fs ps (Some e) count a b p = by_match (keep (named name) e)
   where
-    by_match : (o : Option Exc) → Case t froms (frames_weight (in_try (except name body) cleanup ∷ fs)) (home_places fs ps) ps count
+    by_match : (o : Option Exc) → Case clock t froms (frames_weight (in_try (except name body) cleanup ∷ fs)) (home_places fs ps) ps count
         (handler_if o (drop (named name) e) e body cleanup fs ps)
-    by_match None = onward_case t froms _ _ (in_try unhandled cleanup ∷ fs) ps (Some e) count (tt, b, p) refl (omega arith)
-    by_match (Some x) = onward_case t froms _ _ (steps_left body ∷ in_handler (drop (named name) e) cleanup ∷ fs) ps None count (a, (b, p))
+    by_match None = onward_case clock t froms _ _ (in_try unhandled cleanup ∷ fs) ps (Some e) count (tt, b, p) refl (omega arith)
+    by_match (Some x) = onward_case clock t froms _ _ (steps_left body ∷ in_handler (drop (named name) e) cleanup ∷ fs) ps None count (a, (b, p))
         refl (omega arith)
 
-frames_case : (t : ℕ) (froms : Table) (here : Here) (fs : List Frame) (ps : List Place) (exc : Option Exc) (count : ℕ) → Placed fs ps →
-    Case t froms (frames_weight fs) (home_places fs ps) ps count (step_frames froms t here fs ps exc count)
-frames_case t froms here [] ps exc count p =
+frames_case : (now : Now) (froms : Table) (here : Here) (fs : List Frame) (ps : List Place) (exc : Option Exc) (count : ℕ) → Placed fs ps →
+    Case here.clock now.at froms (frames_weight fs) (home_places fs ps) ps count (step_frames froms now here fs ps exc count)
+frames_case now froms here [] ps exc count p =
     record {
       placed = refl;
       at_home = refl;
-      made_now = home_known exc ps t;
-      places = still_known ps (signs_home exc ps t);
-      starts_made = home_start exc ps t count;
+      made_now = home_known here.clock exc ps now.at;
+      places = still_known ps (signs_home exc ps now.at);
+      starts_made = home_start exc ps now.at count;
       begun_in = tt;
       stops = refl;
       weight = omega arith;
     }
-frames_case t froms here (steps_left ss ∷ fs) ps exc count p = steps_case t froms here ss fs ps exc count p.0 p.1
-frames_case t froms here (in_scope fail ∷ fs) [] exc count p = absurd p
-frames_case t froms here (in_scope fail ∷ fs) (q ∷ ps) exc count p =
-    leaves_case t froms (a_scope fail) _ _ fs q ps exc count p refl (omega arith)
-frames_case t froms here (in_nursery children ∷ fs) [] exc count p = absurd p
-frames_case t froms here (in_nursery children ∷ fs) (q ∷ ps) exc count p =
+frames_case now froms here (steps_left ss ∷ fs) ps exc count p = steps_case now froms here ss fs ps exc count p.0 p.1
+frames_case now froms here (in_scope fail ∷ fs) [] exc count p = absurd p
+frames_case now froms here (in_scope fail ∷ fs) (q ∷ ps) exc count p =
+    leaves_case here.clock now froms (a_scope fail) _ _ fs q ps exc count p refl (omega arith)
+frames_case now froms here (in_nursery children ∷ fs) [] exc count p = absurd p
+frames_case now froms here (in_nursery children ∷ fs) (q ∷ ps) exc count p =
     record {
       placed = p;
       at_home = refl;
-      made_now = home_known exc (q ∷ ps) t;
-      places = still_known (q ∷ ps) (signs_home exc (q ∷ ps) t);
-      starts_made = home_start exc (q ∷ ps) t count;
+      made_now = home_known here.clock exc (q ∷ ps) now.at;
+      places = still_known (q ∷ ps) (signs_home exc (q ∷ ps) now.at);
+      starts_made = home_start exc (q ∷ ps) now.at count;
       begun_in = tt;
       stops = refl;
       weight = omega arith;
     }
-frames_case t froms here (in_repeat pass left body ∷ fs) ps exc count p = pass_case t froms pass left body fs ps exc count p.0 p.1
-frames_case t froms here (in_try handler cleanup ∷ fs) ps exc count p = try_case t froms handler cleanup fs ps exc count p.0 p.1 p.2
-frames_case t froms here (in_handler rest cleanup ∷ fs) ps exc count p =
-    onward_case t froms _ _ (in_try unhandled cleanup ∷ fs) ps _ count (tt, p.0, p.1) refl (omega arith)
-frames_case t froms here (in_cleanup outcome ∷ fs) ps exc count p = onward_case t froms _ _ fs ps _ count p refl (omega arith)
+frames_case now froms here (in_repeat pass left body ∷ fs) ps exc count p = pass_case here.clock now.at froms pass left body fs ps exc count p.0 p.1
+frames_case now froms here (in_try handler cleanup ∷ fs) ps exc count p = try_case here.clock now.at froms handler cleanup fs ps exc count p.0 p.1 p.2
+frames_case now froms here (in_handler rest cleanup ∷ fs) ps exc count p =
+    onward_case here.clock now.at froms _ _ (in_try unhandled cleanup ∷ fs) ps _ count (tt, p.0, p.1) refl (omega arith)
+frames_case now froms here (in_cleanup outcome ∷ fs) ps exc count p = onward_case here.clock now.at froms _ _ fs ps _ count p refl (omega arith)
 
 -- one step of a turn
-pub step_cases : (t : ℕ) (froms : Table) (here : Here) (m : Midway) → Placed m.frames m.places →
-    Case t froms (frames_weight m.frames) (home_places m.frames m.places) m.places m.count (step_of froms t here m)
+pub step_cases : (now : Now) (froms : Table) (here : Here) (m : Midway) → Placed m.frames m.places →
+    Case here.clock now.at froms (frames_weight m.frames) (home_places m.frames m.places) m.places m.count (step_of froms now here m)
 unfolding step_of
-step_cases t froms here m p = frames_case t froms here m.frames m.places m.exc m.count p
+step_cases now froms here m p = frames_case now froms here m.frames m.places m.exc m.count p

@@ -1,9 +1,11 @@
 -- What events that are made one after another mean, and how the froms change by them.
-use Rattle.std.proofs.Common.{◌≡◌, inl, inr, ℕ, suc, ◌+◌, List, [], ◌∷◌, ◌++◌, length, refl, sym, subst, arith}
+use Rattle.std.proofs.Common.{◌≡◌, inl, inr, ℕ, suc, ◌+◌, Some, List, [], ◌∷◌, ◌++◌, length, refl, sym, ◌∙◌, subst, arith}
 use Rattle.exc_groups.specs.Exceptions.{Label}
 use Rattle.job_meaning.specs.Log.{Table}
+use Rattle.job_meaning.specs.Moments.{Clock, by_ticks, by_rounds}
+use Rattle.job_meaning.specs.Walk.{with_own}
 use Rattle.job_meaning.specs.Rest.{Event, noted, signs, enters, starts, ChildOutcomes, fill}
-use Rattle.turn_semantics.specs.Midway.{Place, Begun}
+use Rattle.turn_semantics.specs.Midway.{Place, Begun, own_after, OwnFits}
 use Rattle.turn_semantics.specs.Steps.{froms_after_sign, froms_after_entry, froms_after}
 use Rattle.turn_semantics.specs.Turned.{AgreesOn, AgreesIn, Known, labels_of, AllKnown, known_after, MadeAt, Starts, BegunIn, weight_of_begun}
 use Rattle.turn_semantics.proofs.Agreeing.{SameFrom, agrees_lowered, agrees_opened, agrees_own}
@@ -69,28 +71,56 @@ pub begun_append : (ls : List Label) (bs cs : List Begun) → BegunIn ls bs → 
 begun_append ls [] cs a b = b
 begun_append ls (x ∷ bs) cs a b = (a.0, a.1, begun_append ls bs cs a.2 b)
 
--- ---- events made at one tick
+-- ---- events made in one moment
 
 -- signs for labels that are known are for known ones of more
-pub made_grows : (t : ℕ) (ls ms : List Label) → ((l : Label) → Known l ls → Known l ms) → (es : List Event) → MadeAt t ls es →
-    MadeAt t ms es
-made_grows t ls ms h [] a = tt
-made_grows t ls ms h (noted u e ∷ es) a = (a.0, made_grows t ls ms h es a.1)
-made_grows t ls ms h (signs l u ∷ es) a = (a.0, h l a.1, made_grows t ls ms h es a.2)
-made_grows t ls ms h (enters m u d ∷ es) a = (a.0, made_grows t (m ∷ ls) (m ∷ ms) grown es a.1)
+pub made_grows : (clock : Clock) (t : ℕ) (ls ms : List Label) → ((l : Label) → Known l ls → Known l ms) → (es : List Event) → MadeAt clock t ls es →
+    MadeAt clock t ms es
+made_grows clock t ls ms h [] a = tt
+made_grows clock t ls ms h (noted u e ∷ es) a = (a.0, made_grows clock t ls ms h es a.1)
+made_grows clock t ls ms h (signs l u ∷ es) a = (a.0, h l a.1, made_grows clock t ls ms h es a.2)
+made_grows clock t ls ms h (enters m u d ∷ es) a = (a.0, made_grows clock t (m ∷ ls) (m ∷ ms) grown es a.1)
   where
     grown : (l : Label) → Known l (m ∷ ls) → Known l (m ∷ ms)
     grown l (inl e) = inl e
     grown l (inr k) = inr (h l k)
-made_grows t ls ms h (starts i l u ∷ es) a = (a.0, made_grows t ls ms h es a.1)
+made_grows clock t ls ms h (starts i l u ∷ es) a = (a.0, made_grows clock t ls ms h es a.1)
 
 -- events made, and more of them
-pub made_append : (t : ℕ) (es fs : List Event) (ls : List Label) → MadeAt t ls es → MadeAt t (known_after ls es) fs → MadeAt t ls (es ++ fs)
-made_append t [] fs ls a b = b
-made_append t (noted u e ∷ es) fs ls a b = (a.0, made_append t es fs ls a.1 b)
-made_append t (signs l u ∷ es) fs ls a b = (a.0, a.1, made_append t es fs ls a.2 b)
-made_append t (enters m u d ∷ es) fs ls a b = (a.0, made_append t es fs (m ∷ ls) a.1 b)
-made_append t (starts i l u ∷ es) fs ls a b = (a.0, made_append t es fs ls a.1 b)
+pub made_append : (clock : Clock) (t : ℕ) (es fs : List Event) (ls : List Label) → MadeAt clock t ls es → MadeAt clock t (known_after ls es) fs → MadeAt clock t ls (es ++ fs)
+made_append clock t [] fs ls a b = b
+made_append clock t (noted u e ∷ es) fs ls a b = (a.0, made_append clock t es fs ls a.1 b)
+made_append clock t (signs l u ∷ es) fs ls a b = (a.0, a.1, made_append clock t es fs ls a.2 b)
+made_append clock t (enters m u d ∷ es) fs ls a b = (a.0, made_append clock t es fs (m ∷ ls) a.1 b)
+made_append clock t (starts i l u ∷ es) fs ls a b = (a.0, made_append clock t es fs ls a.1 b)
+
+-- ---- what a task has cancelled in this moment
+
+-- what it has cancelled after events, and more of them
+pub own_append : (clock : Clock) (es fs : List Event) (own : List Label) →
+    own_after clock own (es ++ fs) ≡ own_after clock (own_after clock own es) fs
+own_append clock [] fs own = refl
+own_append clock (noted t e ∷ es) fs own = own_append clock es fs own
+own_append clock (signs l t ∷ es) fs own = own_append clock es fs (with_own clock (Some l) own)
+own_append clock (enters l t d ∷ es) fs own = own_append clock es fs own
+own_append clock (starts i l t ∷ es) fs own = own_append clock es fs own
+
+-- where moments are ticks, it stays none
+pub own_fits : (clock : Clock) (own : List Label) (es : List Event) → OwnFits clock own → OwnFits clock (own_after clock own es)
+own_fits by_ticks own es h = unchanged es own ∙ h
+  where
+    unchanged : (es : List Event) (own : List Label) → own_after by_ticks own es ≡ own
+    unchanged [] own = refl
+    unchanged (noted t e ∷ es) own = unchanged es own
+    unchanged (signs l t ∷ es) own = unchanged es own
+    unchanged (enters l t d ∷ es) own = unchanged es own
+    unchanged (starts i l t ∷ es) own = unchanged es own
+own_fits by_rounds own es h = tt
+
+-- a task that has cancelled nothing in this moment is in time as it has to be
+pub none_fits : (clock : Clock) (own : List Label) → own ≡ [] → OwnFits clock own
+none_fits by_ticks own e = e
+none_fits by_rounds own e = tt
 
 -- ---- starts
 
@@ -125,22 +155,22 @@ froms_append (enters l t d ∷ es) fs froms = froms_append es fs (froms_after_en
 froms_append (starts i l t ∷ es) fs froms = froms_append es fs froms
 
 -- A table that agrees at t with the froms of known labels, and with the deadlines of those entered, agrees after the
--- events too: a sign made at t acts from the next tick on.
-pub known_agree : (t : ℕ) (table : Table) (told : ChildOutcomes) (es : List Event) (ls : List Label) (froms : Table) → MadeAt t ls es →
+-- events too: a sign made at t acts from the next moment on.
+pub known_agree : (clock : Clock) (t : ℕ) (table : Table) (told : ChildOutcomes) (es : List Event) (ls : List Label) (froms : Table) → MadeAt clock t ls es →
     AgreesIn t table (fill told es) →
     ((l : Label) → Known l ls → SameFrom t table froms l) → (l : Label) → Known l (known_after ls es) →
     SameFrom t table (froms_after froms es) l
-known_agree t table told [] ls froms a b h l k = h l k
-known_agree t table told (noted u e ∷ es) ls froms a b h l k = known_agree t table told es ls froms a.1 b h l k
-known_agree t table told (signs m u ∷ es) ls froms a b h l k =
-    known_agree t table told es ls (froms_after_sign froms m u) a.2 b
+known_agree clock t table told [] ls froms a b h l k = h l k
+known_agree clock t table told (noted u e ∷ es) ls froms a b h l k = known_agree clock t table told es ls froms a.1 b h l k
+known_agree clock t table told (signs m u ∷ es) ls froms a b h l k =
+    known_agree clock t table told es ls (froms_after_sign froms m u) a.2 b
     (λ x i. subst (λ (v : ℕ). SameFrom t table (froms_after_sign froms m v) x) (sym a.0) (agrees_lowered t table froms m x (h x i))) l k
-known_agree t table told (enters m u d ∷ es) ls froms a b h l k = known_agree t table told es (m ∷ ls) (froms_after_entry froms m d) a.1 b.1 grown l k
+known_agree clock t table told (enters m u d ∷ es) ls froms a b h l k = known_agree clock t table told es (m ∷ ls) (froms_after_entry froms m d) a.1 b.1 grown l k
   where
     grown : (x : Label) → Known x (m ∷ ls) → SameFrom t table (froms_after_entry froms m d) x
     grown x (inl e) = subst (λ (y : Label). SameFrom t table (froms_after_entry froms m d) y) (sym e) (agrees_own t table froms m d b.0)
     grown x (inr i) = agrees_opened t table froms m d x b.0 (h x i)
-known_agree t table told (starts i m u ∷ es) ls froms a b h l k = known_agree t table told es ls froms a.1 b h l k
+known_agree clock t table told (starts i m u ∷ es) ls froms a b h l k = known_agree clock t table told es ls froms a.1 b h l k
 
 -- if tables agree on enclosing scopes and nurseries, they agree on each of their labels
 pub on_places : (t : ℕ) (table froms : Table) (ps : List Place) → AgreesOn t table froms ps → (l : Label) → Known l (labels_of ps) →
@@ -157,9 +187,9 @@ by_known t table froms ls h (p ∷ ps) a = (h p.label a.0, by_known t table from
 
 -- so a table agrees with the froms after the events, on enclosing scopes and nurseries that were there before or
 -- were entered
-pub agrees_after : (t : ℕ) (table : Table) (told : ChildOutcomes) (es : List Event) (ps qs : List Place) (froms : Table) →
-    MadeAt t (labels_of ps) es → AllKnown qs (known_after (labels_of ps) es) →
+pub agrees_after : (clock : Clock) (t : ℕ) (table : Table) (told : ChildOutcomes) (es : List Event) (ps qs : List Place) (froms : Table) →
+    MadeAt clock t (labels_of ps) es → AllKnown qs (known_after (labels_of ps) es) →
     AgreesOn t table froms ps → AgreesIn t table (fill told es) → AgreesOn t table (froms_after froms es) qs
-agrees_after t table told es ps qs froms a k h b =
+agrees_after clock t table told es ps qs froms a k h b =
     by_known t table (froms_after froms es) (known_after (labels_of ps) es)
-    (known_agree t table told es (labels_of ps) froms a b (on_places t table froms ps h)) qs k
+    (known_agree clock t table told es (labels_of ps) froms a b (on_places t table froms ps h)) qs k

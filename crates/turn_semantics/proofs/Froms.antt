@@ -4,6 +4,7 @@ use Rattle.std.proofs.lemmas.Bool.Decides.{nat_tests}
 use Rattle.exc_groups.specs.Exceptions.{Label}
 use Rattle.cancel_scopes.specs.Sight.{Tick, earlier, next}
 use Rattle.job_meaning.specs.Log.{Table, same_label, tick_if, from_by}
+use Rattle.job_meaning.specs.Moments.{Clock}
 use Rattle.job_meaning.specs.Rest.{Event, noted, signs, enters, starts}
 use Rattle.job_meaning.proofs.Touched.{earlier_never}
 use Rattle.job_meaning.proofs.Distinct.{same_label_equal, same_label_itself}
@@ -53,53 +54,53 @@ from_lowered (enters m t d ∷ es) froms l h =
 from_lowered (starts i m t ∷ es) froms l h = from_lowered es froms l h
 
 -- the from of a label that was entered once, and was not known before, is its deadline, lowered likewise
-pub from_opened : (t : ℕ) (es : List Event) (ls : List Label) (froms : Table) (l : Label) (d : Tick) → MadeAt t ls es → (Known l ls → ⊥) →
+pub from_opened : (clock : Clock) (t : ℕ) (es : List Event) (ls : List Label) (froms : Table) (l : Label) (d : Tick) → MadeAt clock t ls es → (Known l ls → ⊥) →
     EntersOnceWith l d es →
     froms_after froms es l ≡ from_by d (made_sign l es)
-from_opened t [] ls froms l d a k o = absurd o
-from_opened t (noted u e ∷ es) ls froms l d a k o = from_opened t es ls froms l d a.1 k o
-from_opened t (signs m u ∷ es) ls froms l d a k o =
-    from_opened t es ls (froms_after_sign froms m u) l d a.2 k o
+from_opened clock t [] ls froms l d a k o = absurd o
+from_opened clock t (noted u e ∷ es) ls froms l d a k o = from_opened clock t es ls froms l d a.1 k o
+from_opened clock t (signs m u ∷ es) ls froms l d a k o =
+    from_opened clock t es ls (froms_after_sign froms m u) l d a.2 k o
     ∙ ap (λ (b : Bool). from_by d (earlier (tick_if b u) (made_sign l es))) (sym (same_differs l m differs))
   where
     differs : (l ≡ m) → ⊥
     differs e = k (subst (λ (x : Label). Known x ls) (sym e) a.1)
-from_opened t (enters m u c ∷ es) ls froms l d a k (inl o) =
+from_opened clock t (enters m u c ∷ es) ls froms l d a k (inl o) =
     from_lowered es (froms_after_entry froms m c) l o.2
     ∙ (ap (λ (b : Bool). from_by (from_entered_if b c (froms l)) (made_sign l es))
     (ap (λ (x : Label). same_label l x) (sym o.0) ∙ same_label_itself l)
     ∙ ap (λ (x : Tick). from_by x (made_sign l es)) (sym o.1))
-from_opened t (enters m u c ∷ es) ls froms l d a k (inr o) = from_opened t es (m ∷ ls) (froms_after_entry froms m c) l d a.1 new o.1
+from_opened clock t (enters m u c ∷ es) ls froms l d a k (inr o) = from_opened clock t es (m ∷ ls) (froms_after_entry froms m c) l d a.1 new o.1
   where
     new : Known l (m ∷ ls) → ⊥
     new (inl e) = o.0 e
     new (inr i) = k i
-from_opened t (starts i m u ∷ es) ls froms l d a k o = from_opened t es ls froms l d a.1 k o
+from_opened clock t (starts i m u ∷ es) ls froms l d a k o = from_opened clock t es ls froms l d a.1 k o
 
--- a sign that was made now is of this tick
-pub signed_now : (t : ℕ) (es : List Event) (ls : List Label) (l : Label) (u : ℕ) → MadeAt t ls es → made_sign l es ≡ Some u → u ≡ t
-signed_now t [] ls l u a e = cc
-signed_now t (noted v x ∷ es) ls l u a e = signed_now t es ls l u a.1 e
-signed_now t (signs m v ∷ es) ls l u a e = by_sign (same_label l m) (made_sign l es) (λ w f. signed_now t es ls l w a.2 f) e
+-- a sign that was made now is of this moment
+pub signed_now : (clock : Clock) (t : ℕ) (es : List Event) (ls : List Label) (l : Label) (u : ℕ) → MadeAt clock t ls es → made_sign l es ≡ Some u → u ≡ t
+signed_now clock t [] ls l u a e = cc
+signed_now clock t (noted v x ∷ es) ls l u a e = signed_now clock t es ls l u a.1 e
+signed_now clock t (signs m v ∷ es) ls l u a e = by_sign (same_label l m) (made_sign l es) (λ w f. signed_now clock t es ls l w a.2 f) e
   where
     by_sign : (b : Bool) (s : Tick) → ((w : ℕ) → s ≡ Some w → w ≡ t) → earlier (tick_if b v) s ≡ Some u → u ≡ t
     by_sign false s h e = h u e
     by_sign true None h e = let f : v ≡ u = cc in sym f ∙ a.0
     by_sign true (Some w) h e = let i = h w refl in let j = a.0 in grind (arith, nat_tests)
-signed_now t (enters m v d ∷ es) ls l u a e = signed_now t es (m ∷ ls) l u a.1 e
-signed_now t (starts i m v ∷ es) ls l u a e = signed_now t es ls l u a.1 e
+signed_now clock t (enters m v d ∷ es) ls l u a e = signed_now clock t es (m ∷ ls) l u a.1 e
+signed_now clock t (starts i m v ∷ es) ls l u a e = signed_now clock t es ls l u a.1 e
 
 -- and there is one only for a label that was known, or was entered
-pub unsigned : (t : ℕ) (es : List Event) (ls : List Label) (l : Label) → MadeAt t ls es → (Known l ls → ⊥) → (EntersIn l es → ⊥) →
+pub unsigned : (clock : Clock) (t : ℕ) (es : List Event) (ls : List Label) (l : Label) → MadeAt clock t ls es → (Known l ls → ⊥) → (EntersIn l es → ⊥) →
     made_sign l es ≡ None
-unsigned t [] ls l a k h = refl
-unsigned t (noted v x ∷ es) ls l a k h = unsigned t es ls l a.1 k h
-unsigned t (signs m v ∷ es) ls l a k h =
+unsigned clock t [] ls l a k h = refl
+unsigned clock t (noted v x ∷ es) ls l a k h = unsigned clock t es ls l a.1 k h
+unsigned clock t (signs m v ∷ es) ls l a k h =
     ap (λ (b : Bool). earlier (tick_if b v) (made_sign l es)) (same_differs l m (λ e. k (subst (λ (x : Label). Known x ls) (sym e) a.1)))
-    ∙ unsigned t es ls l a.2 k h
-unsigned t (enters m v d ∷ es) ls l a k h = unsigned t es (m ∷ ls) l a.1 new (λ i. h (inr i))
+    ∙ unsigned clock t es ls l a.2 k h
+unsigned clock t (enters m v d ∷ es) ls l a k h = unsigned clock t es (m ∷ ls) l a.1 new (λ i. h (inr i))
   where
     new : Known l (m ∷ ls) → ⊥
     new (inl e) = h (inl e)
     new (inr i) = k i
-unsigned t (starts i m v ∷ es) ls l a k h = unsigned t es ls l a.1 k h
+unsigned clock t (starts i m v ∷ es) ls l a k h = unsigned clock t es ls l a.1 k h

@@ -6,12 +6,13 @@ use Rattle.exc_groups.specs.Exceptions.{Exc}
 use Rattle.exc_groups.specs.Split.{named, keep, drop}
 use Rattle.cancel_scopes.specs.Sight.{seen}
 use Rattle.job_meaning.specs.Log.{Table}
-use Rattle.job_meaning.specs.Walk.{Here, far, pace_ticks}
-use Rattle.job_meaning.specs.Rest.{consecutive, Frame, steps_left, in_scope, in_nursery, in_repeat, in_try, in_handler, in_cleanup, inside, Stopped, to_begin, asking, asleep, awaiting, at_end}
+use Rattle.job_meaning.specs.Moments.{Clock, by_ticks, by_rounds, tick_of, Now, far}
+use Rattle.job_meaning.specs.Walk.{Here, pace_ticks}
+use Rattle.job_meaning.specs.Rest.{consecutive, Frame, steps_left, in_scope, in_nursery, in_repeat, in_try, in_handler, in_cleanup, inside, Stopped, to_begin, asking, asleep, giving_up, awaiting, at_end}
 use Rattle.job_meaning.specs.Asking.{Answer, lines, missing, counted, Purpose, shows, needs, paces}
 use Rattle.turn_semantics.specs.Midway.{Place, stack_at, Midway, Begun, Move}
 use Rattle.turn_semantics.specs.Steps.{sleeps, falls_asleep, with_started, begun_over, handler_if, step_try, step_on, step_steps, step_frames, step_of, begins_passes, step_pass}
-use Rattle.turn_semantics.specs.Wakes.{Wake, begins, sees, is_due, has_answer, settles, goes_on_with, with_answer, leaves_settled, wake_of, CanWake, from_start, from_asking, from_sleep, from_due, from_wait}
+use Rattle.turn_semantics.specs.Wakes.{Wake, begins, sees, gives_up, is_due, has_answer, settles, goes_on_with, with_answer, leaves_settled, sees_from, wake_of, CanWake, from_start, from_asking, from_sleep, from_due, from_giving_up, from_wait}
 use Rattle.turn_semantics.specs.Placed.{in_body, Placed, outer_places, IsAmong, HasChild, HasChildAfter, AllHoused}
 use Rattle.turn_semantics.proofs.Keeps.{last_or_before}
 
@@ -53,18 +54,19 @@ housed_on fs ps s gs qs h (b ∷ bs) a = (h b.number b.places (has_going b.numbe
 
 -- ---- each step
 
-module _ (t : ℕ) (froms : Table) (here : Here) (i : ℕ) (home : List Place) where
+module _ (now : Now) (froms : Table) (here : Here) (i : ℕ) (home : List Place) where
   -- the task has the child after a move
   abbrev pub Stays : Move → Type 0
   Stays o = HasChildAfter i home o.stopped o.frames o.places
 
-  stays_sleeps : (n : ℕ) (fs : List Frame) (ps : List Place) → HasChild i home fs ps → Stays (sleeps froms n t fs ps)
-  stays_sleeps n fs ps h = by_sight (seen (stack_at froms ps) t) n
+  stays_sleeps : (clock : Clock) (paced : Bool) (n t : ℕ) (fs : List Frame) (ps : List Place) → HasChild i home fs ps → Stays (sleeps clock froms paced n t fs ps)
+  stays_sleeps clock paced n t fs ps h = by_clock clock (seen (stack_at froms ps) t) n
     where
-      by_sight : (b : Bool) (n : ℕ) → Stays (falls_asleep b n t fs ps)
-      by_sight true n = inr h
-      by_sight false zero = inr h
-      by_sight false (suc n) = inr h
+      by_clock : (clock : Clock) (b : Bool) (n : ℕ) → Stays (falls_asleep clock b paced n t fs ps)
+      by_clock by_ticks true n = inr h
+      by_clock by_ticks false zero = inr h
+      by_clock by_ticks false (suc n) = inr h
+      by_clock by_rounds b n = inr h
 
   stays_started : (more : List ℕ) (fs : List Frame) (ps : List Place) → HasChild i home fs ps → HasChild i home (with_started more fs) ps
   stays_started more [] ps h = h
@@ -89,10 +91,10 @@ module _ (t : ℕ) (froms : Table) (here : Here) (i : ℕ) (home : List Place) w
   stays_pass pass (suc m) body fs ps None h = inr h
 
   stays_step : (at : Here) (s : Step) (ss : Steps) (fs : List Frame) (ps : List Place) (n : ℕ) → HasChild i home fs ps →
-      Stays (step_on froms t at s ss fs ps n)
-  stays_step at (sleep m) ss fs ps n h = stays_sleeps m (steps_left ss ∷ fs) ps h
-  stays_step at checkpoint ss fs ps n h = stays_sleeps 0 (steps_left ss ∷ fs) ps h
-  stays_step at forever ss fs ps n h = stays_sleeps (far - t) (steps_left ss ∷ fs) ps h
+      Stays (step_on froms now at s ss fs ps n)
+  stays_step at (sleep m) ss fs ps n h = stays_sleeps at.clock false m now.at (steps_left ss ∷ fs) ps h
+  stays_step at checkpoint ss fs ps n h = stays_sleeps at.clock false 0 now.at (steps_left ss ∷ fs) ps h
+  stays_step at forever ss fs ps n h = stays_sleeps at.clock false (far - tick_of at.clock now.at) now.at (steps_left ss ∷ fs) ps h
   stays_step at (pace m) ss fs ps n h = inr h
   stays_step at (find text) ss fs ps n h = inr h
   stays_step at (head m) ss fs ps n h = inr h
@@ -108,7 +110,7 @@ module _ (t : ℕ) (froms : Table) (here : Here) (i : ℕ) (home : List Place) w
   stays_step at (attempt body handler cleanup) ss fs ps n h = inr h
 
   stays_steps : (ss : Steps) (fs : List Frame) (ps : List Place) (exc : Option Exc) (n : ℕ) → HasChild i home fs ps →
-      Stays (step_steps froms t here ss fs ps exc n)
+      Stays (step_steps froms now here ss fs ps exc n)
   stays_steps ss fs ps (Some e) n h = inr h
   stays_steps stop fs ps None n h = inr h
   stays_steps (step s ss) fs ps None n h = stays_step (inside fs here) s ss fs ps n h
@@ -125,7 +127,7 @@ module _ (t : ℕ) (froms : Table) (here : Here) (i : ℕ) (home : List Place) w
       by_match (Some x) = inr h
 
   stays_frames : (fs : List Frame) (ps : List Place) (exc : Option Exc) (n : ℕ) → Placed fs ps → HasChild i home fs ps →
-      Stays (step_frames froms t here fs ps exc n)
+      Stays (step_frames froms now here fs ps exc n)
   stays_frames [] ps exc n p h = inr h
   stays_frames (steps_left ss ∷ fs) ps exc n p h = stays_steps ss fs ps exc n h
   stays_frames (in_scope fail ∷ fs) [] exc n p h = absurd p
@@ -139,27 +141,30 @@ module _ (t : ℕ) (froms : Table) (here : Here) (i : ℕ) (home : List Place) w
   stays_frames (in_cleanup outcome ∷ fs) ps exc n p h = inr h
 
   -- one step
-  pub step_stays : (m : Midway) → Placed m.frames m.places → HasChild i home m.frames m.places → Stays (step_of froms t here m)
+  pub step_stays : (m : Midway) → Placed m.frames m.places → HasChild i home m.frames m.places → Stays (step_of froms now here m)
   unfolding step_of
   step_stays m p h = stays_frames m.frames m.places m.exc m.count p h
 
   stays_answered : (a : Answer) (purpose : Purpose) (fs : List Frame) (ps : List Place) → HasChild i home fs ps →
-      Stays (goes_on_with froms t here a purpose fs ps)
+      Stays (goes_on_with froms now.at here a purpose fs ps)
   stays_answered (lines ls) purpose fs ps h = inr h
   stays_answered missing (needs name) fs ps h = inr h
   stays_answered missing shows fs ps h = inr h
   stays_answered missing (paces c) fs ps h = inr h
-  stays_answered (counted m) (paces c) fs ps h = stays_sleeps (pace_ticks m c) fs ps h
+  stays_answered (counted m) (paces c) fs ps h = stays_sleeps here.clock true (pace_ticks m c) now.at fs ps h
   stays_answered (counted m) shows fs ps h = inr h
   stays_answered (counted m) (needs name) fs ps h = inr h
 
   -- a wake
   pub wake_stays : {w : Wake} {s : Stopped} → CanWake w s → (fs : List Frame) (ps : List Place) →
       HasChild i home fs (outer_places (Some s) ps) →
-      Stays (wake_of froms t here w s fs ps)
+      Stays (wake_of froms now here w s fs ps)
   wake_stays from_start fs ps h = inr h
   wake_stays (from_asking {a} {kernel} {purpose}) fs ps h = stays_answered a purpose fs ps h
-  wake_stays from_sleep fs ps h = inr h
+  wake_stays (from_sleep {paced = false} {n = zero} {since}) fs ps h = inr h
+  wake_stays (from_sleep {paced = false} {n = suc n} {since}) fs ps h = inr h
+  wake_stays (from_sleep {paced = true} {n} {since}) fs ps h = inr h
+  wake_stays from_giving_up fs ps h = inr h
   wake_stays from_due fs ps h = inr h
   wake_stays from_wait fs [] h = inr h
   wake_stays from_wait fs (p ∷ ps) h = inr h
@@ -176,22 +181,23 @@ over_housed name here of body ps first fs (suc k) h =
     below : (i : ℕ) → i < k → i < suc k
     below i lt = omega arith
 
-module _ (t : ℕ) (froms : Table) (here : Here) where
+module _ (now : Now) (froms : Table) (here : Here) where
   -- each child that a move begins is housed after it
   abbrev pub Housed : Move → Type 0
   Housed o = AllHoused o.begun o.stopped o.frames o.places
 
-  housed_sleeps : (n : ℕ) (fs : List Frame) (ps : List Place) → Housed (sleeps froms n t fs ps)
-  housed_sleeps n fs ps = by_sight (seen (stack_at froms ps) t) n
+  housed_sleeps : (clock : Clock) (paced : Bool) (n t : ℕ) (fs : List Frame) (ps : List Place) → Housed (sleeps clock froms paced n t fs ps)
+  housed_sleeps clock paced n t fs ps = by_clock clock (seen (stack_at froms ps) t) n
     where
-      by_sight : (b : Bool) (n : ℕ) → Housed (falls_asleep b n t fs ps)
-      by_sight true n = tt
-      by_sight false zero = tt
-      by_sight false (suc n) = tt
+      by_clock : (clock : Clock) (b : Bool) (n : ℕ) → Housed (falls_asleep clock b paced n t fs ps)
+      by_clock by_ticks true n = tt
+      by_clock by_ticks false zero = tt
+      by_clock by_ticks false (suc n) = tt
+      by_clock by_rounds b n = tt
 
   housed_start : (at : Here) (name : List ℕ) (over : Option ℕ) (body ss : Steps) (fs : List Frame) (ps : List Place) (n : ℕ) →
       IsTrue (in_body fs) → Placed fs ps →
-      Housed (step_on froms t at (start name over body) ss fs ps n)
+      Housed (step_on froms now at (start name over body) ss fs ps n)
   housed_start at name None body ss (in_nursery children ∷ fs) (p ∷ ps) n b w =
       (inr (inl (among_right n children (n ∷ []) (inl refl), refl)), tt)
   housed_start at name (Some k) body ss (in_nursery children ∷ fs) (p ∷ ps) n b w =
@@ -217,10 +223,10 @@ module _ (t : ℕ) (froms : Table) (here : Here) where
   housed_pass pass (suc m) body fs ps None = tt
 
   housed_step : (at : Here) (s : Step) (ss : Steps) (fs : List Frame) (ps : List Place) (n : ℕ) → StartsAt (in_body fs) s → Placed fs ps →
-      Housed (step_on froms t at s ss fs ps n)
-  housed_step at (sleep m) ss fs ps n b p = housed_sleeps m (steps_left ss ∷ fs) ps
-  housed_step at checkpoint ss fs ps n b p = housed_sleeps 0 (steps_left ss ∷ fs) ps
-  housed_step at forever ss fs ps n b p = housed_sleeps (far - t) (steps_left ss ∷ fs) ps
+      Housed (step_on froms now at s ss fs ps n)
+  housed_step at (sleep m) ss fs ps n b p = housed_sleeps at.clock false m now.at (steps_left ss ∷ fs) ps
+  housed_step at checkpoint ss fs ps n b p = housed_sleeps at.clock false 0 now.at (steps_left ss ∷ fs) ps
+  housed_step at forever ss fs ps n b p = housed_sleeps at.clock false (far - tick_of at.clock now.at) now.at (steps_left ss ∷ fs) ps
   housed_step at (pace m) ss fs ps n b p = tt
   housed_step at (find text) ss fs ps n b p = tt
   housed_step at (head m) ss fs ps n b p = tt
@@ -235,7 +241,7 @@ module _ (t : ℕ) (froms : Table) (here : Here) where
   housed_step at (attempt body handler cleanup) ss fs ps n b p = tt
 
   housed_steps : (ss : Steps) (fs : List Frame) (ps : List Place) (exc : Option Exc) (n : ℕ) → StartsIn (in_body fs) ss → Placed fs ps →
-      Housed (step_steps froms t here ss fs ps exc n)
+      Housed (step_steps froms now here ss fs ps exc n)
   housed_steps ss fs ps (Some e) n b p = tt
   housed_steps stop fs ps None n b p = tt
   housed_steps (step s ss) fs ps None n b p = housed_step (inside fs here) s ss fs ps n b.0 p
@@ -252,7 +258,7 @@ module _ (t : ℕ) (froms : Table) (here : Here) where
       by_match (Some x) = tt
 
   housed_frames : (fs : List Frame) (ps : List Place) (exc : Option Exc) (n : ℕ) → Placed fs ps →
-      Housed (step_frames froms t here fs ps exc n)
+      Housed (step_frames froms now here fs ps exc n)
   housed_frames [] ps exc n p = tt
   housed_frames (steps_left ss ∷ fs) ps exc n p = housed_steps ss fs ps exc n p.0 p.1
   housed_frames (in_scope fail ∷ fs) [] exc n p = tt
@@ -265,35 +271,47 @@ module _ (t : ℕ) (froms : Table) (here : Here) where
   housed_frames (in_cleanup outcome ∷ fs) ps exc n p = tt
 
   -- one step
-  pub step_housed : (m : Midway) → Placed m.frames m.places → Housed (step_of froms t here m)
+  pub step_housed : (m : Midway) → Placed m.frames m.places → Housed (step_of froms now here m)
   unfolding step_of
   step_housed m p = housed_frames m.frames m.places m.exc m.count p
 
   housed_answered : (a : Answer) (purpose : Purpose) (fs : List Frame) (ps : List Place) →
-      Housed (goes_on_with froms t here a purpose fs ps)
+      Housed (goes_on_with froms now.at here a purpose fs ps)
   housed_answered (lines ls) purpose fs ps = tt
   housed_answered missing (needs name) fs ps = tt
   housed_answered missing shows fs ps = tt
   housed_answered missing (paces c) fs ps = tt
-  housed_answered (counted m) (paces c) fs ps = housed_sleeps (pace_ticks m c) fs ps
+  housed_answered (counted m) (paces c) fs ps = housed_sleeps here.clock true (pace_ticks m c) now.at fs ps
   housed_answered (counted m) shows fs ps = tt
   housed_answered (counted m) (needs name) fs ps = tt
 
-  housed_with : (a : Answer) (s : Stopped) (fs : List Frame) (ps : List Place) → Housed (with_answer froms t here a s fs ps)
+  housed_with : (a : Answer) (s : Stopped) (fs : List Frame) (ps : List Place) → Housed (with_answer froms now.at here a s fs ps)
   housed_with a (asking kernel purpose) fs ps = housed_answered a purpose fs ps
   housed_with a to_begin fs ps = tt
-  housed_with a (asleep m since) fs ps = tt
+  housed_with a (asleep paced m since) fs ps = tt
+  housed_with a (giving_up since) fs ps = tt
   housed_with a (awaiting children ended exc) fs ps = tt
   housed_with a (at_end u e) fs ps = tt
 
-  housed_settled : (exc : Option Exc) (fs : List Frame) (ps : List Place) → Housed (leaves_settled froms t exc fs ps)
+  housed_settled : (exc : Option Exc) (fs : List Frame) (ps : List Place) → Housed (leaves_settled here.clock froms now exc fs ps)
   housed_settled exc fs [] = tt
   housed_settled exc fs (p ∷ ps) = tt
 
+  housed_seen : (t : ℕ) (s : Stopped) (fs : List Frame) (ps : List Place) → Housed (sees_from t s fs ps)
+  housed_seen t (asleep false zero since) fs ps = tt
+  housed_seen t (asleep false (suc n) since) fs ps = tt
+  housed_seen t (asleep true n since) fs ps = tt
+  housed_seen t to_begin fs ps = tt
+  housed_seen t (asking kernel purpose) fs ps = tt
+  housed_seen t (giving_up since) fs ps = tt
+  housed_seen t (awaiting children ended exc) fs ps = tt
+  housed_seen t (at_end u e) fs ps = tt
+
   -- a wake begins none
-  pub wake_housed : (w : Wake) (s : Stopped) (fs : List Frame) (ps : List Place) → Housed (wake_of froms t here w s fs ps)
+  pub wake_housed : (w : Wake) (s : Stopped) (fs : List Frame) (ps : List Place) → Housed (wake_of froms now here w s fs ps)
   wake_housed begins s fs ps = tt
-  wake_housed sees s fs ps = tt
+  wake_housed sees s fs ps = housed_seen now.at s fs ps
+  wake_housed gives_up s fs ps = tt
   wake_housed is_due s fs ps = tt
   wake_housed (has_answer a) s fs ps = housed_with a s fs ps
   wake_housed (settles exc) s fs ps = housed_settled exc fs ps

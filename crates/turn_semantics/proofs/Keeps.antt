@@ -6,20 +6,22 @@ use Rattle.job_tree.specs.Starting.{StartsIn, StartsAt}
 use Rattle.buffer_parts.specs.Lines.{Span}
 use Rattle.buffer_parts.specs.Cuts.{cut_of}
 use Rattle.line_kernels.specs.Kernels.{needed_in}
-use Rattle.exc_groups.specs.Exceptions.{Label, Exc}
+use Rattle.exc_groups.specs.Exceptions.{Label, Exc, cancelled}
 use Rattle.exc_groups.specs.Split.{named, keep, drop}
 use Rattle.cancel_scopes.specs.Sight.{seen}
 use Rattle.job_meaning.specs.Log.{Log, Result, Table}
-use Rattle.job_meaning.specs.Walk.{by_table, Here, walk, walk_step, far, cancel_result, sign_of, sign_if, home_of, with_sign, here_in, label_here, label_over, Kind, a_scope, left_with, done_at, sleep_result, need_result}
-use Rattle.job_meaning.specs.Rest.{fill, ChildOutcomes, told_members, Frame, steps_left, in_scope, in_nursery, in_repeat, in_try, in_handler, in_cleanup, inside, leaving_log, block_left, wait_result, finish}
+use Rattle.job_meaning.specs.Moments.{Clock, by_ticks, by_rounds, tick_of, a_round_after, Now, only_at, far}
+use Rattle.job_meaning.specs.Walk.{by_table, Here, walk, walk_step, cancel_result, sign_of, sign_if, home_of, with_sign, here_in, label_here, label_over, Kind, a_scope, left_with, done_at, need_result, raise_result, raised_at, with_own}
+use Rattle.job_meaning.specs.Rest.{Event, starts, starts_over, consecutive, fill, ChildOutcomes, told_members, Frame, steps_left, in_scope, in_nursery, in_repeat, in_try, in_handler, in_cleanup, inside, leaving_log, block_left, wait_result, finish}
 use Rattle.job_meaning.specs.Asking.{one_line, needs, answer_result}
 use Rattle.job_meaning.proofs.Clips.{followed_nil}
 use Rattle.job_meaning.proofs.Finish.{after, finish_after, finish_begin, finish_stop, finish_step, finish_raised, finish_scope, finish_nursery, finish_try, finish_handler, finish_unhandled, finish_no_handler, finish_uncleaned, finish_cleanup, finish_handled, finish_cleaned, finish_leave, finish_wait, finish_start, finish_start_over, finish_no_pass, finish_first_pass, finish_next_pass, finish_last_pass, finish_raised_pass}
-use Rattle.turn_semantics.specs.Midway.{Place, stack_at, Midway, Begun, Move, so_far, after_events, going_to, left_after, left_of, none_told, begun_comes_to}
+use Rattle.turn_semantics.specs.Midway.{Place, stack_at, Midway, Begun, Move, own_after, OwnFits, now_after, so_far, after_events, going_to, left_after, left_of, none_told, begun_comes_to}
 use Rattle.turn_semantics.specs.Steps.{makes, falls_asleep, sleeps, label_among, signs_to, signs_home, begun_one, begun_over, step_on, step_steps, leaves, handler_if, step_try, step_frames, step_of, begins_passes, step_pass}
 use Rattle.turn_semantics.specs.Placed.{in_body, Placed}
 use Rattle.turn_semantics.specs.Turned.{AgreesOn, AllTold}
-use Rattle.turn_semantics.proofs.Agreeing.{seen_alike, catches_alike, label_at_places, sleep_seen, sleep_none}
+use Rattle.turn_semantics.proofs.Agreeing.{seen_alike, catches_alike, label_at_places, slept, sleep_seen, sleep_none}
+use Rattle.turn_semantics.proofs.Events.{own_append}
 
 -- ---- the log of what a step makes
 
@@ -33,10 +35,25 @@ fill_home told table None ps t = refl
 fill_home told table (Some e) [] t = refl
 fill_home told table (Some e) (p ∷ ps) t = refl
 
+-- what a task has cancelled in this moment after a `cancel`
+own_signed : (clock : Clock) (own : List Label) (o : Option Label) (t : ℕ) → with_own clock o own ≡ own_after clock own (signs_to o t)
+own_signed by_ticks own None t = refl
+own_signed by_ticks own (Some l) t = refl
+own_signed by_rounds own None t = refl
+own_signed by_rounds own (Some l) t = refl
+
+-- and after a `start .. over`
+own_started : (clock : Clock) (own : List Label) (name : List ℕ) (here : Here) (t first k : ℕ) →
+    own ≡ own_after clock own (starts_over name here t first k)
+own_started clock own name here t first zero = refl
+own_started clock own name here t first (suc k) =
+    own_started clock own name here t first k
+    ∙ sym (own_append clock (starts_over name here t first k) (starts (first + k) (label_over name here k) t ∷ []) own)
+
 -- a child's whole walk, as its starter's has it
 pub begun_walk : (table : Table) (t : ℕ) (b : Begun) →
-    begun_comes_to table t b ≡ with_sign (stack_at table b.places) (walk (by_table table) b.body b.here (stack_at table b.places) t)
-begun_walk table t b = finish_begin (by_table table) none_told b.body b.here (stack_at table b.places) t
+    begun_comes_to table t b ≡ with_sign (stack_at table b.places) (walk (by_table table) b.body b.here (stack_at table b.places) (only_at t))
+begun_walk table t b = finish_begin (by_table table) none_told b.body b.here (stack_at table b.places) (only_at t)
 
 -- what is recorded of children is recorded of the first of them
 pub told_first : (t : ℕ) (table : Table) (told : ChildOutcomes) (bs cs : List Begun) → AllTold t table told (bs ++ cs) → AllTold t table told bs
@@ -57,63 +74,91 @@ last_or_before i k lt = by_order (nat_lt i k) refl
     by_order false e = inl (grind (arith, nat_tests))
 
 -- in a world with these froms, and by a table that agrees with them
-module _ (table froms : Table) (told : ChildOutcomes) (t : ℕ) (here : Here) where
+module _ (table froms : Table) (told : ChildOutcomes) (now : Now) (here : Here) where
   -- the move leaves the result of the task unchanged
   abbrev pub Keeps : List Frame → List Place → Option Exc → Move → Type 0
-  Keeps fs ps exc o = going_to table told here t fs ps exc ≡ after_events told o.made (left_after table told here t o)
+  Keeps fs ps exc o = going_to table told here now fs ps exc ≡ after_events told o.made (left_after table told here now o)
 
   -- a step that opens no frame, by its result
   first_step : (s : Step) (ss : Steps) (fs : List Frame) (ps : List Place) (r : Result) →
-      walk_step (by_table table) s (inside fs here) (stack_at table ps) t ≡ r →
-      going_to table told here t (steps_left (step s ss) ∷ fs) ps None
+      walk_step (by_table table) s (inside fs here) (stack_at table ps) now ≡ r →
+      going_to table told here now (steps_left (step s ss) ∷ fs) ps None
       ≡ finish (by_table table) told (steps_left ss ∷ fs) here (stack_at table ps) r
   first_step s ss fs ps r e =
-      finish_step fs (by_table table) told s ss here (stack_at table ps) t
+      finish_step fs (by_table table) told s ss here (stack_at table ps) now
       ∙ ap (λ (x : Result). finish (by_table table) told (steps_left ss ∷ fs) here (stack_at table ps) x) e
 
   -- what is left with a sleep to come
-  pub keeps_sleeps : (n : ℕ) (fs : List Frame) (ps : List Place) → AgreesOn t table froms ps →
-      finish (by_table table) told fs here (stack_at table ps) (sleep_result (stack_at table ps) n t)
-      ≡ after_events told (sleeps froms n t fs ps).made (left_after table told here t (sleeps froms n t fs ps))
-  keeps_sleeps n fs ps a = by_sight (seen (stack_at froms ps) t) (seen_alike t table froms ps a) n
+  pub keeps_sleeps : (paced : Bool) (n : ℕ) (fs : List Frame) (ps : List Place) → OwnFits here.clock now.own → AgreesOn now.at table froms ps →
+      finish (by_table table) told fs here (stack_at table ps) (slept paced here.clock (stack_at table ps) n now.at)
+      ≡ after_events told (sleeps here.clock froms paced n now.at fs ps).made
+      (left_after table told here now (sleeps here.clock froms paced n now.at fs ps))
+  keeps_sleeps paced n fs ps own a =
+      by_clock here.clock refl own (seen (stack_at froms ps) now.at) (seen_alike now.at table froms ps a) paced n
     where
-      by_sight : (b : Bool) → seen (stack_at table ps) t ≡ b → (n : ℕ) →
-          finish (by_table table) told fs here (stack_at table ps) (sleep_result (stack_at table ps) n t)
-          ≡ after_events told (falls_asleep b n t fs ps).made (left_after table told here t (falls_asleep b n t fs ps))
-      by_sight true e n = ap (λ (x : Result). finish (by_table table) told fs here (stack_at table ps) x)
-          (sleep_seen (stack_at table ps) n t e)
-      by_sight false e zero = ap (λ (x : Result). finish (by_table table) told fs here (stack_at table ps) x)
-          (sleep_none (stack_at table ps) t e)
-      by_sight false e (suc n) = refl
+      at_own : List Label → Now
+      at_own ls = record { at = now.at; own = ls }
+
+      nothing_own : now.own ≡ [] → only_at now.at ≡ now
+      nothing_own e = ap at_own (sym e)
+
+      by_clock : (clock : Clock) → here.clock ≡ clock → OwnFits clock now.own → (b : Bool) → seen (stack_at table ps) now.at ≡ b →
+          (paced : Bool) (n : ℕ) →
+          finish (by_table table) told fs here (stack_at table ps) (slept paced here.clock (stack_at table ps) n now.at)
+          ≡ after_events told (falls_asleep clock b paced n now.at fs ps).made
+          (left_after table told here now (falls_asleep clock b paced n now.at fs ps))
+      by_clock by_ticks c own true e paced n =
+          ap (λ (x : Result). finish (by_table table) told fs here (stack_at table ps) x)
+          (ap (λ (x : Clock). slept paced x (stack_at table ps) n now.at) c ∙ sleep_seen paced (stack_at table ps) n now.at e
+          ∙ ap (λ (x : Now). raised_at cancelled x) (nothing_own own))
+      by_clock by_ticks c own false e paced zero =
+          ap (λ (x : Result). finish (by_table table) told fs here (stack_at table ps) x)
+          (ap (λ (x : Clock). slept paced x (stack_at table ps) 0 now.at) c ∙ sleep_none paced (stack_at table ps) now.at e
+          ∙ ap (λ (x : Now). done_at x) (nothing_own own))
+      by_clock by_ticks c own false e false (suc n) = refl
+      by_clock by_ticks c own false e true (suc n) = refl
+      by_clock by_rounds c own b e false n = refl
+      by_clock by_rounds c own b e true n = refl
 
   -- a sleep
   keeps_sleep : (s : Step) (n : ℕ) (ss : Steps) (fs : List Frame) (ps : List Place) →
-      walk_step (by_table table) s (inside fs here) (stack_at table ps) t ≡ sleep_result (stack_at table ps) n t → AgreesOn t table froms ps →
-      Keeps (steps_left (step s ss) ∷ fs) ps None (sleeps froms n t (steps_left ss ∷ fs) ps)
-  keeps_sleep s n ss fs ps e a = first_step s ss fs ps (sleep_result (stack_at table ps) n t) e ∙ keeps_sleeps n (steps_left ss ∷ fs) ps a
+      walk_step (by_table table) s (inside fs here) (stack_at table ps) now ≡ slept false here.clock (stack_at table ps) n now.at →
+      OwnFits here.clock now.own → AgreesOn now.at table froms ps →
+      Keeps (steps_left (step s ss) ∷ fs) ps None (sleeps here.clock froms false n now.at (steps_left ss ∷ fs) ps)
+  keeps_sleep s n ss fs ps e own a =
+      first_step s ss fs ps (slept false here.clock (stack_at table ps) n now.at) e ∙ keeps_sleeps false n (steps_left ss ∷ fs) ps own a
 
   -- a `cancel`
   keeps_cancel : (name : List ℕ) (ss : Steps) (fs : List Frame) (ps : List Place) →
-      Keeps (steps_left (step (cancel name) ss) ∷ fs) ps None (makes (signs_to (label_among name ps) t) (steps_left ss ∷ fs) ps)
+      Keeps (steps_left (step (cancel name) ss) ∷ fs) ps None (makes (signs_to (label_among name ps) now.at) (steps_left ss ∷ fs) ps)
   unfolding walk cancel_result
   keeps_cancel name ss fs ps =
-      first_step (cancel name) ss fs ps (after (fill told (signs_to (label_among name ps) t)) (done_at t))
-      (ap (λ (x : Log). record (done_at t) { log = x })
-      (ap (λ (o : Option Label). sign_of o t) (label_at_places table name ps) ∙ sym (fill_signs_to told (label_among name ps) t)
-      ∙ sym (followed_nil (fill told (signs_to (label_among name ps) t)))))
-      ∙ finish_after (steps_left ss ∷ fs) (fill told (signs_to (label_among name ps) t)) (by_table table) told here (stack_at table ps)
-      (done_at t)
+      first_step (cancel name) ss fs ps (after (fill told made) (done_at (now_after here.clock now made)))
+      (both (ap (λ (o : Option Label). with_own here.clock o now.own) (label_at_places table name ps)
+      ∙ own_signed here.clock now.own (label_among name ps) now.at)
+      (ap (λ (o : Option Label). sign_of o now.at) (label_at_places table name ps) ∙ sym (fill_signs_to told (label_among name ps) now.at)
+      ∙ sym (followed_nil (fill told made))))
+      ∙ finish_after (steps_left ss ∷ fs) (fill told made) (by_table table) told here (stack_at table ps)
+      (done_at (now_after here.clock now made))
+    where
+      made : List Event
+      made = signs_to (label_among name ps) now.at
+
+      both : {ls ms : List Label} {x y : Log} → ls ≡ ms → x ≡ y →
+          ◌≡◌ {A = Result} (record { end = now.at; own = ls; exc = None; members = []; log = x })
+          (record { end = now.at; own = ms; exc = None; members = []; log = y })
+      both e f = cc
 
   -- children of a `start .. over` are recorded by their numbers
   over_told : (at : Here) (name : List ℕ) (of : ℕ) (body : Steps) (ps : List Place) (first k : ℕ) →
-      AllTold t table told (begun_over name at of body ps first k) →
+      AllTold (a_round_after here.clock now.at) table told (begun_over name at of body ps first k) →
       (i : ℕ) → i < k →
       told (first + i)
       ≡ with_sign (stack_at table ps) (walk (by_table table) body (here_in (label_over name at i) (cut_of at.input at.part of i) at)
-      (stack_at table ps) t)
+      (stack_at table ps) (only_at (a_round_after here.clock now.at)))
   over_told at name of body ps first zero h i lt = absurd (omega arith)
   over_told at name of body ps first (suc k) h i lt =
-      by_last (last_or_before i k lt) (λ l. over_told at name of body ps first k (told_first t table told front (one ∷ []) h) i l)
+      by_last (last_or_before i k lt) (λ l. over_told at name of body ps first k (told_first (a_round_after here.clock now.at) table told front (one ∷ []) h) i l)
     where
       front : List Begun
       front = begun_over name at of body ps first k
@@ -125,27 +170,34 @@ module _ (table froms : Table) (told : ChildOutcomes) (t : ℕ) (here : Here) wh
       Tells i =
           told (first + i)
           ≡ with_sign (stack_at table ps) (walk (by_table table) body (here_in (label_over name at i) (cut_of at.input at.part of i) at)
-          (stack_at table ps) t)
+          (stack_at table ps) (only_at (a_round_after here.clock now.at)))
 
       by_last : (i ≡ k) ⊎ (i < k) → (i < k → Tells i) → Tells i
-      by_last (inl e) more = subst Tells (sym e) ((told_second t table told front (one ∷ []) h).0 ∙ begun_walk table t one)
+      by_last (inl e) more = subst Tells (sym e) ((told_second (a_round_after here.clock now.at) table told front (one ∷ []) h).0 ∙ begun_walk table (a_round_after here.clock now.at) one)
       by_last (inr l) more = more l
 
   -- a child, or several, are started
   keeps_start : (name : List ℕ) (over : Option ℕ) (body ss : Steps) (fs : List Frame) (ps : List Place) (count : ℕ) → IsTrue (in_body fs) →
       Placed fs ps →
-      AllTold t table told (step_on froms t (inside fs here) (start name over body) ss fs ps count).begun →
+      AllTold (a_round_after here.clock now.at) table told (step_on froms now (inside fs here) (start name over body) ss fs ps count).begun →
       Keeps (steps_left (step (start name over body) ss) ∷ fs) ps None
-      (step_on froms t (inside fs here) (start name over body) ss fs ps count)
+      (step_on froms now (inside fs here) (start name over body) ss fs ps count)
   keeps_start name None body ss (in_nursery children ∷ fs) (p ∷ ps) count b w h =
       finish_start fs (by_table table) told count name body ss children here
       (record { label = p.label; shield = p.shield; from = table p.label })
-      (stack_at table ps) t
-      (h.0 ∙ begun_walk table t (begun_one count (here_in (label_here name (inside fs here)) here.part here) body (p ∷ ps)))
+      (stack_at table ps) now
+      (h.0 ∙ begun_walk table (a_round_after here.clock now.at) (begun_one count (here_in (label_here name (inside fs here)) here.part here) body (p ∷ ps)))
   keeps_start name (Some k) body ss (in_nursery children ∷ fs) (p ∷ ps) count b w h =
       finish_start_over fs (by_table table) told count k name body ss children here
-      (record { label = p.label; shield = p.shield; from = table p.label }) (stack_at table ps) t
+      (record { label = p.label; shield = p.shield; from = table p.label }) (stack_at table ps) now
       (over_told (inside fs here) name k body (p ∷ ps) count k h)
+      ∙ ap (λ (own : List Label). after (fill told made)
+      (finish (by_table table) told (steps_left ss ∷ in_nursery (children ++ consecutive count k) ∷ fs) here
+      (stack_at table (p ∷ ps)) (done_at (record { at = now.at; own = own }))))
+      (own_started here.clock now.own name (inside fs here) (a_round_after here.clock now.at) count k)
+    where
+      made : List Event
+      made = starts_over name (inside fs here) (a_round_after here.clock now.at) count k
   keeps_start name over body ss (in_nursery children ∷ fs) [] count b w h = absurd w
   keeps_start name over body ss [] ps count b w h = absurd (cc)
   keeps_start name over body ss (steps_left more ∷ fs) ps count b w h = absurd (cc)
@@ -157,133 +209,133 @@ module _ (table froms : Table) (told : ChildOutcomes) (t : ℕ) (here : Here) wh
 
   -- `need` asks for a line
   keeps_need : (o : Option Span) (name : List ℕ) (ss : Steps) (fs : List Frame) (ps : List Place) →
-      finish (by_table table) told (steps_left ss ∷ fs) here (stack_at table ps) (need_result o name here.task t)
+      finish (by_table table) told (steps_left ss ∷ fs) here (stack_at table ps) (need_result o name (inside fs here) now)
       ≡ finish (by_table table) told (steps_left ss ∷ fs) here (stack_at table ps)
-      (answer_result (one_line o) (needs name) here (stack_at table ps) t)
-  unfolding need_result
+      (answer_result (one_line o) (needs name) here (stack_at table ps) now)
+  unfolding need_result raise_result
   keeps_need None name ss fs ps = refl
   keeps_need (Some l) name ss fs ps = refl
 
   -- the first pass of a `repeat`
   keeps_passes : (n : ℕ) (body ss : Steps) (fs : List Frame) (ps : List Place) →
       Keeps (steps_left (step (repeat n body) ss) ∷ fs) ps None (begins_passes n body (steps_left ss ∷ fs) ps)
-  keeps_passes zero body ss fs ps = finish_no_pass fs (by_table table) told body ss here (stack_at table ps) t
-  keeps_passes (suc k) body ss fs ps = finish_first_pass fs (by_table table) told k body ss here (stack_at table ps) t
+  keeps_passes zero body ss fs ps = finish_no_pass fs (by_table table) told body ss here (stack_at table ps) now
+  keeps_passes (suc k) body ss fs ps = finish_first_pass fs (by_table table) told k body ss here (stack_at table ps) now
 
   -- a pass has ended
   keeps_pass : (pass left : ℕ) (body : Steps) (fs : List Frame) (ps : List Place) (exc : Option Exc) →
       Keeps (in_repeat pass left body ∷ fs) ps exc (step_pass pass left body fs ps exc)
   keeps_pass pass left body fs ps (Some e) =
-      finish_raised_pass fs (by_table table) told pass left body here (stack_at table ps) (so_far (Some e) t) e
-  keeps_pass pass zero body fs ps None = finish_last_pass fs (by_table table) told pass body here (stack_at table ps) t
-  keeps_pass pass (suc k) body fs ps None = finish_next_pass fs (by_table table) told pass k body here (stack_at table ps) t
+      finish_raised_pass fs (by_table table) told pass left body here (stack_at table ps) (so_far (Some e) now) e
+  keeps_pass pass zero body fs ps None = finish_last_pass fs (by_table table) told pass body here (stack_at table ps) now
+  keeps_pass pass (suc k) body fs ps None = finish_next_pass fs (by_table table) told pass k body here (stack_at table ps) now
 
   -- each kind of step
-  keeps_step : (s : Step) (ss : Steps) (fs : List Frame) (ps : List Place) (count : ℕ) → AgreesOn t table froms ps →
+  keeps_step : (s : Step) (ss : Steps) (fs : List Frame) (ps : List Place) (count : ℕ) → OwnFits here.clock now.own → AgreesOn now.at table froms ps →
       StartsAt (in_body fs) s → Placed fs ps →
-      AllTold t table told (step_on froms t (inside fs here) s ss fs ps count).begun →
-      Keeps (steps_left (step s ss) ∷ fs) ps None (step_on froms t (inside fs here) s ss fs ps count)
-  unfolding walk
-  keeps_step (sleep n) ss fs ps count a b w h = keeps_sleep (sleep n) n ss fs ps refl a
-  keeps_step checkpoint ss fs ps count a b w h = keeps_sleep checkpoint 0 ss fs ps refl a
-  keeps_step forever ss fs ps count a b w h = keeps_sleep forever (far - t) ss fs ps refl a
-  keeps_step (pace k) ss fs ps count a b w h = finish_step fs (by_table table) told (pace k) ss here (stack_at table ps) t
-  keeps_step (find text) ss fs ps count a b w h = finish_step fs (by_table table) told (find text) ss here (stack_at table ps) t
-  keeps_step (head n) ss fs ps count a b w h = finish_step fs (by_table table) told (head n) ss here (stack_at table ps) t
-  keeps_step longest ss fs ps count a b w h = finish_step fs (by_table table) told longest ss here (stack_at table ps) t
-  keeps_step (need text name) ss fs ps count a b w h =
-      finish_step fs (by_table table) told (need text name) ss here (stack_at table ps) t
+      AllTold (a_round_after here.clock now.at) table told (step_on froms now (inside fs here) s ss fs ps count).begun →
+      Keeps (steps_left (step s ss) ∷ fs) ps None (step_on froms now (inside fs here) s ss fs ps count)
+  unfolding walk raise_result
+  keeps_step (sleep n) ss fs ps count own a b w h = keeps_sleep (sleep n) n ss fs ps refl own a
+  keeps_step checkpoint ss fs ps count own a b w h = keeps_sleep checkpoint 0 ss fs ps refl own a
+  keeps_step forever ss fs ps count own a b w h = keeps_sleep forever (far - tick_of here.clock now.at) ss fs ps refl own a
+  keeps_step (pace k) ss fs ps count own a b w h = finish_step fs (by_table table) told (pace k) ss here (stack_at table ps) now
+  keeps_step (find text) ss fs ps count own a b w h = finish_step fs (by_table table) told (find text) ss here (stack_at table ps) now
+  keeps_step (head n) ss fs ps count own a b w h = finish_step fs (by_table table) told (head n) ss here (stack_at table ps) now
+  keeps_step longest ss fs ps count own a b w h = finish_step fs (by_table table) told longest ss here (stack_at table ps) now
+  keeps_step (need text name) ss fs ps count own a b w h =
+      finish_step fs (by_table table) told (need text name) ss here (stack_at table ps) now
       ∙ keeps_need (needed_in here.input text here.part) name ss fs ps
-  keeps_step (raise name) ss fs ps count a b w h = finish_step fs (by_table table) told (raise name) ss here (stack_at table ps) t
-  keeps_step (cancel name) ss fs ps count a b w h = keeps_cancel name ss fs ps
-  keeps_step (scope name d shield fail body) ss fs ps count a b w h =
-      finish_scope fs table told name d shield fail body ss here (stack_at table ps) t
-  keeps_step (nursery name d shield body) ss fs ps count a b w h =
-      finish_nursery fs table told name d shield body ss here (stack_at table ps) t
-  keeps_step (start name over body) ss fs ps count a b w h = keeps_start name over body ss fs ps count b.0 w h
-  keeps_step (repeat n body) ss fs ps count a b w h = keeps_passes n body ss fs ps
-  keeps_step (attempt body handler cleanup) ss fs ps count a b w h =
-      finish_try fs (by_table table) told body handler cleanup ss here (stack_at table ps) t
+  keeps_step (raise name) ss fs ps count own a b w h = finish_step fs (by_table table) told (raise name) ss here (stack_at table ps) now
+  keeps_step (cancel name) ss fs ps count own a b w h = keeps_cancel name ss fs ps
+  keeps_step (scope name d shield fail body) ss fs ps count own a b w h =
+      finish_scope fs table told name d shield fail body ss here (stack_at table ps) now
+  keeps_step (nursery name d shield body) ss fs ps count own a b w h =
+      finish_nursery fs table told name d shield body ss here (stack_at table ps) now
+  keeps_step (start name over body) ss fs ps count own a b w h = keeps_start name over body ss fs ps count b.0 w h
+  keeps_step (repeat n body) ss fs ps count own a b w h = keeps_passes n body ss fs ps
+  keeps_step (attempt body handler cleanup) ss fs ps count own a b w h =
+      finish_try fs (by_table table) told body handler cleanup ss here (stack_at table ps) now
 
   -- steps of a block
-  keeps_steps : (ss : Steps) (fs : List Frame) (ps : List Place) (exc : Option Exc) (count : ℕ) → AgreesOn t table froms ps →
+  keeps_steps : (ss : Steps) (fs : List Frame) (ps : List Place) (exc : Option Exc) (count : ℕ) → OwnFits here.clock now.own → AgreesOn now.at table froms ps →
       StartsIn (in_body fs) ss → Placed fs ps →
-      AllTold t table told (step_steps froms t here ss fs ps exc count).begun →
-      Keeps (steps_left ss ∷ fs) ps exc (step_steps froms t here ss fs ps exc count)
-  keeps_steps ss fs ps (Some e) count a b w h = finish_raised fs (by_table table) told ss here (stack_at table ps) (so_far (Some e) t) e
-  keeps_steps stop fs ps None count a b w h = finish_stop fs (by_table table) told here (stack_at table ps) t
-  keeps_steps (step s ss) fs ps None count a b w h = keeps_step s ss fs ps count a b.0 w h
+      AllTold (a_round_after here.clock now.at) table told (step_steps froms now here ss fs ps exc count).begun →
+      Keeps (steps_left ss ∷ fs) ps exc (step_steps froms now here ss fs ps exc count)
+  keeps_steps ss fs ps (Some e) count own a b w h = finish_raised fs (by_table table) told ss here (stack_at table ps) (so_far (Some e) now) e
+  keeps_steps stop fs ps None count own a b w h = finish_stop fs (by_table table) told here (stack_at table ps) now
+  keeps_steps (step s ss) fs ps None count own a b w h = keeps_step s ss fs ps count own a b.0 w h
 
   -- a block is left, whatever made it end
-  pub block_leaves : (kind : Kind) (fs : List Frame) (p : Place) (ps : List Place) (exc : Option Exc) → AgreesOn t table froms (p ∷ ps) →
-      finish (by_table table) told fs here (stack_at table ps) (block_left kind
-      (record { label = p.label; shield = p.shield; from = table p.label }) (stack_at table ps) (so_far exc t))
-      ≡ after_events told (leaves froms t kind fs p ps exc).made (left_after table told here t (leaves froms t kind fs p ps exc))
+  pub block_leaves : (kind : Kind) (fs : List Frame) (p : Place) (ps : List Place) (exc : Option Exc) → AgreesOn now.at table froms (p ∷ ps) →
+      finish (by_table table) told fs here (stack_at table ps) (block_left here.clock kind
+      (record { label = p.label; shield = p.shield; from = table p.label }) (stack_at table ps) (so_far exc now))
+      ≡ after_events told (leaves here.clock froms now kind fs p ps exc).made (left_after table told here now (leaves here.clock froms now kind fs p ps exc))
   block_leaves kind fs p ps exc a =
       ap (λ (b : Bool). finish (by_table table) told fs here (stack_at table ps)
-      (leaving_log kind p.label (left_with b exc) (so_far exc t))) (catches_alike t table froms p ps a)
-      ∙ finish_after fs (fill told (leaves froms t kind fs p ps exc).made) (by_table table) told here (stack_at table ps)
-      (so_far (leaves froms t kind fs p ps exc).exc t)
+      (leaving_log here.clock kind p.label (left_with b exc) (so_far exc now))) (catches_alike now.own now.at table froms p ps a)
+      ∙ finish_after fs (fill told (leaves here.clock froms now kind fs p ps exc).made) (by_table table) told here (stack_at table ps)
+      (so_far (leaves here.clock froms now kind fs p ps exc).exc now)
 
   -- the body of a `try` has ended
   keeps_try : (handler : Handled) (cleanup : Cleaned) (fs : List Frame) (ps : List Place) (exc : Option Exc) →
       Keeps (in_try handler cleanup ∷ fs) ps exc (step_try handler cleanup fs ps exc)
-  keeps_try unhandled uncleaned fs ps exc = finish_uncleaned fs (by_table table) told here (stack_at table ps) (so_far exc t)
-  keeps_try unhandled (finally body) fs ps exc = finish_cleanup fs (by_table table) told body here (stack_at table ps) (so_far exc t)
+  keeps_try unhandled uncleaned fs ps exc = finish_uncleaned fs (by_table table) told here (stack_at table ps) (so_far exc now)
+  keeps_try unhandled (finally body) fs ps exc = finish_cleanup fs (by_table table) told body here (stack_at table ps) (so_far exc now)
   keeps_try (except name body) cleanup fs ps None =
-      finish_no_handler fs (by_table table) told (except name body) cleanup here (stack_at table ps) (so_far None t)
+      finish_no_handler fs (by_table table) told (except name body) cleanup here (stack_at table ps) (so_far None now)
   keeps_try (except name body) cleanup fs ps (Some e) = by_match (keep (named name) e) refl
     where
       by_match : (o : Option Exc) → keep (named name) e ≡ o →
           Keeps (in_try (except name body) cleanup ∷ fs) ps (Some e) (handler_if o (drop (named name) e) e body cleanup fs ps)
-      by_match None k = finish_unhandled fs (by_table table) told name body cleanup here (stack_at table ps) (so_far (Some e) t) e k
-      by_match (Some x) k = finish_handler fs (by_table table) told name body cleanup here (stack_at table ps) (so_far (Some e) t) e x k
+      by_match None k = finish_unhandled fs (by_table table) told name body cleanup here (stack_at table ps) (so_far (Some e) now) e k
+      by_match (Some x) k = finish_handler fs (by_table table) told name body cleanup here (stack_at table ps) (so_far (Some e) now) e x k
 
   -- a task with no frame left: it signs for its home nursery where it failed
-  keeps_end : (ps : List Place) (exc : Option Exc) (count : ℕ) → Keeps [] ps exc (step_frames froms t here [] ps exc count)
+  keeps_end : (ps : List Place) (exc : Option Exc) (count : ℕ) → Keeps [] ps exc (step_frames froms now here [] ps exc count)
   unfolding finish with_sign
   keeps_end ps exc count =
-      ap (λ (x : Log). record (so_far exc t) { log = x }) (sym (fill_home told table exc ps t)
-      ∙ sym (followed_nil (fill told (signs_home exc ps t))))
+      ap (λ (x : Log). record (so_far exc now) { own = []; log = x }) (sym (fill_home told table exc ps now.at)
+      ∙ sym (followed_nil (fill told (signs_home exc ps now.at))))
 
   -- the body of a nursery has ended
   keeps_wait : (children : List ℕ) (fs : List Frame) (p : Place) (ps : List Place) (exc : Option Exc) (count : ℕ) →
-      Keeps (in_nursery children ∷ fs) (p ∷ ps) exc (step_frames froms t here (in_nursery children ∷ fs) (p ∷ ps) exc count)
+      Keeps (in_nursery children ∷ fs) (p ∷ ps) exc (step_frames froms now here (in_nursery children ∷ fs) (p ∷ ps) exc count)
   keeps_wait children fs p ps exc count =
       finish_wait fs (by_table table) told children here (record { label = p.label; shield = p.shield; from = table p.label })
-      (stack_at table ps) t exc
+      (stack_at table ps) now exc
       ∙ ap
       (λ (x : Log).
       after x
       (finish (by_table table) told fs here (stack_at table ps)
-      (wait_result (told_members told children) t exc (record { label = p.label; shield = p.shield; from = table p.label })
+      (wait_result here.clock (told_members told children) now.at exc (record { label = p.label; shield = p.shield; from = table p.label })
       (stack_at table ps))))
-      (sym (fill_home told table exc (p ∷ ps) t))
+      (sym (fill_home told table exc (p ∷ ps) now.at))
 
   -- each kind of frame
-  keeps_frames : (fs : List Frame) (ps : List Place) (exc : Option Exc) (count : ℕ) → AgreesOn t table froms ps → Placed fs ps →
-      AllTold t table told (step_frames froms t here fs ps exc count).begun → Keeps fs ps exc (step_frames froms t here fs ps exc count)
-  keeps_frames [] ps exc count a w h = keeps_end ps exc count
-  keeps_frames (steps_left ss ∷ fs) ps exc count a w h = keeps_steps ss fs ps exc count a w.0 w.1 h
-  keeps_frames (in_scope fail ∷ fs) [] exc count a w h = absurd w
-  keeps_frames (in_scope fail ∷ fs) (p ∷ ps) exc count a w h =
+  keeps_frames : (fs : List Frame) (ps : List Place) (exc : Option Exc) (count : ℕ) → OwnFits here.clock now.own → AgreesOn now.at table froms ps → Placed fs ps →
+      AllTold (a_round_after here.clock now.at) table told (step_frames froms now here fs ps exc count).begun → Keeps fs ps exc (step_frames froms now here fs ps exc count)
+  keeps_frames [] ps exc count own a w h = keeps_end ps exc count
+  keeps_frames (steps_left ss ∷ fs) ps exc count own a w h = keeps_steps ss fs ps exc count own a w.0 w.1 h
+  keeps_frames (in_scope fail ∷ fs) [] exc count own a w h = absurd w
+  keeps_frames (in_scope fail ∷ fs) (p ∷ ps) exc count own a w h =
       finish_leave fs (by_table table) told fail here (record { label = p.label; shield = p.shield; from = table p.label })
-      (stack_at table ps) (so_far exc t)
+      (stack_at table ps) (so_far exc now)
       ∙ block_leaves (a_scope fail) fs p ps exc a
-  keeps_frames (in_nursery children ∷ fs) [] exc count a w h = absurd w
-  keeps_frames (in_nursery children ∷ fs) (p ∷ ps) exc count a w h = keeps_wait children fs p ps exc count
-  keeps_frames (in_repeat pass left body ∷ fs) ps exc count a w h = keeps_pass pass left body fs ps exc
-  keeps_frames (in_try handler cleanup ∷ fs) ps exc count a w h = keeps_try handler cleanup fs ps exc
-  keeps_frames (in_handler rest cleanup ∷ fs) ps exc count a w h =
-      finish_handled fs (by_table table) told rest cleanup here (stack_at table ps) (so_far exc t)
-  keeps_frames (in_cleanup outcome ∷ fs) ps exc count a w h =
-      finish_cleaned fs (by_table table) told outcome here (stack_at table ps) (so_far exc t)
+  keeps_frames (in_nursery children ∷ fs) [] exc count own a w h = absurd w
+  keeps_frames (in_nursery children ∷ fs) (p ∷ ps) exc count own a w h = keeps_wait children fs p ps exc count
+  keeps_frames (in_repeat pass left body ∷ fs) ps exc count own a w h = keeps_pass pass left body fs ps exc
+  keeps_frames (in_try handler cleanup ∷ fs) ps exc count own a w h = keeps_try handler cleanup fs ps exc
+  keeps_frames (in_handler rest cleanup ∷ fs) ps exc count own a w h =
+      finish_handled fs (by_table table) told rest cleanup here (stack_at table ps) (so_far exc now)
+  keeps_frames (in_cleanup outcome ∷ fs) ps exc count own a w h =
+      finish_cleaned fs (by_table table) told outcome here (stack_at table ps) (so_far exc now)
 
   -- One step: for a table that agrees with the froms of the scopes and nurseries that enclose the task, and a record
   -- of outcomes that fits the children begun, what is left of the task results in the events made, followed by the
   -- result of what is left after the step.
-  pub step_keeps : (m : Midway) → AgreesOn t table froms m.places → Placed m.frames m.places →
-      AllTold t table told (step_of froms t here m).begun →
-      left_of table told here t m ≡ after_events told (step_of froms t here m).made (left_after table told here t (step_of froms t here m))
+  pub step_keeps : (m : Midway) → OwnFits here.clock now.own → AgreesOn now.at table froms m.places → Placed m.frames m.places →
+      AllTold (a_round_after here.clock now.at) table told (step_of froms now here m).begun →
+      left_of table told here now m ≡ after_events told (step_of froms now here m).made (left_after table told here now (step_of froms now here m))
   unfolding step_of
-  step_keeps m a w h = keeps_frames m.frames m.places m.exc m.count a w h
+  step_keeps m own a w h = keeps_frames m.frames m.places m.exc m.count own a w h

@@ -5,12 +5,13 @@ use Rattle.exc_groups.specs.Exceptions.{Exc}
 use Rattle.exc_groups.specs.Split.{named, keep, drop}
 use Rattle.cancel_scopes.specs.Sight.{seen}
 use Rattle.job_meaning.specs.Log.{Table}
-use Rattle.job_meaning.specs.Walk.{Here, far, pace_ticks}
-use Rattle.job_meaning.specs.Rest.{consecutive, Frame, steps_left, in_scope, in_nursery, in_repeat, in_try, in_handler, in_cleanup, inside, Stopped, to_begin, asking, asleep, awaiting, at_end}
+use Rattle.job_meaning.specs.Moments.{Clock, by_ticks, by_rounds, tick_of, Now, far}
+use Rattle.job_meaning.specs.Walk.{Here, pace_ticks}
+use Rattle.job_meaning.specs.Rest.{consecutive, Frame, steps_left, in_scope, in_nursery, in_repeat, in_try, in_handler, in_cleanup, inside, Stopped, to_begin, asking, asleep, giving_up, awaiting, at_end}
 use Rattle.job_meaning.specs.Asking.{Answer, lines, missing, counted, Purpose, shows, needs, paces}
 use Rattle.turn_semantics.specs.Midway.{Place, stack_at, Midway, Move}
 use Rattle.turn_semantics.specs.Steps.{sleeps, falls_asleep, with_started, handler_if, step_try, step_on, step_steps, step_frames, step_of, begins_passes, step_pass}
-use Rattle.turn_semantics.specs.Wakes.{Wake, begins, sees, is_due, has_answer, settles, goes_on_with, with_answer, leaves_settled, wake_of}
+use Rattle.turn_semantics.specs.Wakes.{Wake, begins, sees, gives_up, is_due, has_answer, settles, goes_on_with, with_answer, leaves_settled, sees_from, wake_of}
 use Rattle.turn_semantics.specs.Placed.{AllBelow, KidsBelow, KidsAfter}
 use Rattle.turn_semantics.proofs.Cases.{over_length}
 
@@ -61,22 +62,25 @@ pub kids_left : (n : ℕ) (s : Option Stopped) (fs : List Frame) → KidsAfter n
 kids_left n None fs k = k
 kids_left n (Some to_begin) fs k = k
 kids_left n (Some (asking kernel purpose)) fs k = k
-kids_left n (Some (asleep m since)) fs k = k
+kids_left n (Some (asleep paced m since)) fs k = k
+kids_left n (Some (giving_up since)) fs k = k
 kids_left n (Some (awaiting children ended exc)) fs k = k.1
 kids_left n (Some (at_end u e)) fs k = k
 
-module _ (t : ℕ) (froms : Table) (here : Here) (n : ℕ) where
+module _ (now : Now) (froms : Table) (here : Here) (n : ℕ) where
   -- the children of the task after a move are below the count then
   abbrev pub Kept : Move → Type 0
   Kept o = KidsAfter (n + length o.begun) o.stopped o.frames
 
-  kids_sleeps : (ticks : ℕ) (fs : List Frame) (ps : List Place) → KidsBelow n fs → Kept (sleeps froms ticks t fs ps)
-  kids_sleeps ticks fs ps k = by_sight (seen (stack_at froms ps) t) ticks
+  kids_sleeps : (clock : Clock) (paced : Bool) (ticks t : ℕ) (fs : List Frame) (ps : List Place) → KidsBelow n fs →
+      Kept (sleeps clock froms paced ticks t fs ps)
+  kids_sleeps clock paced ticks t fs ps k = by_clock clock (seen (stack_at froms ps) t) ticks
     where
-      by_sight : (b : Bool) (ticks : ℕ) → Kept (falls_asleep b ticks t fs ps)
-      by_sight true ticks = same_kids n fs k
-      by_sight false zero = same_kids n fs k
-      by_sight false (suc ticks) = same_kids n fs k
+      by_clock : (clock : Clock) (b : Bool) (ticks : ℕ) → Kept (falls_asleep clock b paced ticks t fs ps)
+      by_clock by_ticks true ticks = same_kids n fs k
+      by_clock by_ticks false zero = same_kids n fs k
+      by_clock by_ticks false (suc ticks) = same_kids n fs k
+      by_clock by_rounds b ticks = same_kids n fs k
 
   kids_passes : (m : ℕ) (body : Steps) (fs : List Frame) (ps : List Place) → KidsBelow n fs → Kept (begins_passes m body fs ps)
   kids_passes zero body fs ps k = same_kids n fs k
@@ -89,10 +93,10 @@ module _ (t : ℕ) (froms : Table) (here : Here) (n : ℕ) where
   kids_pass pass (suc m) body fs ps None k = same_kids n fs k
 
   kids_step : (at : Here) (s : Step) (ss : Steps) (fs : List Frame) (ps : List Place) → KidsBelow n fs →
-      Kept (step_on froms t at s ss fs ps n)
-  kids_step at (sleep m) ss fs ps k = kids_sleeps m (steps_left ss ∷ fs) ps k
-  kids_step at checkpoint ss fs ps k = kids_sleeps 0 (steps_left ss ∷ fs) ps k
-  kids_step at forever ss fs ps k = kids_sleeps (far - t) (steps_left ss ∷ fs) ps k
+      Kept (step_on froms now at s ss fs ps n)
+  kids_step at (sleep m) ss fs ps k = kids_sleeps at.clock false m now.at (steps_left ss ∷ fs) ps k
+  kids_step at checkpoint ss fs ps k = kids_sleeps at.clock false 0 now.at (steps_left ss ∷ fs) ps k
+  kids_step at forever ss fs ps k = kids_sleeps at.clock false (far - tick_of at.clock now.at) now.at (steps_left ss ∷ fs) ps k
   kids_step at (pace m) ss fs ps k = same_kids n fs k
   kids_step at (find text) ss fs ps k = same_kids n fs k
   kids_step at (head m) ss fs ps k = same_kids n fs k
@@ -105,13 +109,13 @@ module _ (t : ℕ) (froms : Table) (here : Here) (n : ℕ) where
   kids_step at (start name None body) ss fs ps k = kids_started n (n + 1) (omega arith) (n ∷ []) (omega arith, tt) fs k
   kids_step at (start name (Some c) body) ss fs ps k =
       let e = over_length name at c body ps n c in
-      kids_started n (n + length (step_on froms t at (start name (Some c) body) ss fs ps n).begun) (omega arith) (consecutive n c)
+      kids_started n (n + length (step_on froms now at (start name (Some c) body) ss fs ps n).begun) (omega arith) (consecutive n c)
       (subst (λ (z : ℕ). AllBelow (n + z) (consecutive n c)) (sym e) (numbered_below n c)) fs k
   kids_step at (repeat m body) ss fs ps k = kids_passes m body (steps_left ss ∷ fs) ps k
   kids_step at (attempt body handler cleanup) ss fs ps k = same_kids n fs k
 
   kids_steps : (ss : Steps) (fs : List Frame) (ps : List Place) (exc : Option Exc) → KidsBelow n fs →
-      Kept (step_steps froms t here ss fs ps exc n)
+      Kept (step_steps froms now here ss fs ps exc n)
   kids_steps ss fs ps (Some e) k = same_kids n fs k
   kids_steps stop fs ps None k = same_kids n fs k
   kids_steps (step s ss) fs ps None k = kids_step (inside fs here) s ss fs ps k
@@ -127,7 +131,7 @@ module _ (t : ℕ) (froms : Table) (here : Here) (n : ℕ) where
       by_match None = same_kids n fs k
       by_match (Some x) = same_kids n fs k
 
-  kids_frames : (fs : List Frame) (ps : List Place) (exc : Option Exc) → KidsBelow n fs → Kept (step_frames froms t here fs ps exc n)
+  kids_frames : (fs : List Frame) (ps : List Place) (exc : Option Exc) → KidsBelow n fs → Kept (step_frames froms now here fs ps exc n)
   kids_frames [] ps exc k = tt
   kids_frames (steps_left ss ∷ fs) ps exc k = kids_steps ss fs ps exc k
   kids_frames (in_scope fail ∷ fs) [] exc k = same_kids n fs k
@@ -140,42 +144,54 @@ module _ (t : ℕ) (froms : Table) (here : Here) (n : ℕ) where
   kids_frames (in_cleanup outcome ∷ fs) ps exc k = same_kids n fs k
 
   kids_answered : (a : Answer) (purpose : Purpose) (fs : List Frame) (ps : List Place) → KidsBelow n fs →
-      Kept (goes_on_with froms t here a purpose fs ps)
+      Kept (goes_on_with froms now.at here a purpose fs ps)
   kids_answered (lines ls) purpose fs ps k = same_kids n fs k
   kids_answered missing (needs name) fs ps k = same_kids n fs k
   kids_answered missing shows fs ps k = same_kids n fs k
   kids_answered missing (paces c) fs ps k = same_kids n fs k
-  kids_answered (counted m) (paces c) fs ps k = kids_sleeps (pace_ticks m c) fs ps k
+  kids_answered (counted m) (paces c) fs ps k = kids_sleeps here.clock true (pace_ticks m c) now.at fs ps k
   kids_answered (counted m) shows fs ps k = same_kids n fs k
   kids_answered (counted m) (needs name) fs ps k = same_kids n fs k
 
-  kids_with : (a : Answer) (s : Stopped) (fs : List Frame) (ps : List Place) → KidsBelow n fs → Kept (with_answer froms t here a s fs ps)
+  kids_with : (a : Answer) (s : Stopped) (fs : List Frame) (ps : List Place) → KidsBelow n fs → Kept (with_answer froms now.at here a s fs ps)
   kids_with a (asking kernel purpose) fs ps k = kids_answered a purpose fs ps k
   kids_with a to_begin fs ps k = same_kids n fs k
-  kids_with a (asleep m since) fs ps k = same_kids n fs k
+  kids_with a (asleep paced m since) fs ps k = same_kids n fs k
+  kids_with a (giving_up since) fs ps k = same_kids n fs k
   kids_with a (awaiting children ended exc) fs ps k = same_kids n fs k
   kids_with a (at_end u e) fs ps k = same_kids n fs k
 
-  kids_settled : (exc : Option Exc) (fs : List Frame) (ps : List Place) → KidsBelow n fs → Kept (leaves_settled froms t exc fs ps)
+  kids_settled : (exc : Option Exc) (fs : List Frame) (ps : List Place) → KidsBelow n fs → Kept (leaves_settled here.clock froms now exc fs ps)
   kids_settled exc fs [] k = same_kids n fs k
   kids_settled exc fs (p ∷ ps) k = same_kids n fs k
 
-  kids_woken : (w : Wake) (s : Stopped) (fs : List Frame) (ps : List Place) → KidsBelow n fs → Kept (wake_of froms t here w s fs ps)
+  kids_seen : (t : ℕ) (s : Stopped) (fs : List Frame) (ps : List Place) → KidsBelow n fs → Kept (sees_from t s fs ps)
+  kids_seen t (asleep false zero since) fs ps k = same_kids n fs k
+  kids_seen t (asleep false (suc m) since) fs ps k = same_kids n fs k
+  kids_seen t (asleep true m since) fs ps k = same_kids n fs k
+  kids_seen t to_begin fs ps k = same_kids n fs k
+  kids_seen t (asking kernel purpose) fs ps k = same_kids n fs k
+  kids_seen t (giving_up since) fs ps k = same_kids n fs k
+  kids_seen t (awaiting children ended exc) fs ps k = same_kids n fs k
+  kids_seen t (at_end u e) fs ps k = same_kids n fs k
+
+  kids_woken : (w : Wake) (s : Stopped) (fs : List Frame) (ps : List Place) → KidsBelow n fs → Kept (wake_of froms now here w s fs ps)
   kids_woken begins s fs ps k = same_kids n fs k
-  kids_woken sees s fs ps k = same_kids n fs k
+  kids_woken sees s fs ps k = kids_seen now.at s fs ps k
+  kids_woken gives_up s fs ps k = same_kids n fs k
   kids_woken is_due s fs ps k = same_kids n fs k
   kids_woken (has_answer a) s fs ps k = kids_with a s fs ps k
   kids_woken (settles exc) s fs ps k = kids_settled exc fs ps k
 
 -- one step
-pub step_kids : (t : ℕ) (froms : Table) (here : Here) (m : Midway) → KidsBelow m.count m.frames →
-    KidsAfter (m.count + length (step_of froms t here m).begun) (step_of froms t here m).stopped (step_of froms t here m).frames
+pub step_kids : (now : Now) (froms : Table) (here : Here) (m : Midway) → KidsBelow m.count m.frames →
+    KidsAfter (m.count + length (step_of froms now here m).begun) (step_of froms now here m).stopped (step_of froms now here m).frames
 unfolding step_of
-step_kids t froms here m k = kids_frames t froms here m.count m.frames m.places m.exc k
+step_kids now froms here m k = kids_frames now froms here m.count m.frames m.places m.exc k
 
 -- a wake
-pub wake_kids : (t : ℕ) (froms : Table) (here : Here) (w : Wake) (s : Stopped) (fs : List Frame) (ps : List Place) (n : ℕ) →
+pub wake_kids : (now : Now) (froms : Table) (here : Here) (w : Wake) (s : Stopped) (fs : List Frame) (ps : List Place) (n : ℕ) →
     KidsAfter n (Some s) fs →
-    KidsAfter (n + length (wake_of froms t here w s fs ps).begun) (wake_of froms t here w s fs ps).stopped
-    (wake_of froms t here w s fs ps).frames
-wake_kids t froms here w s fs ps n k = kids_woken t froms here n w s fs ps (kids_left n (Some s) fs k)
+    KidsAfter (n + length (wake_of froms now here w s fs ps).begun) (wake_of froms now here w s fs ps).stopped
+    (wake_of froms now here w s fs ps).frames
+wake_kids now froms here w s fs ps n k = kids_woken now froms here n w s fs ps (kids_left n (Some s) fs k)

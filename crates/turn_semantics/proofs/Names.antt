@@ -6,12 +6,13 @@ use Rattle.exc_groups.specs.Exceptions.{Exc}
 use Rattle.exc_groups.specs.Split.{named, keep, drop}
 use Rattle.cancel_scopes.specs.Sight.{seen}
 use Rattle.job_meaning.specs.Log.{Table}
+use Rattle.job_meaning.specs.Moments.{Clock, by_ticks, by_rounds, Now}
 use Rattle.job_meaning.specs.Walk.{Here}
 use Rattle.job_meaning.specs.Rest.{Frame, steps_left, in_scope, in_nursery, in_repeat, in_try, in_handler, in_cleanup, inside, Stopped, awaiting, Rest}
 use Rattle.job_meaning.specs.Asking.{Answer, lines, missing, counted, Purpose, shows, needs, paces}
 use Rattle.job_meaning.proofs.Distinct.{Among, among_left, among_right, Distinct, distinct_left, distinct_right, distinct_by_bytes}
-use Rattle.turn_semantics.specs.Midway.{Place, stack_at, Midway, Begun, Move, after_move, then_move}
-use Rattle.turn_semantics.specs.Wakes.{Wake, goes_on_with, leaves_settled, wake_of, turn_from, CanWake, from_start, from_sleep, from_due, from_asking, from_wait}
+use Rattle.turn_semantics.specs.Midway.{Place, stack_at, Midway, Begun, Move, after_move, then_move, now_after}
+use Rattle.turn_semantics.specs.Wakes.{Wake, goes_on_with, leaves_settled, wake_of, turn_from, CanWake, from_start, from_sleep, from_due, from_asking, from_giving_up, from_wait}
 use Rattle.turn_semantics.specs.Placed.{outer_places}
 use Rattle.turn_semantics.specs.Steps.{falls_asleep, sleeps, with_started, begun_over, step_on, step_steps, handler_if, step_try, step_frames, step_of, froms_after, turn_of, begins_passes, step_pass}
 use Rattle.turn_semantics.specs.Names.{IsName, names_at, OwnNames, AreNew, IsNew, IsNewHandler, IsNewCleanup, NewIn, AllNew, StaysNew}
@@ -80,15 +81,17 @@ new_job job once = (new_steps job.steps [] (distinct_by_bytes (job.name ∷ name
 
 -- ---- steps of a task
 
-asleep_new : (b : Bool) (n t : ℕ) (fs : List Frame) (ps : List Place) → NewIn fs ps → OwnNames (names_at ps) →
-    StaysNew (falls_asleep b n t fs ps)
-asleep_new true n t fs ps h own = record { frames = h; own = own; begun = tt }
-asleep_new false zero t fs ps h own = record { frames = h; own = own; begun = tt }
-asleep_new false (suc n) t fs ps h own = record { frames = h; own = own; begun = tt }
+asleep_new : (clock : Clock) (b paced : Bool) (n t : ℕ) (fs : List Frame) (ps : List Place) → NewIn fs ps → OwnNames (names_at ps) →
+    StaysNew (falls_asleep clock b paced n t fs ps)
+asleep_new by_ticks true paced n t fs ps h own = record { frames = h; own = own; begun = tt }
+asleep_new by_ticks false paced zero t fs ps h own = record { frames = h; own = own; begun = tt }
+asleep_new by_ticks false paced (suc n) t fs ps h own = record { frames = h; own = own; begun = tt }
+asleep_new by_rounds b paced n t fs ps h own = record { frames = h; own = own; begun = tt }
 
-sleeps_new : (froms : Table) (n t : ℕ) (fs : List Frame) (ps : List Place) → NewIn fs ps → OwnNames (names_at ps) →
-    StaysNew (sleeps froms n t fs ps)
-sleeps_new froms n t fs ps h own = asleep_new (seen (stack_at froms ps) t) n t fs ps h own
+sleeps_new : (clock : Clock) (froms : Table) (paced : Bool) (n t : ℕ) (fs : List Frame) (ps : List Place) → NewIn fs ps →
+    OwnNames (names_at ps) →
+    StaysNew (sleeps clock froms paced n t fs ps)
+sleeps_new clock froms paced n t fs ps h own = asleep_new clock (seen (stack_at froms ps) t) paced n t fs ps h own
 
 started_new : (more : List ℕ) (fs : List Frame) (ps : List Place) → NewIn fs ps → NewIn (with_started more fs) ps
 started_new more [] ps h = h
@@ -123,37 +126,37 @@ pass_new pass left body fs ps (Some e) a h own = record { frames = h; own = own;
 pass_new pass zero body fs ps None a h own = record { frames = h; own = own; begun = tt }
 pass_new pass (suc n) body fs ps None a h own = record { frames = (a, (a, h)); own = own; begun = tt }
 
-step_new : (froms : Table) (t : ℕ) (here : Here) (s : Step) (ss : Steps) (fs : List Frame) (ps : List Place) (count : ℕ) →
+step_new : (froms : Table) (now : Now) (here : Here) (s : Step) (ss : Steps) (fs : List Frame) (ps : List Place) (count : ℕ) →
     IsNew (names_at ps) s → AreNew (names_at ps) ss →
-    NewIn fs ps → OwnNames (names_at ps) → StaysNew (step_on froms t here s ss fs ps count)
-step_new froms t here (sleep n) ss fs ps count i a h own = sleeps_new froms n t (steps_left ss ∷ fs) ps (a, h) own
-step_new froms t here checkpoint ss fs ps count i a h own = sleeps_new froms 0 t (steps_left ss ∷ fs) ps (a, h) own
-step_new froms t here forever ss fs ps count i a h own = sleeps_new froms _ t (steps_left ss ∷ fs) ps (a, h) own
-step_new froms t here (pace k) ss fs ps count i a h own = record { frames = (a, h); own = own; begun = tt }
-step_new froms t here (find text) ss fs ps count i a h own = record { frames = (a, h); own = own; begun = tt }
-step_new froms t here (head n) ss fs ps count i a h own = record { frames = (a, h); own = own; begun = tt }
-step_new froms t here longest ss fs ps count i a h own = record { frames = (a, h); own = own; begun = tt }
-step_new froms t here (need text name) ss fs ps count i a h own = record { frames = (a, h); own = own; begun = tt }
-step_new froms t here (raise name) ss fs ps count i a h own = record { frames = (a, h); own = own; begun = tt }
-step_new froms t here (cancel name) ss fs ps count i a h own = record { frames = (a, h); own = own; begun = tt }
-step_new froms t here (scope name deadline shield fail body) ss fs ps count i a h own =
+    NewIn fs ps → OwnNames (names_at ps) → StaysNew (step_on froms now here s ss fs ps count)
+step_new froms now here (sleep n) ss fs ps count i a h own = sleeps_new here.clock froms false n now.at (steps_left ss ∷ fs) ps (a, h) own
+step_new froms now here checkpoint ss fs ps count i a h own = sleeps_new here.clock froms false 0 now.at (steps_left ss ∷ fs) ps (a, h) own
+step_new froms now here forever ss fs ps count i a h own = sleeps_new here.clock froms false _ now.at (steps_left ss ∷ fs) ps (a, h) own
+step_new froms now here (pace k) ss fs ps count i a h own = record { frames = (a, h); own = own; begun = tt }
+step_new froms now here (find text) ss fs ps count i a h own = record { frames = (a, h); own = own; begun = tt }
+step_new froms now here (head n) ss fs ps count i a h own = record { frames = (a, h); own = own; begun = tt }
+step_new froms now here longest ss fs ps count i a h own = record { frames = (a, h); own = own; begun = tt }
+step_new froms now here (need text name) ss fs ps count i a h own = record { frames = (a, h); own = own; begun = tt }
+step_new froms now here (raise name) ss fs ps count i a h own = record { frames = (a, h); own = own; begun = tt }
+step_new froms now here (cancel name) ss fs ps count i a h own = record { frames = (a, h); own = own; begun = tt }
+step_new froms now here (scope name deadline shield fail body) ss fs ps count i a h own =
     record { frames = (i.1, (a, h)); own = (i.0, own); begun = tt }
-step_new froms t here (nursery name deadline shield body) ss fs ps count i a h own =
+step_new froms now here (nursery name deadline shield body) ss fs ps count i a h own =
     record { frames = (i.1, (a, h)); own = (i.0, own); begun = tt }
-step_new froms t here (start name None body) ss fs ps count i a h own =
+step_new froms now here (start name None body) ss fs ps count i a h own =
     record { frames = (a, started_new (count ∷ []) fs ps h); own = own; begun = (i, own, tt) }
-step_new froms t here (start name (Some k) body) ss fs ps count i a h own =
+step_new froms now here (start name (Some k) body) ss fs ps count i a h own =
     record { frames = (a, started_new _ fs ps h); own = own; begun = over_new name here k body ps count k i own }
-step_new froms t here (repeat n body) ss fs ps count i a h own = passes_new n body (steps_left ss ∷ fs) ps i (a, h) own
-step_new froms t here (attempt body handler cleanup) ss fs ps count i a h own =
+step_new froms now here (repeat n body) ss fs ps count i a h own = passes_new n body (steps_left ss ∷ fs) ps i (a, h) own
+step_new froms now here (attempt body handler cleanup) ss fs ps count i a h own =
     record { frames = (i.0, (i.1, i.2, (a, h))); own = own; begun = tt }
 
-steps_new : (froms : Table) (t : ℕ) (here : Here) (ss : Steps) (fs : List Frame) (ps : List Place) (exc : Option Exc) (count : ℕ) →
+steps_new : (froms : Table) (now : Now) (here : Here) (ss : Steps) (fs : List Frame) (ps : List Place) (exc : Option Exc) (count : ℕ) →
     AreNew (names_at ps) ss →
-    NewIn fs ps → OwnNames (names_at ps) → StaysNew (step_steps froms t here ss fs ps exc count)
-steps_new froms t here ss fs ps (Some e) count a h own = record { frames = h; own = own; begun = tt }
-steps_new froms t here stop fs ps None count a h own = record { frames = h; own = own; begun = tt }
-steps_new froms t here (step s ss) fs ps None count a h own = step_new froms t (inside fs here) s ss fs ps count a.0 a.1 h own
+    NewIn fs ps → OwnNames (names_at ps) → StaysNew (step_steps froms now here ss fs ps exc count)
+steps_new froms now here ss fs ps (Some e) count a h own = record { frames = h; own = own; begun = tt }
+steps_new froms now here stop fs ps None count a h own = record { frames = h; own = own; begun = tt }
+steps_new froms now here (step s ss) fs ps None count a h own = step_new froms now (inside fs here) s ss fs ps count a.0 a.1 h own
 
 handler_new : (matched rest : Option Exc) (e : Exc) (body : Steps) (cleanup : Cleaned) (fs : List Frame) (ps : List Place) →
     AreNew (names_at ps) body →
@@ -170,54 +173,57 @@ try_new (except name body) cleanup fs ps None a c h own = record { frames = (tt,
 try_new (except name body) cleanup fs ps (Some e) a c h own =
     handler_new (keep (named name) e) (drop (named name) e) e body cleanup fs ps a c h own
 
-frames_new : (froms : Table) (t : ℕ) (here : Here) (fs : List Frame) (ps : List Place) (exc : Option Exc) (count : ℕ) → NewIn fs ps →
+frames_new : (froms : Table) (now : Now) (here : Here) (fs : List Frame) (ps : List Place) (exc : Option Exc) (count : ℕ) → NewIn fs ps →
     OwnNames (names_at ps) →
-    StaysNew (step_frames froms t here fs ps exc count)
-frames_new froms t here [] ps exc count h own = record { frames = tt; own = own; begun = tt }
-frames_new froms t here (steps_left ss ∷ fs) ps exc count h own = steps_new froms t here ss fs ps exc count h.0 h.1 own
-frames_new froms t here (in_scope fail ∷ fs) [] exc count h own = record { frames = h; own = own; begun = tt }
-frames_new froms t here (in_scope fail ∷ fs) (p ∷ ps) exc count h own = record { frames = h; own = own.1; begun = tt }
-frames_new froms t here (in_nursery children ∷ fs) [] exc count h own = record { frames = h; own = own; begun = tt }
-frames_new froms t here (in_nursery children ∷ fs) (p ∷ ps) exc count h own = record { frames = h; own = own; begun = tt }
-frames_new froms t here (in_repeat pass left body ∷ fs) ps exc count h own = pass_new pass left body fs ps exc h.0 h.1 own
-frames_new froms t here (in_try handler cleanup ∷ fs) ps exc count h own = try_new handler cleanup fs ps exc h.0 h.1 h.2 own
-frames_new froms t here (in_handler rest cleanup ∷ fs) ps exc count h own = record { frames = (tt, h.0, h.1); own = own; begun = tt }
-frames_new froms t here (in_cleanup outcome ∷ fs) ps exc count h own = record { frames = h; own = own; begun = tt }
+    StaysNew (step_frames froms now here fs ps exc count)
+frames_new froms now here [] ps exc count h own = record { frames = tt; own = own; begun = tt }
+frames_new froms now here (steps_left ss ∷ fs) ps exc count h own = steps_new froms now here ss fs ps exc count h.0 h.1 own
+frames_new froms now here (in_scope fail ∷ fs) [] exc count h own = record { frames = h; own = own; begun = tt }
+frames_new froms now here (in_scope fail ∷ fs) (p ∷ ps) exc count h own = record { frames = h; own = own.1; begun = tt }
+frames_new froms now here (in_nursery children ∷ fs) [] exc count h own = record { frames = h; own = own; begun = tt }
+frames_new froms now here (in_nursery children ∷ fs) (p ∷ ps) exc count h own = record { frames = h; own = own; begun = tt }
+frames_new froms now here (in_repeat pass left body ∷ fs) ps exc count h own = pass_new pass left body fs ps exc h.0 h.1 own
+frames_new froms now here (in_try handler cleanup ∷ fs) ps exc count h own = try_new handler cleanup fs ps exc h.0 h.1 h.2 own
+frames_new froms now here (in_handler rest cleanup ∷ fs) ps exc count h own = record { frames = (tt, h.0, h.1); own = own; begun = tt }
+frames_new froms now here (in_cleanup outcome ∷ fs) ps exc count h own = record { frames = h; own = own; begun = tt }
 
 -- a step of a task keeps it
-pub step_stays_new : (froms : Table) (t : ℕ) (here : Here) (m : Midway) → NewIn m.frames m.places → OwnNames (names_at m.places) →
-    StaysNew (step_of froms t here m)
+pub step_stays_new : (froms : Table) (now : Now) (here : Here) (m : Midway) → NewIn m.frames m.places → OwnNames (names_at m.places) →
+    StaysNew (step_of froms now here m)
 unfolding step_of
-step_stays_new froms t here m h own = frames_new froms t here m.frames m.places m.exc m.count h own
+step_stays_new froms now here m h own = frames_new froms now here m.frames m.places m.exc m.count h own
 
 -- ---- a turn
 
-answer_new : (froms : Table) (t : ℕ) (here : Here) (a : Answer) (purpose : Purpose) (fs : List Frame) (ps : List Place) → NewIn fs ps →
+answer_new : (froms : Table) (now : Now) (here : Here) (a : Answer) (purpose : Purpose) (fs : List Frame) (ps : List Place) → NewIn fs ps →
     OwnNames (names_at ps) →
-    StaysNew (goes_on_with froms t here a purpose fs ps)
-answer_new froms t here (lines ls) purpose fs ps h own = record { frames = h; own = own; begun = tt }
-answer_new froms t here missing shows fs ps h own = record { frames = h; own = own; begun = tt }
-answer_new froms t here missing (needs name) fs ps h own = record { frames = h; own = own; begun = tt }
-answer_new froms t here missing (paces k) fs ps h own = record { frames = h; own = own; begun = tt }
-answer_new froms t here (counted n) shows fs ps h own = record { frames = h; own = own; begun = tt }
-answer_new froms t here (counted n) (needs name) fs ps h own = record { frames = h; own = own; begun = tt }
-answer_new froms t here (counted n) (paces k) fs ps h own = sleeps_new froms _ t fs ps h own
+    StaysNew (goes_on_with froms now.at here a purpose fs ps)
+answer_new froms now here (lines ls) purpose fs ps h own = record { frames = h; own = own; begun = tt }
+answer_new froms now here missing shows fs ps h own = record { frames = h; own = own; begun = tt }
+answer_new froms now here missing (needs name) fs ps h own = record { frames = h; own = own; begun = tt }
+answer_new froms now here missing (paces k) fs ps h own = record { frames = h; own = own; begun = tt }
+answer_new froms now here (counted n) shows fs ps h own = record { frames = h; own = own; begun = tt }
+answer_new froms now here (counted n) (needs name) fs ps h own = record { frames = h; own = own; begun = tt }
+answer_new froms now here (counted n) (paces k) fs ps h own = sleeps_new here.clock froms true _ now.at fs ps h own
 
 -- a nursery whose last member ended is left
-settled_new : (froms : Table) (t : ℕ) (exc : Option Exc) (children : List ℕ) (ended : ℕ) (e : Option Exc) (fs : List Frame)
+settled_new : (clock : Clock) (froms : Table) (now : Now) (exc : Option Exc) (children : List ℕ) (ended : ℕ) (e : Option Exc) (fs : List Frame)
     (ps : List Place) →
-    NewIn fs (outer_places (Some (awaiting children ended e)) ps) → OwnNames (names_at ps) → StaysNew (leaves_settled froms t exc fs ps)
-settled_new froms t exc children ended e fs [] h own = record { frames = h; own = own; begun = tt }
-settled_new froms t exc children ended e fs (p ∷ ps) h own = record { frames = h; own = own.1; begun = tt }
+    NewIn fs (outer_places (Some (awaiting children ended e)) ps) → OwnNames (names_at ps) → StaysNew (leaves_settled clock froms now exc fs ps)
+settled_new clock froms now exc children ended e fs [] h own = record { frames = h; own = own; begun = tt }
+settled_new clock froms now exc children ended e fs (p ∷ ps) h own = record { frames = h; own = own.1; begun = tt }
 
-wake_new : (froms : Table) (t : ℕ) (here : Here) {w : Wake} {s : Stopped} → CanWake w s → (fs : List Frame) (ps : List Place) →
+wake_new : (froms : Table) (now : Now) (here : Here) {w : Wake} {s : Stopped} → CanWake w s → (fs : List Frame) (ps : List Place) →
     NewIn fs (outer_places (Some s) ps) →
-    OwnNames (names_at ps) → StaysNew (wake_of froms t here w s fs ps)
-wake_new froms t here from_start fs ps h own = record { frames = h; own = own; begun = tt }
-wake_new froms t here (from_asking {a} {kernel} {purpose}) fs ps h own = answer_new froms t here a purpose fs ps h own
-wake_new froms t here (from_sleep {n} {since}) fs ps h own = record { frames = h; own = own; begun = tt }
-wake_new froms t here (from_due {n} {since}) fs ps h own = record { frames = h; own = own; begun = tt }
-wake_new froms t here (from_wait {exc} {children} {ended} {e}) fs ps h own = settled_new froms t exc children ended e fs ps h own
+    OwnNames (names_at ps) → StaysNew (wake_of froms now here w s fs ps)
+wake_new froms now here from_start fs ps h own = record { frames = h; own = own; begun = tt }
+wake_new froms now here (from_asking {a} {kernel} {purpose}) fs ps h own = answer_new froms now here a purpose fs ps h own
+wake_new froms now here (from_sleep {paced = false} {n = zero} {since}) fs ps h own = record { frames = h; own = own; begun = tt }
+wake_new froms now here (from_sleep {paced = false} {n = suc n} {since}) fs ps h own = record { frames = h; own = own; begun = tt }
+wake_new froms now here (from_sleep {paced = true} {n} {since}) fs ps h own = record { frames = h; own = own; begun = tt }
+wake_new froms now here (from_giving_up {since}) fs ps h own = record { frames = h; own = own; begun = tt }
+wake_new froms now here (from_due {paced} {n} {since}) fs ps h own = record { frames = h; own = own; begun = tt }
+wake_new froms now here (from_wait {exc} {children} {ended} {e}) fs ps h own = settled_new here.clock froms now exc children ended e fs ps h own
 
 then_new : (s : Option Stopped) (o q : Move) → o.stopped ≡ s → StaysNew o → (s ≡ None → StaysNew q) → StaysNew (then_move s o q)
 then_new (Some s) o q e h k = h
@@ -228,27 +234,27 @@ then_new None o q e h k = let g =
 not_stopped : (o : Move) → o.stopped ≡ None → NewIn o.frames (outer_places o.stopped o.places) → NewIn o.frames o.places
 not_stopped o e h = subst (λ (s : Option Stopped). NewIn o.frames (outer_places s o.places)) e h
 
-turn_new : (n : ℕ) (froms : Table) (t : ℕ) (here : Here) (m : Midway) → NewIn m.frames m.places → OwnNames (names_at m.places) →
-    StaysNew (turn_of n froms t here m)
+turn_new : (n : ℕ) (froms : Table) (now : Now) (here : Here) (m : Midway) → NewIn m.frames m.places → OwnNames (names_at m.places) →
+    StaysNew (turn_of n froms now here m)
 unfolding turn_of
-turn_new zero froms t here m h own = record { frames = h; own = own; begun = tt }
-turn_new (suc n) froms t here m h own =
-    let o = step_of froms t here m in
-    let one : StaysNew o = step_stays_new froms t here m h own in
-    then_new o.stopped o (turn_of n (froms_after froms o.made) t here (after_move m o)) refl one
-    (λ e. turn_new n (froms_after froms o.made) t here (after_move m o) (not_stopped o e one.frames) one.own)
+turn_new zero froms now here m h own = record { frames = h; own = own; begun = tt }
+turn_new (suc n) froms now here m h own =
+    let o = step_of froms now here m in
+    let one : StaysNew o = step_stays_new froms now here m h own in
+    then_new o.stopped o (turn_of n (froms_after froms o.made) (now_after here.clock now o.made) here (after_move m o)) refl one
+    (λ e. turn_new n (froms_after froms o.made) (now_after here.clock now o.made) here (after_move m o) (not_stopped o e one.frames) one.own)
 
 -- a whole turn keeps it
-pub turn_stays_new : (n t : ℕ) (here : Here) (froms : Table) (w : Wake) (rest : Rest) (ps : List Place) (count : ℕ) →
+pub turn_stays_new : (n : ℕ) (now : Now) (here : Here) (froms : Table) (w : Wake) (rest : Rest) (ps : List Place) (count : ℕ) →
     CanWake w rest.stopped →
     NewIn rest.frames (outer_places (Some rest.stopped) ps) → OwnNames (names_at ps) →
-    StaysNew (turn_from n froms t here w rest.stopped rest.frames ps count)
+    StaysNew (turn_from n froms now here w rest.stopped rest.frames ps count)
 unfolding turn_from
-turn_stays_new n t here froms w rest ps count c h own =
-    let o = wake_of froms t here w rest.stopped rest.frames ps in
-    let one : StaysNew o = wake_new froms t here c rest.frames ps h own in
+turn_stays_new n now here froms w rest ps count c h own =
+    let o = wake_of froms now here w rest.stopped rest.frames ps in
+    let one : StaysNew o = wake_new froms now here c rest.frames ps h own in
     then_new o.stopped o _ refl one
-    (λ e. turn_new n (froms_after froms o.made) t here (record {
+    (λ e. turn_new n (froms_after froms o.made) (now_after here.clock now o.made) here (record {
       frames = o.frames;
       places = o.places;
       exc = o.exc;

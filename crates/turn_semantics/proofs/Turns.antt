@@ -2,15 +2,16 @@
 use Rattle.std.proofs.Common.{◌≡◌, inl, inr, ℕ, zero, suc, ◌+◌, Option, Some, None, List, ◌++◌, length, refl, ap, sym, ◌∙◌, subst, length-append, arith}
 use Rattle.exc_groups.specs.Exceptions.{Label}
 use Rattle.job_meaning.specs.Log.{Log, nil, entry, sign, entered, task, followed_by, Result, Table}
+use Rattle.job_meaning.specs.Moments.{Clock, a_round_after, Now}
 use Rattle.job_meaning.specs.Walk.{Here}
-use Rattle.job_meaning.specs.Rest.{Event, ChildOutcomes, fill, Frame, Stopped, to_begin, asking, asleep, awaiting, at_end, frames_weight}
+use Rattle.job_meaning.specs.Rest.{Event, ChildOutcomes, fill, Frame, Stopped, to_begin, asking, asleep, giving_up, awaiting, at_end, frames_weight}
 use Rattle.job_meaning.proofs.Finish.{followed_assoc, fill_append}
-use Rattle.turn_semantics.specs.Midway.{Place, Midway, Move, after_move, no_move, then_move, after_events, left_of, left_after, stop_comes_to}
+use Rattle.turn_semantics.specs.Midway.{Place, Midway, Move, after_move, no_move, then_move, OwnFits, now_after, after_events, left_of, left_after, stop_comes_to}
 use Rattle.turn_semantics.specs.Steps.{froms_after, step_of, turn_of}
 use Rattle.turn_semantics.specs.Placed.{Placed, PlacedAfter, home_after, KidsAfter, HasChildAfter, AllHoused}
 use Rattle.turn_semantics.specs.Turned.{AgreesOn, AgreesIn, AgreesAhead, AllTold, Known, labels_of, AllKnown, known_after, StopsAt, BegunIn, Turned, Goes}
 use Rattle.turn_semantics.proofs.Keeps.{told_first, told_second, step_keeps}
-use Rattle.turn_semantics.proofs.Events.{known_append, known_grows, place_known, all_own, all_grow, known_stays, made_append, made_grows, begun_append, begun_grow, starts_append, froms_append, weight_append, agrees_after}
+use Rattle.turn_semantics.proofs.Events.{known_append, known_grows, place_known, all_own, all_grow, known_stays, made_append, made_grows, own_append, own_fits, begun_append, begun_grow, starts_append, froms_append, weight_append, agrees_after}
 use Rattle.turn_semantics.proofs.Cases.{step_cases}
 use Rattle.turn_semantics.proofs.Houses.{has_going, housed_append, housed_on, step_housed, step_stays}
 use Rattle.turn_semantics.proofs.Kids.{kids_grow, step_kids}
@@ -42,17 +43,17 @@ agrees_in_second t table (task l s u e own a) b h = agrees_in_second t table a b
 -- ---- one step, and no step
 
 -- a step keeps the promise
-pub turned_step : (t : ℕ) (here : Here) (froms : Table) (m : Midway) → Placed m.frames m.places →
-    Goes t here froms m (step_of froms t here m)
-turned_step t here froms m p =
-    let c = step_cases t froms here m p in
+pub turned_step : (now : Now) (here : Here) (froms : Table) (m : Midway) → Placed m.frames m.places →
+    Goes now here froms m (step_of froms now here m)
+turned_step now here froms m p =
+    let c = step_cases now froms here m p in
     record {
-      keeps = λ table told g a b h. step_keeps table froms told t here m a p h;
+      keeps = λ table told g a b h. step_keeps table froms told now here m g a p h;
       placed = c.placed;
       at_home = c.at_home;
-      kids = step_kids t froms here m;
-      housed = step_housed t froms here m p;
-      stays = λ i home h. step_stays t froms here i home m p h;
+      kids = step_kids now froms here m;
+      housed = step_housed now froms here m p;
+      stays = λ i home h. step_stays now froms here i home m p h;
       made_now = c.made_now;
       places = c.places;
       starts = c.starts_made;
@@ -62,8 +63,8 @@ turned_step t here froms m p =
     }
 
 -- and a turn of no steps keeps it
-pub turned_nothing : (t : ℕ) (here : Here) (froms : Table) (m : Midway) → Placed m.frames m.places → Goes t here froms m (no_move m)
-turned_nothing t here froms m p =
+pub turned_nothing : (now : Now) (here : Here) (froms : Table) (m : Midway) → Placed m.frames m.places → Goes now here froms m (no_move m)
+turned_nothing now here froms m p =
     record {
       keeps = λ table told g a b h. refl;
       placed = p;
@@ -81,30 +82,32 @@ turned_nothing t here froms m p =
 
 -- ---- a move, and another from where it led
 
-stops_append : (t : ℕ) (froms : Table) (made : List Event) (s : Option Stopped) (ps : List Place) (more : List Event) →
-    StopsAt t (froms_after (froms_after froms made) more) s ps → StopsAt t (froms_after froms (made ++ more)) s ps
-stops_append t froms made None ps more h = h
-stops_append t froms made (Some to_begin) ps more h = h
-stops_append t froms made (Some (asking kernel purpose)) ps more h = h
-stops_append t froms made (Some (asleep n since)) ps more h =
-    subst (λ (f : Table). StopsAt t f (Some (asleep n since)) ps) (sym (froms_append made more froms)) h
-stops_append t froms made (Some (awaiting children u e)) ps more h = h
-stops_append t froms made (Some (at_end u e)) ps more h = h
+stops_append : (clock : Clock) (t : ℕ) (froms : Table) (made : List Event) (s : Option Stopped) (ps : List Place) (more : List Event) →
+    StopsAt clock t (froms_after (froms_after froms made) more) s ps → StopsAt clock t (froms_after froms (made ++ more)) s ps
+stops_append clock t froms made None ps more h = h
+stops_append clock t froms made (Some to_begin) ps more h = h
+stops_append clock t froms made (Some (asking kernel purpose)) ps more h = h
+stops_append clock t froms made (Some (asleep paced n since)) ps more h =
+    subst (λ (f : Table). StopsAt clock t f (Some (asleep paced n since)) ps) (sym (froms_append made more froms)) h
+stops_append clock t froms made (Some (giving_up since)) ps more h = h
+stops_append clock t froms made (Some (awaiting children u e)) ps more h = h
+stops_append clock t froms made (Some (at_end u e)) ps more h = h
 
 -- a move that did not stop, and one from where it led
-module _ (t : ℕ) (here : Here) (froms : Table) (Given : Table → ChildOutcomes → Type 0) (before : Table → ChildOutcomes → Result) (bound : ℕ)
+module _ (now : Now) (here : Here) (froms : Table) (Given : Table → ChildOutcomes → Type 0)
+    (fits : (table : Table) (told : ChildOutcomes) → Given table told → OwnFits here.clock now.own) (before : Table → ChildOutcomes → Result) (bound : ℕ)
     (was : Option Stopped) (fs : List Frame) (ps : List Place) (n : ℕ)
   where
     -- a table that agrees with the froms before a move agrees with those after it
-    pub turned_agrees : (o : Move) → Turned t here froms Given before bound was fs ps n o → (table : Table) (told : ChildOutcomes) →
-        AgreesOn t table froms ps → AgreesIn t table (fill told o.made) → AgreesOn t table (froms_after froms o.made) o.places
-    turned_agrees o h table told a b = agrees_after t table told o.made ps o.places froms h.made_now h.places a b
+    pub turned_agrees : (o : Move) → Turned now here froms Given before bound was fs ps n o → (table : Table) (told : ChildOutcomes) →
+        AgreesOn now.at table froms ps → AgreesIn now.at table (fill told o.made) → AgreesOn now.at table (froms_after froms o.made) o.places
+    turned_agrees o h table told a b = agrees_after here.clock now.at table told o.made ps o.places froms h.made_now h.places a b
 
     -- the two of them keep the promise of one
-    pub turned_then : (o q : Move) → o.stopped ≡ None → Turned t here froms Given before bound was fs ps n o →
-        Goes t here (froms_after froms o.made) (record { frames = o.frames; places = o.places; exc = o.exc; count = n + length o.begun })
+    pub turned_then : (o q : Move) → o.stopped ≡ None → Turned now here froms Given before bound was fs ps n o →
+        Goes (now_after here.clock now o.made) here (froms_after froms o.made) (record { frames = o.frames; places = o.places; exc = o.exc; count = n + length o.begun })
         q →
-        Turned t here froms Given before bound was fs ps n (then_move None o q)
+        Turned now here froms Given before bound was fs ps n (then_move None o q)
     turned_then o q s x y =
         record {
           keeps = keeps;
@@ -116,8 +119,8 @@ module _ (t : ℕ) (here : Here) (froms : Table) (Given : Table → ChildOutcome
           housed = housed_append o.begun q.begun q.stopped q.frames q.places
               (housed_on o.frames o.places q.stopped q.frames q.places y.stays o.begun houses_there) y.housed;
           stays = λ i home h. y.stays i home (has_going i home o.frames o.places (has_there i home (x.stays i home h)));
-          made_now = made_append t o.made q.made (labels_of ps) x.made_now
-              (made_grows t (labels_of o.places) between known q.made y.made_now);
+          made_now = made_append here.clock now.at o.made q.made (labels_of ps) x.made_now
+              (made_grows here.clock now.at (labels_of o.places) between known q.made y.made_now);
           places = subst (λ (ls : List Label). AllKnown q.places ls) (sym (known_append o.made q.made (labels_of ps)))
               (all_grow (known_after (labels_of o.places) q.made) (known_after between q.made)
               (known_grows (labels_of o.places) between known q.made) q.places y.places);
@@ -127,7 +130,7 @@ module _ (t : ℕ) (here : Here) (froms : Table) (Given : Table → ChildOutcome
               (begun_grow between (known_after between q.made) (λ l k. known_stays l q.made between k) o.begun x.begun_in)
               (begun_grow (known_after (labels_of o.places) q.made) (known_after between q.made)
               (known_grows (labels_of o.places) between known q.made) q.begun y.begun_in));
-          stops = stops_append t froms o.made q.stopped q.places q.made y.stops;
+          stops = stops_append here.clock now.at froms o.made q.stopped q.places q.made y.stops;
           weight = let e = weight_append o.begun q.begun in let g = x.weight in let h = y.weight in omega arith;
         }
       where
@@ -147,60 +150,70 @@ module _ (t : ℕ) (here : Here) (froms : Table) (Given : Table → ChildOutcome
         after : Midway
         after = record { frames = o.frames; places = o.places; exc = o.exc; count = n + length o.begun }
 
+        later : Now
+        later = now_after here.clock now o.made
+
+        joined : (table : Table) (told : ChildOutcomes) → left_after table told here later q ≡ left_after table told here now (then_move None o q)
+        joined table told = ap after_own (sym (own_append here.clock o.made q.made now.own))
+          where
+            after_own : List Label → Result
+            after_own own = stop_comes_to q.stopped table told here (record { at = now.at; own = own }) q.frames q.places q.exc
+
         between : List Label
         between = known_after (labels_of ps) o.made
 
         known : (l : Label) → Known l (labels_of o.places) → Known l between
         known l k = place_known between o.places x.places l k
 
-        on : (table : Table) (told : ChildOutcomes) → left_after table told here t o ≡ left_of table told here t after
-        on table told = ap (λ (z : Option Stopped). stop_comes_to z table told here t o.frames o.places o.exc) s
+        on : (table : Table) (told : ChildOutcomes) → left_after table told here now o ≡ left_of table told here later after
+        on table told = ap (λ (z : Option Stopped). stop_comes_to z table told here later o.frames o.places o.exc) s
 
         -- by a table that agrees with what both moves enter
-        both : (table : Table) (told : ChildOutcomes) → Given table told → AgreesOn t table froms ps → AgreesIn t table (fill told o.made) →
-            AgreesAhead t table (fill told o.made) (before table told).log →
-            AgreesAhead t table (fill told q.made) (left_of table told here t after).log → AllTold t table told (o.begun ++ q.begun) →
-            before table told ≡ after_events told (o.made ++ q.made) (left_after table told here t q)
+        both : (table : Table) (told : ChildOutcomes) → Given table told → AgreesOn now.at table froms ps → AgreesIn now.at table (fill told o.made) →
+            AgreesAhead now.at table (fill told o.made) (before table told).log →
+            AgreesAhead now.at table (fill told q.made) (left_of table told here later after).log → AllTold (a_round_after here.clock now.at) table told (o.begun ++ q.begun) →
+            before table told ≡ after_events told (o.made ++ q.made) (left_after table told here now (then_move None o q))
         both table told g a made ahead more h =
-            x.keeps table told g a ahead (told_first t table told o.begun q.begun h)
+            x.keeps table told g a ahead (told_first (a_round_after here.clock now.at) table told o.begun q.begun h)
             ∙ ap (λ (r : Result). after_events told o.made r) (on table told
-            ∙ y.keeps table told tt (turned_agrees o x table told a made) more (told_second t table told o.begun q.begun h))
-            ∙ sym (after_append told o.made q.made (left_after table told here t q))
+            ∙ y.keeps table told (own_fits here.clock now.own o.made (fits table told g)) (turned_agrees o x table told a made) more (told_second (a_round_after here.clock now.at) table told o.begun q.begun h))
+            ∙ sym (after_append told o.made q.made (left_after table told here later q))
+            ∙ ap (λ (r : Result). after_events told (o.made ++ q.made) r) (joined table told)
 
-        keeps : (table : Table) (told : ChildOutcomes) → Given table told → AgreesOn t table froms ps →
-            AgreesAhead t table (fill told (o.made ++ q.made)) (before table told).log → AllTold t table told (o.begun ++ q.begun) →
-            before table told ≡ after_events told (o.made ++ q.made) (left_after table told here t q)
+        keeps : (table : Table) (told : ChildOutcomes) → Given table told → AgreesOn now.at table froms ps →
+            AgreesAhead now.at table (fill told (o.made ++ q.made)) (before table told).log → AllTold (a_round_after here.clock now.at) table told (o.begun ++ q.begun) →
+            before table told ≡ after_events told (o.made ++ q.made) (left_after table told here now (then_move None o q))
         keeps table told g a (inl b) h =
-            let parts = subst (λ (l : Log). AgreesIn t table l) (fill_append told o.made q.made) b in
-            let made = agrees_in_first t table (fill told o.made) (fill told q.made) parts in
-            both table told g a made (inl made) (inl (agrees_in_second t table (fill told o.made) (fill told q.made) parts)) h
+            let parts = subst (λ (l : Log). AgreesIn now.at table l) (fill_append told o.made q.made) b in
+            let made = agrees_in_first now.at table (fill told o.made) (fill told q.made) parts in
+            both table told g a made (inl made) (inl (agrees_in_second now.at table (fill told o.made) (fill told q.made) parts)) h
         keeps table told g a (inr b) h =
-            let left = (left_of table told here t after).log in
-            let first : before table told ≡ after_events told o.made (left_of table told here t after) =
-            x.keeps table told g a (inr b) (told_first t table told o.begun q.begun h)
+            let left = (left_of table told here later after).log in
+            let first : before table told ≡ after_events told o.made (left_of table told here later after) =
+            x.keeps table told g a (inr b) (told_first (a_round_after here.clock now.at) table told o.begun q.begun h)
             ∙ ap (λ (r : Result). after_events told o.made r) (on table told) in
-            let parts : AgreesIn t table (followed_by (fill told o.made) left) = subst (λ (r : Result). AgreesIn t table r.log) first b in
-            both table told g a (agrees_in_first t table (fill told o.made) left parts) (inr b)
-            (inr (agrees_in_second t table (fill told o.made) left parts)) h
+            let parts : AgreesIn now.at table (followed_by (fill told o.made) left) = subst (λ (r : Result). AgreesIn now.at table r.log) first b in
+            both table told g a (agrees_in_first now.at table (fill told o.made) left parts) (inr b)
+            (inr (agrees_in_second now.at table (fill told o.made) left parts)) h
 
     -- a move, and then a turn from there
-    pub turned_on : (s : Option Stopped) (o q : Move) → o.stopped ≡ s → Turned t here froms Given before bound was fs ps n o →
-        (Placed o.frames o.places → Goes t here (froms_after froms o.made)
+    pub turned_on : (s : Option Stopped) (o q : Move) → o.stopped ≡ s → Turned now here froms Given before bound was fs ps n o →
+        (Placed o.frames o.places → Goes (now_after here.clock now o.made) here (froms_after froms o.made)
         (record { frames = o.frames; places = o.places; exc = o.exc; count = n + length o.begun }) q) →
-        Turned t here froms Given before bound was fs ps n (then_move s o q)
+        Turned now here froms Given before bound was fs ps n (then_move s o q)
     turned_on (Some s) o q e x go = x
     turned_on None o q e x go = turned_then o q e x (go (subst (λ (s : Option Stopped). PlacedAfter s o.frames o.places) e x.placed))
 
 -- ---- a whole turn
 
 -- a turn from the middle keeps the promise
-pub turned_turn : (n : ℕ) (t : ℕ) (here : Here) (froms : Table) (m : Midway) → Placed m.frames m.places →
-    Goes t here froms m (turn_of n froms t here m)
+pub turned_turn : (n : ℕ) (now : Now) (here : Here) (froms : Table) (m : Midway) → Placed m.frames m.places →
+    Goes now here froms m (turn_of n froms now here m)
 unfolding turn_of
-turned_turn zero t here froms m p = turned_nothing t here froms m p
-turned_turn (suc n) t here froms m p =
-    let o = step_of froms t here m in
-    turned_on t here froms (λ table told. Unit {0}) (λ table told. left_of table told here t m) (1 + frames_weight m.frames) None m.frames
+turned_turn zero now here froms m p = turned_nothing now here froms m p
+turned_turn (suc n) now here froms m p =
+    let o = step_of froms now here m in
+    turned_on now here froms (λ table told. OwnFits here.clock now.own) (λ table told g. g) (λ table told. left_of table told here now m) (1 + frames_weight m.frames) None m.frames
     m.places m.count
-    o.stopped o (turn_of n (froms_after froms o.made) t here (after_move m o)) refl (turned_step t here froms m p)
-    (λ q. turned_turn n t here (froms_after froms o.made) (after_move m o) q)
+    o.stopped o (turn_of n (froms_after froms o.made) (now_after here.clock now o.made) here (after_move m o)) refl (turned_step now here froms m p)
+    (λ q. turned_turn n (now_after here.clock now o.made) here (froms_after froms o.made) (after_move m o) q)

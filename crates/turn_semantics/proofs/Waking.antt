@@ -1,22 +1,25 @@
 -- A task that wakes has the same result as when it stopped, and so does its whole turn.
-use Rattle.std.proofs.Common.{◌≡◌, ℕ, ◌+◌, ◌-◌, ◌<◌, ◌≤◌, true, false, Option, Some, None, List, [], ◌∷◌, length, refl, ap, sym, ◌∙◌, subst, nat_le, arith}
+use Rattle.std.proofs.Common.{◌≡◌, ◌⊎◌, inl, inr, ℕ, zero, suc, ◌+◌, ◌-◌, ◌<◌, ◌≤◌, nat_lt, Bool, true, false, Option, Some, None, List, [], ◌∷◌, length, refl, ap, sym, ◌∙◌, subst, nat_le, arith}
 use Rattle.std.proofs.lemmas.Bool.Decides.{nat_tests}
 use Rattle.buffer_parts.specs.Lines.{Span}
 use Rattle.exc_groups.specs.Exceptions.{Label, Exc, cancelled, by_nursery, parts_of, group_of}
 use Rattle.cancel_scopes.specs.Sight.{Tick, is_reached, sight, seen}
-use Rattle.job_meaning.specs.Log.{Log, entry, line, Result, Table}
-use Rattle.job_meaning.specs.Walk.{Stack, by_table, Here, sleep_by_sight, sleep_result, raised_at, done_at, pace_ticks, log_of_lines, lines_result, a_nursery, nursery_result, with_exc, excs_of, latest}
-use Rattle.job_meaning.specs.Rest.{fill, ChildOutcomes, told_members, Frame, Stopped, awaiting, Rest, block_left, finish, finished_from, rest_comes_to, rest_weight, frames_weight, asking_weight, stop_weight}
+use Rattle.job_meaning.specs.Log.{Log, nil, entry, followed_by, line, Result, Table}
+use Rattle.job_meaning.specs.Moments.{Clock, by_ticks, by_rounds, a_round_after, wakes_at, gives_up_at, Now, only_at}
+use Rattle.job_meaning.specs.Walk.{Stack, by_table, Here, wait_by_sight, sleep_result, pace_result, raise_result, raised_at, done_at, pace_ticks, log_of_lines, lines_result, a_nursery, nursery_result, with_exc, excs_of, latest}
+use Rattle.job_meaning.specs.Rest.{fill, ChildOutcomes, told_members, Frame, Stopped, asleep, awaiting, Rest, block_left, finish, finished_from, rest_comes_to, rest_weight, frames_weight, asking_weight, sleep_weight, stop_weight}
 use Rattle.job_meaning.specs.Asking.{Answer, lines, missing, counted, answer_of, Purpose, shows, needs, paces, answer_result}
 use Rattle.job_meaning.proofs.Clips.{followed_nil}
+use Rattle.job_meaning.proofs.MomentLemmas.{wakes_after}
 use Rattle.job_meaning.proofs.Finish.{finish_after}
-use Rattle.turn_semantics.specs.Midway.{Place, stack_at, Midway, so_far, after_events, left_after}
+use Rattle.turn_semantics.specs.Midway.{Place, stack_at, Midway, own_after, OwnFits, now_after, so_far, after_events, left_after}
 use Rattle.turn_semantics.specs.Steps.{makes, froms_after, turn_of}
 use Rattle.turn_semantics.specs.Placed.{Placed, PlacedStop, home_places, home_after}
-use Rattle.turn_semantics.specs.Wakes.{Wake, lines_made, goes_on_with, leaves_settled, wake_of, turn_from, SettlesAt, WakesBy, CanWake, from_start, from_asking, from_sleep, from_due, from_wait}
+use Rattle.turn_semantics.specs.Wakes.{Wake, lines_made, goes_on_with, leaves_settled, sees_from, wake_of, turn_from, SettlesAt, SeesAt, WakesBy, CanWake, from_start, from_asking, from_sleep, from_due, from_giving_up, from_wait}
 use Rattle.turn_semantics.specs.Turned.{AgreesOn, labels_of, MadeAt, Starts, known_after, TurnsOver}
+use Rattle.turn_semantics.proofs.Agreeing.{slept}
 use Rattle.turn_semantics.proofs.Keeps.{keeps_sleeps, block_leaves}
-use Rattle.turn_semantics.proofs.Events.{all_own, all_grow, known_stays}
+use Rattle.turn_semantics.proofs.Events.{none_fits, all_own, all_grow, known_stays}
 use Rattle.turn_semantics.proofs.Cases.{Case, onward_case, sleep_case, leaves_case}
 use Rattle.turn_semantics.proofs.Houses.{wake_housed, wake_stays}
 use Rattle.turn_semantics.proofs.Kids.{wake_kids}
@@ -24,28 +27,102 @@ use Rattle.turn_semantics.proofs.Turns.{turned_on, turned_turn}
 
 -- ---- sleeps
 
--- a sleeper whose cancellation comes by its due tick is cancelled then
-pub slept_seen : (st : Stack) (n since t : ℕ) → since < t → t ≤ since + n → sight st ≡ Some t → sleep_result st n since ≡ raised_at cancelled t
-unfolding sleep_result
-slept_seen st n since t lt le e = rw e (rw late (rw soon refl))
+-- a wait ends when a cancellation is seen in its course, after its least moment
+waits_seen : (a : Tick) (least gives_up end t : ℕ) → a ≡ Some t → least < t → t ≤ end →
+    wait_by_sight a least gives_up end ≡ raised_at cancelled (only_at t)
+waits_seen a least gives_up end t e lt le = rw e (rw late (rw soon refl))
   where
-    late : nat_le t since ≡ false
+    late : nat_le t least ≡ false
     late = grind (arith, nat_tests)
 
-    soon : nat_le t (since + n) ≡ true
+    soon : nat_le t end ≡ true
     soon = grind (arith, nat_tests)
 
--- and another one continues when it is due
-pub slept_due : (st : Stack) (n since : ℕ) → seen st (since + n) ≡ false → sleep_result st n since ≡ done_at (since + n)
-unfolding sleep_result
-slept_due st n since e = by_sight (sight st) e
-  where
-    not_before : (from : ℕ) → nat_le from (since + n) ≡ false → nat_le from since ≡ false
-    not_before from e = grind (arith, nat_tests)
+-- it gives up where one is seen by its least moment
+waits_gives_up : (a : Tick) (least gives_up end : ℕ) → is_reached a least ≡ true →
+    wait_by_sight a least gives_up end ≡ raised_at cancelled (only_at gives_up)
+waits_gives_up None least gives_up end e = absurd (cc)
+waits_gives_up (Some from) least gives_up end e = rw e refl
 
-    by_sight : (a : Tick) → is_reached a (since + n) ≡ false → sleep_by_sight a n since ≡ done_at (since + n)
-    by_sight None e = refl
-    by_sight (Some from) e = rw (not_before from e) (rw e refl)
+-- and it ends by itself where none is seen at its end
+waits_due : (a : Tick) (least gives_up end : ℕ) → least ≤ end → is_reached a end ≡ false →
+    wait_by_sight a least gives_up end ≡ done_at (only_at end)
+waits_due None least gives_up end le e = refl
+waits_due (Some from) least gives_up end le e = rw not_before (rw e refl)
+  where
+    not_before : nat_le from least ≡ false
+    not_before = grind (arith, nat_tests)
+
+-- where moments are ticks, a sleeper that sees a cancellation raises then
+ticks_seen : (a : Tick) (n since t : ℕ) → since < t → t ≤ since + n → (a ≡ Some t) ⊎ ((since ≡ t) × (is_reached a t ≡ true)) →
+    wait_by_sight a since since (since + n) ≡ raised_at cancelled (only_at t)
+ticks_seen a n since t lt le (inl e) = waits_seen a since since (since + n) t e lt le
+ticks_seen a n since t lt le (inr e) = absurd (let i = e.0 in omega arith)
+
+-- where there are rounds, it sees one in its first round, or later
+rounds_seen : (a : Tick) (since t : ℕ) → since < t → (a ≡ Some t) ⊎ ((since + 1 ≡ t) × (is_reached a t ≡ true)) →
+    ((since + 1 ≡ t) × (is_reached a (since + 1) ≡ true)) ⊎ ((a ≡ Some t) × (since + 1 < t))
+rounds_seen a since t lt (inr e) = inl (e.0, subst (λ (x : ℕ). is_reached a x ≡ true) (sym e.0) e.1)
+rounds_seen a since t lt (inl e) = by_order (nat_lt (since + 1) t) refl
+  where
+    reached : since + 1 ≡ t → is_reached a (since + 1) ≡ true
+    reached i = rw e (grind (arith, nat_tests))
+
+    by_order : (b : Bool) → nat_lt (since + 1) t ≡ b → ((since + 1 ≡ t) × (is_reached a (since + 1) ≡ true)) ⊎ ((a ≡ Some t) × (since + 1 < t))
+    by_order true i = inr (e, grind (arith, nat_tests))
+    by_order false i = let f : since + 1 ≡ t = grind (arith, nat_tests) in inl (f, reached f)
+
+-- so it raises then, if it gives up in its first round
+rounds_raise : (a : Tick) (since t end : ℕ) → since < t → t ≤ end → (a ≡ Some t) ⊎ ((since + 1 ≡ t) × (is_reached a t ≡ true)) →
+    wait_by_sight a (since + 1) (since + 1) end ≡ raised_at cancelled (only_at t)
+rounds_raise a since t end lt le s = by_round (rounds_seen a since t lt s)
+  where
+    by_round : ((since + 1 ≡ t) × (is_reached a (since + 1) ≡ true)) ⊎ ((a ≡ Some t) × (since + 1 < t)) →
+        wait_by_sight a (since + 1) (since + 1) end ≡ raised_at cancelled (only_at t)
+    by_round (inl e) = waits_gives_up a (since + 1) (since + 1) end e.1 ∙ ap (λ (x : ℕ). raised_at cancelled (only_at x)) e.0
+    by_round (inr e) = waits_seen a (since + 1) (since + 1) end t e.0 e.1 le
+
+-- and at a checkpoint a round later
+rounds_give_up : (a : Tick) (since t : ℕ) → since < t → t ≤ since + 1 → (a ≡ Some t) ⊎ ((since + 1 ≡ t) × (is_reached a t ≡ true)) →
+    wait_by_sight a (since + 1) (since + 2) (since + 1) ≡ raised_at cancelled (only_at (suc t))
+rounds_give_up a since t lt le s = by_round (rounds_seen a since t lt s)
+  where
+    by_round : ((since + 1 ≡ t) × (is_reached a (since + 1) ≡ true)) ⊎ ((a ≡ Some t) × (since + 1 < t)) →
+        wait_by_sight a (since + 1) (since + 2) (since + 1) ≡ raised_at cancelled (only_at (suc t))
+    by_round (inl e) =
+        let i = e.0 in
+        let f : since + 2 ≡ suc t = omega arith in
+        waits_gives_up a (since + 1) (since + 2) (since + 1) e.1 ∙ ap (λ (x : ℕ). raised_at cancelled (only_at x)) f
+    by_round (inr e) = absurd (let i = e.1 in omega arith)
+
+-- a sleeper that sees a cancellation by the end of its sleep raises then, unless it is at a checkpoint
+pub slept_seen : (clock : Clock) (st : Stack) (n since t : ℕ) → since < t → t ≤ wakes_at clock (suc n) since → SeesAt clock since t st →
+    sleep_result clock st (suc n) since ≡ raised_at cancelled (only_at t)
+unfolding sleep_result
+slept_seen by_ticks st n since t lt le s = ticks_seen (sight st) (suc n) since t lt le s
+slept_seen by_rounds st n since t lt le s = rounds_raise (sight st) since t (wakes_at by_rounds (suc n) since) lt le s
+
+pub paced_seen : (clock : Clock) (st : Stack) (n since t : ℕ) → since < t → t ≤ wakes_at clock n since → SeesAt clock since t st →
+    pace_result clock st n since ≡ raised_at cancelled (only_at t)
+unfolding pace_result
+paced_seen by_ticks st n since t lt le s = ticks_seen (sight st) n since t lt le s
+paced_seen by_rounds st n since t lt le s = rounds_raise (sight st) since t (wakes_at by_rounds n since) lt le s
+
+-- and at a checkpoint it raises a round later
+pub checkpoint_seen : (clock : Clock) (st : Stack) (since t : ℕ) → since < t → t ≤ wakes_at clock 0 since → SeesAt clock since t st →
+    sleep_result clock st 0 since ≡ raised_at cancelled (only_at (suc t))
+unfolding sleep_result
+checkpoint_seen by_ticks st since t lt le s = absurd (omega arith)
+checkpoint_seen by_rounds st since t lt le s = rounds_give_up (sight st) since t lt le s
+
+-- another one continues at the end of its sleep
+pub slept_due : (paced : Bool) (clock : Clock) (st : Stack) (n since : ℕ) → seen st (wakes_at clock n since) ≡ false →
+    slept paced clock st n since ≡ done_at (only_at (wakes_at clock n since))
+unfolding sleep_result pace_result
+slept_due false clock st n since e =
+    waits_due (sight st) (a_round_after clock since) (gives_up_at clock n since) (wakes_at clock n since) (wakes_after clock n since) e
+slept_due true clock st n since e =
+    waits_due (sight st) (a_round_after clock since) (a_round_after clock since) (wakes_at clock n since) (wakes_after clock n since) e
 
 -- ---- lines
 
@@ -53,9 +130,13 @@ fill_lines : (told : ChildOutcomes) (t : ℕ) (ls : List Span) → fill told (li
 fill_lines told t [] = refl
 fill_lines told t (l ∷ ls) = ap (λ (x : Log). entry t (line l) x) (fill_lines told t ls)
 
-lines_now : (t : ℕ) (known : List Label) (ls : List Span) → MadeAt t known (lines_made t ls)
-lines_now t known [] = tt
-lines_now t known (l ∷ ls) = (refl, lines_now t known ls)
+own_lines : (clock : Clock) (own : List Label) (t : ℕ) (ls : List Span) → own ≡ own_after clock own (lines_made t ls)
+own_lines clock own t [] = refl
+own_lines clock own t (l ∷ ls) = own_lines clock own t ls
+
+lines_now : (clock : Clock) (t : ℕ) (known : List Label) (ls : List Span) → MadeAt clock t known (lines_made t ls)
+lines_now clock t known [] = tt
+lines_now clock t known (l ∷ ls) = (refl, lines_now clock t known ls)
 
 lines_start : (t n : ℕ) (ls : List Span) → Starts n (lines_made t ls) []
 lines_start t n [] = tt
@@ -63,69 +144,117 @@ lines_start t n (l ∷ ls) = lines_start t n ls
 
 -- ---- the result of a task that wakes
 
-module _ (table froms : Table) (told : ChildOutcomes) (t : ℕ) (here : Here) where
-  -- lines are noted, and the task continues in the same tick
+module _ (table froms : Table) (told : ChildOutcomes) (now : Now) (here : Here) where
+  -- lines are noted, and the task continues in the same moment
   wakes_lines : (ls : List Span) (fs : List Frame) (ps : List Place) →
-      finish (by_table table) told fs here (stack_at table ps) (lines_result ls t)
-      ≡ after_events told (lines_made t ls) (left_after table told here t (makes (lines_made t ls) fs ps))
+      finish (by_table table) told fs here (stack_at table ps) (lines_result ls now)
+      ≡ after_events told (lines_made now.at ls) (left_after table told here now (makes (lines_made now.at ls) fs ps))
   unfolding lines_result
   wakes_lines ls fs ps =
-      ap (λ (x : Log). finish (by_table table) told fs here (stack_at table ps) (record (done_at t) { log = x }))
-      (sym (fill_lines told t ls) ∙ sym (followed_nil (fill told (lines_made t ls))))
-      ∙ finish_after fs (fill told (lines_made t ls)) (by_table table) told here (stack_at table ps) (done_at t)
+      ap (λ (x : Log). finish (by_table table) told fs here (stack_at table ps) (record (done_at now) { log = x }))
+      (sym (fill_lines told now.at ls) ∙ sym (followed_nil (fill told (lines_made now.at ls))))
+      ∙ (ap (λ (own : List Label). finish (by_table table) told fs here (stack_at table ps)
+      (record { end = now.at; own = own; exc = None; members = []; log = followed_by (fill told (lines_made now.at ls)) nil }))
+      (own_lines here.clock now.own now.at ls)
+      ∙ finish_after fs (fill told (lines_made now.at ls)) (by_table table) told here (stack_at table ps)
+      (done_at (now_after here.clock now (lines_made now.at ls))))
 
   -- an answer, by what it is for
-  wakes_answer : (a : Answer) (purpose : Purpose) (fs : List Frame) (ps : List Place) → AgreesOn t table froms ps →
-      finish (by_table table) told fs here (stack_at table ps) (answer_result a purpose here (stack_at table ps) t)
-      ≡ after_events told (goes_on_with froms t here a purpose fs ps).made
-      (left_after table told here t (goes_on_with froms t here a purpose fs ps))
-  wakes_answer (lines ls) purpose fs ps g = wakes_lines ls fs ps
-  wakes_answer missing (needs name) fs ps g = refl
-  wakes_answer missing shows fs ps g = refl
-  wakes_answer missing (paces k) fs ps g = refl
-  wakes_answer (counted n) (paces k) fs ps g = keeps_sleeps table froms told t here (pace_ticks n k) fs ps g
-  wakes_answer (counted n) shows fs ps g = refl
-  wakes_answer (counted n) (needs name) fs ps g = refl
+  wakes_answer : (a : Answer) (purpose : Purpose) (fs : List Frame) (ps : List Place) → OwnFits here.clock now.own → AgreesOn now.at table froms ps →
+      finish (by_table table) told fs here (stack_at table ps) (answer_result a purpose here (stack_at table ps) now)
+      ≡ after_events told (goes_on_with froms now.at here a purpose fs ps).made
+      (left_after table told here now (goes_on_with froms now.at here a purpose fs ps))
+  unfolding raise_result
+  wakes_answer (lines ls) purpose fs ps own g = wakes_lines ls fs ps
+  wakes_answer missing (needs name) fs ps own g = refl
+  wakes_answer missing shows fs ps own g = refl
+  wakes_answer missing (paces k) fs ps own g = refl
+  wakes_answer (counted n) (paces k) fs ps own g = keeps_sleeps table froms told now here true (pace_ticks n k) fs ps own g
+  wakes_answer (counted n) shows fs ps own g = refl
+  wakes_answer (counted n) (needs name) fs ps own g = refl
 
   -- a nursery has settled
-  wakes_settled : (exc : Option Exc) (children : List ℕ) (ended : ℕ) (e : Option Exc) (u : ℕ) (fs : List Frame) (ps : List Place) →
-      AgreesOn t table froms ps → SettlesAt t exc (told_members told children) ended e ps →
+  wakes_settled : (exc : Option Exc) (children : List ℕ) (ended : ℕ) (e : Option Exc) (u : Now) (fs : List Frame) (ps : List Place) →
+      AgreesOn now.at table froms ps → SettlesAt here.clock now.at exc (told_members told children) ended e ps → now.own ≡ [] →
       finished_from (by_table table) told (awaiting children ended e) fs here (stack_at table ps) u
-      ≡ after_events told (leaves_settled froms t exc fs ps).made (left_after table told here t (leaves_settled froms t exc fs ps))
+      ≡ after_events told (leaves_settled here.clock froms now exc fs ps).made (left_after table told here now (leaves_settled here.clock froms now exc fs ps))
   unfolding nursery_result
-  wakes_settled exc children ended e u fs (p ∷ ps) g s =
-      at_last (latest ended (told_members told children)) (group_of (by_nursery p.label)
-      (parts_of (with_exc e (excs_of (told_members told children))))) s.0 s.1
-      ∙ block_leaves table froms told t here a_nursery fs p ps exc g
+  wakes_settled exc children ended e u fs (p ∷ ps) g s own =
+      at_last (a_round_after here.clock (latest ended (told_members told children))) (group_of (by_nursery p.label)
+      (parts_of (with_exc e (excs_of (told_members told children))))) s.0 s.1 (sym own)
+      ∙ block_leaves table froms told now here a_nursery fs p ps exc g
     where
       left : Result → Result
       left r =
           finish (by_table table) told fs here (stack_at table ps)
-          (block_left a_nursery (record { label = p.label; shield = p.shield; from = table p.label }) (stack_at table ps) r)
+          (block_left here.clock a_nursery (record { label = p.label; shield = p.shield; from = table p.label }) (stack_at table ps) r)
 
-      at_last : (v : ℕ) (x : Option Exc) → v ≡ t → x ≡ exc → left (so_far x v) ≡ left (so_far exc t)
-      at_last v x e f = λ i. left (so_far (f i) (e i))
-  wakes_settled exc children ended e u fs [] g s = absurd s
+      ended_with : Option Exc → ℕ → List Label → Result
+      ended_with x v ls = so_far x (record { at = v; own = ls })
+
+      at_last : (v : ℕ) (x : Option Exc) → v ≡ now.at → x ≡ exc → [] ≡ now.own → left (ended_with x v []) ≡ left (ended_with exc now.at now.own)
+      at_last v x e f g = λ i. left (ended_with (f i) (e i) (g i))
+  wakes_settled exc children ended e u fs [] g s own = absurd s
+
+  -- a moment in which a task has cancelled nothing
+  nothing_own : (v : ℕ) → v ≡ now.at → now.own ≡ [] → only_at v ≡ now
+  nothing_own v e own = λ i. at_own (e i) (sym own i)
+    where
+      at_own : ℕ → List Label → Now
+      at_own v ls = record { at = v; own = ls }
+
+  -- a task that sees a cancellation
+  wakes_seen : (u : Now) (paced : Bool) (n since : ℕ) (fs : List Frame) (ps : List Place) → since < now.at →
+      now.at ≤ wakes_at here.clock n since →
+      SeesAt here.clock since now.at (stack_at table ps) → now.own ≡ [] →
+      finished_from (by_table table) told (asleep paced n since) fs here (stack_at table ps) u
+      ≡ after_events told (sees_from now.at (asleep paced n since) fs ps).made
+      (left_after table told here now (sees_from now.at (asleep paced n since) fs ps))
+  wakes_seen u false zero since fs ps lt le s own =
+      ap (λ (r : Result). finish (by_table table) told fs here (stack_at table ps) r)
+      (checkpoint_seen here.clock (stack_at table ps) since now.at lt le s)
+  wakes_seen u false (suc n) since fs ps lt le s own =
+      ap (λ (r : Result). finish (by_table table) told fs here (stack_at table ps) r)
+      (slept_seen here.clock (stack_at table ps) n since now.at lt le s ∙ ap (λ (v : Now). raised_at cancelled v) (nothing_own now.at refl own))
+  wakes_seen u true n since fs ps lt le s own =
+      ap (λ (r : Result). finish (by_table table) told fs here (stack_at table ps) r)
+      (paced_seen here.clock (stack_at table ps) n since now.at lt le s ∙ ap (λ (v : Now). raised_at cancelled v) (nothing_own now.at refl own))
+
+  -- a task whose sleep ends
+  wakes_due : (u : Now) (paced : Bool) (n since : ℕ) (fs : List Frame) (ps : List Place) → wakes_at here.clock n since ≡ now.at →
+      seen (stack_at table ps) now.at ≡ false → now.own ≡ [] →
+      finished_from (by_table table) told (asleep paced n since) fs here (stack_at table ps) u
+      ≡ finish (by_table table) told fs here (stack_at table ps) (done_at now)
+  wakes_due u paced n since fs ps e s own = by_pace paced
+      (ap (λ (r : Result). finish (by_table table) told fs here (stack_at table ps) r)
+      (slept_due paced here.clock (stack_at table ps) n since (subst (λ (v : ℕ). seen (stack_at table ps) v ≡ false) (sym e) s)
+      ∙ ap (λ (v : Now). done_at v) (nothing_own (wakes_at here.clock n since) e own)))
+    where
+      by_pace : (paced : Bool) →
+          finish (by_table table) told fs here (stack_at table ps) (slept paced here.clock (stack_at table ps) n since)
+          ≡ finish (by_table table) told fs here (stack_at table ps) (done_at now) →
+          finished_from (by_table table) told (asleep paced n since) fs here (stack_at table ps) u
+          ≡ finish (by_table table) told fs here (stack_at table ps) (done_at now)
+      by_pace false h = h
+      by_pace true h = h
 
   -- each wake
-  pub wake_keeps : (u : ℕ) {w : Wake} {s : Stopped} → CanWake w s → (fs : List Frame) (ps : List Place) →
-      AgreesOn t table froms ps → WakesBy table told here u t w s ps →
+  pub wake_keeps : (u : Now) {w : Wake} {s : Stopped} → CanWake w s → (fs : List Frame) (ps : List Place) →
+      AgreesOn now.at table froms ps → WakesBy table told here u now w s ps →
       finished_from (by_table table) told s fs here (stack_at table ps) u
-      ≡ after_events told (wake_of froms t here w s fs ps).made (left_after table told here t (wake_of froms t here w s fs ps))
-  wake_keeps u from_start fs ps g e = ap (λ (v : ℕ). finish (by_table table) told fs here (stack_at table ps) (done_at v)) e
+      ≡ after_events told (wake_of froms now here w s fs ps).made (left_after table told here now (wake_of froms now here w s fs ps))
+  wake_keeps u from_start fs ps g e = ap (λ (v : Now). finish (by_table table) told fs here (stack_at table ps) (done_at v)) e.0
   wake_keeps u (from_asking {a} {kernel} {purpose}) fs ps g e =
-      ap (λ (v : ℕ). finish (by_table table) told fs here (stack_at table ps)
+      ap (λ (v : Now). finish (by_table table) told fs here (stack_at table ps)
       (answer_result (answer_of kernel here) purpose here (stack_at table ps) v)) e.0
-      ∙ (ap (λ (b : Answer). finish (by_table table) told fs here (stack_at table ps) (answer_result b purpose here (stack_at table ps) t))
+      ∙ (ap (λ (b : Answer). finish (by_table table) told fs here (stack_at table ps) (answer_result b purpose here (stack_at table ps) now))
       (sym e.1)
-      ∙ wakes_answer a purpose fs ps g)
-  wake_keeps u (from_sleep {n} {since}) fs ps g e =
-      ap (λ (r : Result). finish (by_table table) told fs here (stack_at table ps) r) (slept_seen (stack_at table ps) n since t e.0 e.1 e.2)
-  wake_keeps u (from_due {n} {since}) fs ps g e =
-      ap (λ (r : Result). finish (by_table table) told fs here (stack_at table ps) r)
-      (slept_due (stack_at table ps) n since (subst (λ (v : ℕ). seen (stack_at table ps) v ≡ false) (sym e.0) e.1)
-      ∙ ap (λ (v : ℕ). done_at v) e.0)
-  wake_keeps u (from_wait {exc} {children} {ended} {e}) fs ps g h = wakes_settled exc children ended e u fs ps g h
+      ∙ wakes_answer a purpose fs ps e.2 g)
+  wake_keeps u (from_sleep {paced} {n} {since}) fs ps g e = wakes_seen u paced n since fs ps e.0 e.1 e.2 e.3
+  wake_keeps u (from_due {paced} {n} {since}) fs ps g e = wakes_due u paced n since fs ps e.0 e.1 e.2
+  wake_keeps u (from_giving_up {since}) fs ps g e =
+      ap (λ (v : Now). finish (by_table table) told fs here (stack_at table ps) (raised_at cancelled v)) (nothing_own (suc since) e.0 e.1)
+  wake_keeps u (from_wait {exc} {children} {ended} {e}) fs ps g h = wakes_settled exc children ended e u fs ps g h.0 h.1
 
 -- ---- what a wake makes and leaves
 
@@ -135,14 +264,21 @@ asking_weighs shows = omega arith
 asking_weighs (needs name) = omega arith
 asking_weighs (paces k) = omega arith
 
-lines_case : (t : ℕ) (froms : Table) (w : ℕ) (ls : List Span) (fs : List Frame) (ps : List Place) (count : ℕ) → Placed fs ps →
+-- and so has one that sleeps
+sleep_some : (paced : Bool) (n : ℕ) → 1 ≤ sleep_weight paced n
+sleep_some false zero = omega arith
+sleep_some false (suc n) = omega arith
+sleep_some true zero = omega arith
+sleep_some true (suc n) = omega arith
+
+lines_case : (clock : Clock) (t : ℕ) (froms : Table) (w : ℕ) (ls : List Span) (fs : List Frame) (ps : List Place) (count : ℕ) → Placed fs ps →
     frames_weight fs ≤ w →
-    Case t froms w (home_places fs ps) ps count (makes (lines_made t ls) fs ps)
-lines_case t froms w ls fs ps count p le =
+    Case clock t froms w (home_places fs ps) ps count (makes (lines_made t ls) fs ps)
+lines_case clock t froms w ls fs ps count p le =
     record {
       placed = p;
       at_home = refl;
-      made_now = lines_now t (labels_of ps) ls;
+      made_now = lines_now clock t (labels_of ps) ls;
       places = all_grow (labels_of ps) (known_after (labels_of ps) (lines_made t ls))
           (λ l k. known_stays l (lines_made t ls) (labels_of ps) k) ps (all_own ps);
       starts_made = lines_start t count ls;
@@ -154,54 +290,81 @@ lines_case t froms w ls fs ps count p le =
 -- the wake's part of the promise: it takes at least 1 of the weight
 answered_case : (t : ℕ) (froms : Table) (here : Here) (a : Answer) (purpose : Purpose) (fs : List Frame) (ps : List Place) (count w : ℕ) →
     Placed fs ps → 1 + w ≡ asking_weight purpose + frames_weight fs →
-    Case t froms w (home_places fs ps) ps count (goes_on_with froms t here a purpose fs ps)
+    Case here.clock t froms w (home_places fs ps) ps count (goes_on_with froms t here a purpose fs ps)
 answered_case t froms here (lines ls) purpose fs ps count w p e =
-    lines_case t froms w ls fs ps count p (let h = asking_weighs purpose in omega arith)
-answered_case t froms here missing (needs name) fs ps count w p e = onward_case t froms w _ fs ps _ count p refl (omega arith)
-answered_case t froms here missing shows fs ps count w p e = onward_case t froms w _ fs ps _ count p refl (omega arith)
-answered_case t froms here missing (paces k) fs ps count w p e = onward_case t froms w _ fs ps _ count p refl (omega arith)
-answered_case t froms here (counted n) (paces k) fs ps count w p e = sleep_case t froms (pace_ticks n k) w _ fs ps count p refl (omega arith)
-answered_case t froms here (counted n) shows fs ps count w p e = onward_case t froms w _ fs ps _ count p refl (omega arith)
-answered_case t froms here (counted n) (needs name) fs ps count w p e = onward_case t froms w _ fs ps _ count p refl (omega arith)
+    lines_case here.clock t froms w ls fs ps count p (let h = asking_weighs purpose in omega arith)
+answered_case t froms here missing (needs name) fs ps count w p e = onward_case here.clock t froms w _ fs ps _ count p refl (omega arith)
+answered_case t froms here missing shows fs ps count w p e = onward_case here.clock t froms w _ fs ps _ count p refl (omega arith)
+answered_case t froms here missing (paces k) fs ps count w p e = onward_case here.clock t froms w _ fs ps _ count p refl (omega arith)
+answered_case t froms here (counted n) (paces k) fs ps count w p e = sleep_case here.clock t froms true (pace_ticks n k) w _ fs ps count p refl (omega arith)
+answered_case t froms here (counted n) shows fs ps count w p e = onward_case here.clock t froms w _ fs ps _ count p refl (omega arith)
+answered_case t froms here (counted n) (needs name) fs ps count w p e = onward_case here.clock t froms w _ fs ps _ count p refl (omega arith)
 
-settled_case : (t : ℕ) (froms : Table) (exc : Option Exc) (children : List ℕ) (ended : ℕ) (x : Option Exc) (fs : List Frame)
+settled_case : (clock : Clock) (now : Now) (froms : Table) (exc : Option Exc) (children : List ℕ) (ended : ℕ) (x : Option Exc) (fs : List Frame)
     (ps : List Place) (count w : ℕ) →
     PlacedStop (awaiting children ended x) fs ps → 1 + w ≡ 1 + frames_weight fs →
-    Case t froms w (home_after (Some (awaiting children ended x)) fs ps) ps count (leaves_settled froms t exc fs ps)
-settled_case t froms exc children ended x fs (p ∷ ps) count w q e = leaves_case t froms a_nursery w _ fs p ps exc count q refl (omega arith)
-settled_case t froms exc children ended x fs [] count w q e = absurd q
+    Case clock now.at froms w (home_after (Some (awaiting children ended x)) fs ps) ps count (leaves_settled clock froms now exc fs ps)
+settled_case clock now froms exc children ended x fs (p ∷ ps) count w q e = leaves_case clock now froms a_nursery w _ fs p ps exc count q refl (omega arith)
+settled_case clock now froms exc children ended x fs [] count w q e = absurd q
 
-wake_case : (t : ℕ) (froms : Table) (here : Here) {w : Wake} {s : Stopped} → CanWake w s →
+wake_case : (now : Now) (froms : Table) (here : Here) {w : Wake} {s : Stopped} → CanWake w s →
     (fs : List Frame) (ps : List Place) (count b : ℕ) →
     PlacedStop s fs ps → 1 + b ≡ stop_weight s + frames_weight fs →
-    Case t froms b (home_after (Some s) fs ps) ps count (wake_of froms t here w s fs ps)
-wake_case t froms here from_start fs ps count b p e = onward_case t froms b _ fs ps _ count p refl (omega arith)
-wake_case t froms here (from_asking {a} {kernel} {purpose}) fs ps count b p e = answered_case t froms here a purpose fs ps count b p.1 e
-wake_case t froms here (from_sleep {n} {since}) fs ps count b p e = onward_case t froms b _ fs ps _ count p refl (omega arith)
-wake_case t froms here (from_due {n} {since}) fs ps count b p e = onward_case t froms b _ fs ps _ count p refl (omega arith)
-wake_case t froms here (from_wait {exc} {children} {ended} {e}) fs ps count b p h =
-    settled_case t froms exc children ended e fs ps count b p h
+    Case here.clock now.at froms b (home_after (Some s) fs ps) ps count (wake_of froms now here w s fs ps)
+wake_case now froms here from_start fs ps count b p e = onward_case here.clock now.at froms b _ fs ps _ count p refl (omega arith)
+wake_case now froms here (from_asking {a} {kernel} {purpose}) fs ps count b p e = answered_case now.at froms here a purpose fs ps count b p.1 e
+wake_case now froms here (from_sleep {paced = false} {n = zero} {since}) fs ps count b p e =
+    record {
+      placed = p;
+      at_home = refl;
+      made_now = tt;
+      places = all_own ps;
+      starts_made = tt;
+      begun_in = tt;
+      stops = refl;
+      weight = omega arith;
+    }
+wake_case now froms here (from_sleep {paced = false} {n = suc n} {since}) fs ps count b p e =
+    onward_case here.clock now.at froms b _ fs ps _ count p refl (omega arith)
+wake_case now froms here (from_sleep {paced = true} {n} {since}) fs ps count b p e =
+    onward_case here.clock now.at froms b _ fs ps _ count p refl (let h = sleep_some true n in omega arith)
+wake_case now froms here (from_giving_up {since}) fs ps count b p e = onward_case here.clock now.at froms b _ fs ps _ count p refl (omega arith)
+wake_case now froms here (from_due {paced} {n} {since}) fs ps count b p e =
+    onward_case here.clock now.at froms b _ fs ps _ count p refl (let h = sleep_some paced n in omega arith)
+wake_case now froms here (from_wait {exc} {children} {ended} {e}) fs ps count b p h =
+    settled_case here.clock now froms exc children ended e fs ps count b p h
 
 -- a stop that can be woken from has a weight
 wakes_weigh : {w : Wake} {s : Stopped} → CanWake w s → (fs : List Frame) → 1 ≤ stop_weight s + frames_weight fs
 wakes_weigh from_start fs = omega arith
 wakes_weigh (from_asking {a} {kernel} {purpose}) fs = let h = asking_weighs purpose in omega arith
-wakes_weigh (from_sleep {n} {since}) fs = omega arith
-wakes_weigh (from_due {n} {since}) fs = omega arith
+wakes_weigh (from_sleep {paced} {n} {since}) fs = let h = sleep_some paced n in omega arith
+wakes_weigh (from_due {paced} {n} {since}) fs = let h = sleep_some paced n in omega arith
+wakes_weigh (from_giving_up {since}) fs = omega arith
 wakes_weigh (from_wait {exc} {children} {ended} {e}) fs = omega arith
 
+-- what a task has cancelled when it wakes is as it has to be
+pub wakes_fit : (table : Table) (told : ChildOutcomes) (here : Here) (u now : Now) {w : Wake} {s : Stopped} → CanWake w s → (ps : List Place) →
+    WakesBy table told here u now w s ps → OwnFits here.clock now.own
+wakes_fit table told here u now from_start ps e = e.1
+wakes_fit table told here u now from_asking ps e = e.2
+wakes_fit table told here u now from_sleep ps e = none_fits here.clock now.own e.3
+wakes_fit table told here u now from_due ps e = none_fits here.clock now.own e.2
+wakes_fit table told here u now from_giving_up ps e = none_fits here.clock now.own e.1
+wakes_fit table told here u now from_wait ps e = none_fits here.clock now.own e.1
+
 -- the wake keeps the whole promise
-pub turned_wake : (u t : ℕ) (here : Here) (froms : Table) (w : Wake) (rest : Rest) (ps : List Place) (count : ℕ) → CanWake w rest.stopped →
+pub turned_wake : (u now : Now) (here : Here) (froms : Table) (w : Wake) (rest : Rest) (ps : List Place) (count : ℕ) → CanWake w rest.stopped →
     PlacedStop rest.stopped rest.frames ps →
-    TurnsOver u t here froms w rest ps count (wake_of froms t here w rest.stopped rest.frames ps)
-turned_wake u t here froms w rest ps count c p =
+    TurnsOver u now here froms w rest ps count (wake_of froms now here w rest.stopped rest.frames ps)
+turned_wake u now here froms w rest ps count c p =
     record {
-      keeps = λ table told g a b h. wake_keeps table froms told t here u c rest.frames ps a g;
+      keeps = λ table told g a b h. wake_keeps table froms told now here u c rest.frames ps a g;
       placed = all.placed;
       at_home = all.at_home;
-      kids = wake_kids t froms here w rest.stopped rest.frames ps count;
-      housed = wake_housed t froms here w rest.stopped rest.frames ps;
-      stays = λ i home h. wake_stays t froms here i home c rest.frames ps h;
+      kids = wake_kids now froms here w rest.stopped rest.frames ps count;
+      housed = wake_housed now froms here w rest.stopped rest.frames ps;
+      stays = λ i home h. wake_stays now froms here i home c rest.frames ps h;
       made_now = all.made_now;
       places = all.places;
       starts = all.starts_made;
@@ -213,20 +376,20 @@ turned_wake u t here froms w rest ps count c p =
     one_less : (n : ℕ) → 1 ≤ n → 1 + (n - 1) ≡ n
     one_less n le = omega arith
 
-    all : Case t froms (rest_weight rest - 1) (home_after (Some rest.stopped) rest.frames ps) ps count
-        (wake_of froms t here w rest.stopped rest.frames ps)
-    all = wake_case t froms here c rest.frames ps count (rest_weight rest - 1) p (one_less (rest_weight rest) (wakes_weigh c rest.frames))
+    all : Case here.clock now.at froms (rest_weight rest - 1) (home_after (Some rest.stopped) rest.frames ps) ps count
+        (wake_of froms now here w rest.stopped rest.frames ps)
+    all = wake_case now froms here c rest.frames ps count (rest_weight rest - 1) p (one_less (rest_weight rest) (wakes_weigh c rest.frames))
 
 -- A whole turn: the wake, and then as many steps as it takes to the next stop.
-pub turned_from : (n : ℕ) (u t : ℕ) (here : Here) (froms : Table) (w : Wake) (rest : Rest) (ps : List Place) (count : ℕ) →
+pub turned_from : (n : ℕ) (u now : Now) (here : Here) (froms : Table) (w : Wake) (rest : Rest) (ps : List Place) (count : ℕ) →
     CanWake w rest.stopped → PlacedStop rest.stopped rest.frames ps →
-    TurnsOver u t here froms w rest ps count (turn_from n froms t here w rest.stopped rest.frames ps count)
+    TurnsOver u now here froms w rest ps count (turn_from n froms now here w rest.stopped rest.frames ps count)
 unfolding turn_from
-turned_from n u t here froms w rest ps count c p =
-    let o = wake_of froms t here w rest.stopped rest.frames ps in
+turned_from n u now here froms w rest ps count c p =
+    let o = wake_of froms now here w rest.stopped rest.frames ps in
     let m : Midway = record { frames = o.frames; places = o.places; exc = o.exc; count = count + length o.begun } in
-    turned_on t here froms (λ table told. WakesBy table told here u t w rest.stopped ps)
+    turned_on now here froms (λ table told. WakesBy table told here u now w rest.stopped ps) (λ table told e. wakes_fit table told here u now c ps e)
     (λ table told. rest_comes_to (by_table table) told rest here (stack_at table ps) u)
     (rest_weight rest) (Some rest.stopped) rest.frames ps count
-    o.stopped o (turn_of n (froms_after froms o.made) t here m) refl (turned_wake u t here froms w rest ps count c p)
-    (λ q. turned_turn n t here (froms_after froms o.made) m q)
+    o.stopped o (turn_of n (froms_after froms o.made) (now_after here.clock now o.made) here m) refl (turned_wake u now here froms w rest ps count c p)
+    (λ q. turned_turn n (now_after here.clock now o.made) here (froms_after froms o.made) m q)

@@ -5,9 +5,10 @@ use Rattle.job_tree.specs.Names.{GivesNamesOnce}
 use Rattle.exc_groups.specs.Exceptions.{Label}
 use Rattle.cancel_scopes.specs.Sight.{Tick}
 use Rattle.job_meaning.specs.Log.{Table, from_by}
+use Rattle.job_meaning.specs.Moments.{Clock, a_round_after, Now}
 use Rattle.job_meaning.specs.Walk.{by_table, Here}
 use Rattle.job_meaning.specs.Rest.{steps_left, Event, ChildOutcomes, fill, Stopped, Rest, rest_comes_to, task_comes_to}
-use Rattle.turn_semantics.specs.Midway.{Place, stack_at, Midway, Move}
+use Rattle.turn_semantics.specs.Midway.{Place, stack_at, Midway, Move, now_after}
 use Rattle.turn_semantics.specs.Steps.{froms_after, step_of}
 use Rattle.turn_semantics.specs.Placed.{Placed, PlacedStop, outer_places}
 use Rattle.turn_semantics.specs.Wakes.{Wake, wake_of, turn_from, WakesBy, CanWake}
@@ -17,34 +18,34 @@ use Rattle.turn_semantics.specs.Names.{names_at, OwnNames, NewIn, StaysNew}
 
 -- each step keeps the promise
 abbrev pub EachStepGoes : Type 0
-EachStepGoes = (t : ℕ) (here : Here) (froms : Table) (m : Midway) → Placed m.frames m.places → Goes t here froms m (step_of froms t here m)
+EachStepGoes = (now : Now) (here : Here) (froms : Table) (m : Midway) → Placed m.frames m.places → Goes now here froms m (step_of froms now here m)
 
 -- each turn keeps it, from the wake to the next stop, and comes to a stop
 abbrev pub EachTurnKeeps : Type 0
 EachTurnKeeps =
-    (n u t : ℕ) (here : Here) (froms : Table) (w : Wake) (rest : Rest) (ps : List Place) (count : ℕ) → CanWake w rest.stopped →
+    (n : ℕ) (u now : Now) (here : Here) (froms : Table) (w : Wake) (rest : Rest) (ps : List Place) (count : ℕ) → CanWake w rest.stopped →
     PlacedStop rest.stopped rest.frames ps →
-    TurnsOver u t here froms w rest ps count (turn_from n froms t here w rest.stopped rest.frames ps count)
+    TurnsOver u now here froms w rest ps count (turn_from n froms now here w rest.stopped rest.frames ps count)
 
 abbrev pub EachTurnStops : Type 0
 EachTurnStops =
-    (n t : ℕ) (here : Here) (froms : Table) (w : Wake) (rest : Rest) (ps : List Place) (count : ℕ) →
-    frames_length (wake_of froms t here w rest.stopped rest.frames ps).frames < n →
-    IsSome (turn_from n froms t here w rest.stopped rest.frames ps count).stopped
+    (n : ℕ) (now : Now) (here : Here) (froms : Table) (w : Wake) (rest : Rest) (ps : List Place) (count : ℕ) →
+    frames_length (wake_of froms now here w rest.stopped rest.frames ps).frames < n →
+    IsSome (turn_from n froms now here w rest.stopped rest.frames ps count).stopped
 
 -- A turn that keeps the promise leaves the result of the task unchanged: what it did before, its stop and its frames
 -- before the turn have the same result as what it has done, its stop and its frames after it.
 abbrev pub TaskComesToTheSame : Type 0
 TaskComesToTheSame =
-    (u t : ℕ) (here : Here) (froms : Table) (w : Wake) (rest : Rest) (ps : List Place) (count : ℕ) (o : Move) (made : List Event)
+    (u now : Now) (here : Here) (froms : Table) (w : Wake) (rest : Rest) (ps : List Place) (count : ℕ) (o : Move) (made : List Event)
     (s : Stopped) →
-    TurnsOver u t here froms w rest ps count o → o.stopped ≡ Some s → (table : Table) (told : ChildOutcomes) →
-    WakesBy table told here u t w rest.stopped ps →
-    AgreesOn t table froms ps →
-    AgreesAhead t table (fill told o.made) (rest_comes_to (by_table table) told rest here (stack_at table ps) u).log →
-    AllTold t table told o.begun →
+    TurnsOver u now here froms w rest ps count o → o.stopped ≡ Some s → (table : Table) (told : ChildOutcomes) →
+    WakesBy table told here u now w rest.stopped ps →
+    AgreesOn now.at table froms ps →
+    AgreesAhead now.at table (fill told o.made) (rest_comes_to (by_table table) told rest here (stack_at table ps) u).log →
+    AllTold (a_round_after here.clock now.at) table told o.begun →
     task_comes_to (by_table table) told made rest here (stack_at table ps) u
-    ≡ task_comes_to (by_table table) told (made ++ o.made) (record { stopped = s; frames = o.frames }) here (stack_at table o.places) t
+    ≡ task_comes_to (by_table table) told (made ++ o.made) (record { stopped = s; frames = o.frames }) here (stack_at table o.places) (now_after here.clock now o.made)
 
 -- the from of a label that was not entered is lowered by exactly the signs made for it
 abbrev pub FromsAreLowered : Type 0
@@ -54,7 +55,7 @@ FromsAreLowered = (es : List Event) (froms : Table) (l : Label) → (EntersIn l 
 -- and that of a label that was entered once, and was none of those before, starts as its deadline
 abbrev pub FromsAreOpened : Type 0
 FromsAreOpened =
-    (t : ℕ) (es : List Event) (ls : List Label) (froms : Table) (l : Label) (d : Tick) → MadeAt t ls es → (Known l ls → ⊥) →
+    (clock : Clock) (t : ℕ) (es : List Event) (ls : List Label) (froms : Table) (l : Label) (d : Tick) → MadeAt clock t ls es → (Known l ls → ⊥) →
     EntersOnceWith l d es →
     froms_after froms es l ≡ from_by d (made_sign l es)
 
@@ -64,11 +65,11 @@ JobsBeginNew = (job : Tree) → GivesNamesOnce job → NewIn (steps_left job.ste
 
 -- and each step and each turn keep that, so the scopes that enclose a task have different labels
 abbrev pub EachStepStaysNew : Type 0
-EachStepStaysNew = (froms : Table) (t : ℕ) (here : Here) (m : Midway) → NewIn m.frames m.places → OwnNames (names_at m.places) →
-    StaysNew (step_of froms t here m)
+EachStepStaysNew = (froms : Table) (now : Now) (here : Here) (m : Midway) → NewIn m.frames m.places → OwnNames (names_at m.places) →
+    StaysNew (step_of froms now here m)
 
 abbrev pub EachTurnStaysNew : Type 0
 EachTurnStaysNew =
-    (n t : ℕ) (here : Here) (froms : Table) (w : Wake) (rest : Rest) (ps : List Place) (count : ℕ) → CanWake w rest.stopped →
+    (n : ℕ) (now : Now) (here : Here) (froms : Table) (w : Wake) (rest : Rest) (ps : List Place) (count : ℕ) → CanWake w rest.stopped →
     NewIn rest.frames (outer_places (Some rest.stopped) ps) → OwnNames (names_at ps) →
-    StaysNew (turn_from n froms t here w rest.stopped rest.frames ps count)
+    StaysNew (turn_from n froms now here w rest.stopped rest.frames ps count)

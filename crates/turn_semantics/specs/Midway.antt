@@ -1,10 +1,11 @@
 -- A task in the middle of a turn, what a step of it does, and the task's result.
-use Rattle.std.specs.Prelude.{ℕ, ◌+◌, Bool, Option, Some, None, List, [], ◌∷◌, ◌++◌, length}
+use Rattle.std.specs.Prelude.{◌≡◌, ℕ, ◌+◌, Bool, Option, Some, None, List, [], ◌∷◌, ◌++◌, length}
 use Rattle.job_tree.specs.Tree.{Steps}
 use Rattle.exc_groups.specs.Exceptions.{Label, Exc}
 use Rattle.job_meaning.specs.Log.{nil, followed_by, Result, Table}
-use Rattle.job_meaning.specs.Walk.{Stack, by_table, Here, done_at}
-use Rattle.job_meaning.specs.Rest.{Event, ChildOutcomes, fill, Frame, Stopped, finish, finished_from, rest_comes_to, rest_at_start}
+use Rattle.job_meaning.specs.Moments.{Clock, by_ticks, by_rounds, Now, only_at}
+use Rattle.job_meaning.specs.Walk.{Stack, by_table, Here, done_at, with_own}
+use Rattle.job_meaning.specs.Rest.{Event, noted, signs, enters, starts, ChildOutcomes, fill, Frame, Stopped, finish, finished_from, rest_comes_to, rest_at_start}
 
 -- a scope or nursery that encloses a task; its from is in the world's table
 pub record Place : Type 0 where
@@ -56,9 +57,26 @@ then_move None o q =
     record { frames = q.frames; places = q.places; exc = q.exc; made = o.made ++ q.made; begun = o.begun ++ q.begun; stopped = q.stopped }
 then_move (Some s) o q = o
 
--- a result so far, in this tick
-abbrev pub so_far : Option Exc → ℕ → Result
-so_far exc t = record { end = t; exc = exc; members = []; log = nil }
+-- what a task has cancelled in this moment, after these events of it; it counts only where there are rounds
+abbrev pub own_after : Clock → List Label → List Event → List Label
+own_after clock own [] = own
+own_after clock own (noted t e ∷ es) = own_after clock own es
+own_after clock own (signs l t ∷ es) = own_after clock (with_own clock (Some l) own) es
+own_after clock own (enters l t d ∷ es) = own_after clock own es
+own_after clock own (starts i l t ∷ es) = own_after clock own es
+
+-- where moments are ticks, what a task has cancelled in a moment does not count, and nothing is kept of it
+abbrev pub OwnFits : Clock → List Label → Type 0
+OwnFits by_ticks own = own ≡ []
+OwnFits by_rounds own = Unit {0}
+
+-- where a task is in time after these events of the same moment
+abbrev pub now_after : Clock → Now → List Event → Now
+now_after clock now es = record { at = now.at; own = own_after clock now.own es }
+
+-- a result so far, in this moment
+abbrev pub so_far : Option Exc → Now → Result
+so_far exc now = record { end = now.at; own = now.own; exc = exc; members = []; log = nil }
 
 -- a result, with these events before it
 abbrev pub after_events : ChildOutcomes → List Event → Result → Result
@@ -66,25 +84,25 @@ after_events told es r = record r { log = followed_by (fill told es) r.log }
 
 -- the result of what is left of a task in the middle of a turn, with these frames, enclosing scopes and nurseries,
 -- and exception
-abbrev pub going_to : Table → ChildOutcomes → Here → ℕ → List Frame → List Place → Option Exc → Result
-going_to table told here t fs ps exc = finish (by_table table) told fs here (stack_at table ps) (so_far exc t)
+abbrev pub going_to : Table → ChildOutcomes → Here → Now → List Frame → List Place → Option Exc → Result
+going_to table told here now fs ps exc = finish (by_table table) told fs here (stack_at table ps) (so_far exc now)
 
-abbrev pub stop_comes_to : Option Stopped → Table → ChildOutcomes → Here → ℕ → List Frame → List Place → Option Exc → Result
-stop_comes_to None table told here t fs ps exc = going_to table told here t fs ps exc
-stop_comes_to (Some s) table told here t fs ps exc = finished_from (by_table table) told s fs here (stack_at table ps) t
+abbrev pub stop_comes_to : Option Stopped → Table → ChildOutcomes → Here → Now → List Frame → List Place → Option Exc → Result
+stop_comes_to None table told here now fs ps exc = going_to table told here now fs ps exc
+stop_comes_to (Some s) table told here now fs ps exc = finished_from (by_table table) told s fs here (stack_at table ps) now
 
 -- the result of what is left of a task after a move
-abbrev pub left_after : Table → ChildOutcomes → Here → ℕ → Move → Result
-left_after table told here t o = stop_comes_to o.stopped table told here t o.frames o.places o.exc
+abbrev pub left_after : Table → ChildOutcomes → Here → Now → Move → Result
+left_after table told here now o = stop_comes_to o.stopped table told here (now_after here.clock now o.made) o.frames o.places o.exc
 
 -- the result of what is left of a task in the middle of a turn
-abbrev pub left_of : Table → ChildOutcomes → Here → ℕ → Midway → Result
-left_of table told here t m = going_to table told here t m.frames m.places m.exc
+abbrev pub left_of : Table → ChildOutcomes → Here → Now → Midway → Result
+left_of table told here now m = going_to table told here now m.frames m.places m.exc
 
 -- nothing is recorded of the children of a task that has none
 abbrev pub none_told : ChildOutcomes
-none_told i = done_at 0
+none_told i = done_at (only_at 0)
 
--- the result of a child that began in tick t, following a table from its start
+-- the result of a child that began in moment t, following a table from its start
 abbrev pub begun_comes_to : Table → ℕ → Begun → Result
-begun_comes_to table t b = rest_comes_to (by_table table) none_told (rest_at_start b.body) b.here (stack_at table b.places) t
+begun_comes_to table t b = rest_comes_to (by_table table) none_told (rest_at_start b.body) b.here (stack_at table b.places) (only_at t)

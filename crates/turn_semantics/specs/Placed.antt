@@ -2,7 +2,7 @@
 use Rattle.std.specs.Prelude.{◌≡◌, ◌⊎◌, ℕ, ◌<◌, Bool, true, false, Option, Some, None, List, [], ◌∷◌}
 use Rattle.job_tree.specs.Starting.{StartsIn, HandlerStarts, CleanupStarts}
 use Rattle.job_meaning.specs.Asking.{Suits}
-use Rattle.job_meaning.specs.Rest.{Frame, steps_left, in_scope, in_nursery, in_repeat, in_try, in_handler, in_cleanup, Stopped, to_begin, asking, asleep, awaiting, at_end}
+use Rattle.job_meaning.specs.Rest.{Frame, steps_left, in_scope, in_nursery, in_repeat, in_try, in_handler, in_cleanup, Stopped, to_begin, asking, asleep, giving_up, awaiting, at_end}
 use Rattle.turn_semantics.specs.Midway.{Place, Begun}
 
 -- whether the innermost frame is a nursery's body
@@ -35,7 +35,8 @@ Placed (in_cleanup outcome ∷ fs) ps = Placed fs ps
 abbrev pub PlacedStop : Stopped → List Frame → List Place → Type 0
 PlacedStop to_begin fs ps = Placed fs ps
 PlacedStop (asking kernel purpose) fs ps = Suits kernel purpose × Placed fs ps
-PlacedStop (asleep n since) fs ps = Placed fs ps
+PlacedStop (asleep paced n since) fs ps = Placed fs ps
+PlacedStop (giving_up since) fs ps = Placed fs ps
 PlacedStop (awaiting children ended exc) fs [] = ⊥
 PlacedStop (awaiting children ended exc) fs (p ∷ ps) = Placed fs ps
 PlacedStop (at_end u e) fs ps = fs ≡ []
@@ -51,7 +52,8 @@ abbrev pub outer_places : Option Stopped → List Place → List Place
 outer_places None ps = ps
 outer_places (Some to_begin) ps = ps
 outer_places (Some (asking kernel purpose)) ps = ps
-outer_places (Some (asleep n since)) ps = ps
+outer_places (Some (asleep paced n since)) ps = ps
+outer_places (Some (giving_up since)) ps = ps
 outer_places (Some (awaiting children ended exc)) [] = []
 outer_places (Some (awaiting children ended exc)) (p ∷ ps) = ps
 outer_places (Some (at_end u e)) ps = ps
@@ -94,7 +96,8 @@ abbrev pub KidsAfter : ℕ → Option Stopped → List Frame → Type 0
 KidsAfter n None fs = KidsBelow n fs
 KidsAfter n (Some to_begin) fs = KidsBelow n fs
 KidsAfter n (Some (asking kernel purpose)) fs = KidsBelow n fs
-KidsAfter n (Some (asleep m since)) fs = KidsBelow n fs
+KidsAfter n (Some (asleep paced m since)) fs = KidsBelow n fs
+KidsAfter n (Some (giving_up since)) fs = KidsBelow n fs
 KidsAfter n (Some (awaiting children ended exc)) fs = AllBelow n children × KidsBelow n fs
 KidsAfter n (Some (at_end u e)) fs = KidsBelow n fs
 
@@ -121,7 +124,8 @@ abbrev pub WaitsFor : ℕ → List Place → Option Stopped → List Place → T
 WaitsFor i home None ps = ⊥
 WaitsFor i home (Some to_begin) ps = ⊥
 WaitsFor i home (Some (asking kernel purpose)) ps = ⊥
-WaitsFor i home (Some (asleep n since)) ps = ⊥
+WaitsFor i home (Some (asleep paced n since)) ps = ⊥
+WaitsFor i home (Some (giving_up since)) ps = ⊥
 WaitsFor i home (Some (awaiting children ended exc)) [] = ⊥
 WaitsFor i home (Some (awaiting children ended exc)) (p ∷ ps) = IsAmong i children × (home ≡ p ∷ ps)
 WaitsFor i home (Some (at_end u e)) ps = ⊥

@@ -7,11 +7,12 @@ use Rattle.exc_groups.specs.Exceptions.{Label, Exc, cancelled, raised}
 use Rattle.exc_groups.specs.Split.{named, keep, drop}
 use Rattle.cancel_scopes.specs.Sight.{Tick, earlier, next, seen, catches}
 use Rattle.job_meaning.specs.Log.{Table, same_label}
-use Rattle.job_meaning.specs.Walk.{Here, far, due, label_here, label_over, label_if, here_in, Kind, a_scope, left_as, left_with, exc_after, handler_exc, outcome_after}
+use Rattle.job_meaning.specs.Moments.{Clock, by_ticks, by_rounds, tick_of, a_round_after, due, Now, far}
+use Rattle.job_meaning.specs.Walk.{Here, from_for, stack_for, label_here, label_over, label_if, here_in, Kind, a_scope, left_as, left_with, exc_after, handler_exc, outcome_after}
 use Rattle.job_meaning.specs.Rest.{Event, noted, signs, enters, starts, starts_over, consecutive, Frame, steps_left, in_scope, in_nursery, in_repeat, in_try, in_handler, in_cleanup, inside, Stopped, asking, asleep, awaiting, at_end}
 use Rattle.job_meaning.specs.Asking.{shows, needs, paces}
 use Rattle.job_meaning.specs.Asking as ask
-use Rattle.turn_semantics.specs.Midway.{Place, stack_at, Midway, Begun, Move, after_move, no_move, then_move}
+use Rattle.turn_semantics.specs.Midway.{Place, stack_at, Midway, Begun, Move, after_move, no_move, then_move, now_after}
 
 -- ---- the froms of the world
 
@@ -53,14 +54,16 @@ blocks_on s fs ps = record { frames = fs; places = ps; exc = None; made = []; be
 abbrev pub makes : List Event → List Frame → List Place → Move
 makes es fs ps = record { frames = fs; places = ps; exc = None; made = es; begun = []; stopped = None }
 
--- A sleep is a checkpoint: if a cancellation is seen now, it raises at once. A sleep of no tick continues.
-abbrev pub falls_asleep : (seen_now : Bool) → ℕ → ℕ → List Frame → List Place → Move
-falls_asleep true n t fs ps = onward fs ps (Some cancelled)
-falls_asleep false zero t fs ps = onward fs ps None
-falls_asleep false (suc n) t fs ps = blocks_on (asleep (suc n) t) fs ps
+-- A sleep is a checkpoint. Where moments are ticks, a cancellation that is seen now is raised at once, and a sleep of no tick
+-- continues. Where there are rounds, each sleep lets the others have a round.
+abbrev pub falls_asleep : Clock → (seen_now : Bool) → (paced : Bool) → ℕ → ℕ → List Frame → List Place → Move
+falls_asleep by_ticks true paced n t fs ps = onward fs ps (Some cancelled)
+falls_asleep by_ticks false paced zero t fs ps = onward fs ps None
+falls_asleep by_ticks false paced (suc n) t fs ps = blocks_on (asleep paced (suc n) t) fs ps
+falls_asleep by_rounds seen_now paced n t fs ps = blocks_on (asleep paced n t) fs ps
 
-abbrev pub sleeps : Table → ℕ → ℕ → List Frame → List Place → Move
-sleeps froms n t fs ps = falls_asleep (seen (stack_at froms ps) t) n t fs ps
+abbrev pub sleeps : Clock → Table → (paced : Bool) → ℕ → ℕ → List Frame → List Place → Move
+sleeps clock froms paced n t fs ps = falls_asleep clock (seen (stack_at froms ps) t) paced n t fs ps
 
 -- the label of the scope or nursery of this name that encloses the task
 abbrev pub label_among : List ℕ → List Place → Option Label
@@ -106,58 +109,58 @@ begins_passes (suc k) body fs ps = onward (steps_left body ∷ in_repeat 0 k bod
 
 -- One step of a block, at this point of the job, with nothing raised; the steps ss of the block come after it, and the
 -- frames fs after them.
-abbrev pub step_on : Table → ℕ → Here → Step → Steps → List Frame → List Place → ℕ → Move
-step_on froms t here (sleep n) ss fs ps count = sleeps froms n t (steps_left ss ∷ fs) ps
-step_on froms t here checkpoint ss fs ps count = sleeps froms 0 t (steps_left ss ∷ fs) ps
-step_on froms t here forever ss fs ps count = sleeps froms (far - t) t (steps_left ss ∷ fs) ps
-step_on froms t here (pace k) ss fs ps count = blocks_on (asking ask.count (paces k)) (steps_left ss ∷ fs) ps
-step_on froms t here (find text) ss fs ps count = blocks_on (asking (ask.find text) shows) (steps_left ss ∷ fs) ps
-step_on froms t here (head n) ss fs ps count = blocks_on (asking (ask.head n) shows) (steps_left ss ∷ fs) ps
-step_on froms t here longest ss fs ps count = blocks_on (asking ask.longest shows) (steps_left ss ∷ fs) ps
-step_on froms t here (need text name) ss fs ps count = blocks_on (asking (ask.need text) (needs name)) (steps_left ss ∷ fs) ps
-step_on froms t here (raise name) ss fs ps count = onward (steps_left ss ∷ fs) ps (Some (raised name here.task t))
-step_on froms t here (cancel name) ss fs ps count = makes (signs_to (label_among name ps) t) (steps_left ss ∷ fs) ps
-step_on froms t here (scope name deadline shield fail body) ss fs ps count =
-    enters_block (label_here name here) shield (due deadline t) t body (in_scope fail) (steps_left ss ∷ fs) ps
-step_on froms t here (nursery name deadline shield body) ss fs ps count =
-    enters_block (label_here name here) shield (due deadline t) t body (in_nursery []) (steps_left ss ∷ fs) ps
-step_on froms t here (start name None body) ss fs ps count =
+abbrev pub step_on : Table → Now → Here → Step → Steps → List Frame → List Place → ℕ → Move
+step_on froms now here (sleep n) ss fs ps count = sleeps here.clock froms false n now.at (steps_left ss ∷ fs) ps
+step_on froms now here checkpoint ss fs ps count = sleeps here.clock froms false 0 now.at (steps_left ss ∷ fs) ps
+step_on froms now here forever ss fs ps count = sleeps here.clock froms false (far - tick_of here.clock now.at) now.at (steps_left ss ∷ fs) ps
+step_on froms now here (pace k) ss fs ps count = blocks_on (asking ask.count (paces k)) (steps_left ss ∷ fs) ps
+step_on froms now here (find text) ss fs ps count = blocks_on (asking (ask.find text) shows) (steps_left ss ∷ fs) ps
+step_on froms now here (head n) ss fs ps count = blocks_on (asking (ask.head n) shows) (steps_left ss ∷ fs) ps
+step_on froms now here longest ss fs ps count = blocks_on (asking ask.longest shows) (steps_left ss ∷ fs) ps
+step_on froms now here (need text name) ss fs ps count = blocks_on (asking (ask.need text) (needs name)) (steps_left ss ∷ fs) ps
+step_on froms now here (raise name) ss fs ps count = onward (steps_left ss ∷ fs) ps (Some (raised name here.task (tick_of here.clock now.at)))
+step_on froms now here (cancel name) ss fs ps count = makes (signs_to (label_among name ps) now.at) (steps_left ss ∷ fs) ps
+step_on froms now here (scope name deadline shield fail body) ss fs ps count =
+    enters_block (label_here name here) shield (due here.clock deadline now.at) now.at body (in_scope fail) (steps_left ss ∷ fs) ps
+step_on froms now here (nursery name deadline shield body) ss fs ps count =
+    enters_block (label_here name here) shield (due here.clock deadline now.at) now.at body (in_nursery []) (steps_left ss ∷ fs) ps
+step_on froms now here (start name None body) ss fs ps count =
     record {
       frames = steps_left ss ∷ with_started (count ∷ []) fs;
       places = ps;
       exc = None;
-      made = starts count (label_here name here) t ∷ [];
+      made = starts count (label_here name here) (a_round_after here.clock now.at) ∷ [];
       begun = begun_one count (here_in (label_here name here) here.part here) body ps ∷ [];
       stopped = None;
     }
-step_on froms t here (start name (Some k) body) ss fs ps count =
+step_on froms now here (start name (Some k) body) ss fs ps count =
     record {
       frames = steps_left ss ∷ with_started (consecutive count k) fs;
       places = ps;
       exc = None;
-      made = starts_over name here t count k;
+      made = starts_over name here (a_round_after here.clock now.at) count k;
       begun = begun_over name here k body ps count k;
       stopped = None;
     }
-step_on froms t here (repeat n body) ss fs ps count = begins_passes n body (steps_left ss ∷ fs) ps
-step_on froms t here (attempt body handler cleanup) ss fs ps count =
+step_on froms now here (repeat n body) ss fs ps count = begins_passes n body (steps_left ss ∷ fs) ps
+step_on froms now here (attempt body handler cleanup) ss fs ps count =
     onward (steps_left body ∷ in_try handler cleanup ∷ steps_left ss ∷ fs) ps None
 
 -- the steps of a block: an exception skips what is left of them
-abbrev pub step_steps : Table → ℕ → Here → Steps → List Frame → List Place → Option Exc → ℕ → Move
-step_steps froms t here ss fs ps (Some e) count = onward fs ps (Some e)
-step_steps froms t here stop fs ps None count = onward fs ps None
-step_steps froms t here (step s ss) fs ps None count = step_on froms t (inside fs here) s ss fs ps count
+abbrev pub step_steps : Table → Now → Here → Steps → List Frame → List Place → Option Exc → ℕ → Move
+step_steps froms now here ss fs ps (Some e) count = onward fs ps (Some e)
+step_steps froms now here stop fs ps None count = onward fs ps None
+step_steps froms now here (step s ss) fs ps None count = step_on froms now (inside fs here) s ss fs ps count
 
 -- a scope or nursery is left: it catches or not, and notes that
-abbrev pub leaves : Table → ℕ → Kind → List Frame → Place → List Place → Option Exc → Move
-leaves froms t kind fs p ps exc =
-    let left = left_with (catches (froms p.label) p.shield (stack_at froms ps) t) exc in
+abbrev pub leaves : Clock → Table → Now → Kind → List Frame → Place → List Place → Option Exc → Move
+leaves clock froms now kind fs p ps exc =
+    let left = left_with (catches (from_for now.own now.at p.label (froms p.label)) p.shield (stack_for now.own now.at (stack_at froms ps)) now.at) exc in
     record {
       frames = fs;
       places = ps;
-      exc = exc_after kind p.label t left;
-      made = noted t (left_as kind p.label left.caught) ∷ [];
+      exc = exc_after kind p.label (tick_of clock now.at) left;
+      made = noted now.at (left_as kind p.label left.caught) ∷ [];
       begun = [];
       stopped = None;
     }
@@ -185,25 +188,25 @@ abbrev pub ends_as : Stopped → Option Exc → ℕ → List Frame → List Plac
 ends_as s exc t fs ps = record { frames = fs; places = ps; exc = None; made = signs_home exc ps t; begun = []; stopped = Some s }
 
 -- One step by the innermost frame. A task with no frame left ends, and one whose nursery's body has ended waits.
-abbrev pub step_frames : Table → ℕ → Here → List Frame → List Place → Option Exc → ℕ → Move
-step_frames froms t here [] ps exc count = ends_as (at_end t exc) exc t [] ps
-step_frames froms t here (steps_left ss ∷ fs) ps exc count = step_steps froms t here ss fs ps exc count
-step_frames froms t here (in_scope fail ∷ fs) [] exc count = onward fs [] exc
-step_frames froms t here (in_scope fail ∷ fs) (p ∷ ps) exc count = leaves froms t (a_scope fail) fs p ps exc
-step_frames froms t here (in_nursery children ∷ fs) [] exc count = onward fs [] exc
-step_frames froms t here (in_nursery children ∷ fs) (p ∷ ps) exc count = ends_as (awaiting children t exc) exc t fs (p ∷ ps)
-step_frames froms t here (in_repeat pass left body ∷ fs) ps exc count = step_pass pass left body fs ps exc
-step_frames froms t here (in_try handler cleanup ∷ fs) ps exc count = step_try handler cleanup fs ps exc
-step_frames froms t here (in_handler rest cleanup ∷ fs) ps exc count = onward (in_try unhandled cleanup ∷ fs) ps (handler_exc exc rest)
-step_frames froms t here (in_cleanup outcome ∷ fs) ps exc count = onward fs ps (outcome_after outcome exc)
+abbrev pub step_frames : Table → Now → Here → List Frame → List Place → Option Exc → ℕ → Move
+step_frames froms now here [] ps exc count = ends_as (at_end now.at exc) exc now.at [] ps
+step_frames froms now here (steps_left ss ∷ fs) ps exc count = step_steps froms now here ss fs ps exc count
+step_frames froms now here (in_scope fail ∷ fs) [] exc count = onward fs [] exc
+step_frames froms now here (in_scope fail ∷ fs) (p ∷ ps) exc count = leaves here.clock froms now (a_scope fail) fs p ps exc
+step_frames froms now here (in_nursery children ∷ fs) [] exc count = onward fs [] exc
+step_frames froms now here (in_nursery children ∷ fs) (p ∷ ps) exc count = ends_as (awaiting children now.at exc) exc now.at fs (p ∷ ps)
+step_frames froms now here (in_repeat pass left body ∷ fs) ps exc count = step_pass pass left body fs ps exc
+step_frames froms now here (in_try handler cleanup ∷ fs) ps exc count = step_try handler cleanup fs ps exc
+step_frames froms now here (in_handler rest cleanup ∷ fs) ps exc count = onward (in_try unhandled cleanup ∷ fs) ps (handler_exc exc rest)
+step_frames froms now here (in_cleanup outcome ∷ fs) ps exc count = onward fs ps (outcome_after outcome exc)
 
--- one step of a task in tick t of a world with these froms
-unfoldable pub step_of : Table → ℕ → Here → Midway → Move
-step_of froms t here m = step_frames froms t here m.frames m.places m.exc m.count
+-- one step of a task in a moment of a world with these froms
+unfoldable pub step_of : Table → Now → Here → Midway → Move
+step_of froms now here m = step_frames froms now here m.frames m.places m.exc m.count
 
 -- a turn: steps until the task stops, at most the given number; each reads the froms that the steps before it left
-unfoldable pub turn_of : ℕ → Table → ℕ → Here → Midway → Move
-turn_of zero froms t here m = no_move m
-turn_of (suc n) froms t here m =
-    let o = step_of froms t here m in
-    then_move o.stopped o (turn_of n (froms_after froms o.made) t here (after_move m o))
+unfoldable pub turn_of : ℕ → Table → Now → Here → Midway → Move
+turn_of zero froms now here m = no_move m
+turn_of (suc n) froms now here m =
+    let o = step_of froms now here m in
+    then_move o.stopped o (turn_of n (froms_after froms o.made) (now_after here.clock now o.made) here (after_move m o))

@@ -1,13 +1,14 @@
 -- What a turn promises of a task: its result is the same as before, and what it did, began and left.
-use Rattle.std.specs.Prelude.{◌≡◌, ◌⊎◌, ℕ, suc, ◌+◌, ◌<◌, false, Option, Some, None, List, [], ◌∷◌, length}
+use Rattle.std.specs.Prelude.{◌≡◌, ◌⊎◌, ℕ, suc, ◌+◌, ◌<◌, Bool, false, Option, Some, None, List, [], ◌∷◌, length}
 use Rattle.exc_groups.specs.Exceptions.{Label}
 use Rattle.cancel_scopes.specs.Sight.{Tick, earlier, seen}
 use Rattle.job_meaning.specs.Log.{Log, nil, entry, sign, entered, task, Result, Table, same_label, tick_if}
+use Rattle.job_meaning.specs.Moments.{Clock, by_ticks, by_rounds, a_round_after, Now}
 use Rattle.job_meaning.specs.Walk.{by_table, Here}
 use Rattle.job_meaning.specs.Before.{upto}
 use Rattle.job_tree.specs.Starting.{StartsIn}
-use Rattle.job_meaning.specs.Rest.{Event, noted, signs, enters, starts, ChildOutcomes, fill, Frame, Stopped, to_begin, asking, asleep, awaiting, at_end, Rest, rest_comes_to, rest_at_start, rest_weight, frames_weight, stop_weight}
-use Rattle.turn_semantics.specs.Midway.{Place, stack_at, Midway, Begun, Move, after_events, left_of, left_after, begun_comes_to}
+use Rattle.job_meaning.specs.Rest.{Event, noted, signs, enters, starts, ChildOutcomes, fill, Frame, Stopped, to_begin, asking, asleep, giving_up, awaiting, at_end, Rest, rest_comes_to, rest_at_start, rest_weight, frames_weight, stop_weight}
+use Rattle.turn_semantics.specs.Midway.{Place, stack_at, Midway, Begun, Move, OwnFits, after_events, left_of, left_after, begun_comes_to}
 use Rattle.turn_semantics.specs.Placed.{PlacedAfter, outer_places, home_after, KidsAfter, HasChild, HasChildAfter, AllHoused}
 use Rattle.turn_semantics.specs.Wakes.{Wake, WakesBy}
 use Rattle.turn_semantics.specs.Steps.{froms_after}
@@ -32,7 +33,7 @@ AgreesIn t table (task l s u e own rest) = AgreesIn t table rest
 abbrev pub AgreesAhead : ℕ → Table → Log → Log → Type 0
 AgreesAhead t table made ahead = AgreesIn t table made ⊎ AgreesIn t table ahead
 
--- what is recorded of each child begun in tick t is the result of following the table from its start
+-- what is recorded of each child begun in moment t is the result of following the table from its start
 abbrev pub AllTold : ℕ → Table → ChildOutcomes → List Begun → Type 0
 AllTold t table told [] = Unit {0}
 AllTold t table told (b ∷ bs) = (told b.number ≡ begun_comes_to table t b) × AllTold t table told bs
@@ -62,14 +63,14 @@ known_after ls (signs l t ∷ es) = known_after ls es
 known_after ls (enters l t d ∷ es) = known_after (l ∷ ls) es
 known_after ls (starts i l t ∷ es) = known_after ls es
 
--- each event is at tick t, and each sign is for a label that was known then: of a scope or nursery that enclosed the task before,
--- or that was entered since
-abbrev pub MadeAt : ℕ → List Label → List Event → Type 0
-MadeAt t ls [] = Unit {0}
-MadeAt t ls (noted u e ∷ es) = (u ≡ t) × MadeAt t ls es
-MadeAt t ls (signs l u ∷ es) = (u ≡ t) × Known l ls × MadeAt t ls es
-MadeAt t ls (enters l u d ∷ es) = (u ≡ t) × MadeAt t (l ∷ ls) es
-MadeAt t ls (starts i l u ∷ es) = (u ≡ t) × MadeAt t ls es
+-- each event is in moment t, but for the start of a child, which begins a round later; and each sign is for a label that was known
+-- then: of a scope or nursery that enclosed the task before, or that was entered since
+abbrev pub MadeAt : Clock → ℕ → List Label → List Event → Type 0
+MadeAt clock t ls [] = Unit {0}
+MadeAt clock t ls (noted u e ∷ es) = (u ≡ t) × MadeAt clock t ls es
+MadeAt clock t ls (signs l u ∷ es) = (u ≡ t) × Known l ls × MadeAt clock t ls es
+MadeAt clock t ls (enters l u d ∷ es) = (u ≡ t) × MadeAt clock t (l ∷ ls) es
+MadeAt clock t ls (starts i l u ∷ es) = (u ≡ a_round_after clock t) × MadeAt clock t ls es
 
 -- the children begun are those of the starts among the events, in order, and numbered consecutively from n
 abbrev pub Starts : ℕ → List Event → List Begun → Type 0
@@ -116,15 +117,21 @@ abbrev pub IsSome : {A : Type 0} → Option A → Type 0
 IsSome None = ⊥
 IsSome (Some x) = Unit {0}
 
--- How a task stops in tick t, with these froms after the turn: a sleep begins now, with nothing seen now and a due tick after
--- now; for a body that waits, and for a task that ended, the end is now.
-abbrev pub StopsAt : ℕ → Table → Option Stopped → List Place → Type 0
-StopsAt t froms None ps = Unit {0}
-StopsAt t froms (Some to_begin) ps = ⊥
-StopsAt t froms (Some (asking kernel purpose)) ps = Unit {0}
-StopsAt t froms (Some (asleep n since)) ps = (since ≡ t) × (0 < n) × (seen (stack_at froms ps) t ≡ false)
-StopsAt t froms (Some (awaiting children ended e)) ps = ended ≡ t
-StopsAt t froms (Some (at_end u e)) ps = u ≡ t
+-- where moments are ticks, a task falls asleep only for a tick or more, and only if it sees no cancellation
+abbrev pub FallsAsleep : Clock → ℕ → (seen_now : Bool) → Type 0
+FallsAsleep by_ticks n seen_now = (0 < n) × (seen_now ≡ false)
+FallsAsleep by_rounds n seen_now = Unit {0}
+
+-- How a task stops in moment t, with these froms after the turn: a sleep begins now; for a body that waits, and for a task that
+-- gives up or ended, it is now.
+abbrev pub StopsAt : Clock → ℕ → Table → Option Stopped → List Place → Type 0
+StopsAt clock t froms None ps = Unit {0}
+StopsAt clock t froms (Some to_begin) ps = ⊥
+StopsAt clock t froms (Some (asking kernel purpose)) ps = Unit {0}
+StopsAt clock t froms (Some (asleep paced n since)) ps = (since ≡ t) × FallsAsleep clock n (seen (stack_at froms ps) t)
+StopsAt clock t froms (Some (giving_up since)) ps = since ≡ t
+StopsAt clock t froms (Some (awaiting children ended e)) ps = ended ≡ t
+StopsAt clock t froms (Some (at_end u e)) ps = u ≡ t
 
 -- ---- weights
 
@@ -138,22 +145,22 @@ weight_of_begun (b ∷ bs) = rest_weight (rest_at_start b.body) + weight_of_begu
 
 -- ---- the promise
 
--- What is promised of a move at tick t, in a world with these froms: of one step, of several, or of a whole turn with the wake
+-- What is promised of a move in a moment, in a world with these froms: of one step, of several, or of a whole turn with the wake
 -- before it. The task had stopped there, or not; it had these frames and these enclosing scopes and nurseries, and had started
 -- `count` children. `Given` is what else is required of a table and what is recorded of the children, and `before` is the result
 -- of what was left of the task by them.
 pub record Turned
-    (t : ℕ) (here : Here) (froms : Table) (Given : Table → ChildOutcomes → Type 0) (before : Table → ChildOutcomes → Result) (bound : ℕ)
+    (now : Now) (here : Here) (froms : Table) (Given : Table → ChildOutcomes → Type 0) (before : Table → ChildOutcomes → Result) (bound : ℕ)
     (stop_before : Option Stopped) (frames_before : List Frame) (places_before : List Place) (count : ℕ) (o : Move) : Type 0
   where
-    -- For each table that agrees at t with the froms of the scopes and nurseries that enclose the task, and with the deadlines of
+    -- For each table that agrees in the moment with the froms of the scopes and nurseries that enclose the task, and with the deadlines of
     -- what the move enters, and each record of outcomes that fits the children begun: what was left results in the events made,
-    -- followed by the result of what is left after the move. Of the table this requires only that it agrees at t with the froms
-    -- after the move: a sign made at t takes effect from t + 1 on.
+    -- followed by the result of what is left after the move. Of the table this requires only that it agrees in the moment with
+    -- the froms after the move: for others a sign takes effect from the next moment on.
     pub keeps :
-        (table : Table) (told : ChildOutcomes) → Given table told → AgreesOn t table froms places_before →
-        AgreesAhead t table (fill told o.made) (before table told).log →
-        AllTold t table told o.begun → before table told ≡ after_events told o.made (left_after table told here t o)
+        (table : Table) (told : ChildOutcomes) → Given table told → AgreesOn now.at table froms places_before →
+        AgreesAhead now.at table (fill told o.made) (before table told).log →
+        AllTold (a_round_after here.clock now.at) table told o.begun → before table told ≡ after_events told o.made (left_after table told here now o)
     -- the frames that are left fit the enclosing scopes and nurseries
     pub placed : PlacedAfter o.stopped o.frames o.places
     -- outside the scopes and nurseries of the task's own frames are those of its home, as before
@@ -167,7 +174,7 @@ pub record Turned
         (i : ℕ) (home : List Place) → HasChild i home frames_before (outer_places stop_before places_before) →
         HasChildAfter i home o.stopped o.frames o.places
     -- each event is made now, and signs are for labels of scopes and nurseries that enclose the task
-    pub made_now : MadeAt t (labels_of places_before) o.made
+    pub made_now : MadeAt here.clock now.at (labels_of places_before) o.made
     -- each scope or nursery that encloses the task did so before, or was entered on the way
     pub places : AllKnown o.places (known_after (labels_of places_before) o.made)
     -- the children begun are the starts made, in order, numbered after those before
@@ -176,19 +183,19 @@ pub record Turned
     -- nursery's body
     pub begun_in : BegunIn (known_after (labels_of places_before) o.made) o.begun
     -- how the task stopped
-    pub stops : StopsAt t (froms_after froms o.made) o.stopped o.places
+    pub stops : StopsAt here.clock now.at (froms_after froms o.made) o.stopped o.places
     -- the weight of what is left, the children's included, is less than the bound
     pub weight : weight_of_stop o.stopped + frames_weight o.frames + weight_of_begun o.begun < bound
 
 -- the promise of steps of a task that is in the middle of a turn
-abbrev pub Goes : ℕ → Here → Table → Midway → Move → Type 0
-Goes t here froms m o =
-    Turned t here froms (λ table told. Unit {0}) (λ table told. left_of table told here t m) (1 + frames_weight m.frames)
+abbrev pub Goes : Now → Here → Table → Midway → Move → Type 0
+Goes now here froms m o =
+    Turned now here froms (λ table told. OwnFits here.clock now.own) (λ table told. left_of table told here now m) (1 + frames_weight m.frames)
     None m.frames m.places m.count o
 
--- the promise of a turn of a task that stopped in tick u, and wakes in tick t by this wake
-abbrev pub TurnsOver : ℕ → ℕ → Here → Table → Wake → Rest → List Place → ℕ → Move → Type 0
-TurnsOver u t here froms w rest ps count o =
-    Turned t here froms (λ table told. WakesBy table told here u t w rest.stopped ps)
+-- the promise of a turn of a task that stopped in one moment, and wakes in another one by this wake
+abbrev pub TurnsOver : Now → Now → Here → Table → Wake → Rest → List Place → ℕ → Move → Type 0
+TurnsOver u now here froms w rest ps count o =
+    Turned now here froms (λ table told. WakesBy table told here u now w rest.stopped ps)
     (λ table told. rest_comes_to (by_table table) told rest here (stack_at table ps) u) (rest_weight rest)
     (Some rest.stopped) rest.frames ps count o

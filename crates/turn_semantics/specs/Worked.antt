@@ -3,6 +3,7 @@ use Rattle.std.specs.Prelude.{◌≡◌, ℕ, true, false, None, Some, List, [],
 use Rattle.job_tree.specs.Tree.{Step, sleep, checkpoint, find, raise, cancel, stop}
 use Rattle.exc_groups.specs.Exceptions.{cancelled}
 use Rattle.job_meaning.specs.Log.{Result, nil, entry, sign, entered, Table, line, scope_left, nursery_left}
+use Rattle.job_meaning.specs.Moments.{by_ticks, only_at}
 use Rattle.job_meaning.specs.Walk.{by_table, walk, and_then, sleep_result, lines_result, need_result, cancel_result, block, with_sign, nursery_result, child, handler_result, cleanup_result, Here, here_in}
 use Rattle.job_meaning.specs.Asking.{lines, missing, counted, shows, needs, paces}
 use Rattle.job_meaning.specs.Asking as ask
@@ -14,7 +15,7 @@ use Rattle.turn_semantics.specs.Wakes.{Wake, begins, has_answer, settles, turn_f
 
 -- a task `main` on the whole of an input
 abbrev pub main_at : List ℕ → Here
-main_at input = record { input = input; part = record { from = 0; to = length input }; task = label_named (codes "main"); path = [] }
+main_at input = record { clock = by_ticks; input = input; part = record { from = 0; to = length input }; task = label_named (codes "main"); path = [] }
 
 -- no label is cancelled
 abbrev pub never : Table
@@ -27,12 +28,12 @@ place name = record { label = label_named name; shield = false }
 -- a first turn of `main`, of at most 20 steps, in tick 0 of a world in which nothing is cancelled
 unfoldable pub first_turn : List Step → Move
 unfolding turn_from turn_of step_of
-first_turn ss = turn_from 20 never 0 (main_at []) begins to_begin (steps_left (block_of ss) ∷ []) [] 0
+first_turn ss = turn_from 20 never (only_at 0) (main_at []) begins to_begin (steps_left (block_of ss) ∷ []) [] 0
 
 -- a turn from a stop of `main`, in a tick of a world with these froms, with one child started before
 unfoldable pub later_turn : Table → ℕ → List ℕ → Wake → Stopped → List Frame → List Place → Move
 unfolding turn_from turn_of step_of
-later_turn froms t input w s fs ps = turn_from 20 froms t (main_at input) w s fs ps 1
+later_turn froms t input w s fs ps = turn_from 20 froms (only_at t) (main_at input) w s fs ps 1
 
 -- nursery n { start c { checkpoint; } raise E; }: the body starts a child, fails, signs for its nursery, and waits
 pub body_fails :
@@ -84,7 +85,7 @@ pub cancel_then_sleep :
       exc = None;
       made = enters (label_named (codes "s")) 0 None ∷ signs (label_named (codes "s")) 0 ∷ [];
       begun = [];
-      stopped = Some (asleep 3 0);
+      stopped = Some (asleep false 3 0);
     }
 unfolding first_turn
 cancel_then_sleep = refl
@@ -136,7 +137,7 @@ need_misses = refl
 -- `pace 2` sleeps by the count: 3 lines take 2 ticks
 pub pace_sleeps :
     later_turn never 2 [] (has_answer (counted 3)) (asking ask.count (paces 2)) (steps_left stop ∷ []) []
-    ≡ record { frames = steps_left stop ∷ []; places = []; exc = None; made = []; begun = []; stopped = Some (asleep 2 2) }
+    ≡ record { frames = steps_left stop ∷ []; places = []; exc = None; made = []; begun = []; stopped = Some (asleep true 2 2) }
 unfolding later_turn
 pace_sleeps = refl
 
@@ -145,13 +146,14 @@ pace_sleeps = refl
 -- the result of `main` by a table in which each label is cancelled from tick 1 on, with nothing recorded of children
 unfoldable pub final_result_of : List Event → Rest → List Place → Result
 unfolding finish walk and_then sleep_result lines_result need_result cancel_result block with_sign nursery_result child handler_result cleanup_result
-final_result_of made rest ps = task_comes_to (by_table (λ l. Some 1)) none_told made rest (main_at []) (stack_at (λ l. Some 1) ps) 0
+final_result_of made rest ps = task_comes_to (by_table (λ l. Some 1)) none_told made rest (main_at []) (stack_at (λ l. Some 1) ps) (only_at 0)
 
 -- it is cancelled in tick 1, and the scope catches that
 abbrev pub caught_at_one : Result
 caught_at_one =
     record {
       end = 1;
+      own = [];
       exc = None;
       members = [];
       log = entered (label_named (codes "s")) 0 None (sign (label_named (codes "s")) 0
@@ -166,7 +168,7 @@ final_result_before = refl
 -- and after it, with what `cancel_then_sleep` says
 pub final_result_after :
     final_result_of (enters (label_named (codes "s")) 0 None ∷ signs (label_named (codes "s")) 0 ∷ [])
-    (record { stopped = asleep 3 0; frames = steps_left stop ∷ in_scope false ∷ steps_left stop ∷ [] }) (place (codes "s") ∷ [])
+    (record { stopped = asleep false 3 0; frames = steps_left stop ∷ in_scope false ∷ steps_left stop ∷ [] }) (place (codes "s") ∷ [])
     ≡ caught_at_one
 unfolding final_result_of
 final_result_after = refl

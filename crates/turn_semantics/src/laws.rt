@@ -13,9 +13,9 @@ ghost use Rattle.turn_semantics.specs.Laws.{
 };
 
 /// One step of a task, by its innermost frame: for each table that agrees with the world's froms, what is left of the task
-/// results in the events of the step, followed by the result of what is left after it. The events are of this tick, signs
-/// are for labels of scopes and nurseries that enclose the task, the children begun are numbered consecutively, and the
-/// weight does not increase.
+/// results in the events of the step, followed by the result of what is left after it. The events are of this moment, but
+/// for the starts of children, which begin a round later where there are rounds; signs are for labels of scopes and
+/// nurseries that enclose the task, the children begun are numbered consecutively, and the weight does not increase.
 pub fn law_step()
     ensures { EachStepGoes }
 {}

@@ -1,6 +1,6 @@
 use Rattle.interleavings.proofs.laws.law_runs.Goals as goal
 use Rattle.interleavings.proofs.Housing.{tasks_are_housed, last_to_leave}
-use Rattle.interleavings.proofs.Running.{runs_keep_invariant, runs_are_the_meaning, limits_are_exact, blocked_runs_sleep, runs_end}
+use Rattle.interleavings.proofs.Running.{runs_keep_invariant, runs_are_the_meaning, limits_are_exact, blocked_runs_go_on, runs_end}
 
 pub returns-clause-interleaving : goal.returns-clause-interleaving
 returns-clause-interleaving c = runs_keep_invariant
@@ -11,8 +11,8 @@ returns-clause-meaning c = runs_are_the_meaning
 pub returns-clause-limit : goal.returns-clause-limit
 returns-clause-limit c = limits_are_exact
 
-pub returns-clause-sleeper : goal.returns-clause-sleeper
-returns-clause-sleeper c = blocked_runs_sleep
+pub returns-clause-next : goal.returns-clause-next
+returns-clause-next c = blocked_runs_go_on
 
 pub returns-clause-turns : goal.returns-clause-turns
 returns-clause-turns c = runs_end

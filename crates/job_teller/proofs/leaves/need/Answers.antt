@@ -1,22 +1,26 @@
-use Rattle.std.proofs.Common.{subst}
+use Rattle.std.proofs.Common.{refl, subst}
 use Rattle.exc_groups.specs.Exceptions.{Label, raised}
 use Rattle.job_story.specs.Story.{misses}
 use Rattle.job_story.specs.Tell.{failed_at, story_of_one}
-use Rattle.job_teller.specs.Tales.{IsTold}
+use Rattle.moments.specs.Moments.{tick_of}
+use Rattle.job_teller.specs.Heres.{here_of}
+use Rattle.job_teller.specs.Tales.{IsTold, now_in}
 use Rattle.job_teller.proofs.Shows.{shows_needed, misses_needed}
 use Rattle.job_teller.proofs.leaves.need.Goals as goal
 
 pub returns-in_default : goal.returns-in_default
 returns-in_default c =
     let name = c.args.name.now in
-    let tick = c.args.tick in
-    misses_needed _ _ _ c.args.here.part c.bytes.result _ _ name c.args.here.task.now _ tick c.in_ok-lines.ensures.answer
+    let now = now_in c.args.moment c.args.progress.now in
+    misses_needed _ _ _ c.args.here.part c.bytes.result _ _ name (here_of c.args.here) _ now c.in_ok-lines.ensures.answer
     c.in_default.not-Lines
     c.bytes.ensures (record {
       told =
-          subst (λ (l : Label). IsTold c.failure.result (failed_at (raised name l tick) tick (story_of_one tick (misses name)))) c.in_ok-task.ensures
-          (c.failure.ensures (story_of_one tick (misses name)));
+          subst (λ (l : Label). IsTold c.raised.result (failed_at (raised name l (tick_of c.args.here.clock now.at)) now
+          (story_of_one now.at (misses name)))) c.in_ok-task.ensures
+          (c.raised.ensures now.own (story_of_one now.at (misses name)));
       events = c.in_ok-note.ensures;
+      own = refl;
     })
 
 pub returns : goal.returns

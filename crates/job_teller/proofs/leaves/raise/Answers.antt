@@ -1,18 +1,21 @@
-use Rattle.std.proofs.Common.{subst}
+use Rattle.std.proofs.Common.{refl, subst}
 use Rattle.exc_groups.specs.Exceptions.{Label, raised}
 use Rattle.job_story.specs.Story.{raises}
 use Rattle.job_story.specs.Tell.{failed_at, story_of_one, tell_raise}
-use Rattle.job_teller.specs.Tales.{IsTold}
+use Rattle.moments.specs.Moments.{tick_of}
+use Rattle.job_teller.specs.Tales.{IsTold, now_in}
 use Rattle.job_teller.proofs.leaves.raise.Goals as goal
 
 pub returns : goal.returns
 unfolding tell_raise
 returns c =
     let name = c.args.name.now in
-    let tick = c.args.tick in
+    let now = now_in c.args.moment c.args.progress.now in
     record {
       told =
-          subst (λ (l : Label). IsTold c.failure.result (failed_at (raised name l tick) tick (story_of_one tick (raises name)))) c.in_ok-task.ensures
-          (c.failure.ensures (story_of_one tick (raises name)));
+          subst (λ (l : Label). IsTold c.raised.result (failed_at (raised name l (tick_of c.args.here.clock now.at)) now
+          (story_of_one now.at (raises name)))) c.in_ok-task.ensures
+          (c.raised.ensures now.own (story_of_one now.at (raises name)));
       events = c.in_ok-note.ensures;
+      own = refl;
     }

@@ -1,4 +1,4 @@
-use Rattle.std.proofs.Common.{List, ap, ◌∙◌}
+use Rattle.std.proofs.Common.{List, ap, refl, ◌∙◌}
 use Rattle.std.specs.Prelude.{map}
 use Rattle.buffer_parts.specs.Part.{span_of}
 use Rattle.buffer_parts.specs.Lines.{Span}
@@ -10,7 +10,8 @@ use Rattle.job_teller.proofs.leaves.show_lines.Goals as goal
 pub returns : goal.returns
 unfolding tell_lines
 returns c = record {
-  told = c.at.ensures _;
+  told = c.at.ensures _ _;
   events = adds_like _ _ _ _ _ c.in_ok-note.ensures
-      (ap (λ (ls : List Span). story_of_one c.args.tick (finds ls)) (c.in_ok-lines.ensures ∙ ap (map span_of) c.as_slice.ensures));
+      (ap (λ (ls : List Span). story_of_one c.args.moment (finds ls)) (c.in_ok-lines.ensures ∙ ap (map span_of) c.as_slice.ensures));
+  own = refl;
 }

@@ -3,7 +3,7 @@ use Rattle.job_teller.proofs.leaves.tell_leaf.Goals as goal
 
 pub returns-in-Sleep : goal.returns-in-Sleep
 unfolding tell_step
-returns-in-Sleep c = rw c.in-Sleep.is c.sleep.ensures
+returns-in-Sleep c = rw (c.in-Sleep.is, ← c.wakes_at-until.ensures.wakes) c.sleep.ensures
 
 pub returns-in-Checkpoint : goal.returns-in-Checkpoint
 unfolding tell_step
@@ -11,7 +11,7 @@ returns-in-Checkpoint c = rw c.in-Checkpoint.is c.sleep-in-Checkpoint.ensures
 
 pub returns-in-Forever : goal.returns-in-Forever
 unfolding tell_step
-returns-in-Forever c = rw (c.in-Forever.is, ← c.saturating_sub.ensures) c.sleep-in-Forever.ensures
+returns-in-Forever c = rw (c.in-Forever.is, ← c.tick_of.ensures, ← c.saturating_sub-ticks.ensures) c.sleep-in-Forever.ensures
 
 pub returns-in-Pace : goal.returns-in-Pace
 unfolding tell_step

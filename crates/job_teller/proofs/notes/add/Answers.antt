@@ -10,4 +10,4 @@ pub returns : goal.returns
 returns c =
     ap (map event_of) c.in_ok-push.ensures.items
     ∙ (map-append event_of c.args.events.now.items _
-    ∙ ap (λ (l : Label). map event_of c.args.events.now.items ++ event c.args.tick l (what_of c.args.what) ∷ []) c.in_ok-task.ensures)
+    ∙ ap (λ (l : Label). map event_of c.args.events.now.items ++ event c.args.moment l (what_of c.args.what) ∷ []) c.in_ok-task.ensures)

@@ -8,4 +8,5 @@ use Rattle.job_teller.proofs.notes.note_cancelled.Goals as goal
 pub returns : goal.returns
 returns c =
     adds_like _ _ _ _ _ c.in_ok-note.ensures
-    (ap (λ (o : Option Label). story_of_one c.args.tick (is_cancelled o c.args.since c.args.here.in_cleanup)) (c.in_ok-by.ensures ∙ c.seer.ensures))
+    (ap (λ (o : Option Label). story_of_one c.args.moment (is_cancelled o c.args.since c.args.here.in_cleanup))
+    (c.in_ok-by.ensures ∙ c.seer.ensures))

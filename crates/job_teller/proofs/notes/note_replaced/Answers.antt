@@ -15,5 +15,5 @@ returns-in_default-fresh c = rw (c.in-Some.is, c.in_default-fresh.is) (adds_noth
 pub returns : goal.returns
 returns c =
     rw (c.in-Some.is, c.in-Some-fresh.is) (adds_like _ _ _ _ _ c.in_ok-note.ensures
-    (ap (λ (x : Exc). story_of_one c.args.tick (replaces x (exc_of c.in_ok-fresh.fresh.value))) c.in_ok-lost.ensures
-    ∙ ap (λ (x : Exc). story_of_one c.args.tick (replaces (exc_of c.in-Some.lost) x)) c.in_ok-fresh.ensures))
+    (ap (λ (x : Exc). story_of_one c.args.moment (replaces x (exc_of c.in_ok-fresh.fresh.value))) c.in_ok-lost.ensures
+    ∙ ap (λ (x : Exc). story_of_one c.args.moment (replaces (exc_of c.in-Some.lost) x)) c.in_ok-fresh.ensures))

@@ -3,21 +3,25 @@ use Rattle.job_tree.specs.Weigh.{weight_of, weight_in, handled_weight, cleaned_w
 use Rattle.job_tree.specs.Blocks.{step_of, steps_of, handled_of, cleaned_of}
 use Rattle.job_story.specs.Tell.{tell_each}
 use Rattle.job_teller.specs.Heres.{started_over}
-use Rattle.job_teller.specs.Tales.{Tells}
+use Rattle.job_teller.specs.Tales.{Tells, now_in}
 use Rattle.job_teller.proofs.Steps.{AtStep}
 use Rattle.job_teller.proofs.Passing.{AtPass}
 use Rattle.job_teller.proofs.walk.+telling.Given as goal
 
 abbrev pub invariant-tell_steps-steps : goal.invariant-tell_steps-steps
 invariant-tell_steps-steps l =
-    AtStep l.here l.tick (steps_of l.steps) (steps_of (drop l.step-index l.steps)) l.fn.events.items l.told l.events.items
+    AtStep l.here (now_in l.moment l.fn.progress) (steps_of l.steps) (steps_of (drop l.step-index l.steps)) l.fn.progress.events.items
+    l.told l.progress
 
 abbrev pub invariant-tell_children-copies : goal.invariant-tell_children-copies
 invariant-tell_children-copies l =
-    Tells l.here.task.now l.fn.events.items l.told l.events.items (tell_each l.i (started_over l.name l.copies l.body l.here l.tick) l.tick)
+    let now = now_in l.moment l.fn.progress in
+    Tells l.here.task.now l.fn.progress.events.items l.told l.progress
+    (tell_each l.i (started_over l.name l.copies l.body l.here l.begins now) now)
 
 abbrev pub invariant-tell_passes-passes : goal.invariant-tell_passes-passes
-invariant-tell_passes-passes l = AtPass l.here l.tick l.count l.body l.i l.fn.events.items l.told l.events.items
+invariant-tell_passes-passes l =
+    AtPass l.here (now_in l.moment l.fn.progress) l.count l.body l.i l.fn.progress.events.items l.told l.progress
 
 abbrev pub decreases-tell_steps : goal.decreases-tell_steps
 decreases-tell_steps l = weight_of (steps_of l.steps.now)

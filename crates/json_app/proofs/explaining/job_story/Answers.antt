@@ -7,8 +7,8 @@ use Rattle.json_app.proofs.explaining.job_story.Goals as goal
 
 pub returns : goal.returns
 returns g c =
-    job_explained _ _ _ _ _ _ _ _ _ _ _ c.in_ok-meaning.ensures.ending c.in_ok-meaning.ensures.table
+    job_explained _ _ _ _ _ _ _ _ _ _ _ _ c.in_ok-meaning.ensures.ending c.in_ok-meaning.ensures.clock c.in_ok-meaning.ensures.table
     (c.until-last.ensures ∙ ap (until_of _) c.limit.ensures.value)
     c.in_ok-events.ensures
-    (ap (map event_in) c.as_slice-2.ensures.value ∙ (c.in_ok-walked.ensures ∙ ap (events_until c.until-last.result) (ap (map event_of) c.as_slice.ensures.value)))
+    (ap (map event_in) c.as_slice-2.ensures.value ∙ (c.in_ok-walked.ensures ∙ ap (events_until c.in_ok-meaning.meaning.clock c.until-last.result) (ap (map event_of) c.as_slice.ensures.value)))
     c.in_ok-answer.ensures

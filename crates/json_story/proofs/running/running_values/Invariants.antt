@@ -10,5 +10,5 @@ use Rattle.json_story.proofs.running.running_values.Given as goal
 abbrev pub invariant-walked : goal.invariant-walked
 invariant-walked l =
     map view l.values.items
-    ++ map (task_json (sorted_in l.tasks)) (running_in (walked_in l.tasks) (map event_in (drop l.event-index l.walked)))
-    ≡ map (task_json (sorted_in l.tasks)) (running_in (walked_in l.tasks) (map event_in l.walked))
+    ++ map (task_json l.clock (sorted_in l.tasks)) (running_in (walked_in l.tasks) (map event_in (drop l.event-index l.walked)))
+    ≡ map (task_json l.clock (sorted_in l.tasks)) (running_in (walked_in l.tasks) (map event_in l.walked))

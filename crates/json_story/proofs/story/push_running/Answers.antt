@@ -7,7 +7,9 @@ use Rattle.json_story.proofs.Integers.{running_has_no_float}
 use Rattle.json_story.proofs.story.push_running.Goals as goal
 
 pub push_member-requires : goal.push_member-requires
-push_member-requires c = running_has_no_float _ c.args.until (map event_in c.args.sorted.now) (map event_in c.args.walked.now) c.in_ok-value.ensures
+push_member-requires c =
+    running_has_no_float _ c.args.clock c.args.until (map event_in c.args.sorted.now) (map event_in c.args.walked.now)
+    c.in_ok-value.ensures
 
 pub returns : goal.returns
 returns c =

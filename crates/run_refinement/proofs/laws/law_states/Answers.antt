@@ -1,5 +1,5 @@
 use Rattle.run_refinement.proofs.Begun.{state_begun}
-use Rattle.run_refinement.proofs.Blocks.{state_blocked, state_in_time, state_sleeps, state_turns}
+use Rattle.run_refinement.proofs.Blocks.{state_blocked, state_in_time, state_goes_on, state_turns}
 use Rattle.run_refinement.proofs.StateFits.{state_fits}
 use Rattle.run_refinement.proofs.FewTasks.{state_few}
 use Rattle.run_refinement.proofs.Jumped.{state_jumps, state_takes}
@@ -39,8 +39,8 @@ pub returns-clause-jump : goal.returns-clause-jump
 returns-clause-jump c = λ k job input t u m old new le same world is stay.
     state_jumps k job input t u m old new le same world is (state_blocked k job input t m old is u stay)
 
-pub returns-clause-sleep : goal.returns-clause-sleep
-returns-clause-sleep c = state_sleeps
+pub returns-clause-go_on : goal.returns-clause-go_on
+returns-clause-go_on c = state_goes_on
 
 pub returns-clause-in_time : goal.returns-clause-in_time
 returns-clause-in_time c = state_in_time

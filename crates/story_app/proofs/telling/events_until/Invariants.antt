@@ -6,4 +6,4 @@ use Rattle.story_app.proofs.telling.events_until.Given as goal
 
 abbrev pub invariant-events : goal.invariant-events
 invariant-events l =
-    map event_in l.told.items ++ events_until l.until (map event_of (drop l.event-index l.events)) ≡ events_until l.until (map event_of l.events)
+    map event_in l.told.items ++ events_until l.clock l.until (map event_of (drop l.event-index l.events)) ≡ events_until l.clock l.until (map event_of l.events)

@@ -4,7 +4,7 @@ use Rattle.story_app.proofs.telling.story_about.Goals as goal
 
 pub returns-in_ok-bytes-in-Task : goal.returns-in_ok-bytes-in-Task
 returns-in_ok-bytes-in-Task c =
-    told_of_task _ _ _ _ _ _ _ _ _ c.in_ok-about_of.ensures c.in-Task.is c.verdict-in-Task.ensures c.in_ok-bytes-in-Task.ensures
+    told_of_task _ _ _ _ _ _ _ _ _ _ c.in_ok-about_of.ensures c.in-Task.is c.verdict-in-Task.ensures c.in_ok-bytes-in-Task.ensures
 
 pub returns-in-NoTask : goal.returns-in-NoTask
-returns-in-NoTask c = told_of_none _ _ _ _ _ _ _ _ _ c.in_ok-about_of.ensures c.in-NoTask.is refl (search rules)
+returns-in-NoTask c = told_of_none _ _ _ _ _ _ _ _ _ _ c.in_ok-about_of.ensures c.in-NoTask.is refl (search rules)

@@ -8,5 +8,5 @@ use Rattle.story_text.proofs.limit.push_running.Given as goal
 abbrev pub invariant-walked : goal.invariant-walked
 invariant-walked l =
     l.out.items
-    ++ running_text l.width (sorted_in l.tasks) (running_in (walked_in l.tasks) (map event_in (drop l.event-index l.walked)))
-    ≡ l.fn.out.items ++ running_text l.width (sorted_in l.tasks) (running_in (walked_in l.tasks) (map event_in l.walked))
+    ++ running_text l.clock l.width (sorted_in l.tasks) (running_in (walked_in l.tasks) (map event_in (drop l.event-index l.walked)))
+    ≡ l.fn.out.items ++ running_text l.clock l.width (sorted_in l.tasks) (running_in (walked_in l.tasks) (map event_in l.walked))

@@ -2,7 +2,7 @@ use Rattle.std.proofs.Common.{rules}
 use Rattle.std.proofs.lemmas.List.Sorted.{answers_always, IsNonDecreasingBy-from_sort}
 use Rattle.std.proofs.lemmas.Result.{on_ok_weaker}
 use Rattle.std.specs.Borrow.{Bor}
-use Rattle.job_story.specs.Events.{tick_of}
+use Rattle.job_story.specs.Events.{moment_of}
 use Rattle.job_story.specs.declared.event.Event.{Event}
 use Rattle.stable_sort.proofs.Ranks.{viewed_from_sort}
 use Rattle.story_causes.specs.Seen.{event_in}
@@ -14,5 +14,5 @@ returns c =
     let keys = answers_always _ _ _ (λ f a r next called. search rules) in
     let stable = c.sort_by_key.ensures.stable key keys in
     on_ok_weaker c.sort_by_key.result
-    (λ sorted. viewed_from_sort tick_of event_in _ _ (IsNonDecreasingBy-from_sort key _ (sorted key keys)) stable)
+    (λ sorted. viewed_from_sort moment_of event_in _ _ (IsNonDecreasingBy-from_sort key _ (sorted key keys)) stable)
     c.sort_by_key.ensures.sorted

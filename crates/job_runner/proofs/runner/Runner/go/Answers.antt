@@ -1,5 +1,6 @@
 use Rattle.std.proofs.Common.{arith}
-use Rattle.job_runner.proofs.Turning.{may_turn, turns_few, row_within, goes_stopping, scopes_sound}
+use Rattle.job_runner.proofs.States.{moment_bounded}
+use Rattle.job_runner.proofs.Turning.{may_turn, timers_live, turn_bounded, turn_now, turns_few, row_within, goes_stopping, scopes_sound}
 use Rattle.job_runner.proofs.Turns.{goes_on}
 use Rattle.job_runner.proofs.runner.Runner.go.Goals as goal
 
@@ -10,6 +11,18 @@ turn-requires-clause-may c =
 
 pub overflow_add-self : goal.overflow_add-self
 overflow_add-self c = let few = turns_few c.args.self.now c.requires.going in omega (arith, few)
+
+pub turn-requires-clause-tick : goal.turn-requires-clause-tick
+turn-requires-clause-tick c = moment_bounded c.requires.going.shelved.consistent
+
+pub take_started-requires-clause-timers : goal.take_started-requires-clause-timers
+take_started-requires-clause-timers c = timers_live c.requires.going c.in_ok-stop.ensures.turn
+
+pub take_started-requires-clause-now : goal.take_started-requires-clause-now
+take_started-requires-clause-now c = turn_now c.requires.going c.in_ok-stop.ensures.turn
+
+pub take_started-requires-clause-bounded : goal.take_started-requires-clause-bounded
+take_started-requires-clause-bounded c = turn_bounded c.requires.going c.in_ok-stop.ensures.turn
 
 pub take_started-requires-clause-row : goal.take_started-requires-clause-row
 take_started-requires-clause-row c = row_within c.args.row c.requires.going c.requires.row c.in_ok-stop.ensures.turn

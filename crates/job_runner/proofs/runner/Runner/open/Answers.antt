@@ -1,10 +1,15 @@
 use Rattle.std.proofs.Common.{refl, ap, ◌∙◌}
 use Rattle.buffer_parts.specs.Part.{buffer_of, range_of}
+use Rattle.job_meaning.specs.Moments.{Clock, clock_of}
+use Rattle.job_runner.specs.Limits.{last_of}
 use Rattle.job_runner.proofs.Opening.{opened}
 use Rattle.job_runner.proofs.runner.Runner.open.Goals as goal
 
 pub returns-clause-underway : goal.returns-clause-underway
 returns-clause-underway c =
+    let counts = c.of-clock.ensures ∙ ap clock_of c.text_format.ensures in
+    let clock = c.new.ensures.clock ∙ counts in
+    let limit = c.new-2.ensures.limit ∙ (c.last_of.ensures ∙ ap (λ (x : Clock). last_of x c.args.limit) counts) in
     opened _
     (record {
       names = c.spelled_jobs_are_sound.ensures.names _ _ c.steps-steps.ensures.spelled;
@@ -13,6 +18,7 @@ returns-clause-underway c =
     })
     c.requires.small
     (record {
+      clock = clock;
       tick = c.new.ensures.tick;
       scopes = c.new.ensures.scopes;
       labels = c.new.ensures.labels;
@@ -30,8 +36,9 @@ returns-clause-underway c =
       task_state = c.in_ok-task.ensures.task_state;
       entries = c.in_ok-task.ensures.entries;
       froms = c.in_ok-task.ensures.froms;
+      cancelled = c.in_ok-task.ensures.cancelled;
     })
-    c.in_ok-task_table.ensures.root refl c.in_ok-task_table.ensures.agree c.new-2.ensures.now c.new-2.ensures.limit c.requires.bounded
+    c.in_ok-task_table.ensures.root refl c.in_ok-task_table.ensures.agree c.new-2.ensures.now limit c.requires.bounded
     c.new-2.ensures.timers c.new-3.ensures c.new.ensures.unchanged c.new-batch.result.next
     c.add.new.self.next c.new-batch.ensures.next c.in_ok-add.ensures.added c.turn_over.ensures.current c.turn_over.ensures.next
     c.turn_over.ensures.unplaced

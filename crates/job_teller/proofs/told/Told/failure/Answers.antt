@@ -3,4 +3,4 @@ use Rattle.job_teller.proofs.Telling.{is_failed}
 use Rattle.job_teller.proofs.told.Told.failure.Goals as goal
 
 pub returns : goal.returns
-returns c = λ story. is_failed _ _ _ story refl refl refl c.new.ensures.items
+returns c = λ own story. is_failed _ _ _ own story refl refl refl c.new.ensures.items

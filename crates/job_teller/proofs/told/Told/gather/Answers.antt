@@ -1,12 +1,14 @@
 use Rattle.std.proofs.Common.{refl, ap, ◌∙◌}
 use Rattle.exc_groups.specs.Exceptions.{Label, group_of, by_nursery}
 use Rattle.exc_groups.specs.Held.{excs_of}
+use Rattle.moments.specs.Moments.{a_round_after}
 use Rattle.job_story.specs.Story.{Tale}
 use Rattle.job_teller.proofs.Telling.{is_gathered}
 use Rattle.job_teller.proofs.told.Told.gather.Goals as goal
 
 pub returns : goal.returns
 returns c = λ (a : Tale) h.
-    is_gathered c.args.self _ _ a c.in_ok-parts.parts.items h c.max.ensures
+    is_gathered c.args.clock c.args.self _ _ a c.in_ok-parts.parts.items h (c.a_round_after.ensures ∙ ap
+    (a_round_after c.args.clock) c.max.ensures)
     (c.group.ensures ∙ ap (λ (l : Label). group_of (by_nursery l) (excs_of c.in_ok-parts.parts.items)) c.in_ok-copy.ensures)
     c.in_ok-parts.ensures refl c.new.ensures.items

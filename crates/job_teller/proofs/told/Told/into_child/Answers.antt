@@ -9,7 +9,7 @@ use Rattle.job_teller.proofs.Telling.{is_child}
 use Rattle.job_teller.proofs.told.Told.into_child.Goals as goal
 
 pub returns : goal.returns
-returns c = λ label home scene (a : Tale) h.
-    is_child c.args.self _ label home scene _ a h refl refl refl
+returns c = λ label home scene begins own (a : Tale) h.
+    is_child c.args.self _ label home scene begins _ own a h refl refl refl
     (c.in_ok-open_excs.ensures ∙ ap (λ (es : List Exc). with_exc (option_map exc_of c.args.self.exc) es) (ap
     (map exc_of) c.new.ensures.items))

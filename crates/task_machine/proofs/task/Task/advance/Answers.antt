@@ -81,7 +81,8 @@ returns-in-Nursery-clause-fits c =
     let u = state_of c.end_body.new.self c.end_body.new.world in
     subst (λ (m : Moved). Fits u (waits_by m c.end_body.new.self.task_state)) (sym e.moved)
     (subst (λ (h : TaskState). Fits u (waits_of h)) (sym (ap (λ (t : Task). t.task_state) e.stays))
-    (waits_fits c.in-Nursery.id (option_map exc_of c.args.exc) (state_of (record c.args.self.now { frames = c.pop.new.self }) c.args.world.now) u
+    (waits_fits c.in-Nursery.id (option_map exc_of c.args.exc) c.args.world.now.tick
+    (state_of (record c.args.self.now { frames = c.pop.new.self }) c.args.world.now) u
     (popped_fits (state_of (record c.args.self.now { frames = c.pop.new.self }) c.args.world.now) c.args.self.now.frames.items c.in-Some.frame (Nursery c.in-Nursery.id) c.in-Some.ensures.items c.in-Nursery.is c.requires.fits) e.keys e.ended
     (state_eq _ _ _ _ (e.stays ∙ ap (λ (t : Task). record c.args.self.now { frames = c.pop.new.self; task_state = t.task_state }) (sym e.stays))
     e.rest)))

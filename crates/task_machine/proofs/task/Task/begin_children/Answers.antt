@@ -8,8 +8,9 @@ use Rattle.task_machine.proofs.Bodies.{body_runs}
 use Rattle.task_machine.proofs.TaskFits.{started_fits}
 use Rattle.task_machine.proofs.task.Task.begin_children.Goals as goal
 
-pub start-requires : goal.start-requires
-start-requires c = body_runs (label_at c.args.world.now) c.args.world.now.book c.args.self.now.frames.items c.nursery-nursery.result
+pub start-requires-clause-nursery : goal.start-requires-clause-nursery
+start-requires-clause-nursery c = body_runs
+    (label_at c.args.world.now) c.args.world.now.book c.args.self.now.frames.items c.nursery-nursery.result
     c.args.self.now.own.items c.nursery-nursery.ensures c.requires.fits.runs.opened
 
 pub start_over-requires-clause-nursery : goal.start_over-requires-clause-nursery

@@ -2,7 +2,7 @@ use Rattle.std.proofs.Common.{◌≡◌, ℕ, Option, Some, List, [], ◌∷◌,
 use Rattle.exc_groups.specs.Exceptions.{Label}
 use Rattle.cancel_scopes.specs.Sight.{Tick}
 use Rattle.cancel_scopes.specs.Tree.{outer_of}
-use Rattle.job_meaning.specs.Walk.{due}
+use Rattle.job_meaning.specs.Moments.{Clock, due}
 use Rattle.turn_semantics.specs.Midway.{Place}
 use Rattle.turn_semantics.specs.Steps.{froms_after_entry}
 use Rattle.task_machine.specs.Stacked.{AreAt}
@@ -53,13 +53,15 @@ returns-clause-at c =
     let place : Place = record { label = label; shield = c.args.shield } in
     let scope : scope_of c.push-2.new.self ≡ scope_of c.enter.new.self =
     ap scope_of c.in_ok-push-2.ensures.stays ∙ ap scope_of c.in_ok-push.ensures.stays in
-    let deadline : c.due-until.result ≡ due c.args.deadline c.args.world.now.tick =
-    c.due-until.ensures.due ∙ ap (λ (t : ℕ). due c.args.deadline t) c.now.ensures in
+    let world = c.args.world.now in
+    let deadline : c.due-until.result ≡ due world.clock c.args.deadline world.tick =
+    c.due-until.ensures.due ∙ ap (λ (k : Clock). due k c.args.deadline c.now.result) c.clock.ensures
+    ∙ ap (λ (t : ℕ). due world.clock c.args.deadline t) c.now.ensures in
     let entered =
     subst (λ (l : Label). EntersAt (state_of c.args.self.now c.args.world.now) (state_of c.enter.new.self c.enter.new.world) l
     c.args.shield c.due-until.result) (c.in_ok-kept.ensures ∙ c.in_ok-label.ensures) c.in_ok-scope.ensures.at in
     λ froms ps new at.
-    subst (λ (s : Option ℕ). AreAt labels (froms_after_entry froms label (due c.args.deadline c.args.world.now.tick)) (outer_of scopes s)
+    subst (λ (s : Option ℕ). AreAt labels (froms_after_entry froms label (due world.clock c.args.deadline world.tick)) (outer_of scopes s)
     (place ∷ ps)) (sym scope)
     (subst (λ (d : Tick). AreAt labels (froms_after_entry froms label d) (outer_of scopes (scope_of c.enter.new.self)) (place ∷ ps)) deadline
     (entered froms ps new at))

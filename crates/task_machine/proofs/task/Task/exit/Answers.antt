@@ -2,6 +2,7 @@ use Rattle.std.proofs.Common.{◌≡◌, ◌∷◌, [], ◌++◌, ap, ◌∙◌}
 use Rattle.std.specs.Option.{option_map}
 use Rattle.exc_groups.specs.Held.{exc_of}
 use Rattle.buffer_parts.specs.Part.{buffer_of}
+use Rattle.job_meaning.specs.Moments.{tick_of}
 use Rattle.task_machine.specs.declared.task.Task.{Task}
 use Rattle.task_machine.specs.declared.world.World.{World}
 use Rattle.block_exits.specs.Held.{kind_of, left_of}
@@ -12,21 +13,23 @@ pub returns-clause-at : goal.returns-clause-at
 returns-clause-at c =
     let world = c.args.world.now in
     let left = c.leave-label in
-    let tick : left.new.world.tick ≡ world.tick = ap (λ (w : World). w.tick) left.ensures.world in
+    let tick : tick_of left.new.world.clock left.new.world.tick ≡ tick_of world.clock world.tick =
+    ap (λ (w : World). tick_of w.clock w.tick) left.ensures.world in
     λ froms p ps a.
     let at = left.ensures.at froms p ps a in
     record {
       exc =
-          exc_goes_on (kind_of c.args.kind) left.result.label p.label c.now.result world.tick left.result.catches _
+          exc_goes_on (kind_of c.args.kind) left.result.label p.label c.tick.result (tick_of world.clock world.tick) left.result.catches _
           (left_of c.in_ok-left.left) (option_map exc_of c.args.exc) _
-          c.in_ok-exc.ensures c.in_ok-left.ensures at.label at.caught (c.now.ensures ∙ tick);
+          c.in_ok-exc.ensures c.in_ok-left.ensures at.label at.caught (c.tick.ensures ∙ tick);
       entry = c.in_ok-entry.entry;
       entries = c.in_ok-push.ensures.items ∙ ap (λ (t : Task). t.entries.items ++ c.in_ok-entry.entry ∷ []) left.ensures.stays;
       shown =
-          leaving_noted (buffer_of c.args.self.now.part) c.in_ok-entry.entry (kind_of c.args.kind) left.result.label p.label c.now-2.result
+          leaving_noted world.clock (buffer_of c.args.self.now.part) c.in_ok-entry.entry
+          (kind_of c.args.kind) left.result.label p.label c.tick-2.result
           world.tick left.result.catches _
           (left_of c.in_ok-left.left) (option_map exc_of c.args.exc) ((c.in_ok-entry.ensures (buffer_of c.args.self.now.part)).1)
           (c.in_ok-entry.ensures (buffer_of c.args.self.now.part)).0
-          c.in_ok-left.ensures at.label at.caught (c.now-2.ensures ∙ tick);
+          c.in_ok-left.ensures at.label at.caught (c.tick-2.ensures ∙ tick);
       around = at.around;
     }

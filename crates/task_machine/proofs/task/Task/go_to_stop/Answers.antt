@@ -34,7 +34,8 @@ steps-preserved c =
           goes_on s u first c.in-On.next froms numbers ps count (suc g.steps)
           (subst (λ (x : Moved). MoreGone s u first x froms numbers ps count (suc g.steps)) c.in-On.is
           (goes_further s m u first c.steps.exc c.in_ok-next.field-0 froms numbers ps count
-          (ap (λ (t : Task). t.part) i.1.task) (ap (λ (t : Task). t.label) i.1.task) (ap (λ (w : World). w.tick) i.1.world) g e.step)),
+          (ap (λ (t : Task). t.part) i.1.task) (ap (λ (t : Task). t.label) i.1.task) (ap (λ (w : World). w.clock) i.1.world)
+          (ap (λ (w : World). w.tick) i.1.world) g e.step)),
     )
 
 pub returns-in-Stops-clause-steps : goal.returns-in-Stops-clause-steps
@@ -49,7 +50,8 @@ returns-in-Stops-clause-steps c =
     let more =
     subst (λ (x : Moved). MoreGone s u first x froms numbers ps count (suc g.steps)) c.in-Stops.is
     (goes_further s m u first c.steps.exc c.in_ok-next.field-0 froms numbers ps count
-    (ap (λ (t : Task). t.part) i.1.task) (ap (λ (t : Task). t.label) i.1.task) (ap (λ (w : World). w.tick) i.1.world) g
+    (ap (λ (t : Task). t.part) i.1.task) (ap (λ (t : Task). t.label) i.1.task) (ap (λ (w : World). w.clock) i.1.world)
+    (ap (λ (w : World). w.tick) i.1.world) g
     c.in_ok-next.ensures.step) in
     record { steps = suc g.steps; took = more.took }
 

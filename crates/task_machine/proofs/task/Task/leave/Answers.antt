@@ -2,7 +2,7 @@ use Rattle.std.proofs.Common.{◌≡◌, ◌<◌, Some, None, List, ◌∷◌, l
 use Rattle.task_machine.specs.Tasks.{home_scope}
 use Rattle.task_machine.specs.Worlds.{label_at}
 use Rattle.task_machine.specs.Stacked.{AreAt}
-use Rattle.task_machine.proofs.Stacked.{one_of, catches_at}
+use Rattle.task_machine.proofs.Stacked.{one_of, catches_for}
 use Rattle.std.proofs.lemmas.Option.{slice_get-get_or}
 use Rattle.std.specs.List.{All}
 use Rattle.task_machine.specs.declared.entry.ScopeFrom.{ScopeFrom}
@@ -71,7 +71,7 @@ returns-clause-at c =
     record {
       label = one_of _ _ (sym c.leave-label.ensures.label ∙ ap (label_at world) (sym named) ∙ at.0);
       caught = c.catches-catches.ensures (top.level ∷ top.following) top.at
-          ∙ catches_at (label_at world) froms top.level top.following p ps world.tick at;
+          ∙ catches_for (label_at world) self.cancelled.items froms top.level top.following p ps world.tick at;
       around =
           places_after (label_at world) (label_at c.leave-label.new.self) world.scopes c.leave-label.new.self.scopes (home_scope self)
           c.pop.new.self.items c.in-Some.own None

@@ -20,7 +20,8 @@ returns-in-Shows-clause-wakes c =
     let self = c.args.self.now in
     λ kernel asked.
     wakes_answered (state_of self c.args.world.now) kernel c.args.purpose asked ask.missing
-    (λ froms fs ps. ap (λ (p : Purpose). goes_on_with froms c.args.world.now.tick (here_of self) ask.missing (purpose_in p) fs ps)
+    (λ froms fs ps. ap (λ (p : Purpose). goes_on_with froms c.args.world.now.tick (here_of c.args.world.now.clock self) ask.missing
+    (purpose_in p) fs ps)
     c.in-Shows.is)
 
 pub returns-in-Paces-clause-wakes : goal.returns-in-Paces-clause-wakes
@@ -28,5 +29,6 @@ returns-in-Paces-clause-wakes c =
     let self = c.args.self.now in
     λ kernel asked.
     wakes_answered (state_of self c.args.world.now) kernel c.args.purpose asked ask.missing
-    (λ froms fs ps. ap (λ (p : Purpose). goes_on_with froms c.args.world.now.tick (here_of self) ask.missing (purpose_in p) fs ps)
+    (λ froms fs ps. ap (λ (p : Purpose). goes_on_with froms c.args.world.now.tick (here_of c.args.world.now.clock self) ask.missing
+    (purpose_in p) fs ps)
     c.in-Paces.is)

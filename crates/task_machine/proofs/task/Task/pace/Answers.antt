@@ -26,7 +26,8 @@ returns-in-Shows-clause-wakes c =
     let self = c.args.self.now in
     λ kernel asked.
     wakes_answered (state_of self c.args.world.now) kernel c.args.purpose asked (ask.counted c.args.count)
-    (λ froms fs ps. ap (λ (p : Purpose). goes_on_with froms c.args.world.now.tick (here_of self) (ask.counted c.args.count) (purpose_in p)
+    (λ froms fs ps. ap (λ (p : Purpose). goes_on_with froms c.args.world.now.tick (here_of c.args.world.now.clock self)
+    (ask.counted c.args.count) (purpose_in p)
     fs ps) c.in-Shows.is)
 
 pub returns-in-Needs-clause-wakes : goal.returns-in-Needs-clause-wakes
@@ -34,5 +35,6 @@ returns-in-Needs-clause-wakes c =
     let self = c.args.self.now in
     λ kernel asked.
     wakes_answered (state_of self c.args.world.now) kernel c.args.purpose asked (ask.counted c.args.count)
-    (λ froms fs ps. ap (λ (p : Purpose). goes_on_with froms c.args.world.now.tick (here_of self) (ask.counted c.args.count) (purpose_in p)
+    (λ froms fs ps. ap (λ (p : Purpose). goes_on_with froms c.args.world.now.tick (here_of c.args.world.now.clock self)
+    (ask.counted c.args.count) (purpose_in p)
     fs ps) c.in-Needs.is)

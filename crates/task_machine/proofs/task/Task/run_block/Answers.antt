@@ -40,7 +40,8 @@ pub returns-in_ok-enter_scope-in-Scope-clause-step : goal.returns-in_ok-enter_sc
 returns-in_ok-enter_scope-in-Scope-clause-step c = λ a.
     let e = c.in_ok-enter_scope-in-Scope.ensures in
     takes_scope (state_of c.args.self.now c.args.world.now) c.args.step.now a (state_of c.enter_scope.new.self c.enter_scope.new.world) c.in-Scope.name c.in-Scope.deadline
-    c.in-Scope.shield c.in-Scope.body (ap (λ (w : World). w.started.items) e.world) (ap (λ (t : Task). t.entries.items) e.stays) e.at e.own
+    c.in-Scope.shield c.in-Scope.body (ap (λ (w : World). w.started.items) e.world) (ap (λ (t : Task). t.entries.items) e.stays)
+    (ap (λ (t : Task). t.cancelled.items) e.stays) e.at e.own
     c.in-Scope.fail c.in-Scope.is (ap (λ (w : World). w.book) e.world) e.frames
 
 pub returns-in_ok-enter_scope-in-Scope-clause-keeps : goal.returns-in_ok-enter_scope-in-Scope-clause-keeps
@@ -77,7 +78,8 @@ returns-in_ok-enter_nursery-in-Nursery-clause-step c = λ a.
     let e = c.in_ok-enter_nursery-in-Nursery.ensures in
     takes_nursery (state_of c.args.self.now c.args.world.now) c.args.step.now a (state_of c.enter_nursery.new.self c.enter_nursery.new.world) c.in-Nursery.name
     c.in-Nursery.deadline c.in-Nursery.shield c.in-Nursery.body (ap (λ (w : World). w.started.items) e.world)
-    (ap (λ (t : Task). t.entries.items) e.stays) e.at e.own c.args.me c.in-Nursery.is e.nursery
+    (ap (λ (t : Task). t.entries.items) e.stays)
+    (ap (λ (t : Task). t.cancelled.items) e.stays) e.at e.own c.args.me c.in-Nursery.is e.nursery
 
 pub returns-in_ok-enter_nursery-in-Nursery-clause-keeps : goal.returns-in_ok-enter_nursery-in-Nursery-clause-keeps
 returns-in_ok-enter_nursery-in-Nursery-clause-keeps c =

@@ -1,36 +1,32 @@
-use Rattle.std.proofs.Common.{◌≡◌, ℕ, ◌+◌, true, false, Option, Some, None, refl, ap, sym, ◌∙◌}
-use Rattle.exc_groups.specs.Exceptions.{cancelled}
+use Rattle.std.proofs.Common.{ℕ, Option, ap, sym, ◌∙◌}
 use Rattle.cancel_scopes.specs.Sight.{seen}
 use Rattle.cancel_scopes.specs.Tree.{outer_of}
-use Rattle.turn_semantics.specs.Midway.{Move}
-use Rattle.task_machine.specs.declared.stop.Stop.TheVariants.{Sleep}
-use Rattle.task_machine.specs.declared.stop.TaskState.TheVariants.{Asleep}
-use Rattle.task_machine.specs.Stops.{StopsAs}
-use Rattle.task_machine.proofs.Moves.{sleeps_by, sleeps_on, sleeps_off}
+use Rattle.task_machine.specs.declared.task.Task.{Task}
+use Rattle.task_machine.specs.Worlds.{label_at}
+use Rattle.task_machine.proofs.Moves.{sleeps_seen, sleeps_on, sleeps_off}
 use Rattle.task_machine.proofs.task.Task.sleep.Goals as goal
 
 pub returns-then-sees-clause-sleeps : goal.returns-then-sees-clause-sleeps
 returns-then-sees-clause-sleeps c =
     let world = c.args.world.now in
     λ froms numbers book fs ps a.
-    sleeps_by _ froms _ ps c.args.ticks world.tick fs true a
+    sleeps_seen world.clock (label_at world) froms _ ps c.args.paced c.args.ticks world.tick fs (sym c.clock.ensures ∙ c.in-ByTicks.is) a
     (sym c.if-sees.true ∙ c.sees.ensures ∙ ap (λ (s : Option ℕ). seen (outer_of world.scopes s) world.tick) c.scope.ensures)
-    (λ (o : Move). (Some cancelled ≡ o.exc) × (o.stopped ≡ None)) (refl, refl)
 
 pub returns-then-ticks-eq0-clause-sleeps : goal.returns-then-ticks-eq0-clause-sleeps
 returns-then-ticks-eq0-clause-sleeps c =
     let world = c.args.world.now in
     λ froms numbers book fs ps a.
-    sleeps_by _ froms _ ps c.args.ticks world.tick fs false a
+    sleeps_on world.clock (label_at world) froms _ ps c.args.paced c.args.ticks world.tick fs (sym c.clock.ensures ∙ c.in-ByTicks.is) a
     (sym c.if-sees.false ∙ c.sees.ensures ∙ ap (λ (s : Option ℕ). seen (outer_of world.scopes s) world.tick) c.scope.ensures)
-    (λ (o : Move). (None ≡ o.exc) × (o.stopped ≡ None)) (sleeps_on c.args.ticks world.tick fs ps c.if-ticks-eq0.true)
+    c.if-ticks-eq0.true
 
-pub returns-clause-sleeps : goal.returns-clause-sleeps
-returns-clause-sleeps c =
+pub returns-else-ticks-eq0-clause-sleeps : goal.returns-else-ticks-eq0-clause-sleeps
+returns-else-ticks-eq0-clause-sleeps c =
     let world = c.args.world.now in
     λ froms numbers book fs ps a.
-    sleeps_by _ froms _ ps c.args.ticks world.tick fs false a
+    sleeps_off world.clock (label_at world) froms _ ps c.args.paced c.args.ticks world.tick fs numbers book c.args.self.now.part
+    c.fall_asleep.result _ c.fall_asleep.ensures.stops (ap (λ (t : Task). t.task_state) c.fall_asleep.ensures.stays)
+    (sym c.clock.ensures ∙ c.in-ByTicks.is) a
     (sym c.if-sees.false ∙ c.sees.ensures ∙ ap (λ (s : Option ℕ). seen (outer_of world.scopes s) world.tick) c.scope.ensures)
-    (λ (o : Move). (o.exc ≡ None) × StopsAs numbers book c.args.self.now.part (Sleep (c.now-since.result + c.args.ticks))
-    (Asleep c.args.ticks c.now-since.result) o.stopped)
-    (sleeps_off c.args.ticks world.tick c.now-since.result fs ps numbers book c.args.self.now.part c.if-ticks-eq0.false c.now-since.ensures)
+    c.if-ticks-eq0.false

@@ -1,5 +1,7 @@
-use Rattle.std.proofs.Common.{ap}
+use Rattle.std.proofs.Common.{ℕ, ap, ◌∙◌}
 use Rattle.buffer_parts.specs.Part.{buffer_of, range_of}
+use Rattle.job_meaning.specs.Moments.{Clock, a_round_after}
+use Rattle.task_machine.specs.declared.stop.TaskState.TheVariants.{ToBegin}
 use Rattle.task_machine.specs.States.{state_of}
 use Rattle.task_machine.proofs.Starts.{starts_one}
 use Rattle.task_machine.proofs.task.Task.start.Goals as goal
@@ -17,7 +19,11 @@ returns-clause-started c =
       home_is = child.home;
       frames = child.frames;
       own = child.own;
-      task_state = child.task_state;
+      task_state = child.task_state
+          ∙ ap (λ (x : ℕ). ToBegin x)
+          (c.a_round_after-at.ensures ∙ ap (λ (k : Clock). a_round_after k c.now.result) c.clock.ensures
+          ∙ ap (a_round_after c.args.world.now.clock) c.now.ensures);
       entries = child.entries;
       froms = child.froms;
+      cancelled = child.cancelled;
     })

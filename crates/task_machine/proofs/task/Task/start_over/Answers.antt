@@ -1,6 +1,7 @@
 use Rattle.std.proofs.Common.{◌≡◌, ℕ, suc, ◌+◌, ◌∷◌, [], ◌++◌, None, refl, ap, ◌∙◌, subst, arith}
 use Rattle.buffer_parts.specs.Part.{buffer_of}
 use Rattle.exc_groups.specs.Exceptions.{Label}
+use Rattle.job_meaning.specs.Moments.{a_round_after}
 use Rattle.task_machine.specs.declared.world.World.{World}
 use Rattle.task_machine.specs.Started.{StartsOver}
 use Rattle.task_machine.specs.Tasks.{path_of}
@@ -25,7 +26,8 @@ copies-preserved c =
           (starts_more (state_of c.args.self.now c.args.world.now) (state_of c.args.self.now c.copies.world)
           (state_of c.args.self.now c.start.new.world) c.args.nursery c.args.copies i c.args.name
           c.in_ok-label.label c.next_cut-part.result c.args.body.now
-          c.copies.invariant.1 started.started name (gives.buffer ∙ ap buffer_of whole) (rw (whole, count, given) at gives.range)),
+          (ap (λ (w : World). a_round_after w.clock w.tick) c.copies.invariant.3) c.copies.invariant.1 started.started name
+          (gives.buffer ∙ ap buffer_of whole) (rw (whole, count, given) at gives.range)),
       runs_on (state_of c.args.self.now c.copies.world) (state_of c.args.self.now c.start.new.world) c.args.nursery c.in_ok-label.label c.next_cut-part.result c.args.body.now started.started
           c.copies.invariant.2,
       started.rest ∙ ap (λ (w : World). record w { book = c.start.new.world.book; started = c.start.new.world.started })

@@ -1,11 +1,10 @@
-use Rattle.std.proofs.Common.{Some, None, refl, sym, subst}
-use Rattle.exc_groups.specs.declared.exc.Exc.TheVariants.{Cancelled}
+use Rattle.std.proofs.Common.{None, refl, sym, subst}
 use Rattle.task_machine.specs.declared.stop.Moved.TheVariants.{On}
 use Rattle.task_machine.specs.declared.stop.Wake as held
 use Rattle.task_machine.specs.Standing.{Wakens}
 use Rattle.task_machine.specs.States.{state_of}
 use Rattle.task_machine.specs.Waking.{wake_in}
-use Rattle.task_machine.proofs.Wakens.{wakes_begin, wakes_due, wakes_seen}
+use Rattle.task_machine.proofs.Wakens.{wakes_begin}
 use Rattle.task_machine.proofs.Waiters.{same_book}
 use Rattle.task_machine.proofs.task.Task.wake.Goals as goal
 
@@ -16,19 +15,20 @@ returns-in-Begin-clause-wakes c =
     subst (λ (w : held.Wake). Wakens (state_of self world) (state_of self world) (On None) (wake_in world.book self.task_state w)) (sym c.in-Begin.is)
     (wakes_begin (state_of self world))
 
-pub returns-in-Due-clause-wakes : goal.returns-in-Due-clause-wakes
-returns-in-Due-clause-wakes c =
+pub returns-in_ok-moved-in-Due-clause-wakes : goal.returns-in_ok-moved-in-Due-clause-wakes
+returns-in_ok-moved-in-Due-clause-wakes c =
     let self = c.args.self.now in
     let world = c.args.world.now in
-    subst (λ (w : held.Wake). Wakens (state_of self world) (state_of self world) (On None) (wake_in world.book self.task_state w)) (sym c.in-Due.is)
-    (wakes_due (state_of self world))
+    subst (λ (w : held.Wake). Wakens (state_of self world) (state_of c.come_due.new.self c.come_due.new.world) c.in_ok-moved-in-Due.moved
+    (wake_in world.book self.task_state w)) (sym c.in-Due.is) (c.in_ok-moved-in-Due.ensures.wakes)
 
 pub returns-in-Seen-clause-wakes : goal.returns-in-Seen-clause-wakes
 returns-in-Seen-clause-wakes c =
     let self = c.args.self.now in
     let world = c.args.world.now in
-    subst (λ (w : held.Wake). Wakens (state_of self world) (state_of self world) (On (Some Cancelled)) (wake_in world.book self.task_state w)) (sym c.in-Seen.is)
-    (wakes_seen (state_of self world) (Some Cancelled) refl)
+    subst (λ (w : held.Wake). Wakens (state_of self world) (state_of c.see.new.self world) c.see.result
+    (wake_in world.book self.task_state w))
+    (sym c.in-Seen.is) c.see.ensures.wakes
 
 pub returns-in_ok-moved-in-Answer-clause-wakes : goal.returns-in_ok-moved-in-Answer-clause-wakes
 returns-in_ok-moved-in-Answer-clause-wakes c =
@@ -46,9 +46,6 @@ returns-in_ok-moved-in-Settled-clause-wakes c =
 
 pub returns-in-Begin-clause-waiters : goal.returns-in-Begin-clause-waiters
 returns-in-Begin-clause-waiters c = same_book c.args.world.now.book c.args.world.now.book refl
-
-pub returns-in-Due-clause-waiters : goal.returns-in-Due-clause-waiters
-returns-in-Due-clause-waiters c = same_book c.args.world.now.book c.args.world.now.book refl
 
 pub returns-in-Seen-clause-waiters : goal.returns-in-Seen-clause-waiters
 returns-in-Seen-clause-waiters c = same_book c.args.world.now.book c.args.world.now.book refl
