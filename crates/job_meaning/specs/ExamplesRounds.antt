@@ -1,4 +1,5 @@
--- Worked examples where a tick has rounds, each a theorem by computing. Each has the records that Trio's scheduler gives.
+-- Worked examples where a tick has rounds, each a theorem by computing. The expected records were worked out by hand. Trio has no `pace`,
+-- and where two tasks fail in one round, it has several outcomes.
 use Rattle.std.specs.Prelude.{◌≡◌, ℕ, None, Some, List, [], ◌∷◌, refl, codes}
 use Rattle.job_tree.specs.Tree.{Step, sleep, checkpoint, forever, pace, raise, cancel, repeat, attempt, except, finally}
 use Rattle.exc_groups.specs.Exceptions.{cancelled}

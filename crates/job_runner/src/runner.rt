@@ -59,8 +59,8 @@ pub struct Runner<'a> {
 
 impl<'a> Runner<'a> {
     /// Returns a run at tick 0, whose root is ready to begin. The input has at most `MAX_INPUT` bytes. The limit is the
-    /// last tick to which the clock may jump, and no later than the last tick in which a job ends. The only error is that
-    /// the allocator is out of memory.
+    /// last tick to which the clock may jump: at most `LAST_TICK` where a moment is a tick, and at most `FAR` where a tick
+    /// has rounds. The only error is that the allocator is out of memory.
     pub fn open(
         alloc: Global,
         job: &'a Job,
