@@ -12,3 +12,5 @@ pub mod Ends
 pub mod Limits
 pub mod Running
 pub mod Housing
+pub mod Deadlines
+pub mod Rounds

@@ -1,11 +1,11 @@
 -- The laws of runs in turns. They are the contract of a function that does nothing.
-use Rattle.std.specs.Prelude.{◌≡◌, ◌⊎◌, true, ℕ, ◌+◌, ◌*◌, ◌<◌, ◌≤◌, Some, List, [], ◌∷◌}
+use Rattle.std.specs.Prelude.{◌≡◌, ◌⊎◌, true, ℕ, ◌+◌, ◌*◌, ◌%◌, ◌<◌, ◌≤◌, Some, List, [], ◌∷◌}
 use Rattle.exc_groups.specs.Exceptions.{Label}
 use Rattle.job_tree.specs.Tree.{Tree}
 use Rattle.job_tree.specs.Names.{GivesNamesOnce, size_of}
 use Rattle.job_tree.specs.Starting.{StartsInNurseries}
 use Rattle.job_meaning.specs.Log.{Table}
-use Rattle.job_meaning.specs.Moments.{clock_of, tick_of}
+use Rattle.job_meaning.specs.Moments.{by_rounds, clock_of, rounds_in_a_tick, tick_of, a_round_after}
 use Rattle.job_meaning.specs.Meaning.{root_label, meaning_records, meaning_froms, meaning_end, meaning_table}
 use Rattle.job_meaning.specs.Follow.{IsSettled}
 use Rattle.job_meaning.specs.Rest.{Stopped, to_begin, asking, asleep, giving_up, awaiting, at_end}
@@ -23,6 +23,25 @@ abbrev pub RunsEnd : Type 0
 RunsEnd =
     (k : Table) (job : Tree) (input : List ℕ) (f : Table) (t m : ℕ) (qs : List Started) → (r : Reached k job input f t m qs) →
     turns_taken r + all_weights qs ≤ 2 * size_of job.steps + 1
+
+-- the round of a moment in its tick, where a tick has rounds
+abbrev pub round_of : ℕ → ℕ
+round_of m = m % rounds_in_a_tick
+
+-- By rounds, the round in which a task stopped last, or in which it begins, is at most the number of turns so far.
+abbrev pub RoundsAreFew : Type 0
+RoundsAreFew =
+    (k : Table) (job : Tree) (input : List ℕ) → GivesNamesOnce job → StartsInNurseries job → IsSettled k job input → clock_of job.format ≡ by_rounds →
+    (f : Table) (t m : ℕ) (qs : List Started) → (r : Reached k job input f t m qs) → (q : Started) → In q qs →
+    round_of q.stop.at ≤ turns_taken r
+
+-- A run of a job of at most a million steps, those of children included, has fewer turns than a tick has rounds. So no round
+-- overflows into the next tick: the moment a round after a task stopped or begins is in the same tick.
+abbrev pub RoundsStayInTicks : Type 0
+RoundsStayInTicks =
+    (k : Table) (job : Tree) (input : List ℕ) → GivesNamesOnce job → StartsInNurseries job → IsSettled k job input → size_of job.steps ≤ 1000000 →
+    (f : Table) (t m : ℕ) (qs : List Started) → Reached k job input f t m qs → (q : Started) → In q qs →
+    tick_of (clock_of job.format) (a_round_after (clock_of job.format) q.stop.at) ≡ tick_of (clock_of job.format) q.stop.at
 
 -- The task that has another task in one of its nurseries: it was started earlier, and the other task has this serial
 -- number. The scopes and nurseries of that task's home are this nursery and those that enclose it.

@@ -4,6 +4,8 @@ ghost use Rattle.interleavings.specs.Laws.{
   BlockedRunsGoOn,
   LastToLeave,
   LimitsAreExact,
+  RoundsAreFew,
+  RoundsStayInTicks,
   RunsAreTheMeaning,
   RunsEnd,
   RunsKeepInvariant,
@@ -16,7 +18,8 @@ ghost use Rattle.interleavings.specs.Laws.{
 /// those of the meaning. While a task has not ended, the job does not end before the present tick; and if no task is ready,
 /// one has a next turn. A run takes at most twice as many turns as the job has steps (including those of children) plus one. A task
 /// that has not ended is the root, or is in an unsettled nursery of the task that started it; and the task that leaves a
-/// scope or nursery is the last one in it.
+/// scope or nursery is the last one in it. Where a tick has rounds, no task has a turn in a round that is greater than the number of
+/// turns so far: so no round overflows into the next tick.
 pub fn law_runs()
     ensures interleaving { RunsKeepInvariant }
     ensures meaning { RunsAreTheMeaning }
@@ -25,4 +28,6 @@ pub fn law_runs()
     ensures turns { RunsEnd }
     ensures housed { TasksAreHoused }
     ensures last { LastToLeave }
+    ensures rounds { RoundsAreFew }
+    ensures room { RoundsStayInTicks }
 {}

@@ -17,8 +17,8 @@ use Rattle.job_meaning.specs.Asking as ask
 use Rattle.turn_semantics.specs.Midway.{Place, stack_at, Midway, Begun, Move}
 use Rattle.turn_semantics.specs.Steps.{froms_after, onward, blocks_on, falls_asleep, sleeps, label_among, signs_to, signs_home, with_started, begun_one, begun_over, enters_block, step_on, step_steps, leaves, handler_if, step_try, step_frames, step_of, begins_passes, step_pass}
 use Rattle.turn_semantics.specs.Placed.{in_body, Placed, PlacedAfter, home_places, home_after}
-use Rattle.turn_semantics.specs.Turned.{Known, labels_of, AllKnown, known_after, MadeAt, Starts, BegunIn, FallsAsleep, StopsAt, weight_of_stop, weight_of_begun}
-use Rattle.turn_semantics.proofs.Events.{all_own, all_grow, known_stays, begun_append, made_append, starts_append, weight_append}
+use Rattle.turn_semantics.specs.Turned.{Known, labels_of, AllKnown, known_after, MadeAt, Starts, BegunIn, AllBy, FallsAsleep, StopsAt, weight_of_stop, weight_of_begun}
+use Rattle.turn_semantics.proofs.Events.{all_own, all_grow, known_stays, begun_append, clocks_append, made_append, starts_append, weight_append}
 use Rattle.std.proofs.Math.Nat.{suc-mul}
 
 -- what a move from these enclosing scopes and nurseries with this weight promises, except for the
@@ -30,6 +30,7 @@ pub record Case (clock : Clock) (t : ℕ) (froms : Table) (weight_before : ℕ) 
   pub places : AllKnown o.places (known_after (labels_of ps) o.made)
   pub starts_made : Starts count o.made o.begun
   pub begun_in : BegunIn (known_after (labels_of ps) o.made) o.begun
+  pub clocks : AllBy clock o.begun
   pub stops : StopsAt clock t (froms_after froms o.made) o.stopped o.places
   pub weight : weight_of_stop o.stopped + frames_weight o.frames + weight_of_begun o.begun ≤ weight_before
 
@@ -89,6 +90,7 @@ onward_case clock t froms w home fs ps exc count p h le =
       places = all_own ps;
       starts_made = tt;
       begun_in = tt;
+      clocks = tt;
       stops = tt;
       weight =
           omega arith;
@@ -117,6 +119,7 @@ sleep_case clock t froms paced n w home fs ps count p h le = by_clock clock (see
           places = all_own ps;
           starts_made = tt;
           begun_in = tt;
+          clocks = tt;
           stops = (refl, f);
           weight = let i = sleep_weighs paced n in omega arith;
         }
@@ -141,6 +144,7 @@ asks_case clock t froms kernel purpose w home fs ps count suits p h le =
       places = all_own ps;
       starts_made = tt;
       begun_in = tt;
+      clocks = tt;
       stops = tt;
       weight =
           omega arith;
@@ -161,6 +165,7 @@ enter_case clock t froms label shield deadline body exit w home fs ps count p h 
       places = (inl refl, all_grow (labels_of ps) (label ∷ labels_of ps) (λ l k. inr k) ps (all_own ps));
       starts_made = tt;
       begun_in = tt;
+      clocks = tt;
       stops = tt;
       weight = omega arith;
     }
@@ -177,6 +182,7 @@ leaves_case clock now froms kind w home fs p ps exc count q h le =
       places = all_grow (labels_of ps) (p.label ∷ labels_of ps) (λ l k. inr k) ps (all_own ps);
       starts_made = tt;
       begun_in = tt;
+      clocks = tt;
       stops = tt;
       weight = omega arith;
     }
@@ -279,6 +285,12 @@ over_made clock name here t first ls (suc k) =
     (starts (first + k) (label_over name here k) (a_round_after clock t) ∷ []) ls
     (over_made clock name here t first ls k) (refl, tt)
 
+over_clocks : (name : List ℕ) (here : Here) (of : ℕ) (body : Steps) (ps : List Place) (first k : ℕ) →
+    AllBy here.clock (begun_over name here of body ps first k)
+over_clocks name here of body ps first zero = tt
+over_clocks name here of body ps first (suc k) =
+    clocks_append here.clock (begun_over name here of body ps first k) _ (over_clocks name here of body ps first k) (refl, tt)
+
 -- the case of a step that starts one child or several
 start_case : (now : Now) (froms : Table) (here : Here) (name : List ℕ) (over : Option ℕ) (body ss : Steps) (fs : List Frame) (ps : List Place)
     (count : ℕ) →
@@ -293,6 +305,7 @@ start_case now froms here name None body ss fs ps count i b p =
       places = all_own ps;
       starts_made = (refl, refl, refl, tt);
       begun_in = (all_own ps, i, tt);
+      clocks = (refl, tt);
       stops = tt;
       weight = let e = weight_started (count ∷ []) fs in omega arith;
     }
@@ -308,6 +321,7 @@ start_case now froms here name (Some k) body ss fs ps count i b p =
       starts_made = over_starts name here (a_round_after here.clock now.at) k body ps count k;
       begun_in = over_begun name here k body ps count (known_after (labels_of ps) (starts_over name here (a_round_after here.clock now.at) count k))
           (still_known ps (starts_over name here (a_round_after here.clock now.at) count k)) i k;
+      clocks = over_clocks name here k body ps count k;
       stops = tt;
       weight = let e = weight_started (consecutive count k) fs in let h = over_weight name here k body ps count k in omega arith;
     }
@@ -361,6 +375,7 @@ step_case now froms here (cancel name) ss fs ps count a b p =
       places = still_known ps (signs_to (label_among name ps) now.at);
       starts_made = signs_start (label_among name ps) now.at count;
       begun_in = tt;
+      clocks = tt;
       stops = tt;
       weight = omega arith;
     }
@@ -411,6 +426,7 @@ frames_case now froms here [] ps exc count p =
       places = still_known ps (signs_home exc ps now.at);
       starts_made = home_start exc ps now.at count;
       begun_in = tt;
+      clocks = tt;
       stops = refl;
       weight = omega arith;
     }
@@ -427,6 +443,7 @@ frames_case now froms here (in_nursery children ∷ fs) (q ∷ ps) exc count p =
       places = still_known (q ∷ ps) (signs_home exc (q ∷ ps) now.at);
       starts_made = home_start exc (q ∷ ps) now.at count;
       begun_in = tt;
+      clocks = tt;
       stops = refl;
       weight = omega arith;
     }

@@ -7,7 +7,7 @@ use Rattle.job_meaning.specs.Walk.{with_own}
 use Rattle.job_meaning.specs.Rest.{Event, noted, signs, enters, starts, ChildOutcomes, fill}
 use Rattle.turn_semantics.specs.Midway.{Place, Begun, own_after, OwnFits}
 use Rattle.turn_semantics.specs.Steps.{froms_after_sign, froms_after_entry, froms_after}
-use Rattle.turn_semantics.specs.Turned.{AgreesOn, AgreesIn, Known, labels_of, AllKnown, known_after, MadeAt, Starts, BegunIn, weight_of_begun}
+use Rattle.turn_semantics.specs.Turned.{AgreesOn, AgreesIn, Known, labels_of, AllKnown, known_after, MadeAt, Starts, BegunIn, AllBy, weight_of_begun}
 use Rattle.turn_semantics.proofs.Agreeing.{SameFrom, agrees_lowered, agrees_opened, agrees_own}
 
 -- ---- labels that are known
@@ -70,6 +70,11 @@ begun_grow ls ms h (b ∷ bs) a = (all_grow ls ms h b.places a.0, a.1, begun_gro
 pub begun_append : (ls : List Label) (bs cs : List Begun) → BegunIn ls bs → BegunIn ls cs → BegunIn ls (bs ++ cs)
 begun_append ls [] cs a b = b
 begun_append ls (x ∷ bs) cs a b = (a.0, a.1, begun_append ls bs cs a.2 b)
+
+-- and all of them count by the same clock
+pub clocks_append : (clock : Clock) (bs cs : List Begun) → AllBy clock bs → AllBy clock cs → AllBy clock (bs ++ cs)
+clocks_append clock [] cs a b = b
+clocks_append clock (x ∷ bs) cs a b = (a.0, clocks_append clock bs cs a.1 b)
 
 -- ---- events made in one moment
 

@@ -11,7 +11,7 @@ use Rattle.turn_semantics.specs.Steps.{froms_after, step_of, turn_of}
 use Rattle.turn_semantics.specs.Placed.{Placed, PlacedAfter, home_after, KidsAfter, HasChildAfter, AllHoused}
 use Rattle.turn_semantics.specs.Turned.{AgreesOn, AgreesIn, AgreesAhead, AllTold, Known, labels_of, AllKnown, known_after, StopsAt, BegunIn, Turned, Goes}
 use Rattle.turn_semantics.proofs.Keeps.{told_first, told_second, step_keeps}
-use Rattle.turn_semantics.proofs.Events.{known_append, known_grows, place_known, all_own, all_grow, known_stays, made_append, made_grows, own_append, own_fits, begun_append, begun_grow, starts_append, froms_append, weight_append, agrees_after}
+use Rattle.turn_semantics.proofs.Events.{known_append, known_grows, place_known, all_own, all_grow, known_stays, made_append, made_grows, own_append, own_fits, begun_append, begun_grow, clocks_append, starts_append, froms_append, weight_append, agrees_after}
 use Rattle.turn_semantics.proofs.Cases.{step_cases}
 use Rattle.turn_semantics.proofs.Houses.{has_going, housed_append, housed_on, step_housed, step_stays}
 use Rattle.turn_semantics.proofs.Kids.{kids_grow, step_kids}
@@ -58,6 +58,7 @@ turned_step now here froms m p =
       places = c.places;
       starts = c.starts_made;
       begun_in = c.begun_in;
+      clocks = c.clocks;
       stops = c.stops;
       weight = let w = c.weight in omega arith;
     }
@@ -76,6 +77,7 @@ turned_nothing now here froms m p =
       places = all_own m.places;
       starts = tt;
       begun_in = tt;
+      clocks = tt;
       stops = tt;
       weight = omega arith;
     }
@@ -130,6 +132,7 @@ module _ (now : Now) (here : Here) (froms : Table) (Given : Table → ChildOutco
               (begun_grow between (known_after between q.made) (λ l k. known_stays l q.made between k) o.begun x.begun_in)
               (begun_grow (known_after (labels_of o.places) q.made) (known_after between q.made)
               (known_grows (labels_of o.places) between known q.made) q.begun y.begun_in));
+          clocks = clocks_append here.clock o.begun q.begun x.clocks y.clocks;
           stops = stops_append here.clock now.at froms o.made q.stopped q.places q.made y.stops;
           weight = let e = weight_append o.begun q.begun in let g = x.weight in let h = y.weight in omega arith;
         }

@@ -283,6 +283,7 @@ lines_case clock t froms w ls fs ps count p le =
           (λ l k. known_stays l (lines_made t ls) (labels_of ps) k) ps (all_own ps);
       starts_made = lines_start t count ls;
       begun_in = tt;
+      clocks = tt;
       stops = tt;
       weight = omega arith;
     }
@@ -321,6 +322,7 @@ wake_case now froms here (from_sleep {paced = false} {n = zero} {since}) fs ps c
       places = all_own ps;
       starts_made = tt;
       begun_in = tt;
+      clocks = tt;
       stops = refl;
       weight = omega arith;
     }
@@ -369,6 +371,7 @@ turned_wake u now here froms w rest ps count c p =
       places = all.places;
       starts = all.starts_made;
       begun_in = all.begun_in;
+      clocks = all.clocks;
       stops = all.stops;
       weight = let h = all.weight in let i = wakes_weigh c rest.frames in omega arith;
     }

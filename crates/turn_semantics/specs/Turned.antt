@@ -87,6 +87,11 @@ abbrev pub BegunIn : List Label → List Begun → Type 0
 BegunIn ls [] = Unit {0}
 BegunIn ls (b ∷ bs) = AllKnown b.places ls × StartsIn false b.body × BegunIn ls bs
 
+-- each child counts time by this clock
+abbrev pub AllBy : Clock → List Begun → Type 0
+AllBy clock [] = Unit {0}
+AllBy clock (b ∷ bs) = (b.here.clock ≡ clock) × AllBy clock bs
+
 -- the first tick of a sign for a label among these events
 abbrev pub made_sign : Label → List Event → Tick
 made_sign l [] = None
@@ -182,6 +187,8 @@ pub record Turned
     -- each is enclosed by scopes and nurseries that enclosed its starter or were entered on the way, and its block is no
     -- nursery's body
     pub begun_in : BegunIn (known_after (labels_of places_before) o.made) o.begun
+    -- and counts time as its starter does
+    pub clocks : AllBy here.clock o.begun
     -- how the task stopped
     pub stops : StopsAt here.clock now.at (froms_after froms o.made) o.stopped o.places
     -- the weight of what is left, the children's included, is less than the bound

@@ -1,0 +1,204 @@
+-- By rounds, each deadline is the first moment of a tick: so it is in the log of each walk.
+use Rattle.std.proofs.Common.{◌≡◌, ℕ, zero, suc, ◌+◌, ◌*◌, ◌/◌, Bool, true, false, Option, Some, None, List, [], ◌∷◌, sym, subst, arith, nat_le, if◌then◌else◌}
+use Rattle.job_tree.specs.declared.deadline.Deadline.{Deadline}
+use Rattle.job_tree.specs.declared.deadline.Deadline.TheVariants.{Never, After, At}
+use Rattle.job_tree.specs.Tree.{Step, sleep, checkpoint, forever, pace, find, head, longest, need, raise, cancel, scope, nursery, start, repeat, attempt, Steps, stop, step, Handled, unhandled, except, Cleaned, uncleaned, finally}
+use Rattle.buffer_parts.specs.Lines.{Span}
+use Rattle.exc_groups.specs.Exceptions.{Label, Exc, cancelled}
+use Rattle.exc_groups.specs.Split.{Wanted, keep, drop}
+use Rattle.cancel_scopes.specs.Sight.{Tick, sight}
+use Rattle.job_meaning.specs.Log.{Log, nil, entry, sign, entered, task, followed_by, Result, same_label, either, deadline_if, deadline_of}
+use Rattle.job_meaning.specs.Moments.{Clock, by_rounds, a_round_after, wakes_at, gives_up_at, due, Now, only_at}
+use Rattle.job_meaning.specs.Walk.{Stack, Mode, Here, walk, walk_step, walk_handler, walk_cleanup, done_at, raised_at, now_of, and_then, then_if, wait_by_sight, sleep_result, pace_result, log_of_lines, lines_result, raise_result, need_result, cancel_result, Kind, from_of, block, with_sign, sign_if, home_of, nursery_result, child, each, passes, handler_result, handler_for, handler_if_any, cleanup_result}
+use Rattle.interleavings.specs.Laws.{round_of}
+
+-- a deadline is the first moment of a tick, or there is none
+abbrev pub OnTick : Tick → Type 0
+OnTick None = Unit {0}
+OnTick (Some m) = round_of m ≡ 0
+
+-- so is each in a log
+abbrev pub EachOnTick : Log → Type 0
+EachOnTick nil = Unit {0}
+EachOnTick (entry t e rest) = EachOnTick rest
+EachOnTick (sign l t rest) = EachOnTick rest
+EachOnTick (entered l t d rest) = OnTick d × EachOnTick rest
+EachOnTick (task l s u e own rest) = EachOnTick own × EachOnTick rest
+
+-- the first moment of a tick is in round 0
+pub first_round : (t : ℕ) → round_of (t * 2097152) ≡ 0
+first_round t = omega arith
+
+on_due : (d : Deadline) (m : ℕ) → OnTick (due by_rounds d m)
+on_due Never m = tt
+on_due (After n) m = first_round (m / 2097152 + n)
+on_due (At n) m = first_round n
+
+due_on : (clock : Clock) → clock ≡ by_rounds → (d : Deadline) (m : ℕ) → OnTick (due clock d m)
+due_on clock c d m = subst (λ (x : Clock). OnTick (due x d m)) (sym c) (on_due d m)
+
+each_followed : (a b : Log) → EachOnTick a → EachOnTick b → EachOnTick (followed_by a b)
+each_followed nil b h k = k
+each_followed (entry t e rest) b h k = each_followed rest b h k
+each_followed (sign l t rest) b h k = each_followed rest b h k
+each_followed (entered l t d rest) b h k = (h.0, each_followed rest b h.1 k)
+each_followed (task l s u e own rest) b h k = (h.0, each_followed rest b h.1 k)
+
+each_then : (r : Result) (go : Now → Result) → EachOnTick r.log → ((u : Now) → EachOnTick (go u).log) → EachOnTick (and_then r go).log
+unfolding and_then
+each_then r go h k = by_exc r.exc
+  where
+    by_exc : (o : Option Exc) → EachOnTick (then_if o r go).log
+    by_exc None = each_followed r.log (go (now_of r)).log h (k (now_of r))
+    by_exc (Some e) = h
+
+each_waited : (a : Tick) (least gives_up end : ℕ) → EachOnTick (wait_by_sight a least gives_up end).log
+each_waited None least gives_up end = tt
+each_waited (Some from) least gives_up end = by_now (nat_le from least) (nat_le from end)
+  where
+    by_now : (now due : Bool) → EachOnTick (if now then raised_at cancelled (only_at gives_up) else
+        (if due then raised_at cancelled (only_at from) else done_at (only_at end))).log
+    by_now true due = tt
+    by_now false true = tt
+    by_now false false = tt
+
+each_sleeping : (clock : Clock) (st : Stack) (n t : ℕ) → EachOnTick (sleep_result clock st n t).log
+unfolding sleep_result
+each_sleeping clock st n t = each_waited (sight st) (a_round_after clock t) (gives_up_at clock n t) (wakes_at clock n t)
+
+each_pacing : (clock : Clock) (st : Stack) (n t : ℕ) → EachOnTick (pace_result clock st n t).log
+unfolding pace_result
+each_pacing clock st n t = each_waited (sight st) (a_round_after clock t) (a_round_after clock t) (wakes_at clock n t)
+
+each_of_lines : (t : ℕ) (ls : List Span) → EachOnTick (log_of_lines t ls)
+each_of_lines t [] = tt
+each_of_lines t (l ∷ ls) = each_of_lines t ls
+
+each_showing : (ls : List Span) (t : Now) → EachOnTick (lines_result ls t).log
+unfolding lines_result
+each_showing ls t = each_of_lines t.at ls
+
+each_raising : (name : List ℕ) (here : Here) (t : Now) → EachOnTick (raise_result name here t).log
+unfolding raise_result
+each_raising name here t = tt
+
+each_needing : (found : Option Span) (name : List ℕ) (here : Here) (t : Now) → EachOnTick (need_result found name here t).log
+unfolding need_result
+each_needing (Some l) name here t = each_showing (l ∷ []) t
+each_needing None name here t = each_raising name here t
+
+each_cancelling : (clock : Clock) (label : Option Label) (t : Now) → EachOnTick (cancel_result clock label t).log
+unfolding cancel_result
+each_cancelling clock None t = tt
+each_cancelling clock (Some l) t = tt
+
+each_block : (clock : Clock) (m : Mode) (kind : Kind) (label : Label) (t : ℕ) (d : Tick) (shield : Bool) (st : Stack) (inside : Tick → Result) →
+    OnTick d → ((from : Tick) → EachOnTick (inside from).log) → EachOnTick (block clock m kind label t d shield st inside).log
+unfolding block
+each_block clock m kind label t d shield st inside on h =
+    let from : Tick = from_of m label d inside in
+    (on, each_followed (inside from).log (entry (inside from).end _ nil) (h from) tt)
+
+each_signed : (st : Stack) (r : Result) → EachOnTick r.log → EachOnTick (with_sign st r).log
+unfolding with_sign
+each_signed st r h = each_followed r.log (sign_if r.exc (home_of st) r.end) h (of_sign r.exc (home_of st))
+  where
+    of_sign : (o : Option Exc) (home : Option Label) → EachOnTick (sign_if o home r.end)
+    of_sign None home = tt
+    of_sign (Some e) None = tt
+    of_sign (Some e) (Some l) = tt
+
+each_gathered : (clock : Clock) (label : Label) (r : Result) → EachOnTick r.log → EachOnTick (nursery_result clock label r).log
+unfolding nursery_result
+each_gathered clock label r h = h
+
+each_child : (label : Label) (begins : ℕ) (r : Result) (t : Now) → EachOnTick r.log → EachOnTick (child label begins r t).log
+unfolding child
+each_child label begins r t h = (h, tt)
+
+each_each : (k : ℕ) (go : ℕ → Result) (t : Now) → ((i : ℕ) → EachOnTick (go i).log) → EachOnTick (each k go t).log
+each_each zero go t h = tt
+each_each (suc k) go t h = each_followed (each k go t).log (go k).log (each_each k go t h) (h k)
+
+each_passes : (k first : ℕ) (go : ℕ → Now → Result) (t : Now) → ((i : ℕ) (u : Now) → EachOnTick (go i u).log) → EachOnTick (passes first k go t).log
+each_passes zero first go t h = tt
+each_passes (suc k) first go t h = each_then (go first t) _ (h first t) (λ u. each_passes k (suc first) go u h)
+
+each_handled : (wanted : Wanted) (r : Result) (go : Now → Result) → EachOnTick r.log → ((u : Now) → EachOnTick (go u).log) →
+    EachOnTick (handler_result wanted r go).log
+unfolding handler_result
+each_handled wanted r go h k = by_exc r.exc
+  where
+    by_match : (o rest : Option Exc) → EachOnTick (handler_if_any o rest r go).log
+    by_match None rest = h
+    by_match (Some e) rest = each_followed r.log (go (now_of r)).log h (k (now_of r))
+
+    by_exc : (o : Option Exc) → EachOnTick (handler_for o wanted r go).log
+    by_exc None = h
+    by_exc (Some e) = by_match (keep wanted e) (drop wanted e)
+
+each_cleaned : (r : Result) (go : Now → Result) → EachOnTick r.log → ((u : Now) → EachOnTick (go u).log) → EachOnTick (cleanup_result r go).log
+unfolding cleanup_result
+each_cleaned r go h k = each_followed r.log (go (now_of r)).log h (k (now_of r))
+
+mutual
+  unfolding walk
+
+  -- each deadline of a walk by rounds is the first moment of a tick
+  pub each_walked : (m : Mode) (b : Steps) (here : Here) → here.clock ≡ by_rounds → (st : Stack) (t : Now) → EachOnTick (walk m b here st t).log
+  each_walked m stop here c st t = tt
+  each_walked m (step s ss) here c st t = each_then _ _ (each_step m s here c st t) (λ u. each_walked m ss here c st u)
+
+  each_step : (m : Mode) (s : Step) (here : Here) → here.clock ≡ by_rounds → (st : Stack) (t : Now) → EachOnTick (walk_step m s here st t).log
+  each_step m (sleep n) here c st t = each_sleeping here.clock st _ t.at
+  each_step m checkpoint here c st t = each_sleeping here.clock st _ t.at
+  each_step m forever here c st t = each_sleeping here.clock st _ t.at
+  each_step m (pace k) here c st t = each_pacing here.clock st _ t.at
+  each_step m (find text) here c st t = each_showing _ t
+  each_step m (head n) here c st t = each_showing _ t
+  each_step m longest here c st t = each_showing _ t
+  each_step m (need text name) here c st t = each_needing _ name here t
+  each_step m (raise name) here c st t = each_raising name here t
+  each_step m (cancel name) here c st t = each_cancelling here.clock _ t
+  each_step m (scope name d shield fail body) here c st t =
+      each_block here.clock m _ _ t.at _ shield st _ (due_on here.clock c d t.at) (λ from. each_walked m body here c _ t)
+  each_step m (nursery name d shield body) here c st t =
+      each_block here.clock m _ _ t.at _ shield st _ (due_on here.clock c d t.at)
+      (λ from. each_gathered here.clock _ _ (each_signed _ _ (each_walked m body here c _ t)))
+  each_step m (start name None body) here c st t =
+      each_child _ _ _ t (each_signed st _ (each_walked m body _ c st (only_at (a_round_after here.clock t.at))))
+  each_step m (start name (Some k) body) here c st t =
+      each_each k _ t (λ i. each_child _ _ _ t (each_signed st _ (each_walked m body _ c st (only_at (a_round_after here.clock t.at)))))
+  each_step m (repeat count body) here c st t = each_passes count 0 _ t (λ i u. each_walked m body _ c st u)
+  each_step m (attempt body handler cleanup) here c st t =
+      each_cleanup m cleanup here c st _ (each_handler m handler here c st _ (each_walked m body here c st t))
+
+  each_handler : (m : Mode) (x : Handled) (here : Here) → here.clock ≡ by_rounds → (st : Stack) (r : Result) → EachOnTick r.log →
+      EachOnTick (walk_handler m x here st r).log
+  each_handler m unhandled here c st r h = h
+  each_handler m (except name body) here c st r h = each_handled _ r _ h (λ u. each_walked m body here c st u)
+
+  each_cleanup : (m : Mode) (x : Cleaned) (here : Here) → here.clock ≡ by_rounds → (st : Stack) (r : Result) → EachOnTick r.log →
+      EachOnTick (walk_cleanup m x here st r).log
+  each_cleanup m uncleaned here c st r h = h
+  each_cleanup m (finally body) here c st r h = each_cleaned r _ h (λ u. each_walked m body here c st u)
+
+-- the deadline of a label is one of those in the log, if it has one
+abbrev pub OnTickIf : Option Tick → Type 0
+OnTickIf None = Unit {0}
+OnTickIf (Some d) = OnTick d
+
+pub deadline_on : (l : Label) (a : Log) → EachOnTick a → OnTickIf (deadline_of l a)
+deadline_on l nil h = tt
+deadline_on l (entry t e rest) h = deadline_on l rest h
+deadline_on l (sign m t rest) h = deadline_on l rest h
+deadline_on l (entered m t d rest) h = by_test (same_label l m) (deadline_on l rest h.1)
+  where
+    by_test : (b : Bool) → OnTickIf (deadline_of l rest) → OnTickIf (either (deadline_if b d) (deadline_of l rest))
+    by_test true more = h.0
+    by_test false more = more
+deadline_on l (task m s u e own rest) h = first_of (deadline_of l own) (deadline_of l rest) (deadline_on l own h.0) (deadline_on l rest h.1)
+  where
+    first_of : (a b : Option Tick) → OnTickIf a → OnTickIf b → OnTickIf (either a b)
+    first_of None b i j = j
+    first_of (Some d) b i j = i

@@ -1,0 +1,465 @@
+-- By rounds, no moment of a run has a greater round than the number of turns so far.
+use Rattle.std.proofs.Common.{◌≡◌, ◌⊎◌, ℕ, zero, suc, ◌+◌, ◌*◌, ◌/◌, ◌<◌, ◌≤◌, min, max, Bool, true, false, Option, Some, None, List, [], ◌∷◌, ◌++◌, refl, sym, ap, ◌∙◌, subst, inl, inr, arith, nat_lt, if◌then◌else◌}
+use Rattle.job_tree.specs.Tree.{Tree}
+use Rattle.job_tree.specs.Names.{GivesNamesOnce, size_of}
+use Rattle.job_tree.specs.Starting.{StartsInNurseries}
+use Rattle.exc_groups.specs.Exceptions.{Label, Exc}
+use Rattle.cancel_scopes.specs.Sight.{Tick, earlier, next, sight}
+use Rattle.job_meaning.specs.Log.{Member, Result, Table, tick_if, same_label, from_by, entered_from, least_sign, deadline_of}
+use Rattle.job_meaning.specs.Moments.{Clock, by_ticks, by_rounds, clock_of, tick_of, a_round_after, wakes_at, Now, only_at}
+use Rattle.job_meaning.specs.Walk.{by_table, latest}
+use Rattle.job_meaning.specs.Before.{upto}
+use Rattle.job_meaning.specs.Meaning.{root_here}
+use Rattle.job_meaning.specs.Follow.{follow, IsSettled}
+use Rattle.job_meaning.specs.Rest.{Event, noted, signs, enters, starts, Stopped, to_begin, asking, asleep, giving_up, awaiting, at_end}
+use Rattle.turn_semantics.specs.Midway.{Place, stack_at, Begun, Move, OwnFits}
+use Rattle.turn_semantics.specs.Placed.{IsAmong}
+use Rattle.turn_semantics.specs.Wakes.{Wake, begins, sees, gives_up, is_due, has_answer, settles, SettlesAt, SeesAt, WakesBy}
+use Rattle.turn_semantics.specs.Turned.{AllBy, MadeAt, made_sign, StopsAt, TurnsOver}
+use Rattle.interleavings.specs.Interleaving.{Started, made_least, In, Kid, RunInvariant, AllFrom, members_by}
+use Rattle.interleavings.specs.Going.{root_result, children_from, task_after_turn}
+use Rattle.interleavings.specs.Woken.{WaitIsOver, MayWake}
+use Rattle.interleavings.specs.Runs.{Reached, begun, turn, jump, turns_taken, all_weights}
+use Rattle.interleavings.specs.Laws.{round_of, RoundsAreFew, RoundsStayInTicks}
+use Rattle.interleavings.proofs.Readings.{in_either}
+use Rattle.interleavings.proofs.Contract.{stops_at}
+use Rattle.interleavings.proofs.Agreement.{same_least}
+use Rattle.interleavings.proofs.Picking.{SameTasks, front_same, interleaving_moved, from_moved}
+use Rattle.interleavings.proofs.Waking.{woken}
+use Rattle.interleavings.proofs.Running.{all_own_fit, runs_keep_invariant, runs_end}
+use Rattle.interleavings.proofs.Deadlines.{OnTick, EachOnTick, OnTickIf, first_round, each_walked, deadline_on}
+
+-- ---- rounds of moments
+
+-- the next moment is one round later, or in round 0
+round_later : (m : ℕ) → round_of (m + 1) ≤ round_of m + 1
+round_later m = omega arith
+
+round_of_max : (n x y : ℕ) → round_of x ≤ n → round_of y ≤ n → round_of (max x y) ≤ n
+round_of_max n x y h k = omega arith
+
+-- a sleep ends a round after it began, or in round 0
+round_due : (n ticks since : ℕ) → round_of since < n → round_of (wakes_at by_rounds ticks since) ≤ n
+round_due n zero since h = let a : round_of (since + 1) ≤ round_of since + 1 = round_later since in omega arith
+round_due n (suc ticks) since h =
+    let a : round_of (since + 1) ≤ round_of since + 1 = round_later since in
+    let t : ℕ = min 1099511627776 (since / 2097152 + suc ticks) in
+    let b : round_of (t * 2097152) ≡ 0 = first_round t in
+    round_of_max n (since + 1) (t * 2097152) (omega arith) (omega arith)
+
+-- the last of some ends, none of which has too great a round
+abbrev EachEnd : ℕ → List Member → Type 0
+EachEnd n [] = Unit {0}
+EachEnd n (m ∷ ms) = (round_of m.end < n) × EachEnd n ms
+
+round_last : (n u : ℕ) (ms : List Member) → round_of u < n → EachEnd n ms → round_of (latest u ms) < n
+round_last n u [] h k = h
+round_last n u (m ∷ ms) h k = round_last n (max u m.end) ms (of_two k.0) k.1
+  where
+    of_two : round_of m.end < n → round_of (max u m.end) < n
+    of_two j = omega arith
+
+-- the first moment is in round 0
+no_round : round_of 0 ≤ 0
+no_round = omega arith
+
+-- after a round that is at most the number of turns there is another one in the same tick
+has_room : (turns weights size m : ℕ) → round_of m ≤ turns → turns + weights ≤ 2 * size + 1 → size ≤ 1000000 →
+    tick_of by_rounds (m + 1) ≡ tick_of by_rounds m
+has_room turns weights size m h k l = omega arith
+
+-- ---- what is pending
+
+-- each sign among events is in a round less than n
+abbrev pub SignsBelow : ℕ → List Event → Type 0
+SignsBelow n [] = Unit {0}
+SignsBelow n (noted t e ∷ es) = SignsBelow n es
+SignsBelow n (signs l t ∷ es) = (round_of t < n) × SignsBelow n es
+SignsBelow n (enters l t d ∷ es) = SignsBelow n es
+SignsBelow n (starts i l t ∷ es) = SignsBelow n es
+
+-- a task that stopped in a moment did so in a round less than n, but for one that begins
+abbrev pub StopBelow : ℕ → ℕ → Stopped → Type 0
+StopBelow n at to_begin = round_of at ≤ n
+StopBelow n at (asking kernel purpose) = round_of at < n
+StopBelow n at (asleep paced ticks since) = (round_of at < n) × (since ≡ at)
+StopBelow n at (giving_up since) = (round_of at < n) × (since ≡ at)
+StopBelow n at (awaiting children ended e) = (round_of at < n) × (ended ≡ at)
+StopBelow n at (at_end u e) = (round_of at < n) × (u ≡ at)
+
+-- what a task has done, and what it has pending, is in few rounds where there were n turns
+pub record IsBelow (n : ℕ) (q : Started) : Type 0 where
+  pub signs : SignsBelow n q.made
+  pub stop : StopBelow n q.stop.at q.rest.stopped
+
+signs_later : (n : ℕ) (es : List Event) → SignsBelow n es → SignsBelow (n + 1) es
+signs_later n [] h = tt
+signs_later n (noted t e ∷ es) h = signs_later n es h
+signs_later n (signs l t ∷ es) h = (one_more h.0, signs_later n es h.1)
+  where
+    one_more : round_of t < n → round_of t < n + 1
+    one_more j = omega arith
+signs_later n (enters l t d ∷ es) h = signs_later n es h
+signs_later n (starts i l t ∷ es) h = signs_later n es h
+
+stop_later : (n at : ℕ) (s : Stopped) → StopBelow n at s → StopBelow (n + 1) at s
+stop_later n at to_begin h = omega arith
+stop_later n at (asking kernel purpose) h = omega arith
+stop_later n at (asleep paced ticks since) h = let a : round_of at < n = h.0 in (omega arith, h.1)
+stop_later n at (giving_up since) h = let a : round_of at < n = h.0 in (omega arith, h.1)
+stop_later n at (awaiting children ended e) h = let a : round_of at < n = h.0 in (omega arith, h.1)
+stop_later n at (at_end u e) h = let a : round_of at < n = h.0 in (omega arith, h.1)
+
+below_later : (n : ℕ) (q : Started) → IsBelow n q → IsBelow (n + 1) q
+below_later n q h = record { signs = signs_later n q.made h.signs; stop = stop_later n q.stop.at q.rest.stopped h.stop }
+
+signs_append : (n : ℕ) (xs ys : List Event) → SignsBelow n xs → SignsBelow n ys → SignsBelow n (xs ++ ys)
+signs_append n [] ys h k = k
+signs_append n (noted t e ∷ xs) ys h k = signs_append n xs ys h k
+signs_append n (signs l t ∷ xs) ys h k = (h.0, signs_append n xs ys h.1 k)
+signs_append n (enters l t d ∷ xs) ys h k = signs_append n xs ys h k
+signs_append n (starts i l t ∷ xs) ys h k = signs_append n xs ys h k
+
+-- the events of a turn are in its moment
+signs_made : (n : ℕ) (clock : Clock) (t : ℕ) (ls : List Label) (es : List Event) → round_of t < n → MadeAt clock t ls es → SignsBelow n es
+signs_made n clock t ls [] h m = tt
+signs_made n clock t ls (noted u e ∷ es) h m = signs_made n clock t ls es h m.1
+signs_made n clock t ls (signs l u ∷ es) h m = (subst (λ (x : ℕ). round_of x < n) (sym m.0) h, signs_made n clock t ls es h m.2)
+signs_made n clock t ls (enters l u d ∷ es) h m = signs_made n clock t (l ∷ ls) es h m.1
+signs_made n clock t ls (starts i l u ∷ es) h m = signs_made n clock t ls es h m.1
+
+-- so is its stop
+stop_made : (n : ℕ) (clock : Clock) (t : ℕ) (f : Table) (ps : List Place) (s : Stopped) → round_of t < n → StopsAt clock t f (Some s) ps → StopBelow n t s
+stop_made n clock t f ps to_begin h k = absurd k
+stop_made n clock t f ps (asking kernel purpose) h k = h
+stop_made n clock t f ps (asleep paced ticks since) h k = (h, k.0)
+stop_made n clock t f ps (giving_up since) h k = (h, k)
+stop_made n clock t f ps (awaiting children ended e) h k = (h, k)
+stop_made n clock t f ps (at_end u e) h k = (h, k)
+
+-- ---- what is seen
+
+-- the first sign among events is in a round less than n
+abbrev SignBelow : ℕ → Tick → Type 0
+SignBelow n None = Unit {0}
+SignBelow n (Some t) = round_of t < n
+
+sign_earlier : (n : ℕ) (a b : Tick) → SignBelow n a → SignBelow n b → SignBelow n (earlier a b)
+sign_earlier n None b h k = k
+sign_earlier n (Some t) None h k = h
+sign_earlier n (Some t) (Some u) h k = by_order (nat_lt u t)
+  where
+    by_order : (b : Bool) → round_of (if b then u else t) < n
+    by_order true = k
+    by_order false = h
+
+sign_if : (n : ℕ) (b : Bool) (t : ℕ) → round_of t < n → SignBelow n (tick_if b t)
+sign_if n true t h = h
+sign_if n false t h = tt
+
+made_below : (n : ℕ) (l : Label) (es : List Event) → SignsBelow n es → SignBelow n (made_sign l es)
+made_below n l [] h = tt
+made_below n l (noted t e ∷ es) h = made_below n l es h
+made_below n l (signs m t ∷ es) h = sign_earlier n _ _ (sign_if n (same_label l m) t h.0) (made_below n l es h.1)
+made_below n l (enters m t d ∷ es) h = made_below n l es h
+made_below n l (starts i m t ∷ es) h = made_below n l es h
+
+-- the first sign that any task made before c is in a round less than n, if there is one
+upto_below : (n c : ℕ) (a : Tick) → SignBelow n a → upto c a < c → round_of (upto c a) < n
+upto_below n c None h lt = absurd (omega arith)
+upto_below n c (Some t) h lt = subst (λ (x : ℕ). round_of x < n) (omega arith) h
+
+least_below : (n c : ℕ) (l : Label) (qs : List Started) → ((q : Started) → In q qs → IsBelow n q) → made_least c l qs < c →
+    round_of (made_least c l qs) < n
+unfolding made_least
+least_below n c l [] h lt = absurd (omega arith)
+least_below n c l (q ∷ qs) h lt =
+    of_two (upto c (made_sign l q.made)) (made_least c l qs)
+    (upto_below n c (made_sign l q.made) (made_below n l q.made (h q (inl refl)).signs))
+    (least_below n c l qs (λ x i. h x (inr i))) lt
+  where
+    of_two : (a b : ℕ) → (a < c → round_of a < n) → (b < c → round_of b < n) → min a b < c → round_of (min a b) < n
+    of_two a b i j lt = by_order (split a b)
+      where
+        split : (a b : ℕ) → (a ≤ b) ⊎ (b ≤ a)
+        split a b = grind arith
+
+        by_order : (a ≤ b) ⊎ (b ≤ a) → round_of (min a b) < n
+        by_order (inl le) = subst (λ (x : ℕ). round_of x < n) (omega arith) (i (omega arith))
+        by_order (inr le) = subst (λ (x : ℕ). round_of x < n) (omega arith) (j (omega arith))
+
+-- a label is cancelled from t on: by its deadline, or by a sign in the moment before
+from_is : (D s : Tick) (t : ℕ) → from_by D s ≡ Some t → (D ≡ Some t) ⊎ (next s ≡ Some t)
+from_is None s t e = inr e
+from_is (Some d) None t e = inl e
+from_is (Some d) (Some u) t e = by_order (nat_lt (u + 1) d) e
+  where
+    by_order : (b : Bool) → Some (if b then u + 1 else d) ≡ Some t → (Some d ≡ Some t) ⊎ (Some (u + 1) ≡ Some t)
+    by_order true g = inr g
+    by_order false g = inl g
+
+none_is : (t : ℕ) → None ≡ Some t → ⊥
+none_is t e = cc
+
+next_is : (s : Tick) (t : ℕ) → next s ≡ Some t → (u : ℕ) × (s ≡ Some u) × (u + 1 ≡ t)
+next_is None t e = cc
+next_is (Some u) t e = (u, refl, some_same (u + 1) t e)
+  where
+    some_same : (x y : ℕ) → Some x ≡ Some y → x ≡ y
+    some_same x y e = cc
+
+-- what is seen on a stack from t on is a from of one of its levels
+sight_is : (k : Table) (t : ℕ) (P : Type 0) → ((l : Label) → k l ≡ Some t → P) → (ps : List Place) → sight (stack_at k ps) ≡ Some t → P
+sight_is k t P h [] e = absurd (none_is t e)
+sight_is k t P h (p ∷ ps) e = by_shield p.shield e (sight_is k t P h ps)
+  where
+    of_two : (a b : Tick) → (a ≡ Some t → P) → (b ≡ Some t → P) → earlier a b ≡ Some t → P
+    of_two None b i j g = j g
+    of_two (Some x) None i j g = i g
+    of_two (Some x) (Some y) i j g = by_order (nat_lt y x) g
+      where
+        by_order : (b : Bool) → Some (if b then y else x) ≡ Some t → P
+        by_order true g = j g
+        by_order false g = i g
+
+    by_shield : (b : Bool) → (if b then k p.label else earlier (k p.label) (sight (stack_at k ps))) ≡ Some t →
+        (sight (stack_at k ps) ≡ Some t → P) → P
+    by_shield true g more = h p.label g
+    by_shield false g more = of_two (k p.label) (sight (stack_at k ps)) (h p.label) more g
+
+-- ---- a turn
+
+-- the deadlines of following a table
+follow_on : (k : Table) (job : Tree) (input : List ℕ) → clock_of job.format ≡ by_rounds → EachOnTick (follow k job input).log
+unfolding follow
+follow_on k job input c = each_walked (by_table k) job.steps (root_here job input) c [] (only_at 0)
+
+module _ (k f : Table) (job : Tree) (input : List ℕ) (settled : IsSettled k job input) (on : EachOnTick (follow k job input).log)
+    (qs : List Started) (o : RunInvariant k f (root_result k job input) qs) (t : ℕ) (from : AllFrom k qs t)
+    (n : ℕ) (all : (q : Started) → In q qs → IsBelow n q) where
+  -- a label that is cancelled from the moment on is so by its deadline, or by a sign that some task made
+  from_below : (l : Label) → k l ≡ Some t → round_of t ≤ n
+  from_below l e =
+      by_entry (deadline_of l (follow k job input).log) (deadline_on l (follow k job input).log on) (sym (settled l) ∙ e)
+    where
+      by_sign : (u : ℕ) → least_sign l (follow k job input).log ≡ Some u → u + 1 ≡ t → round_of t ≤ n
+      by_sign u g h =
+          let a : upto t (least_sign l (follow k job input).log) ≡ made_least t l qs = same_least k f (root_result k job input) qs o t from l in
+          let b : min t u ≡ made_least t l qs = sym (ap (λ (x : Tick). upto t x) g) ∙ a in
+          let c : made_least t l qs ≡ u = omega arith in
+          let d : round_of u < n =
+          subst (λ (x : ℕ). round_of x < n) c (least_below n t l qs all (omega arith)) in
+          let j : round_of (u + 1) ≤ round_of u + 1 = round_later u in
+          subst (λ (x : ℕ). round_of x ≤ n) h (omega arith)
+
+      by_from : (d : Tick) → OnTick d → (d ≡ Some t) ⊎ (next (least_sign l (follow k job input).log) ≡ Some t) → round_of t ≤ n
+      by_from d first (inl g) = let a : round_of t ≡ 0 = subst OnTick g first in omega arith
+      by_from d first (inr g) = let h : _ = next_is (least_sign l (follow k job input).log) t g in by_sign h.0 h.1 h.2
+
+      by_entry : (x : Option Tick) → OnTickIf x → entered_from x (least_sign l (follow k job input).log) ≡ Some t → round_of t ≤ n
+      by_entry None first g = absurd (none_is t g)
+      by_entry (Some d) first g = by_from d first (from_is d (least_sign l (follow k job input).log) t g)
+
+  module _ (q : Started) (i : In q qs) (by : q.here.clock ≡ by_rounds) where
+    -- the children for which a task waits have ended in few rounds
+    ends_below : (ends : ℕ → Member) (is : List ℕ) → ((j : ℕ) → IsAmong j is → j < q.count) →
+        ((j : ℕ) → IsAmong j is → (c : Started) → In c qs → c.serial ≡ q.child j → c.rest.stopped ≡ at_end (ends j).end (ends j).exc) →
+        EachEnd n (members_by ends is)
+    ends_below ends [] few over = tt
+    ends_below ends (j ∷ is) few over =
+        let c : Kid qs q j = o.kids q i j (few j (inl refl)) in
+        let b : (round_of c.kid.stop.at < n) × ((ends j).end ≡ c.kid.stop.at) =
+        subst (StopBelow n c.kid.stop.at) (over j (inl refl) c.kid c.among c.serial) (all c.kid c.among).stop in (
+          subst (λ (x : ℕ). round_of x < n) (sym b.1) b.0,
+          ends_below ends is (λ m x. few m (inr x)) (λ m x. over m (inr x)),
+        )
+
+    settled_below : (x e : Option Exc) (ms : List Member) (ended : ℕ) (ps : List Place) → round_of ended < n → EachEnd n ms →
+        SettlesAt q.here.clock t x ms ended e ps → round_of t ≤ n
+    settled_below x e ms ended [] h k s = absurd s
+    settled_below x e ms ended (p ∷ ps) h k s =
+        let a : latest ended ms + 1 ≡ t = sym (ap (λ (c : Clock). a_round_after c (latest ended ms)) by) ∙ s.0 in
+        let b : round_of (latest ended ms) < n = round_last n ended ms h k in
+        let c : round_of (latest ended ms + 1) ≤ round_of (latest ended ms) + 1 = round_later (latest ended ms) in
+        subst (λ (z : ℕ). round_of z ≤ n) a (omega arith)
+
+    seen_below : (since : ℕ) → round_of since < n → SeesAt q.here.clock since t (stack_at k q.places) → round_of t ≤ n
+    seen_below since h (inl e) = sight_is k t (round_of t ≤ n) from_below q.places e
+    seen_below since h (inr e) =
+        let a : since + 1 ≡ t = sym (ap (λ (c : Clock). a_round_after c since) by) ∙ e.0 in
+        let b : round_of (since + 1) ≤ round_of since + 1 = round_later since in
+        subst (λ (z : ℕ). round_of z ≤ n) a (omega arith)
+
+    due_below : (ticks since : ℕ) → round_of since < n → wakes_at q.here.clock ticks since ≡ t → round_of t ≤ n
+    due_below ticks since h e =
+        subst (λ (z : ℕ). round_of z ≤ n) (sym (ap (λ (c : Clock). wakes_at c ticks since) by) ∙ e) (round_due n ticks since h)
+
+    stopped_in : (since : ℕ) → round_of q.stop.at < n → since ≡ q.stop.at → round_of since < n
+    stopped_in since h e = subst (λ (z : ℕ). round_of z < n) (sym e) h
+
+    by_stop : (own : List Label) (wake : Wake) (s : Stopped) → StopBelow n q.stop.at s →
+        WakesBy k q.told q.here q.stop (record { at = t; own = own }) wake s q.places →
+        MayWake f qs (record { at = t; own = own }) q wake s → round_of t ≤ n
+    by_stop own begins to_begin b w h = subst (λ (v : Now). round_of v.at ≤ n) h b
+    by_stop own begins (asking kernel purpose) b w h = absurd h
+    by_stop own begins (asleep paced ticks since) b w h = absurd h
+    by_stop own begins (giving_up since) b w h = absurd h
+    by_stop own begins (awaiting children ended e) b w h = absurd h
+    by_stop own begins (at_end u e) b w h = absurd h
+    by_stop own (has_answer a) to_begin b w h = absurd h
+    by_stop own (has_answer a) (asking kernel purpose) b w h = subst (λ (v : Now). round_of v.at ≤ n) h.0 (omega arith)
+    by_stop own (has_answer a) (asleep paced ticks since) b w h = absurd h
+    by_stop own (has_answer a) (giving_up since) b w h = absurd h
+    by_stop own (has_answer a) (awaiting children ended e) b w h = absurd h
+    by_stop own (has_answer a) (at_end u e) b w h = absurd h
+    by_stop own is_due to_begin b w h = absurd h
+    by_stop own is_due (asking kernel purpose) b w h = absurd h
+    by_stop own is_due (asleep paced ticks since) b w h = due_below ticks since (stopped_in since b.0 b.1) h.0
+    by_stop own is_due (giving_up since) b w h = absurd h
+    by_stop own is_due (awaiting children ended e) b w h = absurd h
+    by_stop own is_due (at_end u e) b w h = absurd h
+    by_stop own sees to_begin b w h = absurd h
+    by_stop own sees (asking kernel purpose) b w h = absurd h
+    by_stop own sees (asleep paced ticks since) b w h = seen_below since (stopped_in since b.0 b.1) w.2
+    by_stop own sees (giving_up since) b w h = absurd h
+    by_stop own sees (awaiting children ended e) b w h = absurd h
+    by_stop own sees (at_end u e) b w h = absurd h
+    by_stop own gives_up to_begin b w h = absurd h
+    by_stop own gives_up (asking kernel purpose) b w h = absurd h
+    by_stop own gives_up (asleep paced ticks since) b w h = absurd h
+    by_stop own gives_up (giving_up since) b w h =
+        let a : round_of since < n = stopped_in since b.0 b.1 in
+        let c : round_of (since + 1) ≤ round_of since + 1 = round_later since in
+        let d : since + 1 ≡ t = omega (arith, h.0) in
+        subst (λ (z : ℕ). round_of z ≤ n) d (omega arith)
+    by_stop own gives_up (awaiting children ended e) b w h = absurd h
+    by_stop own gives_up (at_end u e) b w h = absurd h
+    by_stop own (settles x) to_begin b w h = absurd h
+    by_stop own (settles x) (asking kernel purpose) b w h = absurd h
+    by_stop own (settles x) (asleep paced ticks since) b w h = absurd h
+    by_stop own (settles x) (giving_up since) b w h = absurd h
+    by_stop own (settles x) (awaiting children ended e) b w h =
+        let over : WaitIsOver qs q t children ended e x = h.0 in
+        settled_below x e (members_by over.ends children) ended q.places (stopped_in ended b.0 b.1)
+        (ends_below over.ends children over.numbers over.over) over.settled
+    by_stop own (settles x) (at_end u e) b w h = absurd h
+
+    -- the moment in which a task may be woken is in a round of at most the number of turns so far
+    pub woken_below : (own : List Label) (wake : Wake) → OwnFits q.here.clock q.stop.own →
+        MayWake f qs (record { at = t; own = own }) q wake q.rest.stopped → round_of t ≤ n
+    woken_below own wake fits h =
+        by_stop own wake q.rest.stopped (all q i).stop
+        (woken k f (root_result k job input) qs o t from q i own wake fits h q.told (λ j lt. refl)) h
+
+-- ---- a run
+
+-- children that begin in few rounds
+begun_below : (n : ℕ) (k : Table) (t m : ℕ) (bs : List Begun) → round_of t ≤ n → (x : Started) → In x (children_from k t m bs) → IsBelow n x
+unfolding children_from
+begun_below n k t m [] h x i = absurd i
+begun_below n k t m (b ∷ bs) h x (inl e) = subst (λ (z : Started). IsBelow n z) (sym e) (record { signs = tt; stop = h })
+begun_below n k t m (b ∷ bs) h x (inr i) = begun_below n k t (suc m) bs h x i
+
+-- after a turn in a round of at most n all is in a round of at most n + 1
+turned_below : (n : ℕ) (k f : Table) (now : Now) (m : ℕ) (q : Started) (others : List Started) (wake : Wake) (o : Move) (s : Stopped) →
+    ((x : Started) → In x (q ∷ others) → IsBelow n x) → q.here.clock ≡ by_rounds → round_of now.at ≤ n →
+    TurnsOver q.stop now q.here f wake q.rest q.places q.count o → o.stopped ≡ Some s →
+    (x : Started) → In x ((task_after_turn k now m q o s ∷ children_from k (a_round_after q.here.clock now.at) m o.begun) ++ others) →
+    IsBelow (n + 1) x
+turned_below n k f now m q others wake o s all by h w e x (inl g) =
+    subst (λ (z : Started). IsBelow (n + 1) z) (sym g) (record {
+      signs =
+          signs_append (n + 1) q.made o.made (signs_later n q.made (all q (inl refl)).signs)
+          (signs_made (n + 1) q.here.clock now.at _ o.made (omega arith) w.made_now);
+      stop = stop_made (n + 1) q.here.clock now.at _ o.places s (omega arith) (stops_at now f wake q o s w e);
+    })
+turned_below n k f now m q others wake o s all by h w e x (inr i) =
+    by_place (in_either x (children_from k (a_round_after q.here.clock now.at) m o.begun) others i)
+  where
+    child_round : round_of (a_round_after q.here.clock now.at) ≤ n + 1
+    child_round =
+        let a : round_of (now.at + 1) ≤ round_of now.at + 1 = round_later now.at in
+        subst (λ (c : Clock). round_of (a_round_after c now.at) ≤ n + 1) (sym by) (omega arith)
+
+    by_place : In x (children_from k (a_round_after q.here.clock now.at) m o.begun) ⊎ In x others → IsBelow (n + 1) x
+    by_place (inl j) = begun_below (n + 1) k (a_round_after q.here.clock now.at) m o.begun child_round x j
+    by_place (inr j) = below_later n x (all x (inr j))
+
+-- children that begin count by this clock
+begun_count : (clock : Clock) (k : Table) (t m : ℕ) (bs : List Begun) → AllBy clock bs → (x : Started) → In x (children_from k t m bs) →
+    x.here.clock ≡ clock
+unfolding children_from
+begun_count clock k t m [] h x i = absurd i
+begun_count clock k t m (b ∷ bs) h x (inl e) = ap (λ (z : Started). z.here.clock) e ∙ h.0
+begun_count clock k t m (b ∷ bs) h x (inr i) = begun_count clock k t (suc m) bs h.1 x i
+
+-- each task of a run counts by the clock of the job
+same_clock : (k : Table) (job : Tree) (input : List ℕ) (f : Table) (t m : ℕ) (qs : List Started) → Reached k job input f t m qs →
+    (q : Started) → In q qs → q.here.clock ≡ clock_of job.format
+same_clock k job input f t m _ (begun f') x (inl e) = ap (λ (z : Started). z.here.clock) e
+same_clock k job input f t m _ (begun f') x (inr i) = absurd i
+same_clock k job input f t m _ (turn g now p q qs others wake o s r at may goes stopped) x i =
+    after x i (λ y j. same_clock k job input g now.at p qs r y j)
+  where
+    same : SameTasks qs (q ∷ others)
+    same = front_same q qs others at
+
+    Before : Type 0
+    Before = (y : Started) → In y qs → y.here.clock ≡ clock_of job.format
+
+    by_place : (x : Started) → In x (children_from k (a_round_after q.here.clock now.at) p o.begun) ⊎ In x others → Before →
+        x.here.clock ≡ clock_of job.format
+    by_place x (inl j) h = begun_count q.here.clock k (a_round_after q.here.clock now.at) p o.begun goes.clocks x j ∙ h q (same.back q (inl refl))
+    by_place x (inr j) h = h x (same.back x (inr j))
+
+    after : (x : Started) → In x ((task_after_turn k now p q o s ∷ children_from k (a_round_after q.here.clock now.at) p o.begun) ++ others) → Before →
+        x.here.clock ≡ clock_of job.format
+    after x (inl e) h = ap (λ (z : Started). z.here.clock) e ∙ h q (same.back q (inl refl))
+    after x (inr j) h = by_place x (in_either x (children_from k (a_round_after q.here.clock now.at) p o.begun) others j) h
+same_clock k job input f t m qs (jump g v u p qs' r le blocked) x i = same_clock k job input g v p qs' r x i
+
+module _ (k : Table) (job : Tree) (input : List ℕ) (names : GivesNamesOnce job) (nurseries : StartsInNurseries job)
+    (settled : IsSettled k job input) (clocked : clock_of job.format ≡ by_rounds) where
+  -- what each task has done, and what it has pending, is in a round of at most the number of turns
+  all_below : (f : Table) (t m : ℕ) (qs : List Started) → (r : Reached k job input f t m qs) → (q : Started) → In q qs →
+      IsBelow (turns_taken r) q
+  all_below f t m _ (begun f') x (inl e) =
+      subst (λ (z : Started). IsBelow 0 z) (sym e) (record { signs = tt; stop = no_round })
+  all_below f t m _ (begun f') x (inr i) = absurd i
+  all_below f t m _ (turn g now p q qs others wake o s r at may goes stopped) x i =
+      let same : SameTasks qs (q ∷ others) = front_same q qs others at in
+      let by : q.here.clock ≡ by_rounds = same_clock k job input g now.at p qs r q (same.back q (inl refl)) ∙ clocked in
+      let kept : _ = runs_keep_invariant k job input settled names nurseries g now.at p qs r in
+      let all : (y : Started) → In y (q ∷ others) → IsBelow (turns_taken r) y = λ y j. all_below g now.at p qs r y (same.back y j) in
+      let whole : Result = root_result k job input in
+      turned_below (turns_taken r) k g now p q others wake o s all by
+      (woken_below k g job input settled (follow_on k job input clocked) (q ∷ others) (interleaving_moved k g whole qs (q ∷ others) same kept.0) now.at
+      (from_moved k g whole qs (q ∷ others) same now.at kept.1) (turns_taken r) all q (inl refl) by
+      now.own wake (all_own_fit k job input g now.at p qs r q (same.back q (inl refl))) may)
+      goes stopped x i
+  all_below f t m qs (jump g v u p qs' r le blocked) x i = all_below g v p qs' r x i
+
+-- ---- the laws
+
+stop_within : (n at : ℕ) (s : Stopped) → StopBelow n at s → round_of at ≤ n
+stop_within n at to_begin h = h
+stop_within n at (asking kernel purpose) h = omega arith
+stop_within n at (asleep paced ticks since) h = let a : round_of at < n = h.0 in omega arith
+stop_within n at (giving_up since) h = let a : round_of at < n = h.0 in omega arith
+stop_within n at (awaiting children ended e) h = let a : round_of at < n = h.0 in omega arith
+stop_within n at (at_end u e) h = let a : round_of at < n = h.0 in omega arith
+
+-- no round is greater than the number of turns
+pub rounds_are_few : RoundsAreFew
+rounds_are_few k job input names nurseries settled clocked f t m qs r q i =
+    stop_within (turns_taken r) q.stop.at q.rest.stopped (all_below k job input names nurseries settled clocked f t m qs r q i).stop
+
+-- so none overflows into the next tick
+pub rounds_stay_in_ticks : RoundsStayInTicks
+rounds_stay_in_ticks k job input names nurseries settled small f t m qs r q i = by_clock (clock_of job.format) refl
+  where
+    by_clock : (clock : Clock) → clock_of job.format ≡ clock → tick_of clock (a_round_after clock q.stop.at) ≡ tick_of clock q.stop.at
+    by_clock by_ticks e = refl
+    by_clock by_rounds e =
+        has_room (turns_taken r) (all_weights qs) (size_of job.steps) q.stop.at
+        (rounds_are_few k job input names nurseries settled e f t m qs r q i) (runs_end k job input f t m qs r) small
