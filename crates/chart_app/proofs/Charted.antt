@@ -59,13 +59,13 @@ job_charted form job input limit ending verdict clock table until events walked 
 -- ---- the drawing of an index over the events
 
 pub svg_drawn : (clock : Clock) (form : Form) (width : ℕ) (table : Table) (until : Tick) (walked known : List Event) (bars : List Bar)
-    (r : Result (Vec ℕ) AllocError) → form ≡ Svg width → known ≡ walked → bars ≡ bars_of table until known →
+    (r : Result (Vec ℕ) AllocError) → form ≡ Svg width → known ≡ walked → bars ≡ bars_of clock table until known →
     IfOk r (λ bytes. bytes.items ≡ chart_svg clock width table until walked bars) →
     IfOk r (λ bytes. bytes.items ≡ chart_of clock form table until walked)
 svg_drawn clock form width table until walked known bars r is same bars_are drawn =
     subst (λ (f : Form). IfOk r (λ bytes. bytes.items ≡ chart_of clock f table until walked)) (sym is)
     (subst (λ (bs : List Bar). IfOk r (λ bytes. bytes.items ≡ chart_svg clock width table until walked bs))
-    (bars_are ∙ ap (bars_of table until) same) drawn)
+    (bars_are ∙ ap (bars_of clock table until) same) drawn)
 
 -- ---- the verdict on a text
 

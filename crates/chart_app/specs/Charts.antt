@@ -22,8 +22,8 @@ use Rattle.chart_app.specs.declared.form.Form.TheVariants.{Text, Svg}
 
 -- a chart of these events by a table, of a story that is whole or cut off at a limit
 abbrev pub chart_of : Clock → Form → Table → Tick → List Event → List ℕ
-chart_of clock (Text width) table until walked = chart_text width until walked (bars_of table until walked)
-chart_of clock (Svg width) table until walked = chart_svg clock width table until walked (bars_of table until walked)
+chart_of clock (Text width) table until walked = chart_text clock width until walked (bars_of clock table until walked)
+chart_of clock (Svg width) table until walked = chart_svg clock width table until walked (bars_of clock table until walked)
 
 -- the chart of a meaning: whole where it ends by the limit, and up to the limit otherwise
 abbrev pub meaning_chart : Form → ℕ → Tree → List ℕ → List ℕ

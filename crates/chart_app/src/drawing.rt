@@ -29,9 +29,9 @@ pub(crate) fn chart_of(
     ensures well { IfOk result (λ bytes. IsInForm form bytes.items) }
 {
     let index = StoryIndex::of(alloc, walked)?;
-    let bars = index.bars(alloc, froms, until)?;
+    let bars = index.bars(alloc, clock, froms, until)?;
     match form {
-        Form::Text { width } => chart_text(alloc, width, until, walked, bars.as_slice()),
+        Form::Text { width } => chart_text(alloc, clock, width, until, walked, bars.as_slice()),
         Form::Svg { width } => svg(alloc, clock, width, until, walked, froms, bars.as_slice()),
     }
 }

@@ -2,16 +2,17 @@
 use Rattle.std.proofs.Common.{◌≡◌, refl, sym, ap, ◌∙◌}
 use Rattle.std.specs.Prelude.{ℕ, List, [], ◌∷◌, ◌++◌}
 use Rattle.cancel_scopes.specs.Sight.{Tick}
+use Rattle.job_meaning.specs.Moments.{Clock, tick_of}
 use Rattle.job_story.specs.Events.{Event}
 use Rattle.chart_bars.specs.Ticks.{if_tick, ticks_of_events, all_ticks}
 
-events_then : (es : List Event) (ts : List ℕ) → ticks_of_events es ts ≡ ticks_of_events es [] ++ ts
-events_then [] ts = refl
-events_then (e ∷ es) ts = ap (λ us. e.tick ∷ us) (events_then es ts)
+events_then : (clock : Clock) (es : List Event) (ts : List ℕ) → ticks_of_events clock es ts ≡ ticks_of_events clock es [] ++ ts
+events_then clock [] ts = refl
+events_then clock (e ∷ es) ts = ap (λ us. tick_of clock e.tick ∷ us) (events_then clock es ts)
 
 -- all of them are those of the events, then the limit
-pub ticks_in_order : (es : List Event) (until : Tick) (none ts us : List ℕ) →
-    none ≡ [] → ts ≡ none ++ ticks_of_events es [] → us ≡ ts ++ if_tick until [] → us ≡ all_ticks es until
-ticks_in_order es until none ts us start first last =
-    last ∙ ap (λ xs. xs ++ if_tick until []) (first ∙ ap (λ xs. xs ++ ticks_of_events es []) start)
-    ∙ sym (events_then es (if_tick until []))
+pub ticks_in_order : (clock : Clock) (es : List Event) (until : Tick) (none ts us : List ℕ) →
+    none ≡ [] → ts ≡ none ++ ticks_of_events clock es [] → us ≡ ts ++ if_tick until [] → us ≡ all_ticks clock es until
+ticks_in_order clock es until none ts us start first last =
+    last ∙ ap (λ xs. xs ++ if_tick until []) (first ∙ ap (λ xs. xs ++ ticks_of_events clock es []) start)
+    ∙ sym (events_then clock es (if_tick until []))

@@ -3,19 +3,20 @@ use Rattle.std.specs.Prelude.{ℕ, Bool, true, false, ◌&&◌, Option, Some, No
 use Rattle.exc_groups.specs.Exceptions.{Label}
 use Rattle.cancel_scopes.specs.Sight.{Tick}
 use Rattle.job_meaning.specs.Log.{Table, same_label}
+use Rattle.job_meaning.specs.Moments.{Clock, tick_of}
 use Rattle.job_story.specs.Story.{enters, leaves}
 use Rattle.job_story.specs.Events.{What, happens, Event}
 use Rattle.job_story.specs.Limit.{is_start, is_end}
 
 -- The bar of a task begins with its start and ends with its end, and the events of the task are its own. The bar of a scope or
 -- nursery begins where it is entered and ends where it is left, and has no events of its own. A bar has no end if the events do
--- not contain it. The bar of a scope or nursery has the tick from which it is cancelled, if that comes between entering and
+-- not contain it. The bar of a scope or nursery has the moment from which it is cancelled, if that comes between entering and
 -- leaving.
 pub record Bar : Type 0 where
   pub first : Event
   pub last : Option Event
   pub own : List Event
-  pub cancelled : Tick
+  pub cancelled : Option ℕ
 
 -- ---- tasks
 
@@ -45,42 +46,43 @@ abbrev pub left_in : Label → List Event → Option Event
 left_in l [] = None
 left_in l (e ∷ es) = if is_left l e.what then Some e else left_in l es
 
--- whether a tick is not after an event, or not after the limit where there is no event
-abbrev pub is_by : Tick → Option Event → ℕ → Bool
-is_by until (Some e) t = nat_le t e.tick
-is_by (Some limit) None t = nat_le t limit
-is_by None None t = true
+-- whether a moment is not after an event, or, where there is no event, its tick is not after the limit
+abbrev pub is_by : Clock → Tick → Option Event → ℕ → Bool
+is_by clock until (Some e) m = nat_le m e.tick
+is_by clock (Some limit) None m = nat_le (tick_of clock m) limit
+is_by clock None None m = true
 
--- a tick, if it is not before the first event and not after the last one or the limit
-abbrev pub tick_between : Tick → Event → Option Event → Tick → Tick
-tick_between until e last None = None
-tick_between until e last (Some t) = if nat_le e.tick t && is_by until last t then Some t else None
+-- a moment, if it is not before the first event and not after the last one or the limit
+abbrev pub moment_between : Clock → Tick → Event → Option Event → Option ℕ → Option ℕ
+moment_between clock until e last None = None
+moment_between clock until e last (Some m) = if nat_le e.tick m && is_by clock until last m then Some m else None
 
-abbrev pub block_bar : Table → Tick → List Event → Label → Event → Bar
-block_bar table until all l e =
-    record { first = e; last = left_in l all; own = []; cancelled = tick_between until e (left_in l all) (table l) }
+abbrev pub block_bar : Clock → Table → Tick → List Event → Label → Event → Bar
+block_bar clock table until all l e =
+    record { first = e; last = left_in l all; own = []; cancelled = moment_between clock until e (left_in l all) (table l) }
 
 -- the bar of the scope or nursery that is entered with this event, if one is
-abbrev pub with_block : Table → Tick → List Event → Event → What → List Bar → List Bar
-with_block table until all e (happens (enters kind label deadline shield)) others = block_bar table until all label e ∷ others
-with_block table until all e _ others = others
+abbrev pub with_block : Clock → Table → Tick → List Event → Event → What → List Bar → List Bar
+with_block clock table until all e (happens (enters kind label deadline shield)) others =
+    block_bar clock table until all label e ∷ others
+with_block clock table until all e _ others = others
 
-abbrev pub block_bars : Table → Tick → List Event → List Event → List Bar
-block_bars table until all [] = []
-block_bars table until all (e ∷ es) = with_block table until all e e.what (block_bars table until all es)
+abbrev pub block_bars : Clock → Table → Tick → List Event → List Event → List Bar
+block_bars clock table until all [] = []
+block_bars clock table until all (e ∷ es) = with_block clock table until all e e.what (block_bars clock table until all es)
 
 -- ---- all of them
 
 -- the bars of a task that starts with this event: its own, and below it those of the scopes and nurseries that it entered
-abbrev pub bars_at : Table → Tick → List Event → Event → List Bar
-bars_at table until all e =
-    if is_start e.what then task_bar all e ∷ block_bars table until all (of_task e.task all) else []
+abbrev pub bars_at : Clock → Table → Tick → List Event → Event → List Bar
+bars_at clock table until all e =
+    if is_start e.what then task_bar all e ∷ block_bars clock table until all (of_task e.task all) else []
 
-abbrev pub bars_from : Table → Tick → List Event → List Event → List Bar
-bars_from table until all [] = []
-bars_from table until all (e ∷ es) = bars_at table until all e ++ bars_from table until all es
+abbrev pub bars_from : Clock → Table → Tick → List Event → List Event → List Bar
+bars_from clock table until all [] = []
+bars_from clock table until all (e ∷ es) = bars_at clock table until all e ++ bars_from clock table until all es
 
 -- the bars of a story, whole or up to a limit, from its events in the order of the walk: tasks in the order in which the walk
 -- starts them
-abbrev pub bars_of : Table → Tick → List Event → List Bar
-bars_of table until es = bars_from table until es es
+abbrev pub bars_of : Clock → Table → Tick → List Event → List Bar
+bars_of clock table until es = bars_from clock table until es es

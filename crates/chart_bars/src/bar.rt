@@ -10,7 +10,7 @@ pub struct Bar<'i, 'e> {
     pub last: Option<&'e Event>,
     /// The events of the task, in the order of the walk. Empty for a scope or nursery.
     pub own: &'i [&'e Event],
-    /// The tick from which a scope or nursery is cancelled, if it comes between entering and leaving, and `None` otherwise.
-    /// `None` for a task.
+    /// The moment from which a scope or nursery is cancelled, if it comes between entering and leaving, and `None` otherwise.
+    /// `None` for a task. The clock of the story says in which tick the moment is.
     pub cancelled: Option<u64>,
 }

@@ -3,29 +3,32 @@ ghost use Rattle.story_causes.specs.Seen.{event_in};
 ghost use Rattle.chart_bars.specs.Ticks.{if_tick, ticks_of_events, all_ticks};
 
 use job_story::Event;
+use moments::Clock;
 use std::alloc::{AllocError, Global};
 
 /// Returns the ticks at which something happens: the tick of each event, so that a tick occurs once for each of its events, and
-/// then the limit at which a story is cut off (`until`), if there is one. Returns `AllocError` if memory is refused.
+/// then the limit at which a story is cut off (`until`), if there is one. `clock` says how the moments of the events are counted.
+/// Returns `AllocError` if memory is refused.
 pub fn all_ticks(
     alloc: Global,
+    clock: Clock,
     events: &[&Event],
     until: Option<u64>,
 ) -> Result<Vec<u64>, AllocError>
-    ensures { IfOk result (λ ticks. ticks.items ≡ all_ticks (map event_in events.now) until) }
+    ensures { IfOk result (λ ticks. ticks.items ≡ all_ticks clock (map event_in events.now) until) }
 {
     let mut ticks = Vec::new(alloc);
-    push_events(&mut ticks, events)?;
+    push_events(&mut ticks, clock, events)?;
     push_tick(&mut ticks, until)?;
     Ok(ticks)
 }
 
 // Appends the tick of each event.
-fn push_events(ticks: &mut Vec<u64>, events: &[&Event]) -> Result<(), AllocError>
-    ensures { OnOk result (ticks.new.items ≡ ticks.old.items ++ ticks_of_events (map event_in events.now) []) }
+fn push_events(ticks: &mut Vec<u64>, clock: Clock, events: &[&Event]) -> Result<(), AllocError>
+    ensures { OnOk result (ticks.new.items ≡ ticks.old.items ++ ticks_of_events clock (map event_in events.now) []) }
 {
     'events: for event in events {
-        ticks.push(event.tick)?;
+        ticks.push(clock.tick_of(event.tick))?;
     }
     Ok(())
 }

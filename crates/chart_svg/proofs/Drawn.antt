@@ -64,7 +64,7 @@ document_drawn sheet until all bars width height empty a b new none w h p q r =
 pub drawing_is : (clock : Clock) (width : ℕ) (table : Table) (until : Tick) (walked : List Event) (bars : List Bar)
     (names count : ℕ) (ticks : List ℕ) (all columns : List Column) (counted : Clock) (known : Table)
     (events sorted : List Event) (svg : List ℕ) →
-    ticks ≡ all_ticks walked until → all ≡ columns_of ticks → columns ≡ columns_for width all bars → names ≡ longest_name bars →
+    ticks ≡ all_ticks clock walked until → all ≡ columns_of ticks → columns ≡ columns_for width all bars → names ≡ longest_name bars →
     counted ≡ clock → known ≡ table → events ≡ sorted → sorted ≡ in_order walked → count ≡ length all →
     svg ≡ content_text (document (record { names = names; columns = columns; clock = counted; table = known; events = events })
     until count bars) →
@@ -72,8 +72,8 @@ pub drawing_is : (clock : Clock) (width : ℕ) (table : Table) (until : Tick) (w
 drawing_is clock width table until walked bars names count ticks all columns counted known events sorted svg t a c n m k e s l p =
     let drawn = λ (n : ℕ) (cs : List Column) (o : Clock) (k : Table) (es : List Event) (i : ℕ).
     content_text (document (record { names = n; columns = cs; clock = o; table = k; events = es }) until i bars) in
-    let shown = columns_for width (columns_of (all_ticks walked until)) bars in
-    let every : all ≡ columns_of (all_ticks walked until) = a ∙ ap columns_of t in
+    let shown = columns_for width (columns_of (all_ticks clock walked until)) bars in
+    let every : all ≡ columns_of (all_ticks clock walked until) = a ∙ ap columns_of t in
     p
     ∙ ap (λ n. drawn n columns counted known events count) n
     ∙ ap (λ cs. drawn (longest_name bars) cs counted known events count) (c ∙ ap (λ z. columns_for width z bars) every)

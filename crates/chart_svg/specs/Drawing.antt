@@ -150,7 +150,7 @@ sheet_of clock width table sorted all bars =
 -- the drawing of a story, from its events in the order of the walk and their bars
 abbrev pub drawing_of : Clock → ℕ → Table → Tick → List Event → List Bar → Content
 drawing_of clock width table until walked bars =
-    let all = columns_of (all_ticks walked until) in
+    let all = columns_of (all_ticks clock walked until) in
     document (sheet_of clock width table (in_order walked) all bars) until (length all) bars
 
 abbrev pub chart_svg : Clock → ℕ → Table → Tick → List Event → List Bar → List ℕ

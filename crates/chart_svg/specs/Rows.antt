@@ -6,13 +6,12 @@ use Rattle.job_story.specs.Story.{enters}
 use Rattle.job_story.specs.Events.{What, starts, happens, ends, Event}
 use Rattle.job_story.specs.Sentences.{kept_text}
 use Rattle.chart_bars.specs.Bars.{Bar}
-use Rattle.chart_columns.specs.Columns.{column_by}
 use Rattle.chart_text.specs.Marks.{is_cross, is_dot, end_column}
 use Rattle.chart_text.specs.Text.{name_of, outcome_of}
 use Rattle.svg_text.specs.Content.{Content, nothing, text, element, Attribute, attribute}
 use Rattle.svg_text.specs.declared.names.Tag.TheVariants as tags
 use Rattle.svg_text.specs.declared.names.Attr.TheVariants as attrs
-use Rattle.chart_svg.specs.Sheets.{Sheet, x_at, x_of, y_of, middle_of, events_title}
+use Rattle.chart_svg.specs.Sheets.{Sheet, x_at, x_of, x_by, y_of, middle_of, events_title}
 use Rattle.chart_svg.specs.declared.layout.TheConstants.{LEFT, LETTER, MAX_TOLD}
 
 -- ---- words for the style sheet
@@ -88,7 +87,7 @@ abbrev pub start_x : Sheet → Bar → ℕ
 start_x sheet bar = x_of sheet bar.first.tick
 
 abbrev pub end_x : Sheet → Bar → ℕ
-end_x sheet bar = x_at sheet (end_column sheet.columns bar.last)
+end_x sheet bar = x_at sheet (end_column sheet.clock sheet.columns bar.last)
 
 -- the width from one x coordinate to another, which is at least 2 pixels
 abbrev pub width_to : ℕ → ℕ → ℕ
@@ -114,8 +113,8 @@ words class x y bytes rest =
 -- the part of a scope's or nursery's bar in which it is cancelled, which begins at the first column at which it is
 abbrev pub cancelled_part : Sheet → ℕ → Bar → Option ℕ → Content → Content
 cancelled_part sheet i bar None rest = rest
-cancelled_part sheet i bar (Some t) rest =
-    element tags.Rect (rectangle i (size_of bar) (codes "from") (x_at sheet (column_by sheet.columns t)) (end_x sheet bar)) nothing rest
+cancelled_part sheet i bar (Some m) rest =
+    element tags.Rect (rectangle i (size_of bar) (codes "from") (x_by sheet m) (end_x sheet bar)) nothing rest
 
 -- a cross where a task is cancelled, and a dot where it raises an exception
 abbrev pub cross : ℕ → ℕ → List Attribute

@@ -11,11 +11,12 @@ ghost use Rattle.story_causes.specs.Seen.{event_in};
 ghost use Rattle.story_text.specs.Told.{events_in, froms_in};
 ghost use Rattle.chart_bars.specs.Held.{bar_of};
 ghost use Rattle.svg_text.specs.Content.{Content, content_text};
-ghost use Rattle.chart_svg.specs.Arrows.{source_of, at_tick, arrow, arrow_from, arrow_by, arrow_at, arrows};
+ghost use Rattle.chart_svg.specs.Arrows.{source_of, at_moment, arrow, arrow_from, arrow_by, arrow_at, arrows};
 ghost use Rattle.chart_svg.specs.Held.{sheet_held, source_held};
 
 use crate::shapes::begin_line;
-use crate::sheet::{Sheet, middle_of, push_told};
+use crate::sheet::{Sheet, middle_of};
+use crate::titles::push_told;
 use chart_bars::Bar;
 use exc_groups::Label;
 use job_story::{Event, Happening, What};
@@ -23,7 +24,7 @@ use std::alloc::{AllocError, Global};
 use story_causes::{Cause, Causes};
 use svg_text::{Tag, end};
 
-// The task that cancelled a scope or nursery, and the tick in which it did.
+// The task that cancelled a scope or nursery, and the moment in which it did.
 #[derive(Clone, Copy)]
 pub(crate) struct Source<'e> {
     pub task: &'e Label,
@@ -67,13 +68,13 @@ fn push_arrow_to(
     let What::Happens(Happening::Enters { label, .. }) = &bar.first.what else {
         return Ok(());
     };
-    let Some(tick) = bar.cancelled else {
+    let Some(moment) = bar.cancelled else {
         return Ok(());
     };
     let Some(source) = source_of(causes.cause(label)) else {
         return Ok(());
     };
-    push_arrow_from(alloc, out, sheet, bars, row, tick, source)
+    push_arrow_from(alloc, out, sheet, bars, row, moment, source)
 }
 
 // Returns the task that cancelled something, from the cause of the cancellation, or `None` if it was the deadline.
@@ -91,23 +92,23 @@ fn source_of<'e>(cause: Option<Cause<'e>>) -> Option<Source<'e>>
     }
 }
 
-// Appends an arrow to a row from the first of these that is the task's, if there is one.
+// Appends an arrow to a row, which is cancelled from this moment on, from the first of these that is the task's, if there is one.
 fn push_arrow_from(
     alloc: Global,
     out: &mut Vec<u8>,
     sheet: &Sheet<'_, '_, '_>,
     bars: &[Bar<'_, '_>],
     row: usize,
-    tick: u64,
+    moment: u64,
     source: Source<'_>,
 ) -> Result<(), AllocError>
     ensures { OnOk result ((rest : Content) → out.new.items ++ content_text rest ≡ out.old.items
-        ++ content_text (arrow_from (sheet_held sheet.now) row tick (source_held source.entry) 0 (map bar_of bars.now) rest)) }
+        ++ content_text (arrow_from (sheet_held sheet.now) row moment (source_held source.entry) 0 (map bar_of bars.now) rest)) }
 {
     let mut from = 0;
     'bars: for bar in bars {
         if is_of_task(bar, source.task) {
-            return push_arrow(alloc, out, sheet, row, tick, source, from, bar.own);
+            return push_arrow(alloc, out, sheet, row, moment, source, from, bar.own);
         }
         from += 1;
     }
@@ -127,28 +128,32 @@ fn push_arrow(
     out: &mut Vec<u8>,
     sheet: &Sheet<'_, '_, '_>,
     row: usize,
-    tick: u64,
+    moment: u64,
     source: Source<'_>,
     from: usize,
     own: &[&Event],
 ) -> Result<(), AllocError>
     ensures { OnOk result ((rest : Content) → out.new.items ++ content_text rest ≡ out.old.items
-        ++ content_text (arrow (sheet_held sheet.now) row tick (source_held source.entry) from (map event_in own.now) rest)) }
+        ++ content_text (arrow (sheet_held sheet.now) row moment (source_held source.entry) from (map event_in own.now) rest)) }
 {
-    let events = at_tick(alloc, source.tick, own)?;
-    let (x1, x2) = (sheet.x_of(source.tick), sheet.x_by(tick));
+    let events = at_moment(alloc, source.tick, own)?;
+    let (x1, x2) = (sheet.x_of(source.tick), sheet.x_by(moment));
     begin_line(out, b"arrow", x1, middle_of(from), x2, middle_of(row))?;
     push_told(alloc, out, sheet, events.as_slice())?;
     end(out, Tag::Line)
 }
 
-// Returns the events in a tick.
-fn at_tick<'e>(alloc: Global, tick: u64, events: &[&'e Event]) -> Result<Vec<&'e Event>, AllocError>
-    ensures { IfOk result (λ found. map event_in found.items ≡ at_tick tick (map event_in events.now)) }
+// Returns the events in a moment.
+fn at_moment<'e>(
+    alloc: Global,
+    moment: u64,
+    events: &[&'e Event],
+) -> Result<Vec<&'e Event>, AllocError>
+    ensures { IfOk result (λ found. map event_in found.items ≡ at_moment moment (map event_in events.now)) }
 {
     let mut found = Vec::new(alloc);
     'events: for event in events {
-        if event.tick == tick {
+        if event.tick == moment {
             found.push(*event)?;
         }
     }

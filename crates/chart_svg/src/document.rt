@@ -56,13 +56,14 @@ pub fn chart_svg<'e>(
         ≡ chart_svg clock width (table_in froms.now) until (map event_in walked.now) (map bar_of bars.now)) }
     ensures well_formed { IfOk result (λ svg. IsDocument svg.items) }
 {
-    let ticks = all_ticks(alloc, walked, until)?;
+    let ticks = all_ticks(alloc, clock, walked, until)?;
     let all = columns_of(alloc, ticks.as_slice())?;
     let columns = columns_for(alloc, width, all.as_slice(), bars)?;
     let known = Known::new(clock, sorted, froms, causes);
     let sheet = Sheet {
         names: longest_name(alloc, bars)?,
         columns: columns.as_slice(),
+        clock,
         known: &known,
     };
     document(alloc, &sheet, causes, until, all.len(), bars)

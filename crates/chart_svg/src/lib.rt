@@ -18,5 +18,6 @@ mod shapes;
 mod sheet;
 mod style;
 mod ticks;
+mod titles;
 
 pub use document::chart_svg;

@@ -8,7 +8,8 @@ ghost use Rattle.chart_svg.specs.Rows.{cross, dot, mark, marks};
 ghost use Rattle.chart_svg.specs.Held.{sheet_held};
 
 use crate::shapes::{begin_cross, begin_dot};
-use crate::sheet::{Sheet, middle_of, push_told};
+use crate::sheet::{Sheet, middle_of};
+use crate::titles::push_told;
 use chart_text::{is_cross, is_dot};
 use job_story::Event;
 use std::alloc::{AllocError, Global};

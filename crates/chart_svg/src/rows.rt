@@ -15,7 +15,7 @@ use crate::marks::push_marks;
 use crate::shapes::{begin_rectangle, push_words};
 use crate::sheet::{Sheet, y_of};
 use chart_bars::Bar;
-use chart_columns::{column_at, last_tick};
+use chart_columns::last_tick;
 use chart_text::{push_name, push_outcome};
 use std::alloc::{AllocError, Global};
 use svg_text::{Tag, end, text};
@@ -98,7 +98,7 @@ fn end_x(sheet: &Sheet<'_, '_, '_>, bar: &Bar<'_, '_>) -> u64
     ensures bound { result ≤ 100000000 }
 {
     match bar.last {
-        Some(event) => sheet.x_at(column_at(sheet.columns, event.tick)),
+        Some(event) => sheet.x_of(event.tick),
         None => sheet.x_at(last_tick(sheet.columns)),
     }
 }
@@ -113,7 +113,7 @@ fn push_cancelled(
     ensures { OnOk result ((rest : Content) → out.new.items ++ content_text rest ≡ out.old.items
         ++ content_text (cancelled_part (sheet_held sheet.now) row (bar_of bar.now) bar.now.cancelled rest)) }
 {
-    let Some(tick) = bar.cancelled else {
+    let Some(moment) = bar.cancelled else {
         return Ok(());
     };
     begin_rectangle(
@@ -121,7 +121,7 @@ fn push_cancelled(
         row,
         size_of(bar),
         b"from",
-        sheet.x_by(tick),
+        sheet.x_by(moment),
         end_x(sheet, bar),
     )?;
     end(out, Tag::Rect)

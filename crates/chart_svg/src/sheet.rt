@@ -1,17 +1,13 @@
-ghost use Rattle.std.specs.Prelude.{◌≡◌, ◌≤◌, ◌++◌, OnOk, map};
-ghost use Rattle.story_causes.specs.Seen.{event_in};
-ghost use Rattle.chart_columns.specs.Columns.{column_by};
+ghost use Rattle.std.specs.Prelude.{◌≡◌, ◌≤◌, map};
+ghost use Rattle.moments.specs.Moments.{tick_of};
+ghost use Rattle.story_text.specs.Told.{clock_in};
 ghost use Rattle.chart_columns.specs.Held.{column_of};
-ghost use Rattle.svg_text.specs.Content.{content_text};
-ghost use Rattle.chart_svg.specs.Sheets.{place, x_at, x_of, y_of, middle_of, events_title};
-ghost use Rattle.chart_svg.specs.Held.{sheet_held};
+ghost use Rattle.chart_svg.specs.Sheets.{place, x_at, x_of, x_by, y_of, middle_of};
 
 use crate::layout::{FARTHEST, LEFT, LETTER, MAX_NAME, MAX_ROWS, PLACE, ROW, TOP};
 use chart_columns::{Column, column_at, column_by, gap_to};
-use job_story::Event;
-use std::alloc::{AllocError, Global};
-use story_text::{Known, kept_text};
-use svg_text::{Tag, begin, end, inside, text};
+use moments::Clock;
+use story_text::Known;
 
 // What all parts of a drawing depend on.
 #[derive(Clone, Copy)]
@@ -19,10 +15,15 @@ pub(crate) struct Sheet<'s, 'k, 'e> {
     // The length of the longest name of a row.
     pub names: usize,
     pub columns: &'s [Column],
+    // The clock of the story's moments, by which the titles are written too.
+    pub clock: Clock,
     pub known: &'s Known<'k, 'e>,
+    ghost counts: { clock ≡ clock_in known.now },
 }
 
 impl<'s, 'k, 'e> Sheet<'s, 'k, 'e> {
+    ghost use Rattle.chart_svg.specs.Held.{sheet_held};
+
     // Returns the x coordinate of a column, in pixels.
     pub(crate) fn x_at(&self, tick: u64) -> u64
         ensures value { result ≡ x_at (sheet_held self.now) tick }
@@ -32,18 +33,26 @@ impl<'s, 'k, 'e> Sheet<'s, 'k, 'e> {
         LEFT + LETTER * (names + 2) + PLACE * place(self.columns, tick)
     }
 
-    // Returns the x coordinate at which something at a tick is shown, in pixels.
-    pub(crate) fn x_of(&self, tick: u64) -> u64
-        ensures { result ≡ x_of (sheet_held self.now) tick }
+    // Returns the x coordinate at which something that happens in a moment is shown, in pixels.
+    pub(crate) fn x_of(&self, moment: u64) -> u64
+        ensures value { result ≡ x_of (sheet_held self.now) moment }
+        ensures bound { result ≤ 100000000 }
     {
-        self.x_at(column_at(self.columns, tick))
+        self.x_at(column_at(self.columns, self.tick_of(moment)))
     }
 
-    // Returns the x coordinate at which something that holds from a tick on begins to be shown, in pixels.
-    pub(crate) fn x_by(&self, tick: u64) -> u64
-        ensures { result ≡ x_at (sheet_held self.now) (column_by (sheet_held self.now).columns tick) }
+    // Returns the x coordinate at which something that holds from a moment on begins to be shown, in pixels.
+    pub(crate) fn x_by(&self, moment: u64) -> u64
+        ensures { result ≡ x_by (sheet_held self.now) moment }
     {
-        self.x_at(column_by(self.columns, tick))
+        self.x_at(column_by(self.columns, self.tick_of(moment)))
+    }
+
+    // Returns the tick of a moment.
+    fn tick_of(&self, moment: u64) -> u64
+        ensures { result ≡ tick_of (sheet_held self.now).clock moment }
+    {
+        self.clock.tick_of(moment)
     }
 }
 
@@ -75,20 +84,4 @@ pub(crate) fn middle_of(row: usize) -> u64
     ensures { result ≡ middle_of row }
 {
     y_of(row) + 12
-}
-
-// Appends what the story says of these events, as a title.
-pub(crate) fn push_told(
-    alloc: Global,
-    out: &mut Vec<u8>,
-    sheet: &Sheet<'_, '_, '_>,
-    events: &[&Event],
-) -> Result<(), AllocError>
-    ensures { OnOk result (out.new.items ≡ out.old.items ++ content_text (events_title (sheet_held sheet.now) (map event_in events.now))) }
-{
-    let told = kept_text(alloc, events, sheet.known)?;
-    begin(out, Tag::Title)?;
-    inside(out)?;
-    text(out, told.as_slice())?;
-    end(out, Tag::Title)
 }

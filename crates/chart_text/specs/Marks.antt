@@ -1,5 +1,7 @@
 -- The characters at each column of a row: a mark for what happens there, and a line to the next column.
 use Rattle.std.specs.Prelude.{ℕ, ◌-◌, ◌==◌, Bool, true, false, ◌&&◌, ◌||◌, Option, Some, None, List, [], ◌∷◌, ◌++◌, nat_le, nat_lt, is_some, replicate, if◌then◌else◌}
+use Rattle.moments.specs.Moments.{tick_of}
+use Rattle.moments.specs.declared.clock.Clock.{Clock}
 use Rattle.job_story.specs.Story.{is_cancelled, misses, raises}
 use Rattle.job_story.specs.Events.{What, starts, happens, Event}
 use Rattle.chart_bars.specs.Bars.{Bar}
@@ -32,20 +34,21 @@ is_dot (happens (raises name)) = true
 is_dot _ = false
 
 -- the columns of the events of a kind
-abbrev pub columns_where : (What → Bool) → List Column → List Event → List ℕ
-columns_where wanted cols [] = []
-columns_where wanted cols (e ∷ es) =
-    if wanted e.what then column_at cols e.tick ∷ columns_where wanted cols es else columns_where wanted cols es
+abbrev pub columns_where : Clock → (What → Bool) → List Column → List Event → List ℕ
+columns_where clock wanted cols [] = []
+columns_where clock wanted cols (e ∷ es) =
+    if wanted e.what then column_at cols (tick_of clock e.tick) ∷ columns_where clock wanted cols es
+    else columns_where clock wanted cols es
 
--- with the tick from which a scope or nursery is cancelled; its cross is drawn if that is a column
-abbrev pub with_cancelled : Option ℕ → List ℕ → List ℕ
-with_cancelled None ts = ts
-with_cancelled (Some t) ts = t ∷ ts
+-- with the tick of the moment from which a scope or nursery is cancelled; its cross is drawn if that is a column
+abbrev pub with_cancelled : Clock → Option ℕ → List ℕ → List ℕ
+with_cancelled clock None ts = ts
+with_cancelled clock (Some m) ts = tick_of clock m ∷ ts
 
 -- the column at which a bar ends, or the last column where it has no end
-abbrev pub end_column : List Column → Option Event → ℕ
-end_column cols None = last_tick cols
-end_column cols (Some e) = column_at cols e.tick
+abbrev pub end_column : Clock → List Column → Option Event → ℕ
+end_column clock cols None = last_tick cols
+end_column clock cols (Some e) = column_at cols (tick_of clock e.tick)
 
 -- A bar on the columns, which are given by their ticks: where it starts and ends, whether it has an end, and its crosses and
 -- dots.
@@ -57,15 +60,15 @@ pub record Row : Type 0 where
   pub crosses : List ℕ
   pub dots : List ℕ
 
-abbrev pub row_of : List Column → Bar → Row
-row_of cols bar =
+abbrev pub row_of : Clock → List Column → Bar → Row
+row_of clock cols bar =
     record {
       strokes = strokes_of bar.first.what;
-      start = column_at cols bar.first.tick;
-      end = end_column cols bar.last;
+      start = column_at cols (tick_of clock bar.first.tick);
+      end = end_column clock cols bar.last;
       closed = is_some bar.last;
-      crosses = with_cancelled bar.cancelled (columns_where is_cross cols bar.own);
-      dots = columns_where is_dot cols bar.own;
+      crosses = with_cancelled clock bar.cancelled (columns_where clock is_cross cols bar.own);
+      dots = columns_where clock is_dot cols bar.own;
     }
 
 -- ---- marks

@@ -1,5 +1,6 @@
 -- The text of a chart.
 use Rattle.std.specs.Prelude.{ℕ, ◌+◌, ◌-◌, ◌==◌, Option, Some, None, List, [], ◌∷◌, ◌++◌, length, codes, decimal, max, min, nat_le, replicate, take, if◌then◌else◌}
+use Rattle.moments.specs.declared.clock.Clock.{Clock}
 use Rattle.exc_groups.specs.Exceptions.{Label}
 use Rattle.cancel_scopes.specs.Sight.{Tick}
 use Rattle.job_story.specs.Story.{enters, leaves}
@@ -65,13 +66,14 @@ abbrev pub header : List Column → List ℕ
 header [] = []
 header (c ∷ cs) = padded_text (gap_to c cs) (decimal c.tick) ++ header cs
 
-abbrev pub row_text : List Column → ℕ → Bar → List ℕ
-row_text cols names bar =
-    padded_text names (name_of bar) ++ codes "  " ++ cells (row_of cols bar) cols ++ codes " " ++ outcome_of bar
+abbrev pub row_text : Clock → List Column → ℕ → Bar → List ℕ
+row_text clock cols names bar =
+    padded_text names (name_of bar) ++ codes "  " ++ cells (row_of clock cols bar) cols ++ codes " " ++ outcome_of bar
 
-abbrev pub rows_text : ℕ → List Column → ℕ → List Bar → List ℕ
-rows_text width cols names [] = []
-rows_text width cols names (b ∷ bs) = cut_line width (row_text cols names b) ++ rows_text width cols names bs
+abbrev pub rows_text : Clock → ℕ → List Column → ℕ → List Bar → List ℕ
+rows_text clock width cols names [] = []
+rows_text clock width cols names (b ∷ bs) =
+    cut_line width (row_text clock cols names b) ++ rows_text clock width cols names bs
 
 -- the line that says that a story is cut off at a limit, if it is
 abbrev pub limit_text : ℕ → Tick → List ℕ
@@ -87,17 +89,17 @@ abbrev pub left_text : ℕ → ℕ → ℕ → List ℕ
 left_text width shown all = if shown == all then [] else cut_line width (left_out_note shown all)
 
 -- the text with these columns, of `all` columns
-abbrev pub text_with : ℕ → Tick → ℕ → List Column → ℕ → List Bar → List ℕ
-text_with width until all cols names bars =
+abbrev pub text_with : Clock → ℕ → Tick → ℕ → List Column → ℕ → List Bar → List ℕ
+text_with clock width until all cols names bars =
     cut_line width (replicate (names + 2) 32 ++ header cols)
-    ++ rows_text width cols names bars ++ limit_text width until ++ left_text width (length cols) all
+    ++ rows_text clock width cols names bars ++ limit_text width until ++ left_text width (length cols) all
 
 -- the columns for which there is room
 abbrev pub columns_for : ℕ → List Column → List Bar → List Column
 columns_for width all bars = shown_columns (room_for width (longest_name bars) bars) all
 
 -- the text of a chart with these events and bars, not wider than a width, of a story that is whole or cut off at a limit
-abbrev pub chart_text : ℕ → Tick → List Event → List Bar → List ℕ
-chart_text width until es bars =
-    let all = columns_of (all_ticks es until) in
-    text_with width until (length all) (columns_for width all bars) (longest_name bars) bars
+abbrev pub chart_text : Clock → ℕ → Tick → List Event → List Bar → List ℕ
+chart_text clock width until es bars =
+    let all = columns_of (all_ticks clock es until) in
+    text_with clock width until (length all) (columns_for width all bars) (longest_name bars) bars

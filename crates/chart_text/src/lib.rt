@@ -2,7 +2,7 @@
 //!
 //! The layer promises that `chart_text` returns the text of `specs/Text.antt`: a line for each bar, with the mark at each column
 //! that `specs/Marks.antt` defines, and no line longer than the width, if that is at least 2. It uses `chart_bars` for the rows,
-//! `chart_columns` for the columns, and `exc_text` for labels and exceptions.
+//! `chart_columns` for the columns, the clock of `moments`, and `exc_text` for labels and exceptions.
 #![tactic(auto)]
 
 mod cells;

@@ -11,6 +11,7 @@ use crate::row::row_of;
 use chart_bars::Bar;
 use chart_columns::{Column, gap_to};
 use digits::push_number;
+use moments::Clock;
 use std::alloc::{AllocError, Global};
 
 // Appends a line and a newline. A line that is longer than the width is cut, and ends in `..`.
@@ -77,15 +78,16 @@ fn push_padded_number(line: &mut Vec<u8>, width: usize, n: u64) -> Result<(), Al
 pub(crate) fn push_rows(
     alloc: Global,
     out: &mut Vec<u8>,
+    clock: Clock,
     width: usize,
     columns: &[Column],
     names: usize,
     bars: &[Bar<'_, '_>],
 ) -> Result<(), AllocError>
-    ensures { OnOk result (out.new.items ≡ out.old.items ++ rows_text width (map column_of columns.now) names (map bar_of bars.now)) }
+    ensures { OnOk result (out.new.items ≡ out.old.items ++ rows_text clock width (map column_of columns.now) names (map bar_of bars.now)) }
 {
     'bars: for bar in bars {
-        let line = row_text(alloc, columns, names, bar)?;
+        let line = row_text(alloc, clock, columns, names, bar)?;
         push_cut(out, width, line.as_slice())?;
     }
     Ok(())
@@ -94,18 +96,19 @@ pub(crate) fn push_rows(
 // Returns the line of a bar, of any length.
 fn row_text(
     alloc: Global,
+    clock: Clock,
     columns: &[Column],
     names: usize,
     bar: &Bar<'_, '_>,
 ) -> Result<Vec<u8>, AllocError>
-    ensures { IfOk result (λ line. line.items ≡ row_text (map column_of columns.now) names (bar_of bar.now)) }
+    ensures { IfOk result (λ line. line.items ≡ row_text clock (map column_of columns.now) names (bar_of bar.now)) }
 {
     let mut line = Vec::new(alloc);
     push_name(&mut line, bar)?;
     let len = line.len();
     push_times(&mut line, names.saturating_sub(len), b' ')?;
     line.extend_from_slice(b"  ")?;
-    let row = row_of(alloc, columns, bar)?;
+    let row = row_of(alloc, clock, columns, bar)?;
     push_cells(&mut line, &row, columns)?;
     line.extend_from_slice(b" ")?;
     push_outcome(&mut line, bar)?;

@@ -10,6 +10,7 @@ use crate::kinds::{is_cross, is_dot};
 use chart_bars::Bar;
 use chart_columns::{Column, column_at, last_tick};
 use job_story::{Event, What};
+use moments::Clock;
 use std::alloc::{AllocError, Global};
 
 // The bytes with which a bar is drawn: its start, the line to its end, and its end.
@@ -49,20 +50,21 @@ pub(crate) struct Row {
 // Returns the row of a bar on these columns.
 pub(crate) fn row_of(
     alloc: Global,
+    clock: Clock,
     columns: &[Column],
     bar: &Bar<'_, '_>,
 ) -> Result<Row, AllocError>
-    ensures { IfOk result (λ row. row_held row ≡ row_of (map column_of columns.now) (bar_of bar.now)) }
+    ensures { IfOk result (λ row. row_held row ≡ row_of clock (map column_of columns.now) (bar_of bar.now)) }
 {
     let mut crosses = Vec::new(alloc);
-    push_cancelled(&mut crosses, bar.cancelled)?;
-    push_crosses(&mut crosses, columns, bar.own)?;
+    push_cancelled(&mut crosses, clock, bar.cancelled)?;
+    push_crosses(&mut crosses, clock, columns, bar.own)?;
     let mut dots = Vec::new(alloc);
-    push_dots(&mut dots, columns, bar.own)?;
+    push_dots(&mut dots, clock, columns, bar.own)?;
     Ok(Row {
         strokes: strokes_of(&bar.first.what),
-        start: column_at(columns, bar.first.tick),
-        end: end_column(columns, bar.last),
+        start: column_at(columns, clock.tick_of(bar.first.tick)),
+        end: end_column(clock, columns, bar.last),
         closed: bar.last.is_some(),
         crosses,
         dots,
@@ -80,21 +82,26 @@ fn strokes_of(what: &What) -> Strokes
 }
 
 // Returns the column at which a bar ends, or the last column if it has no end.
-fn end_column(columns: &[Column], last: Option<&Event>) -> u64
-    ensures { result ≡ end_column (map column_of columns.now) (event_seen last.entry) }
+fn end_column(clock: Clock, columns: &[Column], last: Option<&Event>) -> u64
+    ensures { result ≡ end_column clock (map column_of columns.now) (event_seen last.entry) }
 {
     match last {
-        Some(event) => column_at(columns, event.tick),
+        Some(event) => column_at(columns, clock.tick_of(event.tick)),
         None => last_tick(columns),
     }
 }
 
-// Appends the tick from which a scope or nursery is cancelled, if there is one. A cross is drawn there if that is a column.
-fn push_cancelled(ticks: &mut Vec<u64>, cancelled: Option<u64>) -> Result<(), AllocError>
-    ensures { OnOk result ((others : List ℕ) → ticks.new.items ++ others ≡ ticks.old.items ++ with_cancelled cancelled others) }
+// Appends the tick of the moment from which a scope or nursery is cancelled, if there is one. A cross is drawn there if that is a
+// column.
+fn push_cancelled(
+    ticks: &mut Vec<u64>,
+    clock: Clock,
+    cancelled: Option<u64>,
+) -> Result<(), AllocError>
+    ensures { OnOk result ((others : List ℕ) → ticks.new.items ++ others ≡ ticks.old.items ++ with_cancelled clock cancelled others) }
 {
-    if let Some(tick) = cancelled {
-        ticks.push(tick)?;
+    if let Some(moment) = cancelled {
+        ticks.push(clock.tick_of(moment))?;
     }
     Ok(())
 }
@@ -102,25 +109,33 @@ fn push_cancelled(ticks: &mut Vec<u64>, cancelled: Option<u64>) -> Result<(), Al
 // Appends the column of each event with which a task is cancelled.
 fn push_crosses(
     ticks: &mut Vec<u64>,
+    clock: Clock,
     columns: &[Column],
     events: &[&Event],
 ) -> Result<(), AllocError>
     ensures { OnOk result (ticks.new.items
-        ≡ ticks.old.items ++ columns_where is_cross (map column_of columns.now) (map event_in events.now)) }
+        ≡ ticks.old.items ++ columns_where clock is_cross (map column_of columns.now) (map event_in events.now)) }
 {
     'events: for event in events {
-        push_if(ticks, is_cross(&event.what), column_at(columns, event.tick))?;
+        let column = column_at(columns, clock.tick_of(event.tick));
+        push_if(ticks, is_cross(&event.what), column)?;
     }
     Ok(())
 }
 
 // Appends the column of each event with which a task raises an exception.
-fn push_dots(ticks: &mut Vec<u64>, columns: &[Column], events: &[&Event]) -> Result<(), AllocError>
+fn push_dots(
+    ticks: &mut Vec<u64>,
+    clock: Clock,
+    columns: &[Column],
+    events: &[&Event],
+) -> Result<(), AllocError>
     ensures { OnOk result (ticks.new.items
-        ≡ ticks.old.items ++ columns_where is_dot (map column_of columns.now) (map event_in events.now)) }
+        ≡ ticks.old.items ++ columns_where clock is_dot (map column_of columns.now) (map event_in events.now)) }
 {
     'events: for event in events {
-        push_if(ticks, is_dot(&event.what), column_at(columns, event.tick))?;
+        let column = column_at(columns, clock.tick_of(event.tick));
+        push_if(ticks, is_dot(&event.what), column)?;
     }
     Ok(())
 }

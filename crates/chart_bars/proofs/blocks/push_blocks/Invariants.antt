@@ -9,5 +9,5 @@ use Rattle.chart_bars.proofs.blocks.push_blocks.Given as goal
 
 abbrev pub invariant-events : goal.invariant-events
 invariant-events l =
-    map bar_of l.bars.items ++ block_bars (table_in l.froms) l.until (walked_in l.index) (map event_in (drop l.event-index l.events))
-    ≡ map bar_of l.fn.bars.items ++ block_bars (table_in l.froms) l.until (walked_in l.index) (map event_in l.events)
+    map bar_of l.bars.items ++ block_bars l.clock (table_in l.froms) l.until (walked_in l.index) (map event_in (drop l.event-index l.events))
+    ≡ map bar_of l.fn.bars.items ++ block_bars l.clock (table_in l.froms) l.until (walked_in l.index) (map event_in l.events)

@@ -6,4 +6,5 @@ use Rattle.chart_bars.proofs.ticks.push_events.Given as goal
 
 abbrev pub invariant-events : goal.invariant-events
 invariant-events l =
-    l.ticks.items ++ ticks_of_events (map event_in (drop l.event-index l.events)) [] ≡ l.fn.ticks.items ++ ticks_of_events (map event_in l.events) []
+    l.ticks.items ++ ticks_of_events l.clock (map event_in (drop l.event-index l.events)) []
+    ≡ l.fn.ticks.items ++ ticks_of_events l.clock (map event_in l.events) []

@@ -7,5 +7,5 @@ use Rattle.chart_text.proofs.row.push_crosses.Given as goal
 
 abbrev pub invariant-events : goal.invariant-events
 invariant-events l =
-    l.ticks.items ++ columns_where is_cross (map column_of l.columns) (map event_in (drop l.event-index l.events))
-    ≡ l.fn.ticks.items ++ columns_where is_cross (map column_of l.columns) (map event_in l.events)
+    l.ticks.items ++ columns_where l.clock is_cross (map column_of l.columns) (map event_in (drop l.event-index l.events))
+    ≡ l.fn.ticks.items ++ columns_where l.clock is_cross (map column_of l.columns) (map event_in l.events)

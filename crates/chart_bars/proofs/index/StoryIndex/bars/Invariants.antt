@@ -9,5 +9,5 @@ use Rattle.chart_bars.proofs.index.StoryIndex.bars.Given as goal
 
 abbrev pub invariant-events : goal.invariant-events
 invariant-events l =
-    map bar_of l.bars.items ++ bars_from (table_in l.froms) l.fn.until (walked_in l.self) (map event_in (drop l.event-index l.self.walked.now))
-    ≡ bars_of (table_in l.froms) l.fn.until (walked_in l.self)
+    map bar_of l.bars.items ++ bars_from l.clock (table_in l.froms) l.fn.until (walked_in l.self) (map event_in (drop l.event-index l.self.walked.now))
+    ≡ bars_of l.clock (table_in l.froms) l.fn.until (walked_in l.self)
