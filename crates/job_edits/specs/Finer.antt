@@ -1,6 +1,8 @@
 -- A job text in finer ticks, and with one site moved by a hair.
 use Rattle.std.specs.Prelude.{ℕ, ◌+◌, ◌-◌, ◌*◌, ◌==◌, Bool, ◌&&◌, max, nat_le, nat_lt, if◌then◌else◌, List, [], ◌∷◌, ◌++◌, Option, Some, None}
 use Rattle.std.specs.Io.Iter.{u64_saturate}
+use Rattle.moments.specs.declared.clock.Clock.{Clock}
+use Rattle.moments.specs.declared.clock.Clock.TheVariants.{ByTicks, ByRounds}
 use Rattle.job_edits.specs.declared.change.Piece.TheVariants as piece
 use Rattle.job_edits.specs.declared.change.Change.{Change}
 use Rattle.job_edits.specs.declared.number.Number.{Number}
@@ -43,17 +45,19 @@ by_hundred = record { factor = 100; hair = 10 }
 abbrev pub by_ten : Finer
 by_ten = record { factor = 10; hair = 1 }
 
--- the greatest of 1000, 100 and 10 that fits, and a tenth of it, which is a hair
-abbrev pub finer_by : ℕ → ℕ → Option Finer
-finer_by most limit =
+-- By ticks, the greatest of 1000, 100 and 10 that fits, and a tenth of it, which is a hair. By rounds, a cancellation takes no
+-- tick, so that ten is enough.
+abbrev pub finer_by : Clock → ℕ → ℕ → Option Finer
+finer_by ByTicks most limit =
     if fits most limit by_thousand then Some by_thousand
     else if fits most limit by_hundred then Some by_hundred
     else if fits most limit by_ten then Some by_ten
     else None
+finer_by ByRounds most limit = if fits most limit by_ten then Some by_ten else None
 
 -- the same for a text and a limit: by the text's maximum number of ticks
-abbrev pub finer_for : ℕ → List Site → Option Finer
-finer_for limit sites = finer_by (most_ticks sites) limit
+abbrev pub finer_for : Clock → ℕ → List Site → Option Finer
+finer_for clock limit sites = finer_by clock (most_ticks sites) limit
 
 -- ---- finer ticks
 
@@ -77,8 +81,13 @@ finer_all finer (s ∷ ss) = finer_at finer s.from s.moment ++ finer_all finer s
 abbrev pub in_format_2 : Change
 in_format_2 = record { from = 9; to = 10; piece = piece.Number 2 }
 
-abbrev pub finer_changes : Finer → List Site → List Change
-finer_changes finer sites = in_format_2 ∷ finer_all finer sites
+-- The change of the first line: a text whose time is counted by ticks gets format 2, and any other keeps its first line.
+abbrev pub version_changes : Clock → List Change
+version_changes ByTicks = in_format_2 ∷ []
+version_changes ByRounds = []
+
+abbrev pub finer_changes : Clock → Finer → List Site → List Change
+finer_changes clock finer sites = version_changes clock ++ finer_all finer sites
 
 -- ---- a hair
 
@@ -123,5 +132,5 @@ shifted_all finer shift [] = []
 shifted_all finer shift (s ∷ ss) = shifted_or_finer finer shift s ++ shifted_all finer shift ss
 
 -- finer ticks, and one site moved by a hair
-abbrev pub shifted_changes : Finer → Shift → List Site → List Change
-shifted_changes finer shift sites = in_format_2 ∷ shifted_all finer shift sites
+abbrev pub shifted_changes : Clock → Finer → Shift → List Site → List Change
+shifted_changes clock finer shift sites = version_changes clock ++ shifted_all finer shift sites

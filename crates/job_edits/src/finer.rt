@@ -1,8 +1,10 @@
 ghost use Rattle.std.specs.Prelude.{◌≡◌};
+ghost use Rattle.moments.specs.declared.clock.Clock.TheVariants.{ByTicks, ByRounds};
 ghost use Rattle.job_edits.specs.Finer.{fits, by_thousand, by_hundred, by_ten, finer_by, finer_for, most_ticks, ticks_of, ticks_by};
 
 use crate::number::Number;
 use crate::site::{Moment, Site};
+use moments::Clock;
 
 /// How much finer the ticks of a changed job text are than those of the original text.
 #[derive(Clone, Copy, Debug, PartialEq, Eq)]
@@ -16,12 +18,12 @@ pub struct Finer {
 impl Finer {
     /// Returns how much finer the ticks of a text with these sites may be, if its job is compared up to a limit, in original ticks.
     /// The factor is the first of 1000, 100 and 10 for which no number of ticks exceeds 1,000,000,000 if it is a hair more, and
-    /// for which the limit is before the tick to which `forever` sleeps, in finer ticks too; the hair is a tenth of the factor.
-    /// Returns `None` if the factor 10 is too large.
-    pub fn of(sites: &[Site], limit: u64) -> Option<Finer>
-        ensures { result ≡ finer_for limit sites.now }
+    /// for which the limit is before the tick to which `forever` sleeps, in finer ticks too; if time is counted by rounds, only
+    /// 10 is tried. The hair is a tenth of the factor. Returns `None` if the factor 10 is too large.
+    pub fn of(clock: Clock, sites: &[Site], limit: u64) -> Option<Finer>
+        ensures { result ≡ finer_for clock limit sites.now }
     {
-        by_most(most_ticks(sites), limit)
+        by_most(clock, most_ticks(sites), limit)
     }
 
     // Returns a number of original ticks in finer ticks.
@@ -33,8 +35,18 @@ impl Finer {
 }
 
 // Returns how much finer the ticks may be if `most` is the maximum number of ticks.
-fn by_most(most: u64, limit: u64) -> Option<Finer>
-    ensures { result ≡ finer_by most limit }
+fn by_most(clock: Clock, most: u64, limit: u64) -> Option<Finer>
+    ensures { result ≡ finer_by clock most limit }
+{
+    match clock {
+        Clock::ByTicks => greatest_by_most(most, limit),
+        Clock::ByRounds => ten_by_most(most, limit),
+    }
+}
+
+// Returns the greatest of the factors 1000, 100 and 10 that fits if `most` is the maximum number of ticks.
+fn greatest_by_most(most: u64, limit: u64) -> Option<Finer>
+    ensures { result ≡ finer_by ByTicks most limit }
 {
     if fits_thousand(most, limit) {
         return Some(Finer {
@@ -48,6 +60,13 @@ fn by_most(most: u64, limit: u64) -> Option<Finer>
             hair: 10,
         });
     }
+    ten_by_most(most, limit)
+}
+
+// Returns the factor 10 if it fits, where `most` is the maximum number of ticks.
+fn ten_by_most(most: u64, limit: u64) -> Option<Finer>
+    ensures { result ≡ finer_by ByRounds most limit }
+{
     if fits_ten(most, limit) {
         return Some(Finer {
             factor: 10,

@@ -7,7 +7,7 @@
 //! by a hair (`specs/Sites.antt`, `specs/Finer.antt`). `copied_starts` finds each `start .. over` (`specs/Copied.antt`).
 //! `number_at` and `deadline_of` find a number of the text by its place, or as the deadline of a scope or nursery;
 //! `Number::set_to` is the change that puts another number in its place (`specs/Numbers.antt`). The crate uses `job_tokens` for
-//! the tokens of the text and `job_syntax` for keywords.
+//! the tokens of the text, `job_syntax` for keywords, and `moments` for how the time of the job is counted.
 #![tactic(auto)]
 
 mod change;

@@ -3,12 +3,13 @@ ghost use Rattle.std.specs.Io.Iter.{u64_saturate};
 ghost use Rattle.job_edits.specs.declared.change.Piece.TheVariants as piece;
 ghost use Rattle.job_edits.specs.Faults.{insertion};
 ghost use Rattle.job_edits.specs.Numbers.{set_to};
-ghost use Rattle.job_edits.specs.Finer.{finer_at, finer_changes, hairs_of, shifts_with, shifts_of, moved_ticks, shifted_at, shifted_or_finer, shifted_changes};
+ghost use Rattle.job_edits.specs.Finer.{finer_at, version_changes, finer_changes, hairs_of, shifts_with, shifts_of, moved_ticks, shifted_at, shifted_or_finer, shifted_changes};
 
 use crate::change::{Change, Piece};
 use crate::finer::{Finer, ticks_of};
 use crate::number::Number;
 use crate::site::{Moment, Site};
+use moments::Clock;
 use std::alloc::{AllocError, Global};
 
 /// In which direction a site is moved by a hair.
@@ -64,35 +65,54 @@ fn push_shift(shifts: &mut Vec<Shift>, site: &Site, hair: Hair) -> Result<(), Al
     Ok(())
 }
 
-/// Returns the changes that give a job text finer ticks, in format 2. `sites` are all the sites of the text. The only error is
-/// that memory was refused.
-pub fn finer_changes(alloc: Global, finer: Finer, sites: &[Site]) -> Result<Vec<Change>, AllocError>
-    ensures { IfOk result (λ changes. changes.items ≡ finer_changes finer sites.now) }
+/// Returns the changes that give a job text finer ticks. If its time is counted by ticks, the text gets format 2; if it is
+/// counted by rounds, the first line is not changed. `sites` are all the sites of the text. The only error is that memory was
+/// refused.
+pub fn finer_changes(
+    alloc: Global,
+    clock: Clock,
+    finer: Finer,
+    sites: &[Site],
+) -> Result<Vec<Change>, AllocError>
+    ensures { IfOk result (λ changes. changes.items ≡ finer_changes clock finer sites.now) }
 {
-    let mut changes = Vec::new(alloc);
-    push(&mut changes, 9, 10, Piece::Number(2))?;
+    let mut changes = version_changes(alloc, clock)?;
     'sites: for site in sites {
         push_finer(&mut changes, finer, site)?;
     }
     Ok(changes)
 }
 
-/// Returns the changes that give a job text finer ticks, in format 2, and move one of its sites by a hair. `sites` are all the
-/// sites of the text. The only error is that memory was refused.
+/// Returns the changes that give a job text finer ticks, as `finer_changes` does, and move one of its sites by a hair. `sites`
+/// are all the sites of the text. The only error is that memory was refused.
 pub fn shifted_changes(
     alloc: Global,
+    clock: Clock,
     finer: Finer,
     shift: &Shift,
     sites: &[Site],
 ) -> Result<Vec<Change>, AllocError>
-    ensures { IfOk result (λ changes. changes.items ≡ shifted_changes finer shift.now sites.now) }
+    ensures { IfOk result (λ changes. changes.items ≡ shifted_changes clock finer shift.now sites.now) }
 {
-    let mut changes = Vec::new(alloc);
-    push(&mut changes, 9, 10, Piece::Number(2))?;
+    let mut changes = version_changes(alloc, clock)?;
     'sites: for site in sites {
         push_shifted_or_finer(&mut changes, finer, shift, site)?;
     }
     Ok(changes)
+}
+
+// Returns the change of the first line to that of format 2 if time is counted by ticks, and no change if it is counted by rounds.
+fn version_changes(alloc: Global, clock: Clock) -> Result<Vec<Change>, AllocError>
+    ensures { IfOk result (λ changes. changes.items ≡ version_changes clock) }
+{
+    let mut changes = Vec::new(alloc);
+    match clock {
+        Clock::ByTicks => {
+            push(&mut changes, 9, 10, Piece::Number(2))?;
+            Ok(changes)
+        }
+        Clock::ByRounds => Ok(changes),
+    }
 }
 
 // Appends the changes of a site, which may be the one that is moved by a hair.

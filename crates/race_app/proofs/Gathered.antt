@@ -5,6 +5,7 @@ use Rattle.std.proofs.lemmas.List.{append-nil}
 use Rattle.job_tree.specs.Tree.{Tree}
 use Rattle.job_grammar.specs.declared.fault.JobFault.{JobFault}
 use Rattle.job_grammar.specs.Refusals.{Spells, IsRefused}
+use Rattle.job_meaning.specs.Moments.{Clock}
 use Rattle.job_meaning.specs.Shown.{Row, meaning_rows}
 use Rattle.job_runner.specs.Runs.{root_end}
 use Rattle.job_edits.specs.Changes.{changed_text}
@@ -54,7 +55,7 @@ of_run author input first shown rows end found moves lines s e f are l =
 pub with_copies : (author : Author) (input : List ℕ) (first : Ran) (job : Tree) (rows : List Row) (lines all : List told.Line) →
     rows ≡ meaning_rows job input →
     AreLinesBeside author input first (ran (nat_le (root_end rows) author.limit) rows) lines →
-    all ≡ lines ++ copies_lines author.text.now author.limit author.finer (walked_events job input) author.starts.now →
+    all ≡ lines ++ copies_lines author.clock author.text.now author.limit author.finer (walked_events job input) author.starts.now →
     AreLinesFor author input first job all
 with_copies author input first job rows lines all r are a =
     let run : ran (nat_le (root_end rows) author.limit) rows ≡ ran_of author.limit job input =
@@ -66,13 +67,13 @@ with_copies author input first job rows lines all r are a =
       all =
           a
           ∙ ap
-          (λ (ls : List told.Line). ls ++ copies_lines author.text.now author.limit author.finer (walked_events job input) author.starts.now)
+          (λ (ls : List told.Line). ls ++ copies_lines author.clock author.text.now author.limit author.finer (walked_events job input) author.starts.now)
           (are.all ∙ ap (λ (before : Ran). told.finer (found_between first before) ∷ are.moves) run);
     }
 
 -- all lines of a text whose text in finer ticks spells a job
 pub for_job : (author : Author) (input : List ℕ) (first : Ran) (job : Tree) (text : List ℕ) (changes : List Change) (lines : List told.Line) →
-    changes ≡ finer_changes author.finer author.sites.now → text ≡ changed_text author.text.now changes → Spells text job →
+    changes ≡ finer_changes author.clock author.finer author.sites.now → text ≡ changed_text author.text.now changes → Spells text job →
     AreLinesFor author input first job lines → AreLinesOf author input first lines
 for_job author input first job text changes lines c t spells are =
     record {
@@ -85,22 +86,22 @@ for_job author input first job text changes lines c t spells are =
     }
 
 -- without events, no copies meet
-no_copies : (text : List ℕ) (limit : ℕ) (f : Finer) (starts : List CopiedStart) → copies_lines text limit f [] starts ≡ []
-no_copies text limit f [] = refl
-no_copies text limit f (c ∷ cs) = no_copies text limit f cs
+no_copies : (clock : Clock) (text : List ℕ) (limit : ℕ) (f : Finer) (starts : List CopiedStart) → copies_lines clock text limit f [] starts ≡ []
+no_copies clock text limit f [] = refl
+no_copies clock text limit f (c ∷ cs) = no_copies clock text limit f cs
 
 all_of_refused : (author : Author) (fault : JobFault) (moves : List told.Line) →
     told.finer (told.not_tried fault) ∷ moves
     ≡ told.finer (told.not_tried fault)
-    ∷ (moves ++ copies_lines author.text.now author.limit author.finer [] author.starts.now)
+    ∷ (moves ++ copies_lines author.clock author.text.now author.limit author.finer [] author.starts.now)
 all_of_refused author fault moves =
-    let none = no_copies author.text.now author.limit author.finer author.starts.now in
+    let none = no_copies author.clock author.text.now author.limit author.finer author.starts.now in
     ap (λ (ls : List told.Line). told.finer (told.not_tried fault) ∷ ls)
     (sym (append-nil moves) ∙ ap (λ (ls : List told.Line). moves ++ ls) (sym none))
 
 -- all lines of a text whose text in finer ticks is refused
 pub for_refused : (author : Author) (input : List ℕ) (in_time : Bool) (rows : List Row) (fault : JobFault) (text : List ℕ) (changes : List Change) (lines : List told.Line) →
-    changes ≡ finer_changes author.finer author.sites.now → text ≡ changed_text author.text.now changes →
+    changes ≡ finer_changes author.clock author.finer author.sites.now → text ≡ changed_text author.text.now changes →
     IsRefused text fault.kind fault.at → AreLinesOfRefused author input fault lines → AreLinesOf author input (ran in_time rows) lines
 for_refused author input in_time rows fault text changes lines c t is are =
     record {

@@ -4,8 +4,10 @@ use Rattle.std.specs.Prelude.{nat_le, length, if◌then◌else◌}
 use Rattle.std.proofs.lemmas.Bool.Decides.{nat_tests}
 use Rattle.std.specs.Io.Iter.{u64_saturate}
 use Rattle.job_tree.specs.Tree.{Tree}
+use Rattle.job_tree.specs.declared.format.Format.{Format}
 use Rattle.job_tokens.specs.declared.token.Token.{Token}
 use Rattle.job_grammar.specs.Refusals.{Spells, HasTokens}
+use Rattle.job_meaning.specs.Moments.{Clock, by_ticks, by_rounds, clock_of}
 use Rattle.job_meaning.specs.Meaning.{meaning_end}
 use Rattle.job_meaning.specs.Shown.{Row, meaning_rows}
 use Rattle.job_edits.specs.Sites.{sites_in}
@@ -15,7 +17,6 @@ use Rattle.job_edits.specs.declared.site.Site.{Site}
 use Rattle.job_edits.specs.declared.copied.CopiedStart.{CopiedStart}
 use Rattle.job_edits.specs.declared.finer.Finer.{Finer}
 use Rattle.race_text.specs.Lines as told
-use Rattle.race_text.specs.declared.line.Line.{Line}
 use Rattle.race_app.specs.Ran.{Ran, ran, ran_of}
 use Rattle.race_app.specs.Lines.{AreLines}
 use Rattle.race_app.specs.Answers.{AreRaceLines, IsLate, HasNoFiner}
@@ -43,17 +44,25 @@ is_late text input limit job spells late =
       late = late;
     }
 
--- the lines, if places and starts of copies are those of the text's tokens
-pub are_lines : (text input : List ℕ) (limit l : ℕ) (job : Tree) (tokens : List Token) (f : Finer)
+-- the clock of a job, by its format
+clock_is : (format : Format) (job : Tree) (clock : Clock) → format ≡ job.format → clock ≡ clock_of format → clock ≡ clock_of job.format
+clock_is format job clock same is = is ∙ ap clock_of same
+
+-- the lines, if the clock is that of the job, and places and starts of copies are those of the text's tokens
+pub are_lines : (text input : List ℕ) (limit l : ℕ) (job : Tree) (tokens : List Token) (format : Format) (clock : Clock) (f : Finer)
     (sites : List Site) (starts : List CopiedStart) (first : Ran) (lines : List told.Line) (hairs : ℕ) →
-    Spells text job → meaning_end job input ≤ limit → HasTokens text tokens None → sites ≡ sites_in tokens → starts ≡ copied_in tokens →
-    Some f ≡ finer_for limit sites → l ≡ u64_saturate (limit * f.factor) → first ≡ ran_of limit job input →
-    AreLines text input l f sites starts first lines → hairs ≡ length (shifts_of sites) → AreRaceLines text input limit hairs lines
-are_lines text input limit l job tokens f sites starts first lines hairs spells soon has s c finer at same are h =
-    let by_limit = subst (λ (n : ℕ). AreLines text input n f sites starts first lines) at are in
-    let by_sites = subst (λ (ss : List Site). AreLines text input (u64_saturate (limit * f.factor)) f ss starts first lines) s by_limit in
+    Spells text job → meaning_end job input ≤ limit → HasTokens text tokens None → format ≡ job.format → clock ≡ clock_of format →
+    sites ≡ sites_in tokens → starts ≡ copied_in tokens →
+    Some f ≡ finer_for clock limit sites → l ≡ u64_saturate (limit * f.factor) → first ≡ ran_of limit job input →
+    AreLines clock text input l f sites starts first lines → hairs ≡ length (shifts_of sites) → AreRaceLines text input limit hairs lines
+are_lines text input limit l job tokens format clock f sites starts first lines hairs spells soon has as_read counted s c finer at same are h =
+    let by = clock_is format job clock as_read counted in
+    let by_clock = subst (λ (k : Clock). AreLines k text input l f sites starts first lines) by are in
+    let by_limit = subst (λ (n : ℕ). AreLines (clock_of job.format) text input n f sites starts first lines) at by_clock in
+    let by_sites =
+    subst (λ (ss : List Site). AreLines (clock_of job.format) text input (u64_saturate (limit * f.factor)) f ss starts first lines) s by_limit in
     let by_starts =
-    subst (λ (cs : List CopiedStart). AreLines text input (u64_saturate (limit * f.factor)) f (sites_in tokens) cs first lines) c by_sites in
+    subst (λ (cs : List CopiedStart). AreLines (clock_of job.format) text input (u64_saturate (limit * f.factor)) f (sites_in tokens) cs first lines) c by_sites in
     record {
       job = job;
       spells = spells;
@@ -61,24 +70,26 @@ are_lines text input limit l job tokens f sites starts first lines hairs spells 
       tokens = tokens;
       tokens_are = has;
       f = f;
-      finer_is = ap (finer_for limit) (sym s) ∙ sym finer;
+      finer_is = ap (λ (k : Clock). finer_for k limit (sites_in tokens)) (sym by) ∙ ap (finer_for clock limit) (sym s) ∙ sym finer;
       lines_are =
-          subst (λ (r : Ran). AreLines text input (u64_saturate (limit * f.factor)) f (sites_in tokens) (copied_in tokens) r lines) same by_starts;
+          subst (λ (r : Ran). AreLines (clock_of job.format) text input (u64_saturate (limit * f.factor)) f (sites_in tokens) (copied_in tokens) r lines) same by_starts;
       hairs_are = h ∙ ap (λ (ss : List Site). length (shifts_of ss)) s;
     }
 
 -- a text whose numbers of ticks cannot be made finer
-pub has_no_finer : (text input : List ℕ) (limit l : ℕ) (job : Tree) (tokens : List Token) (sites : List Site) →
-    Spells text job → meaning_end job input ≤ limit → HasTokens text tokens None → l ≡ limit → sites ≡ sites_in tokens →
-    None ≡ finer_for l sites → HasNoFiner text input limit
-has_no_finer text input limit l job tokens sites spells soon has at s none =
+pub has_no_finer : (text input : List ℕ) (limit l : ℕ) (job : Tree) (tokens : List Token) (format : Format) (clock : Clock) (sites : List Site) →
+    Spells text job → meaning_end job input ≤ limit → HasTokens text tokens None → format ≡ job.format → clock ≡ clock_of format →
+    l ≡ limit → sites ≡ sites_in tokens → None ≡ finer_for clock l sites → HasNoFiner text input limit
+has_no_finer text input limit l job tokens format clock sites spells soon has as_read counted at s none =
     record {
       job = job;
       spells = spells;
       in_time = soon;
       tokens = tokens;
       tokens_are = has;
-      none = ap (λ (n : ℕ). finer_for n (sites_in tokens)) (sym at) ∙ ap (finer_for l) (sym s) ∙ sym none;
+      none =
+          ap (λ (k : Clock). finer_for k limit (sites_in tokens)) (sym (clock_is format job clock as_read counted))
+          ∙ ap (λ (n : ℕ). finer_for clock n (sites_in tokens)) (sym at) ∙ ap (finer_for clock l) (sym s) ∙ sym none;
     }
 
 abbrev factor_or : Option Finer → ℕ
@@ -97,6 +108,7 @@ some_factor false false true f is = let ticks : f.factor ≡ 10 = ap factor_or i
 some_factor false false false f is = let ticks : f.factor ≡ 1 = ap factor_or is in omega arith
 
 -- an original tick is at least one finer tick
-pub some_ticks : (limit : ℕ) (sites : List Site) (f : Finer) → Some f ≡ finer_for limit sites → 0 < f.factor
-some_ticks limit sites f is =
+pub some_ticks : (clock : Clock) (limit : ℕ) (sites : List Site) (f : Finer) → Some f ≡ finer_for clock limit sites → 0 < f.factor
+some_ticks by_ticks limit sites f is =
     let most = most_ticks sites in some_factor (fits most limit by_thousand) (fits most limit by_hundred) (fits most limit by_ten) f is
+some_ticks by_rounds limit sites f is = some_factor false false (fits (most_ticks sites) limit by_ten) f is

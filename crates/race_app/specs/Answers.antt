@@ -4,6 +4,7 @@ use Rattle.std.specs.Io.Iter.{u64_saturate}
 use Rattle.job_tree.specs.Tree.{Tree}
 use Rattle.job_tokens.specs.declared.token.Token.{Token}
 use Rattle.job_grammar.specs.Refusals.{Spells, HasTokens}
+use Rattle.job_meaning.specs.Moments.{clock_of}
 use Rattle.job_meaning.specs.Meaning.{meaning_end}
 use Rattle.job_edits.specs.Sites.{sites_in}
 use Rattle.job_edits.specs.Copied.{copied_in}
@@ -24,9 +25,9 @@ pub record AreRaceLines (text input : List ℕ) (limit : ℕ) (hairs : ℕ) (lin
   pub tokens : List Token
   pub tokens_are : HasTokens text tokens None
   pub f : Finer
-  pub finer_is : finer_for limit (sites_in tokens) ≡ Some f
+  pub finer_is : finer_for (clock_of job.format) limit (sites_in tokens) ≡ Some f
   pub lines_are :
-      AreLines text input (u64_saturate (limit * f.factor)) f (sites_in tokens) (copied_in tokens) (ran_of limit job input) lines
+      AreLines (clock_of job.format) text input (u64_saturate (limit * f.factor)) f (sites_in tokens) (copied_in tokens) (ran_of limit job input) lines
   pub hairs_are : hairs ≡ length (shifts_of (sites_in tokens))
 
 -- the job that the text spells does not end by the limit
@@ -42,7 +43,7 @@ pub record HasNoFiner (text input : List ℕ) (limit : ℕ) : Type 0 where
   pub in_time : meaning_end job input ≤ limit
   pub tokens : List Token
   pub tokens_are : HasTokens text tokens None
-  pub none : finer_for limit (sites_in tokens) ≡ None
+  pub none : finer_for (clock_of job.format) limit (sites_in tokens) ≡ None
 
 -- ---- the values of the code
 

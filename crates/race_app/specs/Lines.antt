@@ -1,5 +1,6 @@
 -- The lines of `races` for a job text.
 use Rattle.std.specs.Prelude.{◌≡◌, ℕ, ◌/◌, nat_le, if◌then◌else◌, Option, Some, None, List, [], ◌∷◌, ◌++◌}
+use Rattle.job_meaning.specs.Moments.{Clock}
 use Rattle.job_story.specs.Events.{Event}
 use Rattle.job_edits.specs.Changes.{changed_text}
 use Rattle.job_edits.specs.Finer.{finer_changes, shifted_changes, shifts_of}
@@ -17,9 +18,9 @@ use Rattle.race_app.specs.Ran.{Ran, IsRan, IsBeside, found_between}
 
 -- A line compares the text in finer ticks, with one place moved by a hair, with the text in finer ticks alone. The limit is in
 -- finer ticks.
-abbrev pub IsMoved : List ℕ → List ℕ → ℕ → Finer → List Site → Ran → Shift → Line → Type 0
-IsMoved text input limit f sites before shift line =
-    (found : Found) × IsBeside (changed_text text (shifted_changes f shift sites)) input limit before found
+abbrev pub IsMoved : Clock → List ℕ → List ℕ → ℕ → Finer → List Site → Ran → Shift → Line → Type 0
+IsMoved clock text input limit f sites before shift line =
+    (found : Found) × IsBeside (changed_text text (shifted_changes clock f shift sites)) input limit before found
     × (line ≡ moved (line_of text shift.site.from) (column_of text shift.site.from) shift.site.moment shift.hair found)
 
 -- ---- copies that meet
@@ -33,19 +34,20 @@ met_line text limit f start (Some m) =
     else []
 
 -- a line for each start whose copies meet in a story of these events
-abbrev pub copies_lines : List ℕ → ℕ → Finer → List Event → List CopiedStart → List Line
-copies_lines text limit f events [] = []
-copies_lines text limit f events (c ∷ cs) =
-    met_line text limit f c (meeting_in f.hair c.name events) ++ copies_lines text limit f events cs
+abbrev pub copies_lines : Clock → List ℕ → ℕ → Finer → List Event → List CopiedStart → List Line
+copies_lines clock text limit f events [] = []
+copies_lines clock text limit f events (c ∷ cs) =
+    met_line text limit f c (meeting_in clock f.hair c.name events) ++ copies_lines clock text limit f events cs
 
 -- ---- all
 
--- The lines of a text with these places and starts of copies, whose run is the first one: its text in finer ticks, compared
--- with the original text; then each hair of each place, once and in the order of places; then the copies that meet.
-pub record AreLines (text input : List ℕ) (limit : ℕ) (f : Finer) (sites : List Site) (starts : List CopiedStart) (first : Ran) (lines : List Line) : Type 0 where
+-- The lines of a text with these places and starts of copies, whose time is counted by this clock and whose run is the first one:
+-- its text in finer ticks, compared with the original text; then each hair of each place, once and in the order of places; then
+-- the copies that meet.
+pub record AreLines (clock : Clock) (text input : List ℕ) (limit : ℕ) (f : Finer) (sites : List Site) (starts : List CopiedStart) (first : Ran) (lines : List Line) : Type 0 where
   pub before : Ran
   pub events : List Event
-  pub before_is : IsRan (changed_text text (finer_changes f sites)) input limit before events
+  pub before_is : IsRan (changed_text text (finer_changes clock f sites)) input limit before events
   pub moves : List Line
-  pub moves_are : AreAnswers (IsMoved text input limit f sites before) (shifts_of sites) moves
-  pub all : lines ≡ finer (found_between first before) ∷ (moves ++ copies_lines text limit f events starts)
+  pub moves_are : AreAnswers (IsMoved clock text input limit f sites before) (shifts_of sites) moves
+  pub all : lines ≡ finer (found_between first before) ∷ (moves ++ copies_lines clock text limit f events starts)

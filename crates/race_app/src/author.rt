@@ -1,10 +1,13 @@
 use job_edits::{CopiedStart, Finer, Site};
+use moments::Clock;
 
 /// What all lines have in common.
 #[derive(Clone, Copy)]
 pub(crate) struct Author<'a> {
     /// The original job text.
     pub text: &'a [u8],
+    /// How the time of the original job is counted.
+    pub clock: Clock,
     /// The last tick at which a job may end, in finer ticks.
     pub limit: u64,
     /// How much finer the ticks of the changed texts are.

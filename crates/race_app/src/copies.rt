@@ -22,10 +22,10 @@ pub(crate) fn push_copies(
 ) -> Result<(), AllocError>
     requires { 0 < author.now.finer.factor }
     ensures { OnOk result (map line_held lines.new.items ≡ map line_held lines.old.items
-        ++ copies_lines author.now.text.now author.now.limit author.now.finer (map event_in walked.now) author.now.starts.now) }
+        ++ copies_lines author.now.clock author.now.text.now author.now.limit author.now.finer (map event_in walked.now) author.now.starts.now) }
 {
     'starts: for start in author.starts {
-        let met = meeting_of(alloc, author.finer.hair, start.name, walked)?;
+        let met = meeting_of(alloc, author.clock, author.finer.hair, start.name, walked)?;
         push_met(lines, author, start, met)?;
     }
     Ok(())

@@ -42,7 +42,7 @@ pub(crate) fn lines_for<R: Threads + Sync, G: Gate + Sync>(
     requires some_workers { 1 ≤ workers }
     ensures { IfOk result (λ lines. AreLinesOf author.now input.now (ran true (rows_of own.now)) (map line_held lines.items)) }
 {
-    let changes = finer_changes(alloc, author.finer, author.sites)?;
+    let changes = finer_changes(alloc, author.clock, author.finer, author.sites)?;
     let text = changed_text(alloc, author.text, changes.as_slice())?;
     let first = Ran {
         records: own.records(),
@@ -171,8 +171,8 @@ fn push_copies_of<R: Threads + Sync>(
 ) -> Result<(), AllocError>
     requires input { length input.now ≤ MAX_INPUT }
     requires ticks { 0 < author.now.finer.factor }
-    ensures { OnOk result (map line_held lines.new.items ≡ map line_held lines.old.items ++ copies_lines author.now.text.now
-        author.now.limit author.now.finer (walked_events job.now input.now) author.now.starts.now) }
+    ensures { OnOk result (map line_held lines.new.items ≡ map line_held lines.old.items ++ copies_lines author.now.clock
+        author.now.text.now author.now.limit author.now.finer (walked_events job.now input.now) author.now.starts.now) }
 {
     if author.starts.is_empty() {
         return Ok(());

@@ -9,6 +9,7 @@ use crate::lines::lines_for;
 use job_edits::{Finer, Site, copied_starts, shifts, sites};
 use job_grammar::{Job, JobFault, read_job, spelled_tokens};
 use job_runner::{Forward, NoGate, Settings, run_to_end};
+use moments::Clock;
 use nursery_app::Gate;
 use race_text::Line;
 use std::alloc::{AllocError, Global};
@@ -82,12 +83,14 @@ fn answer_for_job<R: Threads + Sync, G: Gate + Sync>(
     }
     let tokens = spelled_tokens(alloc, job_text, job)?;
     let sites = sites(alloc, tokens.as_slice())?;
-    let Some(finer) = Finer::of(sites.as_slice(), limit) else {
+    let clock = Clock::of(job.text_format());
+    let Some(finer) = Finer::of(clock, sites.as_slice(), limit) else {
         return Ok(RaceAnswer::NoFinerTicks);
     };
     let starts = copied_starts(alloc, tokens.as_slice())?;
     let author = Author {
         text: job_text,
+        clock,
         limit: limit.saturating_mul(finer.factor),
         finer,
         sites: sites.as_slice(),

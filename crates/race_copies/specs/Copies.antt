@@ -3,20 +3,21 @@ use Rattle.std.specs.Prelude.{ℕ, ◌-◌, ◌==◌, ◌&&◌, ◌||◌, not, n
 use Rattle.std.specs.Str.{bytes_eq}
 use Rattle.exc_groups.specs.Exceptions.{Label, Exc, cancelled, raised, too_slow, group, Excs, no_parts, part}
 use Rattle.job_meaning.specs.Log.{same_label}
+use Rattle.job_meaning.specs.Moments.{Clock, tick_of}
 use Rattle.job_story.specs.Story.{is_cancelled, cancels}
 use Rattle.job_story.specs.Events.{What, starts, happens, ends, Event}
 use Rattle.job_story.specs.Limit.{is_start, is_end}
 
 -- ---- what happens to copies
 
--- an event of a copy, or of a descendant of the copy
+-- an event of a copy, or of a descendant of the copy, with its tick
 pub record Sight : Type 0 where
   pub copy : Label
   pub tick : ℕ
   pub what : What
 
-abbrev pub sight : Label → Event → Sight
-sight copy e = record { copy = copy; tick = e.tick; what = e.what }
+abbrev pub sight : Clock → Label → Event → Sight
+sight clock copy e = record { copy = copy; tick = tick_of clock e.tick; what = e.what }
 
 -- a task with this name starts
 abbrev pub starts_copy : List ℕ → Event → Bool
@@ -36,20 +37,20 @@ abbrev pub open_copy : Option Label → Event → Option Label
 open_copy None e = None
 open_copy (Some copy) e = if ends_copy copy e then None else Some copy
 
-abbrev pub with_sight : Option Label → Event → List Sight → List Sight
-with_sight None e others = others
-with_sight (Some copy) e others = sight copy e ∷ others
+abbrev pub with_sight : Clock → Option Label → Event → List Sight → List Sight
+with_sight clock None e others = others
+with_sight clock (Some copy) e others = sight clock copy e ∷ others
 
 -- The events of the tasks with this name and of all their descendants, given the events of a story in the order of the walk:
 -- there they are between the start and the end of the task. `current` is such a task that has started and has not ended, if
 -- there is one.
-abbrev pub sights_from : List ℕ → Option Label → List Event → List Sight
-sights_from name current [] = []
-sights_from name current (e ∷ es) =
-    with_sight (copy_at name current e) e (sights_from name (open_copy (copy_at name current e) e) es)
+abbrev pub sights_from : Clock → List ℕ → Option Label → List Event → List Sight
+sights_from clock name current [] = []
+sights_from clock name current (e ∷ es) =
+    with_sight clock (copy_at name current e) e (sights_from clock name (open_copy (copy_at name current e) e) es)
 
-abbrev pub sights_of : List ℕ → List Event → List Sight
-sights_of name es = sights_from name None es
+abbrev pub sights_of : Clock → List ℕ → List Event → List Sight
+sights_of clock name es = sights_from clock name None es
 
 -- ---- which of them meet
 
@@ -83,7 +84,7 @@ differ_last (i ∷ []) (j ∷ []) = not (i == j)
 differ_last (i ∷ is) (j ∷ js) = i == j && differ_last is js
 differ_last _ _ = false
 
--- two moments are at most a hair apart
+-- two ticks are at most a hair apart
 abbrev pub is_within : ℕ → ℕ → ℕ → Bool
 is_within hair t u = nat_le (t - hair) u && nat_le (u - hair) t
 
@@ -93,7 +94,7 @@ meets hair a b = cancels_some a.what && (acts b.what && (differ_last a.copy.indi
 
 -- ---- the first meeting
 
--- the copy that cancels something and when, and the copy that acts
+-- the copy that cancels something and in which tick, and the copy that acts
 pub record Meeting : Type 0 where
   pub one : Label
   pub other : Label
@@ -105,7 +106,7 @@ first_meeting hair a [] = None
 first_meeting hair a (b ∷ bs) =
     if meets hair a b then Some (record { one = a.copy; other = b.copy; tick = a.tick }) else first_meeting hair a bs
 
--- the earlier of two meetings, or the first if both are at the same moment
+-- the earlier of two meetings, or the first if both are in the same tick
 abbrev pub earlier_meeting : Option Meeting → Option Meeting → Option Meeting
 earlier_meeting None m = m
 earlier_meeting (Some m) None = Some m
@@ -115,6 +116,7 @@ abbrev pub first_meeting_among : ℕ → List Sight → List Sight → Option Me
 first_meeting_among hair all [] = None
 first_meeting_among hair all (a ∷ others) = earlier_meeting (first_meeting hair a all) (first_meeting_among hair all others)
 
--- the earliest meeting of copies with this name, given the events of a story in the order of the walk
-abbrev pub meeting_in : ℕ → List ℕ → List Event → Option Meeting
-meeting_in hair name es = first_meeting_among hair (sights_of name es) (sights_of name es)
+-- The earliest meeting of copies with this name, given the events of a story in the order of the walk. Copies meet by ticks: in
+-- which rounds of their ticks they act does not matter.
+abbrev pub meeting_in : Clock → ℕ → List ℕ → List Event → Option Meeting
+meeting_in clock hair name es = first_meeting_among hair (sights_of clock name es) (sights_of clock name es)

@@ -13,7 +13,7 @@ abbrev pub label_seen : Option (Bor Label) → Option Label
 label_seen label = option_map (λ (l : Bor Label). l.now) label
 
 abbrev pub sight_held : Sight → told.Sight
-sight_held s = record { copy = s.copy.now; tick = s.event.now.tick; what = what_of s.event.now.what }
+sight_held s = record { copy = s.copy.now; tick = s.tick; what = what_of s.event.now.what }
 
 -- a meeting with borrowed labels
 abbrev pub met_held : Met → told.Meeting

@@ -9,6 +9,7 @@ use crate::sights::{Sight, sights_of};
 use exc_groups::Label;
 use job_story::Event;
 use job_tree::Name;
+use moments::Clock;
 use std::alloc::{AllocError, Global};
 
 /// Two copies of a task that meet.
@@ -18,7 +19,7 @@ pub struct Meeting {
     pub one: Label,
     /// The copy to which something happens within a hair of that. This may happen to a descendant of the copy.
     pub other: Label,
-    /// The moment at which the first copy does so.
+    /// The tick in which the first copy does so.
     pub tick: u64,
 }
 
@@ -32,18 +33,20 @@ struct Met<'e> {
 
 /// Returns the earliest meeting of two tasks with this name that one `start .. over` started together, or `None` if there is
 /// none. They meet if one of them, or a descendant of it, cancels something, and the other, or a descendant of it, has an event
-/// at most a hair earlier or later that is neither a start nor a cancellation. If several meetings are at the same moment, the
-/// first in the order of the walk is returned. `walked` are the events of a story in the order of the walk, and `hair` is a
-/// number of ticks. The only error is that memory was refused.
+/// at most a hair earlier or later that is neither a start nor a cancellation. In which rounds of their ticks the events are does
+/// not matter. If several meetings are in the same tick, the first in the order of the walk is returned. `walked` are the events
+/// of a story in the order of the walk, `clock` is how their time is counted, and `hair` is a number of ticks. The only error is
+/// that memory was refused.
 pub fn meeting_of(
     alloc: Global,
+    clock: Clock,
     hair: u64,
     name: Name,
     walked: &[&Event],
 ) -> Result<Option<Meeting>, AllocError>
-    ensures { IfOk result (λ found. option_map meeting_held found ≡ meeting_in hair name (map event_in walked.now)) }
+    ensures { IfOk result (λ found. option_map meeting_held found ≡ meeting_in clock hair name (map event_in walked.now)) }
 {
-    let sights = sights_of(alloc, name, walked)?;
+    let sights = sights_of(alloc, clock, name, walked)?;
     let Some(met) = first_meeting_among(hair, sights.as_slice()) else {
         return Ok(None);
     };
@@ -79,14 +82,14 @@ fn first_meeting<'e>(hair: u64, one: Sight<'e>, sights: &[Sight<'e>]) -> Option<
             return Some(Met {
                 one: one.copy,
                 other: other.copy,
-                tick: one.event.tick,
+                tick: one.tick,
             });
         }
     }
     None
 }
 
-// Returns the earlier of two meetings, or the first if both are at the same moment.
+// Returns the earlier of two meetings, or the first if both are in the same tick.
 fn earlier_meeting<'e>(first: Option<Met<'e>>, second: Option<Met<'e>>) -> Option<Met<'e>>
     ensures { option_map met_held result ≡ earlier_meeting (option_map met_held first.entry) (option_map met_held second.entry) }
 {
@@ -110,10 +113,10 @@ fn meets(hair: u64, one: Sight<'_>, other: Sight<'_>) -> bool
     cancels_some(&one.event.what)
         && acts(&other.event.what)
         && differ_last(one.copy.indices(), other.copy.indices())
-        && is_within(hair, one.event.tick, other.event.tick)
+        && is_within(hair, one.tick, other.tick)
 }
 
-// Returns whether two moments are at most a hair apart.
+// Returns whether two ticks are at most a hair apart.
 fn is_within(hair: u64, t: u64, u: u64) -> bool
     ensures { result ≡ is_within hair t u }
 {

@@ -10,12 +10,14 @@ ghost use Rattle.race_copies.specs.Views.{label_seen, sight_held};
 use exc_groups::Label;
 use job_story::{Event, What};
 use job_tree::Name;
+use moments::Clock;
 use std::alloc::{AllocError, Global};
 
-// An event of a copy of a task, or of a descendant of the copy.
+// An event of a copy of a task, or of a descendant of the copy, with its tick.
 #[derive(Clone, Copy)]
 pub(crate) struct Sight<'e> {
     pub copy: &'e Label,
+    pub tick: u64,
     pub event: &'e Event,
 }
 
@@ -23,16 +25,17 @@ pub(crate) struct Sight<'e> {
 // order of the walk.
 pub(crate) fn sights_of<'e>(
     alloc: Global,
+    clock: Clock,
     name: Name,
     walked: &[&'e Event],
 ) -> Result<Vec<Sight<'e>>, AllocError>
-    ensures { IfOk result (λ sights. map sight_held sights.items ≡ sights_of name (map event_in walked.now)) }
+    ensures { IfOk result (λ sights. map sight_held sights.items ≡ sights_of clock name (map event_in walked.now)) }
 {
     let mut sights = Vec::new(alloc);
     let mut current = None;
     'events: for event in walked {
         let copy = copy_at(name, current, event);
-        push_sight(&mut sights, copy, event)?;
+        push_sight(&mut sights, clock, copy, event)?;
         current = open_copy(copy, event);
     }
     Ok(sights)
@@ -41,16 +44,18 @@ pub(crate) fn sights_of<'e>(
 // Appends an event, if it is of a copy. The clause has what a loop appends later, `later`, on both sides.
 fn push_sight<'e>(
     sights: &mut Vec<Sight<'e>>,
+    clock: Clock,
     copy: Option<&'e Label>,
     event: &'e Event,
 ) -> Result<(), AllocError>
     ensures { OnOk result ((later : List told.Sight) → map sight_held sights.new.items ++ later
-        ≡ map sight_held sights.old.items ++ with_sight (label_seen copy.entry) (event_of event.entry.now) later) }
+        ≡ map sight_held sights.old.items ++ with_sight clock (label_seen copy.entry) (event_of event.entry.now) later) }
 {
     let Some(copy) = copy else {
         return Ok(());
     };
-    sights.push(Sight { copy, event })?;
+    let tick = clock.tick_of(event.tick);
+    sights.push(Sight { copy, tick, event })?;
     Ok(())
 }
 

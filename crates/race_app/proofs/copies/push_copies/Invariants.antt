@@ -7,6 +7,6 @@ use Rattle.race_app.proofs.copies.push_copies.Given as goal
 abbrev pub invariant-starts : goal.invariant-starts
 invariant-starts l =
     map line_held l.lines.items
-    ++ copies_lines l.author.text.now l.author.limit l.author.finer (map event_in l.walked) (drop l.start-index l.author.starts.now)
+    ++ copies_lines l.author.clock l.author.text.now l.author.limit l.author.finer (map event_in l.walked) (drop l.start-index l.author.starts.now)
     ≡ map line_held l.fn.lines.items
-    ++ copies_lines l.author.text.now l.author.limit l.author.finer (map event_in l.walked) l.author.starts.now
+    ++ copies_lines l.author.clock l.author.text.now l.author.limit l.author.finer (map event_in l.walked) l.author.starts.now

@@ -7,5 +7,5 @@ use Rattle.race_copies.proofs.sights.sights_of.Given as goal
 
 abbrev pub invariant-events : goal.invariant-events
 invariant-events l =
-    map sight_held l.sights.items ++ sights_from l.name (label_seen l.current) (map event_in (drop l.event-index l.walked))
-    ≡ sights_of l.name (map event_in l.walked)
+    map sight_held l.sights.items ++ sights_from l.clock l.name (label_seen l.current) (map event_in (drop l.event-index l.walked))
+    ≡ sights_of l.clock l.name (map event_in l.walked)
