@@ -53,13 +53,21 @@ def job_of_format_2(body):
     return b"trio-job 2\njob main { " + body + b" }\n"
 
 
+def job_of_format_3(body):
+    return b"trio-job 3\njob main { " + body + b" }\n"
+
+
 def started_in_one(inner, starts):
     """The body of a job whose tasks are all children of one nursery, 64 for each `start`."""
     return b"nursery n{" + b"".join(b"start r%d over 64{%s}" % (i, inner) for i in range(starts)) + b"}"
 
 
+def grid_steps(inner, outer=64, middle=64):
+    return b"nursery n { start a over %d { nursery m { start b over %d { %s } } } }" % (outer, middle, inner)
+
+
 def grid(inner, outer=64, middle=64):
-    return job(b"nursery n { start a over %d { nursery m { start b over %d { %s } } } }" % (outer, middle, inner))
+    return job(grid_steps(inner, outer, middle))
 
 
 # ---- one run ----
@@ -224,6 +232,31 @@ class Bench:
             each = (run.seconds - empty.seconds) * 1e9 / turns
             table.row(name, turns, milliseconds(run.seconds), f"{each:.0f}", run.memory // 1024)
 
+    def by_rounds(self):
+        """The same jobs in formats 2 and 3, whose ticks have rounds."""
+        table = Table("Work", "format 2 ms", "format 3 ms", "ratio", "MB")
+        ends = b" ".join(b"start r%d over 64 { }" % i for i in range(15))
+        started = b"nursery n { start p over 15 { nursery m { start q over 64 { nursery k { " + ends + b" } } } } }"
+        for name, body in [
+            ("499,000 sleeps in one task", b"repeat 499 { repeat 1000 { sleep 1; } }"),
+            ("922,576 tasks that end at once, up to 960 in a nursery", started),
+            ("128,001 tasks that sleep once, all in one nursery", started_in_one(b"sleep 1;", 2000)),
+            ("64 x 64 tasks, three sleeps each", grid_steps(b"sleep 1; sleep 1; sleep 1;")),
+        ]:
+            runs = [
+                Run(str(number), self.program, "run", self.file(f"format{number}.job", make(body)), os.devnull)
+                for number, make in [(2, job_of_format_2), (3, job_of_format_3)]
+            ]
+            self.ratio_row(table, name, runs)
+        body = [b"repeat 1000 { " + step * 998 + b" }" for step in (b"sleep 1;", b"checkpoint;")]
+        runs = [Run(str(n), self.program, "run", self.file(f"steps{n}.job", job_of_format_3(of)), os.devnull, "--limit", "1000000") for n, of in enumerate(body)]
+        self.ratio_row(table, "998,000 sleeps, and as many checkpoints in one tick, both in format 3", runs)
+
+    def ratio_row(self, table, name, runs):
+        measure(runs, self.rounds)
+        one, other = runs
+        table.row(name, milliseconds(one.seconds), milliseconds(other.seconds), f"{other.seconds / one.seconds:.2f}", other.memory // 1024)
+
     def stories(self):
         """Stories of large jobs, in format 2."""
         table = Table("Work", "events", "ms", "ns an event", "MB", "bytes an event")
@@ -313,7 +346,7 @@ def main():
     with tempfile.TemporaryDirectory() as folder:
         Run.out = os.path.join(folder, "out")
         bench = Bench(program, rounds, folder)
-        for table in [bench.lines, bench.turns, bench.large, bench.stories, bench.charts, bench.faults, bench.workers, bench.trio]:
+        for table in [bench.lines, bench.turns, bench.large, bench.by_rounds, bench.stories, bench.charts, bench.faults, bench.workers, bench.trio]:
             print(f"\n{table.__doc__.splitlines()[0]}\n")
             table()
     return 0

@@ -86,6 +86,15 @@ wants 0 'job main 0\ntask main 0 0 done\n' '' run find.job /dev/null
 wants 1 'job main 2\ntask main 0 2 raised Boom(main@2)\n' '' run raise.job log.txt
 wants 0 'trio-job 1\njob main{find"er";}\n' '' check find.job
 
+# Format 3 counts rounds: the failure is seen in its tick. `upgrade` says that the report is another one.
+printf 'trio-job 1\njob a { nursery n { start b { sleep 2; raise X; } forever; } }\n' > late.job
+wants 1 'job a 3\ntask a 0 3 raised n[X(b@2)]\n  nursery n 3 caught\ntask b 0 2 raised X(b@2)\n' '' run late.job log.txt
+wants 0 'trio-job 3\njob a{nursery n{start b{sleep 2;raise X;}forever;}}\n' \
+    'over an empty input the report is another one in format 3; the first lines that differ:\n- job a 3\n+ job a 2\n' upgrade late.job
+mv out late3.job
+wants 1 'job a 2\ntask a 0 2 raised n[X(b@2)]\n  nursery n 2 caught\ntask b 0 2 raised X(b@2)\n' '' run late3.job log.txt
+wants 0 'trio-job 3\njob a{nursery n{start b{sleep 2;raise X;}forever;}}\n' '' upgrade late3.job --to 2
+
 # ---- standard input
 
 cp log.txt in
@@ -93,13 +102,14 @@ wants 0 "$report" '' run find.job -
 cp find.job in
 wants 0 "$report" '' run - log.txt
 wants 0 'trio-job 1\njob main{find"er";}\n' '' check -
-wants 0 'trio-job 2\njob main{find"er";}\n' '' upgrade -
+wants 0 'trio-job 2\njob main{find"er";}\n' '' upgrade - --to 2
+wants 0 'trio-job 3\njob main{find"er";}\n' 'over an empty input the report is the same in format 3\n' upgrade -
 { cat find.job; echo %input; cat log.txt; } > in
 wants 0 "$report" ''
 { cat raise.job; echo %input; } > in
 wants 1 'job main 2\ntask main 0 2 raised Boom(main@2)\n' ''
 : > in
-wants 2 'refused J3 Version at 0\n' 'standard input:1:1: a job text begins with the line `trio-job 1` or `trio-job 2`, ended by a newline alone\n\n^\n'
+wants 2 'refused J3 Version at 0\n' 'standard input:1:1: a job text begins with the line `trio-job 1`, `trio-job 2` or `trio-job 3`, ended by a newline alone\n\n^\n'
 
 # ---- the story
 
@@ -361,10 +371,10 @@ refuses 'trio-job 1\njob main { sleep }\n' 'refused J6 Syntax at 28' \
 refuses 'trio-job 1\njob main {\n  sleep 1\n}\n' 'refused J6 Syntax at 32' '4:1: expected `;`\n}\n^'
 refuses 'trio-job 1\njob main {\n\tfind "\303\244";\n}\n' 'refused J2 NotAscii at 29' \
     '3:8: this byte is not ASCII\n find "??";\n       ^'
-refuses 'trio-job 3\n' 'refused J3 Version at 0' \
-    '1:1: a job text begins with the line `trio-job 1` or `trio-job 2`, ended by a newline alone\ntrio-job 3\n^'
+refuses 'trio-job 4\n' 'refused J3 Version at 0' \
+    '1:1: a job text begins with the line `trio-job 1`, `trio-job 2` or `trio-job 3`, ended by a newline alone\ntrio-job 4\n^'
 refuses 'trio-job 1\r\njob main { }\n' 'refused J3 Version at 0' \
-    '1:1: a job text begins with the line `trio-job 1` or `trio-job 2`, ended by a newline alone\ntrio-job 1 \n^\nits line ends are carriage returns and newlines: save it with newlines alone'
+    '1:1: a job text begins with the line `trio-job 1`, `trio-job 2` or `trio-job 3`, ended by a newline alone\ntrio-job 1 \n^\nits line ends are carriage returns and newlines: save it with newlines alone'
 refuses 'trio-job 1\njob main { sleep 1s; }\n' 'refused J4 Token at 28' \
     '2:18: a letter or `_` directly follows this number\njob main { sleep 1s; }\n                 ^'
 refuses 'trio-job 1\njob main { pace 0; }\n' 'refused J5 Number at 27' \
@@ -376,7 +386,7 @@ refuses 'trio-job 1\njob main { slep 1; }\n' 'refused J6 Syntax at 22' \
 refuses 'trio-job 1\njob main { repeat 2 { } }\n' 'refused J6 Syntax at 22' \
     '2:12: expected a step, as `sleep 1;`, or `}` (a `start` is allowed only directly inside a nursery)\njob main { repeat 2 { } }\n           ^\nformat 2 has this: begin the job text with the line `trio-job 2`'
 refuses 'trio-job 2\njob main { repeat 1000 { repeat 1000 { } } }\n' 'refused J11 TooLarge at 0' \
-    '1:1: the job has more than 100000 steps, in format 2 more than 1000000, the copies that `over` makes and the passes of `repeat` counted\ntrio-job 2\n^\nthe job has 1002001 steps'
+    '1:1: the job has more than 1000000 steps, in format 1 more than 100000, the copies that `over` makes and the passes of `repeat` counted\ntrio-job 2\n^\nthe job has 1002001 steps'
 refuses 'trio-job 1\njob main {\n  scope s {\n    sleep 1;\n}\n' 'refused J6 Syntax at 49' \
     '6:1: expected a step, as `sleep 1;`, or `}` (a `start` is allowed only directly inside a nursery)\n\n^\nthe innermost block that is not closed begins at bad.job:2:10'
 refuses 'trio-job 1\njob main { cancel x; }\n' 'refused J9 NotEnclosing at 29' \
@@ -468,6 +478,7 @@ words='sweep find.job --values 1..2'; holds 2 err '--of <NAME>' '--at <LINE:COL>
 words='sweep find.job --of s --at 1:1 --values 1..2'; holds 2 err '--of <NAME>' 'cannot be used with'
 words='check'; holds 2 err '<JOB>' 'Usage: nursery check '
 words='upgrade'; holds 2 err '<JOB>' 'Usage: nursery upgrade '
+words='upgrade find.job --to 1'; holds 2 err "'--to <N>'"
 words='check find.job log.txt'; holds 2 err "'log.txt'"
 words='go'; holds 2 err "'go'" 'Usage: nursery '
 words='--fast'; holds 2 err "'--fast'"
@@ -493,7 +504,7 @@ words='faults --help'; holds 0 out 'Usage: nursery faults [OPTIONS] <JOB> [INPUT
 words='races --help'; holds 0 out 'Usage: nursery races [OPTIONS] <JOB> [INPUT]' '--deny' '--workers <N>' '--limit <T>'
 words='sweep --help'; holds 0 out 'Usage: nursery sweep [OPTIONS]' '--of <NAME>' '--at <LINE:COL>' '--values <A..B[:STEP]>' '--workers <N>' '--limit <T>'
 words='check --help'; holds 0 out 'Usage: nursery check <JOB>' 'expected a number'
-words='upgrade --help'; holds 0 out 'Usage: nursery upgrade <JOB>' 'job main{find"er";}'
+words='upgrade --help'; holds 0 out 'Usage: nursery upgrade [OPTIONS] <JOB>' '--to <N>' 'job main{find"er";}'
 
 # The example that the help of `run` shows is true.
 printf 'trio-job 1\njob watch {\n  scope limit after 10 { pace 2; find "ERROR"; }\n}\n' > watch.job
@@ -582,6 +593,7 @@ if [ -c /dev/full ]; then
     full sweep fetch.job --of limit --values 1..20
     full check find.job
     full upgrade find.job
+    full upgrade find.job --to 2
     full --help
     full --version
     # Standard error is: the refusal stands on standard output already, and the status stays.

@@ -17,7 +17,7 @@ import re
 import sys
 
 ROOT = os.path.join(os.path.dirname(os.path.abspath(__file__)), "..", "..")
-FIRST_LINES = ("trio-job 1\n", "trio-job 2\n")
+FIRST_LINES = ("trio-job 1\n", "trio-job 2\n", "trio-job 3\n")
 NAMED = re.compile(r"\(`(examples|tests/faults|tests/limits/again)/(\w+)\.(feed|chart|races|sweep)`")
 
 
@@ -43,7 +43,7 @@ def pieces_of(page):
 def job_of(folder, name):
     feed = content_of(folder, name + ".feed")
     if not feed.startswith(FIRST_LINES):
-        raise Wrong(f"{folder}/{name}.feed does not begin with the line `trio-job 1` or `trio-job 2`")
+        raise Wrong(f"{folder}/{name}.feed does not begin with the line `trio-job 1`, `trio-job 2` or `trio-job 3`")
     return feed.partition("\n")[2].partition("%input\n")[0]
 
 

@@ -8,7 +8,7 @@ folder=$(mktemp -d)
 trap 'rm -rf "$folder"' EXIT
 
 for workers in 1 3 64; do
-    "$nursery" test examples tests/races tests/faults --workers "$workers"
+    "$nursery" test examples tests/races tests/faults tests/rounds --workers "$workers"
     "$nursery" test tests/limits/endless --limit 100 --workers "$workers"
     "$nursery" test tests/limits/again --limit 20 --workers "$workers"
 done

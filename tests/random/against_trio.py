@@ -2,20 +2,34 @@
 """Runs random jobs by nursery and by Trio itself, and compares the reports.
 
     python3 tests/random/against_trio.py PROGRAM [JOBS [SEED]]
+    python3 tests/random/against_trio.py PROGRAM [JOBS [SEED]] --format 3
+    python3 tests/random/against_trio.py PROGRAM --format 3 --job JOB
 
-PROGRAM is the built executable (crates/nursery/out/nursery after `rt run`). It wants Python 3.11 and Trio 0.22 or later,
-and is no part of the gate. Each job is also run as a Trio program under MockClock: its scopes, shields, deadlines and levels
-of cancellation are Trio's, its splits of groups Python's. What the job language fixes otherwise (docs/RULES.md, "Differences
-from Trio") is put on top of them: a cancellation by `cancel` or by a member that failed sets the scope's deadline to the next
-tick, and waiting at a nursery's end is shielded.
+PROGRAM is the built executable (crates/nursery/out/nursery after `rt run`). It wants Python 3.11 and Trio 0.22 or later. Each job is
+also run as a Trio program under MockClock: its scopes, shields, deadlines and levels of cancellation are Trio's, its splits of
+groups Python's.
+
+Without `--format` the jobs are of formats 1 and 2. What these fix otherwise (docs/RULES.md, "Differences from Trio") is put on top of
+Trio: a cancellation by `cancel` or by a member that failed sets the scope's deadline to the next tick, and waiting at a nursery's end
+is shielded.
+
+With `--format 3` the program is plain: `cancel` is Trio's, a nursery is Trio's, with its own scope. It is run under eight seeds of
+Trio's scheduler, and where these have one outcome, it has to be the report, tick for tick. The parts of groups are compared sorted,
+since Trio has them in the order in which tasks ended; and the end of a nursery is no cancel point, as from Trio 0.23 on. These jobs
+have no `pace`, which has a rule of its own for no tick. The last form shows the outcomes of one job, by its number.
 """
 
+import argparse
+import collections
 import contextlib
 import math
+import os
 import subprocess
 import sys
+from concurrent.futures import ProcessPoolExecutor
 
 import trio
+import trio._core._run as scheduler
 import trio.testing
 
 from jobs import random_job
@@ -124,7 +138,7 @@ class Task:
             case ("raise", name):
                 raise Named(name, self.label, now())
             case ("cancel", name):
-                lower(scopes[name])
+                self.cancel(scopes[name])
             case ("scope", name, deadline, shield, fail, body):
                 await self.scope(name, deadline, shield, fail, body, scopes)
             case ("nursery", name, after, shield, items):
@@ -133,6 +147,12 @@ class Task:
                 await self.repeat(count, body, scopes)
             case ("try", body, handler, cleanup):
                 await self.handled(body, handler, cleanup, scopes)
+
+    def cancel(self, scope):
+        lower(scope)
+
+    def child(self, label, indices, part):
+        return Task(label, indices, part)
 
     async def scope(self, name, deadline, shield, fail, body, scopes):
         label = self.label_of(name)
@@ -190,10 +210,10 @@ class Task:
     def children_of(self, item):
         _, name, over, _ = item
         if over is None:
-            children = [Task(self.label_of(name), self.indices, self.part)]
+            children = [self.child(self.label_of(name), self.indices, self.part)]
         else:
             cuts = cuts_of(self.part, over)
-            children = [Task(f"{self.label_of(name)}.{i}", [*self.indices, i], cuts[i]) for i in range(over)]
+            children = [self.child(f"{self.label_of(name)}.{i}", [*self.indices, i], cuts[i]) for i in range(over)]
         self.children += children
         return children
 
@@ -235,6 +255,40 @@ class Task:
             yield from child.report()
 
 
+class PlainTask(Task):
+    """A task of a plain Trio program."""
+
+    def cancel(self, scope):
+        scope.cancel()
+
+    def child(self, label, indices, part):
+        return PlainTask(label, indices, part)
+
+    async def spawned(self, steps, scopes):
+        """What a nursery starts: its exception is the nursery's."""
+        await self.run(steps, scopes, lambda: None)
+        if self.exc is not None:
+            raise self.exc
+
+    async def nursery(self, name, after, shield, items, scopes):
+        label, own = self.label_of(name), None
+        try:
+            async with trio.open_nursery() as spawner:
+                own = spawner.cancel_scope
+                own.deadline, own.shield = math.inf if after is None else now() + after, shield
+                inside = {**scopes, name: own}
+                for item in items:
+                    if item[0] != "start":
+                        await self.step(item, inside)
+                        continue
+                    for child in self.children_of(item):
+                        spawner.start_soon(child.spawned, item[3], inside)
+        except BaseExceptionGroup as group:
+            raise BaseExceptionGroup(label, group.exceptions)
+        finally:
+            self.entries.append(f"nursery {label} {now()} {'caught' if own.cancelled_caught else 'passed'}")
+
+
 @contextlib.contextmanager
 def unheard():
     """Waiting at the end of a nursery is no cancel point: up to Trio 0.22 it was one."""
@@ -263,9 +317,9 @@ def cuts_of(part, k):
     return [(point(i), point(i + 1)) for i in range(k)]
 
 
-def by_trio(steps):
+def by_trio(steps, root_of=Task):
     async def main():
-        root = Task("main", [], (0, len(INPUT)))
+        root = root_of("main", [], (0, len(INPUT)))
         await root.run(steps, {}, lambda: None)
         return root
 
@@ -282,10 +336,88 @@ def by_nursery(program, text):
     return run.stdout.decode()
 
 
-def main():
-    program = sys.argv[1]
-    jobs = int(sys.argv[2]) if len(sys.argv) > 2 else 1000
-    seed = int(sys.argv[3]) if len(sys.argv) > 3 else 1
+# ---- format 3 and plain Trio ----
+
+
+def parts_of(text):
+    """The parts of a group's text, between commas that are in no other group."""
+    depth, part = 0, ""
+    for c in text:
+        depth += (c == "[") - (c == "]")
+        if c == "," and depth == 0:
+            yield part.strip()
+            part = ""
+        else:
+            part += c
+    yield part.strip()
+
+
+def with_sorted_parts(exc):
+    if "[" not in exc:
+        return exc
+    name, _, inside = exc.partition("[")
+    return f"{name}[{', '.join(sorted(map(with_sorted_parts, parts_of(inside[:-1]))))}]"
+
+
+def comparable(report):
+    """A report, with the parts of its groups sorted."""
+    lines = []
+    for line in report.splitlines():
+        before, raised, exc = line.partition(" raised ")
+        lines.append(before + raised + with_sorted_parts(exc) if line.startswith("task ") else line)
+    return "\n".join(lines) + "\n"
+
+
+def in_plain_trio(steps, seeds=8):
+    """The outcomes of a job in plain Trio, and how often each was seen."""
+    import trio_export  # the end of a nursery as Trio 0.23 has it
+
+    assert trio_export
+    scheduler._ALLOW_DETERMINISTIC_SCHEDULING = True
+    found = collections.Counter()
+    for seed in range(seeds):
+        scheduler._r.seed(seed)
+        found[comparable(by_trio(steps, PlainTask))] += 1
+    return found
+
+
+def compared_by_rounds(given):
+    """Of a job of format 3: its number, its text, the report, and its outcomes in plain Trio."""
+    program, number = given
+    steps, text = random_job(number, 3)
+    return number, text, comparable(by_nursery(program, text)), in_plain_trio(steps)
+
+
+def by_rounds(program, jobs, seed):
+    """How many jobs of format 3 have another report than the one outcome in plain Trio."""
+    given = [(program, seed * 1_000_000 + n) for n in range(jobs)]
+    with ProcessPoolExecutor(os.cpu_count()) as pool:
+        results = list(pool.map(compared_by_rounds, given, chunksize=20))
+    single = [(number, text, ours, found) for number, text, ours, found in results if len(found) == 1]
+    differ = 0
+    for number, text, ours, found in single:
+        if ours not in found:
+            differ += 1
+            print(f"job {number} differs:\n{text}\n-- nursery\n{ours}-- Trio\n{next(iter(found))}")
+    among = sum(ours in found for _, _, ours, found in results if len(found) > 1)
+    print(f"{jobs} jobs: {len(single)} have one outcome in plain Trio under eight seeds, and {differ} of them differ")
+    print(f"{jobs - len(single)} have several outcomes, and the report of {among} is one of them")
+    return differ
+
+
+def show(program, number):
+    _, text, ours, found = compared_by_rounds((program, number))
+    print(f"{text}\n-- nursery\n{ours}")
+    for told, times in found.items():
+        print(f"-- Trio, {times} of 8\n{told}")
+    return 0
+
+
+# ---- formats 1 and 2 ----
+
+
+def by_ticks(program, jobs, seed):
+    """How many jobs of formats 1 and 2 have another report than in Trio with their differences put on top of it."""
     differ = 0
     for i in range(jobs):
         steps, text = random_job(seed * 1_000_000 + i)
@@ -294,7 +426,21 @@ def main():
             differ += 1
             print(f"job {i} differs:\n{text}\n-- nursery\n{ours}-- Trio\n{theirs}")
     print(f"{jobs} jobs, {differ} differ")
-    return 1 if differ else 0
+    return differ
+
+
+def main():
+    words = argparse.ArgumentParser()
+    words.add_argument("program")
+    words.add_argument("jobs", type=int, nargs="?", default=1000)
+    words.add_argument("seed", type=int, nargs="?", default=1)
+    words.add_argument("--format", type=int, choices=[3])
+    words.add_argument("--job", type=int)
+    given = words.parse_args()
+    if given.job is not None:
+        return show(given.program, given.job)
+    compare = by_rounds if given.format == 3 else by_ticks
+    return 1 if compare(given.program, given.jobs, given.seed) else 0
 
 
 if __name__ == "__main__":

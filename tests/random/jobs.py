@@ -1,4 +1,4 @@
-"""Random jobs of both formats: nested lists of steps, each a tuple whose first part is its keyword, and their text."""
+"""Random jobs of all formats: nested lists of steps, each a tuple whose first part is its keyword, and their text."""
 
 import random
 
@@ -9,9 +9,9 @@ NAMES = ["A", "B", "C"]
 class Jobs:
     """Random jobs of one format: nested lists of steps, each a tuple whose first part is its keyword."""
 
-    def __init__(self, seed):
+    def __init__(self, seed, format_=None):
         self.random = random.Random(seed)
-        self.format = self.random.choice([1, 2])
+        self.format = format_ or self.random.choice([1, 2])
         self.names = 0
 
     def job(self):
@@ -29,7 +29,7 @@ class Jobs:
         pick = self.random.random()
         if depth == 0 or pick < 0.3:
             return self.leaf(around)
-        if self.format == 2 and pick < 0.4:
+        if self.format >= 2 and pick < 0.4:
             return ("repeat", self.random.randint(0, 3), self.block(depth - 1, around, 3))
         if pick < 0.5:
             return self.scope(depth, around)
@@ -47,7 +47,7 @@ class Jobs:
         if pick < 0.58:
             return ("forever",)
         if pick < 0.62:
-            return ("pace", r.randint(1, 4))
+            return ("pace", r.randint(1, 4)) if self.format < 3 else ("sleep", r.randint(0, 1))
         if pick < 0.66:
             return ("find", r.choice(NEEDLES))
         if pick < 0.69:
@@ -68,8 +68,8 @@ class Jobs:
     def nursery(self, depth, around):
         r = self.random
         name = self.name("n")
-        after = r.choice([None, r.randint(0, 6)]) if self.format == 2 else None
-        shield = self.format == 2 and r.random() < 0.3
+        after = r.choice([None, r.randint(0, 6)]) if self.format >= 2 else None
+        shield = self.format >= 2 and r.random() < 0.3
         items = []
         for _ in range(r.randint(1, 5)):
             if r.random() < 0.7:
@@ -87,11 +87,16 @@ class Jobs:
         return ("try", body, handler, cleanup)
 
 
-def random_job(seed):
-    """The steps of a random job, and its text."""
-    jobs = Jobs(seed)
+def random_job(seed, format_=None):
+    """The steps of a random job, and its text: of format 1 or 2, unless another one is given."""
+    jobs = Jobs(seed, format_)
     steps = jobs.job()
     return steps, f"trio-job {jobs.format}\njob main " + text_of_block(steps)
+
+
+def job_of_any_format(seed):
+    """The steps of a random job of format 1, 2 or 3, and its text."""
+    return random_job(seed, 3 if seed % 3 == 0 else None)
 
 
 def text_of_block(steps):

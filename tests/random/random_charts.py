@@ -17,7 +17,7 @@ import tempfile
 import xml.etree.ElementTree
 from concurrent.futures import ThreadPoolExecutor
 
-from jobs import random_job
+from jobs import job_of_any_format
 
 LIMIT = 1000
 MOST_OUTCOME = 24
@@ -179,6 +179,16 @@ def rows_of(program, tasks):
     return [bar for label in order for bar in (tasks[label], *tasks[label].blocks)]
 
 
+def settle_rounds(program, rows):
+    """In format 3 a story does not say in which rounds of one tick a block is entered, cancelled and left. The widest chart says whether the
+    cancellation comes between."""
+    _, chart = program.call("chart", "--width", "1000")
+    names = max(len(bar.name()) for bar in rows)
+    for line, bar in zip(chart.splitlines()[1:], rows):
+        if bar.kind != "task" and bar.cancelled in (bar.start, bar.end) and "x" not in line[names + 2 :]:
+            bar.cancelled = None
+
+
 def check_svg(text, rows):
     root = xml.etree.ElementTree.fromstring(text)
     width, height = int(root.get("width")), int(root.get("height"))
@@ -214,6 +224,8 @@ def compare(program, text, data):
             if block.end is None and block.cancelled is not None and limit is not None and block.cancelled > limit:
                 block.cancelled = None
     rows = rows_of(program, tasks)
+    if text.startswith("trio-job 3"):
+        settle_rounds(program, rows)
     charts = 0
     for width in (20, 33, 50, 80, 200):
         wanted = chart_of(width, events, limit, rows)
@@ -233,7 +245,7 @@ def compare(program, text, data):
 
 def one(program, seed):
     with tempfile.TemporaryDirectory() as folder:
-        text, data = random_job(seed)[1], b"error\nok\nan er\nlast ok"
+        text, data = job_of_any_format(seed)[1], b"error\nok\nan er\nlast ok"
         try:
             return compare(Program(program, folder), text, data)
         except Wrong as wrong:

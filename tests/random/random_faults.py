@@ -18,7 +18,7 @@ import sys
 import tempfile
 from concurrent.futures import ThreadPoolExecutor
 
-from jobs import random_job
+from jobs import job_of_any_format
 
 LIMIT = 1000
 TOKEN = re.compile(r'[A-Za-z][A-Za-z0-9_]*|[0-9]+|"(?:[^"\\]|\\.)*"|[{};]')
@@ -198,7 +198,7 @@ def counted(kinds):
 
 def compared(program, seed):
     dice = random.Random(seed)
-    text = random_job(seed)[1]
+    text = job_of_any_format(seed)[1]
     data = "\n".join(dice.choice(["error one", "ok", "", "all"]) for _ in range(dice.randint(0, 6)))
     with tempfile.TemporaryDirectory() as folder:
         runs = Runs(program, folder, LIMIT)

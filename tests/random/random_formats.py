@@ -15,7 +15,7 @@ import tempfile
 from concurrent.futures import ThreadPoolExecutor
 
 from formats import TOKEN, formatted
-from jobs import random_job
+from jobs import job_of_any_format
 
 MOST_BYTES = 65536
 BLANKS = [" ", "  ", "\n", "\t", "\r\n", "\n\n  "]
@@ -45,7 +45,7 @@ def run(program, *words):
 
 def try_job(program, folder, seed):
     choices = random.Random(seed)
-    text = laid_out(random_job(seed)[1], choices)
+    text = laid_out(job_of_any_format(seed)[1], choices)
     path = os.path.join(folder, f"{seed}.job")
     with open(path, "w", newline="") as file:
         file.write(text)

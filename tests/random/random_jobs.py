@@ -20,9 +20,9 @@ import tempfile
 from collections import Counter
 from concurrent.futures import ThreadPoolExecutor
 
-from jobs import random_job
+from jobs import job_of_any_format
 
-FIRST_LINES = [b"trio-job 1\n", b"trio-job 2\n"]
+FIRST_LINES = [b"trio-job 1\n", b"trio-job 2\n", b"trio-job 3\n"]
 ORDERS = ["forward", "reverse", "turn"]
 WORKERS = ["1", "3", "64"]
 LIMIT = 1_000_000
@@ -42,7 +42,7 @@ class Wrong(Exception):
 
 
 def job_text(seed):
-    return random_job(seed)[1].encode()
+    return job_of_any_format(seed)[1].encode()
 
 
 def nearly(dice, text):
@@ -159,8 +159,8 @@ class Program:
     def check(self, text):
         return self.call(["check", "-"], text)
 
-    def upgrade(self, text):
-        return self.call(["upgrade", "-"], text)
+    def upgrade(self, text, *words):
+        return self.call(["upgrade", "-", *words], text)
 
     def examine(self, text, data):
         """Raises Wrong where something does not hold. Gives the status."""
@@ -210,17 +210,20 @@ class Program:
 
 
     def examine_upgrade(self, text, answer, is_job):
-        status, out, _ = self.upgrade(text)
+        status, out, _ = self.upgrade(text, "--to", "2")
         if not is_job:
-            if (status, out) != answer:
+            if (status, out) != answer or self.upgrade(text)[:2] != answer:
                 raise Wrong("upgrade and run refuse differently")
             return
-        if status != 0 or not out.startswith(b"trio-job 2\n"):
-            raise Wrong(f"upgrade gives status {status} and {out!r}")
-        if self.upgrade(out)[:2] != (0, out) or self.check(out)[:2] != (0, out):
-            raise Wrong("what was upgraded is not its own upgrade")
+        if status != 0 or not out.startswith(max(text[:11], b"trio-job 2\n")):
+            raise Wrong(f"upgrade --to 2 gives status {status} and {out!r}")
+        if self.upgrade(out, "--to", "2")[:2] != (0, out) or self.check(out)[:2] != (0, out):
+            raise Wrong("what was upgraded to format 2 is not its own upgrade")
         if self.run(out)[:2] != answer:
-            raise Wrong("what was upgraded has another report")
+            raise Wrong("what was upgraded to format 2 has another report")
+        status, newest, _ = self.upgrade(text)
+        if status != 0 or newest != b"trio-job 3\n" + out[11:] or self.upgrade(newest) != (0, newest, b""):
+            raise Wrong(f"upgrade gives status {status} and {newest!r}")
 
 
 def cut_texts():

@@ -16,7 +16,7 @@ import sys
 import tempfile
 from concurrent.futures import ThreadPoolExecutor
 
-from jobs import random_job
+from jobs import job_of_any_format
 
 INPUT = b'error\nok\n\x00"\\ er\nlong line here\n'
 LIMIT = "60"
@@ -112,7 +112,7 @@ def compare_story(document, text):
 def try_job(program, folder, seed):
     path, data = os.path.join(folder, f"{seed}.job"), os.path.join(folder, "input")
     with open(path, "w") as file:
-        file.write(random_job(seed)[1])
+        file.write(job_of_any_format(seed)[1])
     try:
         words = [path, data, "--limit", LIMIT]
         status, text = run(program, "run", *words)

@@ -16,7 +16,7 @@ import sys
 import tempfile
 from concurrent.futures import ThreadPoolExecutor
 
-from jobs import random_job
+from jobs import job_of_any_format
 from random_json import INPUT, Wrong, exception_text
 
 LIMIT = "1000"
@@ -205,7 +205,7 @@ def compare(program, words, table):
 
 def try_job(program, folder, seed):
     path, data = os.path.join(folder, f"{seed}.job"), os.path.join(folder, "input")
-    text = random_job(seed)[1]
+    text = job_of_any_format(seed)[1]
     with open(path, "w") as file:
         file.write(text)
     deadline = re.search(r"(?:scope|nursery) (\w+) (?:after|at) \d", text)

@@ -15,7 +15,7 @@ import sys
 import tempfile
 from concurrent.futures import ThreadPoolExecutor
 
-from jobs import random_job
+from jobs import job_of_any_format
 from random_faults import LIMIT, TOKEN, Runs, Wrong, replaced
 
 
@@ -71,7 +71,7 @@ def names_of(tokens, n):
 def compared(program, seed):
     """Compares a sweep over one number of a random job. Gives the number of values."""
     dice = random.Random(seed)
-    text = random_job(seed)[1]
+    text = job_of_any_format(seed)[1]
     tokens = [(found[0], found.start()) for found in TOKEN.finditer(text) if found.start() >= 11]
     numbers = [n for n, (token, _) in enumerate(tokens) if token.isdigit()]
     if not numbers:

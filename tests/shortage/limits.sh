@@ -79,7 +79,7 @@ from_little_to_enough faults few.job lines.txt
 from_little_to_enough races pair.job lines.txt
 from_little_to_enough sweep few.job lines.txt --at 2:40 --values 1..9
 from_little_to_enough check wide.job
-from_little_to_enough upgrade wide.job
+from_little_to_enough upgrade wide.job --to 2
 from_little_to_enough lint wide.job --json
 from_little_to_enough faults few.job lines.txt --json
 from_little_to_enough races pair.job lines.txt --json

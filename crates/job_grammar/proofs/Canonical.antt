@@ -4,9 +4,9 @@ use Rattle.std.specs.List.{prefix_len, list_all}
 use Rattle.std.proofs.lemmas.List.{length-append, length-drop, length-take}
 use Rattle.std.proofs.lemmas.Bool.{cases_lt}
 use Rattle.job_tree.specs.declared.format.Format.{Format}
-use Rattle.job_tree.specs.declared.format.Format.TheVariants.{One, Two}
+use Rattle.job_tree.specs.declared.format.Format.TheVariants.{One, Two, Three}
 use Rattle.job_tree.specs.Tree.{Tree}
-use Rattle.job_tree.specs.InRange.{most_steps}
+use Rattle.job_tree.specs.Formats.{most_steps, newer, in_format}
 use Rattle.job_tokens.specs.declared.token.Shape.{Shape}
 use Rattle.job_tokens.specs.declared.token.Shape.TheVariants as shape
 use Rattle.job_tokens.specs.declared.token.Token.{Token}
@@ -27,7 +27,7 @@ use Rattle.job_syntax.proofs.Places.{fault_at-text}
 use Rattle.job_syntax.proofs.Names.{text_of_job}
 use Rattle.job_syntax.proofs.InRange.{numbers_by_shapes}
 use Rattle.job_syntax.proofs.Deep.{depth_by_shapes}
-use Rattle.job_syntax.proofs.Upgraded.{upgraded_steps, upgraded_numbers}
+use Rattle.job_syntax.proofs.Upgraded.{newer_steps, newer_numbers}
 use Rattle.job_checks.specs.Given.{twice_in}
 use Rattle.job_checks.specs.Cancels.{cancels_of}
 use Rattle.job_checks.specs.Reserved.{reserved_in}
@@ -121,12 +121,15 @@ passing_spells text ts job short ascii headed is_of found =
     let nine = passes_cancels text ts job (passes_given text ts job seven is_of found.given) is_of found.cancels in
     (ts, is_of, passes_all text (passes_size text ts job (passes_reserved text ts job nine is_of found.reserved) is_of found.size))
 
+line_length : (format : Format) → length (first_line format) ≡ 11
+line_length One = refl
+line_length Two = refl
+line_length Three = refl
+
 long_enough : (text : List ℕ) → (IsHeadless text → ⊥) → 11 ≤ length text
 long_enough text headed = elim (cases_lt (length text) 11) [
-  | inl lt ↦ absurd (headed (
-    λ e. let l : length (take 11 text) ≡ 11 = ap (length {A = ℕ}) e in omega (arith, l, lt, length-take 11 text),
-    λ e. let l : length (take 11 text) ≡ 11 = ap (length {A = ℕ}) e in omega (arith, l, lt, length-take 11 text),
-  ))
+  | inl lt ↦ absurd (headed (λ format e.
+      let l : length (take 11 text) ≡ 11 = ap (length {A = ℕ}) e ∙ line_length format in omega (arith, l, lt, length-take 11 text)))
   | inr ge ↦ ge
 ]
 
@@ -144,6 +147,7 @@ record IsHeaded (format : Format) (body : List ℕ) : Type 0 where
 headed_by : (format : Format) (body : List ℕ) → IsHeaded format body
 headed_by One body = record { line = refl; rest = refl; long = length-append (first_line One) body; small = refl }
 headed_by Two body = record { line = refl; rest = refl; long = length-append (first_line Two) body; small = refl }
+headed_by Three body = record { line = refl; rest = refl; long = length-append (first_line Three) body; small = refl }
 
 -- the first line, followed by tokens
 pub headed_spells : (limit : ℕ) (body : List ℕ) (job : Tree) (old : List Token) → limit ≤ most_bytes → 11 + length body ≤ limit →
@@ -183,26 +187,37 @@ canon_spells text job (ts, is_of, none) =
     canon_again text job ts is_of.0 (short_enough text (none kind.TooLong)) (long_enough text (λ e. none kind.Version 0 (e, refl))) is_of.1
     (passed text ts job is_of none)
 
--- ---- the same job in format 2
+-- ---- the same job in a newer format
 
-more_steps : (format : Format) (n : ℕ) → n ≤ most_steps format → n ≤ most_steps Two
-more_steps One n le = omega arith
-more_steps Two n le = le
+more_steps : (to format : Format) (n : ℕ) → n ≤ most_steps format → n ≤ most_steps (newer to format)
+more_steps One format n le = le
+more_steps Two One n le = omega arith
+more_steps Two Two n le = le
+more_steps Two Three n le = le
+more_steps Three One n le = omega arith
+more_steps Three Two n le = le
+more_steps Three Three n le = le
 
-upgraded_passes : (ts : List Token) (job : Tree) → AreTokensOf ts job → PassesTokens ts job → PassesTokens ts (record job { format = Two })
-upgraded_passes ts job are old = record {
-  numbers = upgraded_numbers job ts are.0 are.1 old.numbers;
+upgraded_passes : (to : Format) (ts : List Token) (job : Tree) → AreTokensOf ts job → PassesTokens ts job → PassesTokens ts (in_format to job)
+upgraded_passes to ts job are old = record {
+  numbers = newer_numbers to job ts are.0 are.1 old.numbers;
   depth = old.depth;
   given = old.given;
   cancels = old.cancels;
   reserved = old.reserved;
-  size = more_steps job.format (size_of job.steps) old.size;
+  size = more_steps to job.format (size_of job.steps) old.size;
 }
 
--- a job that its canonical text spells, in format 2
-pub upgraded_spells : (job : Tree) → Spells (canon job) job → Spells (canon (record job { format = Two })) (record job { format = Two })
-upgraded_spells job (ts, is_of, none) =
+-- a job that its canonical text spells, in a newer format
+upgraded_spells : (to : Format) (job : Tree) → Spells (canon job) job → Spells (canon (in_format to job)) (in_format to job)
+upgraded_spells to job (ts, is_of, none) =
     let text = canon job in
-    (canon_again text (record job { format = Two }) ts is_of.0 (short_enough text (none kind.TooLong))
-    (long_enough text (λ e. none kind.Version 0 (e, refl))) (upgraded_steps job.format false job.steps is_of.1.0, is_of.1.1)
-    (upgraded_passes ts job is_of.1 (passed text ts job is_of none))).0
+    (canon_again text (in_format to job) ts is_of.0 (short_enough text (none kind.TooLong))
+    (long_enough text (λ e. none kind.Version 0 (e, refl))) (newer_steps to job is_of.1.0, is_of.1.1)
+    (upgraded_passes to ts job is_of.1 (passed text ts job is_of none))).0
+
+-- the same for a format that is the newer one
+pub newer_spells : (to format : Format) (job : Tree) → format ≡ newer to job.format → Spells (canon job) job →
+    Spells (canon (record job { format = format })) (record job { format = format })
+newer_spells to format job is spelled =
+    subst (λ (f : Format). Spells (canon (record job { format = f })) (record job { format = f })) (sym is) (upgraded_spells to job spelled)

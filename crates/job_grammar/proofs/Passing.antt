@@ -6,9 +6,9 @@ use Rattle.std.proofs.lemmas.Bool.{cases_lt}
 use Rattle.std.proofs.lemmas.Slice.Eq.{bytes_eq-Decides}
 use Rattle.std.specs.Str.{bytes_eq}
 use Rattle.job_tree.specs.declared.format.Format.{Format}
-use Rattle.job_tree.specs.declared.format.Format.TheVariants.{One, Two}
+use Rattle.job_tree.specs.declared.format.Format.TheVariants.{One, Two, Three}
 use Rattle.job_tree.specs.Tree.{Tree}
-use Rattle.job_tree.specs.InRange.{most_steps}
+use Rattle.job_tree.specs.Formats.{most_steps}
 use Rattle.job_tokens.specs.declared.token.Token.{Token}
 use Rattle.job_tokens.specs.Shapes.{shapes_of}
 use Rattle.job_tokens.proofs.LeftToRight.{Lexes-unique}
@@ -29,7 +29,7 @@ use Rattle.job_grammar.specs.declared.fault.JobKind.{JobKind}
 use Rattle.job_grammar.specs.declared.fault.JobKind.TheVariants as kind
 use Rattle.job_grammar.specs.declared.fault.JobFault.{JobFault}
 use Rattle.job_grammar.specs.Kinds.{number_of}
-use Rattle.job_grammar.specs.Refusals.{most_bytes, first_line, format_if, format_of, IsHeadless, is_ascii, HasTokens, IsOf, roles_of, stray_of, Finds, Passes, IsRefused, IsFair, AnswersUnlessMemory, Spells}
+use Rattle.job_grammar.specs.Refusals.{most_bytes, first_line, format_of, IsHeadless, is_ascii, HasTokens, IsOf, roles_of, stray_of, Finds, Passes, IsRefused, IsFair, AnswersUnlessMemory, Spells}
 
 next_pass : (text : List ℕ) (n : ℕ) → Passes text n → ((k : JobKind) (at : ℕ) → number_of k ≡ n + 1 → Finds k text at → ⊥) →
     Passes text (n + 1)
@@ -59,18 +59,21 @@ here_ascii text all _ at e finds = absurd (omega arith)
 pub format_is : (text : List ℕ) (format : Format) → take 11 text ≡ first_line format → format ≡ format_of text
 format_is text One e = rw e refl
 format_is text Two e = rw e refl
+format_is text Three e = rw e refl
 
--- a text that begins with neither first line has format 1
+-- a text that begins with no first line has format 1
 pub format_headless : (text : List ℕ) → IsHeadless text → One ≡ format_of text
-format_headless text none = by_test (bytes_eq (take 11 text) (first_line Two)) refl
+format_headless text none = rw (test Three, test Two) refl
   where
-    by_test : (b : Bool) → bytes_eq (take 11 text) (first_line Two) ≡ b → One ≡ format_if b
-    by_test true e = absurd (none.1 ((bytes_eq-Decides (take 11 text) (first_line Two)).0 e))
-    by_test false e = refl
+    by_test : (format : Format) (b : Bool) → bytes_eq (take 11 text) (first_line format) ≡ b → b ≡ false
+    by_test format true e = absurd (none format ((bytes_eq-Decides (take 11 text) (first_line format)).0 e))
+    by_test format false e = refl
+
+    test : (format : Format) → bytes_eq (take 11 text) (first_line format) ≡ false
+    test format = by_test format (bytes_eq (take 11 text) (first_line format)) refl
 
 not_headless : (text : List ℕ) (format : Format) → take 11 text ≡ first_line format → IsHeadless text → ⊥
-not_headless text One is none = none.0 is
-not_headless text Two is none = none.1 is
+not_headless text format is none = none format is
 
 here_version : (text : List ℕ) (format : Format) → take 11 text ≡ first_line format → (k : JobKind) (at : ℕ) → number_of k ≡ 3 →
     Finds k text at → ⊥

@@ -4,7 +4,8 @@ use Rattle.job_tree.specs.declared.format.Format.{Format}
 use Rattle.job_tree.specs.Tree.{Tree}
 use Rattle.job_tree.specs.Names.{GivesNamesOnce, size_of}
 use Rattle.job_tree.specs.Starting.{StartsInNurseries}
-use Rattle.job_tree.specs.InRange.{IsInRange, most_steps}
+use Rattle.job_tree.specs.InRange.{IsInRange}
+use Rattle.job_tree.specs.Formats.{most_steps}
 use Rattle.job_syntax.specs.Ranges.{number_fault}
 use Rattle.job_syntax.proofs.InRange.{in_range_numbers}
 use Rattle.job_syntax.proofs.Starting.{starts_in}

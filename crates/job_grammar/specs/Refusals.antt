@@ -1,12 +1,12 @@
 -- Which job a text spells, and why a text is refused.
-use Rattle.std.specs.Prelude.{◌≡◌, ◌≢◌, ◌⊎◌, ℕ, ◌<◌, ◌≤◌, Bool, true, false, nat_lt, List, [], length, take, drop, Option, Some, None, Result, Err, codes}
+use Rattle.std.specs.Prelude.{◌≡◌, ◌≢◌, ◌⊎◌, ℕ, ◌<◌, ◌≤◌, Bool, false, nat_lt, List, [], length, take, drop, Option, Some, None, Result, Err, codes, if◌then◌else◌}
 use Rattle.std.specs.List.{prefix_len}
 use Rattle.std.specs.Str.{bytes_eq}
 use Rattle.job_tree.specs.declared.format.Format.{Format}
-use Rattle.job_tree.specs.declared.format.Format.TheVariants.{One, Two}
+use Rattle.job_tree.specs.declared.format.Format.TheVariants.{One, Two, Three}
 use Rattle.job_tree.specs.Tree.{Tree}
 use Rattle.job_tree.specs.Names.{size_of}
-use Rattle.job_tree.specs.InRange.{most_steps}
+use Rattle.job_tree.specs.Formats.{most_steps}
 use Rattle.job_tokens.specs.declared.token.Token.{Token}
 use Rattle.job_tokens.specs.Shapes.{shapes_of}
 use Rattle.job_tokens.specs.Lexing.{Lexes}
@@ -31,14 +31,13 @@ most_bytes = 65536
 abbrev pub first_line : Format → List ℕ
 first_line One = codes "trio-job 1\n"
 first_line Two = codes "trio-job 2\n"
+first_line Three = codes "trio-job 3\n"
 
-abbrev pub format_if : Bool → Format
-format_if true = Two
-format_if false = One
-
--- the format of the first line of a text, or format 1 if the text begins with neither first line
+-- the format of the first line of a text, or format 1 if the text begins with no first line
 abbrev pub format_of : List ℕ → Format
-format_of text = format_if (bytes_eq (take 11 text) (first_line Two))
+format_of text =
+    if bytes_eq (take 11 text) (first_line Three) then Three
+    else (if bytes_eq (take 11 text) (first_line Two) then Two else One)
 
 abbrev pub is_ascii : ℕ → Bool
 is_ascii b = nat_lt b 128
@@ -63,9 +62,9 @@ roles_of job = roles_in (job_pieces job)
 abbrev pub stray_of : Tree → List Token → List Role → Option ℕ
 stray_of job tokens roles = stray_in (cancels_of [] job.steps) (targets_in tokens roles)
 
--- the text begins with the first line of neither format
+-- the text begins with the first line of no format
 abbrev pub IsHeadless : List ℕ → Type 0
-IsHeadless text = (take 11 text ≢ first_line One) × (take 11 text ≢ first_line Two)
+IsHeadless text = (format : Format) → take 11 text ≢ first_line format
 
 -- what the check for a kind finds, and where
 abbrev pub Finds : JobKind → List ℕ → ℕ → Type 0

@@ -12,14 +12,14 @@ pub enum JobKind {
     TooLong,
     /// A byte is above 127. The place is the first such byte.
     NotAscii,
-    /// The text begins neither with the line `trio-job 1` nor with the line `trio-job 2`. The place is 0.
+    /// The text begins with none of the lines `trio-job 1`, `trio-job 2` and `trio-job 3`. The place is 0.
     Version,
     /// Bytes from which no token can be read: a byte begins no token, a word has more than 32 bytes, a letter or `_`
     /// directly follows digits, or a string has no units, more than 64 units, a wrong unit or no end. The place is the first
     /// byte of what is no token.
     Token,
     /// A number has a leading zero or is out of its range: 1 to 64 after `over`, 1 to 1,000,000 after `pace`, 0 to 1,000
-    /// after `repeat` in format 2, and otherwise 0 to 1,000,000,000. The place is its first digit.
+    /// after `repeat` in formats 2 and 3, and otherwise 0 to 1,000,000,000. The place is its first digit.
     Number,
     /// The tokens are not a text of the grammar of the format. The place is the first token that no text of the grammar
     /// continues with, or the length of the text if the tokens end too early.
@@ -32,8 +32,8 @@ pub enum JobKind {
     NotEnclosing,
     /// A name is a keyword or `Cancelled`, or `TooSlow` anywhere except after `except`. The place is that name.
     Reserved,
-    /// The job has more than 100,000 step instances in format 1, or more than 1,000,000 in format 2. The copies of a `start
-    /// .. over` and the passes of a `repeat` are counted. The place is 0.
+    /// The job has more than 1,000,000 step instances, or in format 1 more than 100,000. The copies of a `start .. over` and
+    /// the passes of a `repeat` are counted. The place is 0.
     TooLarge,
     /// Memory was refused. The place is 0.
     NoMemory,

@@ -1,9 +1,9 @@
 ghost use Rattle.std.specs.Prelude.{◌≡◌};
 ghost use Rattle.job_tree.specs.Blocks.{steps_of};
-ghost use Rattle.job_tree.specs.InRange.{IsInRange, number_of};
+ghost use Rattle.job_tree.specs.Formats.{number_of, in_format};
+ghost use Rattle.job_tree.specs.InRange.{IsInRange};
 ghost use Rattle.job_tree.specs.Names.{size_of};
 ghost use Rattle.job_grammar.specs.Jobs.{IsReadable};
-ghost use Rattle.job_tree.specs.declared.format.Format.TheVariants.{Two};
 
 use job_checks::size_of;
 use job_tree::{Body, Format, Name, Step};
@@ -46,7 +46,8 @@ impl Job {
         }
     }
 
-    /// Returns the number in the first line of the job's text: 1 for `trio-job 1`, 2 for `trio-job 2`. Does not allocate.
+    /// Returns the number in the first line of the job's text: 1, 2 or 3 for `trio-job 1`, `trio-job 2` or `trio-job 3`. Does not
+    /// allocate.
     pub fn format(&self) -> u64
         ensures { result ≡ number_of self.now.format }
     {
@@ -84,11 +85,12 @@ impl Job {
     {
         size_of(self.steps())
     }
-}
 
-/// Returns the job with the same name and steps in format 2. A job of format 2 is returned unchanged. Does not allocate.
-pub fn to_format_2(job: Job) -> Job
-    ensures { result ≡ record job { format = Two } }
-{
-    Job::new(Format::Two, job.name, job.steps)
+    /// Returns the job with the same name and steps in this format. If the job has a newer format, it is returned
+    /// unchanged. Does not allocate.
+    pub fn in_format(self, format: Format) -> Job
+        ensures { result ≡ in_format format self }
+    {
+        Job::new(format.newer(self.format), self.name, self.steps)
+    }
 }

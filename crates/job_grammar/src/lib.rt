@@ -18,7 +18,7 @@ mod writing;
 
 pub use fault::{JobFault, JobKind};
 pub use heads::{push_head, push_keyword, push_named};
-pub use job::{Job, to_format_2};
+pub use job::Job;
 pub use job_tree::{Body, Deadline, Format, Handler, Name, Step, Text};
 pub use laws::{canonical_text_spells, spelled_jobs_are_sound, spells_one_job};
 pub use reading::{FIRST_LINE_LENGTH, MAX_BYTES, first_line, format_of, read_job};

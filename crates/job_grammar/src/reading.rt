@@ -25,6 +25,7 @@ pub fn first_line(format: Format) -> &'static [u8]
     match format {
         Format::One => b"trio-job 1\n",
         Format::Two => b"trio-job 2\n",
+        Format::Three => b"trio-job 3\n",
     }
 }
 
@@ -88,7 +89,7 @@ fn check_bytes(text: &[u8]) -> Result<(Format, &[u8]), JobFault>
     Ok(found)
 }
 
-/// Returns the format of the first line of a text, or format 1 if the text begins with neither first line.
+/// Returns the format of the first line of a text, or format 1 if the text begins with no first line.
 pub fn format_of(text: &[u8]) -> Format
     ensures { result ≡ format_of text.now }
 {
@@ -108,6 +109,9 @@ fn after_first_line(text: &[u8]) -> Option<(Format, &[u8])>
     }
     if let Some(body) = text.strip_prefix(first_line(Format::Two)) {
         return Some((Format::Two, body));
+    }
+    if let Some(body) = text.strip_prefix(first_line(Format::Three)) {
+        return Some((Format::Three, body));
     }
     None
 }

@@ -2,7 +2,7 @@
 use Rattle.std.proofs.Common.{◌≡◌, ℕ, ◌+◌, ◌≤◌, List, [], ◌∷◌, ◌++◌, length, drop, None, refl, sym, ap, subst, ◌∙◌, arith}
 use Rattle.std.proofs.lemmas.List.{length-append}
 use Rattle.job_tree.specs.declared.format.Format.{Format}
-use Rattle.job_tree.specs.declared.format.Format.TheVariants.{One, Two}
+use Rattle.job_tree.specs.declared.format.Format.TheVariants.{One, Two, Three}
 use Rattle.job_tree.specs.Tree.{Tree}
 use Rattle.job_tokens.specs.declared.token.Token.{Token}
 use Rattle.job_tokens.specs.Shapes.{shapes_of}
@@ -25,6 +25,7 @@ use Rattle.job_layout.proofs.Laying.{job_lays}
 line_length : (format : Format) → length (first_line format) ≡ 11
 line_length One = refl
 line_length Two = refl
+line_length Three = refl
 
 -- the tokens of a job, laid out so that they are apart, are read back
 laid_spells : (text : List ℕ) (job : Tree) (old : List Token) (ts : List SpacedToken) → IsOf text old job → PassesTokens old job →

@@ -33,7 +33,7 @@ pub fn format_job(alloc: Global, job: &Job) -> Result<Vec<u8>, FormatFault>
     ensures fault { IfErr result (IsFairFault job.now) }
 {
     let tokens = tokens_of(alloc, job)?;
-    let text = text_of(alloc, format_of(job), tokens.as_slice())?;
+    let text = text_of(alloc, job.text_format(), tokens.as_slice())?;
     if text.len() > MAX_BYTES {
         return Err(FormatFault::TooLong(text.len()));
     }
@@ -48,15 +48,4 @@ fn text_of(alloc: Global, format: Format, tokens: &[SpacedToken]) -> Result<Vec<
     push_tokens(&mut text, tokens)?;
     text.push(b'\n')?;
     Ok(text)
-}
-
-// Returns the format of a job's text.
-fn format_of(job: &Job) -> Format
-    ensures { result ≡ job.now.format }
-{
-    if job.format() == Format::One.number() {
-        Format::One
-    } else {
-        Format::Two
-    }
 }

@@ -5,9 +5,10 @@ use Rattle.std.proofs.lemmas.List.{length-take}
 use Rattle.std.proofs.Math.Nat.{mul-le-mul_right}
 use Rattle.std.specs.Prelude.{slice_range}
 use Rattle.job_tree.specs.Tree.{Step, sleep, checkpoint, forever, pace, find, head, longest, need, raise, cancel, scope, nursery, start, repeat, attempt, Steps, stop, step, Handled, unhandled, except, Cleaned, uncleaned, finally}
-use Rattle.job_tree.specs.InRange.{AreInRange, IsInRange, IsInRangeStep, IsInRangeHandler, IsInRangeCleanup, most_steps}
+use Rattle.job_tree.specs.InRange.{AreInRange, IsInRangeStep, IsInRangeHandler, IsInRangeCleanup}
+use Rattle.job_tree.specs.Formats.{most_steps}
 use Rattle.job_tree.specs.declared.format.Format.{Format}
-use Rattle.job_tree.specs.declared.format.Format.TheVariants.{One, Two}
+use Rattle.job_tree.specs.declared.format.Format.TheVariants.{One, Two, Three}
 use Rattle.job_tree.specs.Names.{size_of, size_in, handled_size, cleaned_size}
 use Rattle.buffer_parts.specs.Lines.{Range, Span, bytes_of}
 use Rattle.buffer_parts.proofs.JoinLemmas.{length-lines_from}
@@ -308,3 +309,4 @@ ends_by_the_last_tick job input in_range small =
     at_most : (format : Format) → size_of job.steps ≤ most_steps format → size_of job.steps ≤ 1000000
     at_most One le = omega (arith, le)
     at_most Two le = le
+    at_most Three le = le

@@ -1,6 +1,6 @@
 -- When waits end, in either clock.
-use Rattle.std.proofs.Common.{◌≡◌, ℕ, zero, suc, ◌+◌, ◌*◌, ◌/◌, ◌≤◌, ◌<◌, arith}
-use Rattle.job_meaning.specs.Moments.{Clock, by_ticks, by_rounds, rounds_in_a_tick, tick_of, start_of, a_round_after, wakes_at, gives_up_at}
+use Rattle.std.proofs.Common.{ℕ, zero, suc, ◌≤◌, arith}
+use Rattle.job_meaning.specs.Moments.{Clock, by_ticks, by_rounds, a_round_after, wakes_at, gives_up_at}
 
 pub round_after : (clock : Clock) (m : ℕ) → m ≤ a_round_after clock m
 round_after by_ticks m = omega arith

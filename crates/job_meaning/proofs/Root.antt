@@ -2,15 +2,13 @@
 use Rattle.std.proofs.Common.{◌≡◌, ℕ, zero, suc, ◌+◌, ◌≤◌, max, Bool, true, false, ◌||◌, ◌&&◌, not, Option, Some, None, List, [], ◌∷◌, ◌++◌, refl, sym, ap, ◌∙◌, IsTrue, ◌⊎◌, inl, inr, arith, nat_le, if◌then◌else◌}
 use Rattle.std.proofs.lemmas.Bool.{false≢true, or_cases}
 use Rattle.std.proofs.lemmas.Bool.Decides.{nat_tests}
-use Rattle.job_tree.specs.declared.format.Format.{Format}
-use Rattle.job_tree.specs.declared.format.Format.TheVariants.{One, Two}
-use Rattle.job_tree.specs.Tree.{Tree, Step, sleep, checkpoint, forever, pace, find, head, longest, need, raise, cancel, scope, nursery, start, repeat, attempt, Steps, stop, step, Handled, unhandled, except, Cleaned, uncleaned, finally}
+use Rattle.job_tree.specs.Tree.{Step, sleep, checkpoint, forever, pace, find, head, longest, need, raise, cancel, scope, nursery, start, repeat, attempt, Steps, stop, step, Handled, unhandled, except, Cleaned, uncleaned, finally}
 use Rattle.buffer_parts.specs.Lines.{Span}
 use Rattle.exc_groups.specs.Exceptions.{Label, Exc, cancelled, hold_cancelled, parts_of, holds_cancelled, by_nursery}
 use Rattle.exc_groups.specs.Split.{Wanted, keep, drop}
 use Rattle.cancel_scopes.specs.Sight.{Tick, sight, seen, is_reached, catches}
 use Rattle.job_meaning.specs.Log.{Member, Result}
-use Rattle.job_meaning.specs.Moments.{Clock, by_ticks, a_round_after, wakes_at, gives_up_at, tick_of, clock_of, Now, only_at}
+use Rattle.job_meaning.specs.Moments.{Clock, by_ticks, a_round_after, wakes_at, gives_up_at, tick_of, Now, only_at}
 use Rattle.job_meaning.specs.Walk.{Stack, Mode, Here, walk, walk_step, walk_handler, walk_cleanup, done_at, raised_at, now_of, in_sequence, and_then, then_if, wait_by_sight, sleep_result, pace_result, lines_result, raise_result, need_result, with_own, cancel_result, from_for, stack_for, Kind, from_of, block, stack_inside, left_with, exc_after, with_sign, latest, with_exc, excs_of, nursery_result, child, each, passes, handler_result, handler_for, handler_if_any, handler_exc, cleanup_result, outcome_after}
 use Rattle.job_meaning.specs.Meaning.{root_walk, root_here}
 use Rattle.job_meaning.specs.Laws.{some_cancelled, CancelledIsSeen, NoneReachesTheRoot}
@@ -319,19 +317,10 @@ pub cancelled_is_seen : CancelledIsSeen
 cancelled_is_seen mode steps here stack t ticks = (root mode steps here stack (only_at t) ticks refl).exc
 
 -- so no `Cancelled` comes out of a job that goes by ticks
-pub none_by_ticks : (mode : Mode) (job : Tree) (input : List ℕ) → clock_of job.format ≡ by_ticks →
-    some_cancelled (root_walk mode job input).exc ≡ false
-none_by_ticks mode job input ticks =
+pub none_reaches_the_root : NoneReachesTheRoot
+none_reaches_the_root mode job input ticks =
     by_cases (some_cancelled (root_walk mode job input).exc) (root mode job.steps (root_here job input) [] (only_at 0) ticks refl).exc
   where
     by_cases : (b : Bool) → (IsTrue b → IsTrue false) → b ≡ false
     by_cases true h = absurd (false≢true (h refl))
     by_cases false h = refl
-
--- so none comes out of a job of either format
-pub none_reaches_the_root : NoneReachesTheRoot
-none_reaches_the_root mode job input = none_by_ticks mode job input (goes_by_ticks job.format)
-  where
-    goes_by_ticks : (format : Format) → clock_of format ≡ by_ticks
-    goes_by_ticks One = refl
-    goes_by_ticks Two = refl

@@ -2,11 +2,12 @@
 use Rattle.std.specs.Prelude.{◌≡◌, ℕ, ◌≤◌, Bool, false, IsTrue, Option, Some, None, List, [], ◌∷◌, length}
 use Rattle.job_tree.specs.declared.format.Format.TheVariants.{Two}
 use Rattle.job_tree.specs.Tree.{Steps, Tree}
+use Rattle.job_tree.specs.Formats.{in_format}
 use Rattle.job_tree.specs.Names.{GivesNamesOnce}
 use Rattle.job_tree.specs.InRange.{IsInRange}
 use Rattle.exc_groups.specs.Exceptions.{Label, Exc, holds_cancelled}
 use Rattle.cancel_scopes.specs.Sight.{Tick, seen}
-use Rattle.job_meaning.specs.Moments.{by_ticks, Now, only_at}
+use Rattle.job_meaning.specs.Moments.{by_ticks, clock_of, Now, only_at}
 use Rattle.job_meaning.specs.Walk.{Stack, Mode, Here, walk}
 use Rattle.job_meaning.specs.Log.{Table, times_given}
 use Rattle.job_meaning.specs.Meaning.{root_walk, root_log, meaning, meaning_table, meaning_records, meaning_end, meaning_froms}
@@ -54,7 +55,8 @@ CancelledIsSeen =
 
 -- So no `Cancelled` leaves a job of format 1 or 2, which go by ticks.
 abbrev pub NoneReachesTheRoot : Type 0
-NoneReachesTheRoot = (mode : Mode) (job : Tree) (input : List ℕ) → some_cancelled (root_walk mode job input).exc ≡ false
+NoneReachesTheRoot =
+    (mode : Mode) (job : Tree) (input : List ℕ) → clock_of job.format ≡ by_ticks → some_cancelled (root_walk mode job input).exc ≡ false
 
 -- A cancellation from tick c on changes nothing before c: on two stacks that agree except where both froms are at least
 -- c, a walk does the same in all ticks before c.
@@ -90,16 +92,14 @@ LabelsAreGivenOnce =
     (mode : Mode) (job : Tree) (input : List ℕ) → GivesNamesOnce job → (l : Label) →
     times_given l (root_log job (root_walk mode job input)) ≤ 1
 
--- the same steps under format 2
-abbrev pub in_format_2 : Tree → Tree
-in_format_2 job = record job { format = Two }
-
--- a job and its upgrade mean the same: their records, their end and their froms, over every input
+-- A job of format 1 or 2 and its upgrade to format 2 mean the same: their records, their end and their froms, over every input.
+-- Format 3 counts time by rounds, so there a cancellation may be seen earlier.
 abbrev pub UpgradingKeepsTheMeaning : Type 0
 UpgradingKeepsTheMeaning =
-    (job : Tree) (input : List ℕ) →
-    (meaning (in_format_2 job) input ≡ meaning job input) × (meaning_records (in_format_2 job) input ≡ meaning_records job input)
-    × (meaning_end (in_format_2 job) input ≡ meaning_end job input) × (meaning_froms (in_format_2 job) input ≡ meaning_froms job input)
+    (job : Tree) (input : List ℕ) → clock_of job.format ≡ by_ticks →
+    let upgrade = in_format Two job in
+    (meaning upgrade input ≡ meaning job input) × (meaning_records upgrade input ≡ meaning_records job input)
+    × (meaning_end upgrade input ≡ meaning_end job input) × (meaning_froms upgrade input ≡ meaning_froms job input)
 
 -- a job whose numbers are in their ranges ends by the last tick
 abbrev pub EndsByTheLastTick : Type 0

@@ -56,8 +56,8 @@ pub fn law_labels()
     ensures { LabelsAreGivenOnce }
 {}
 
-/// A job and the same job in format 2 mean the same over every input: the format determines how a text is read, and nothing of
-/// what the job does.
+/// A job of format 1 or 2 and the same job in format 2 mean the same over every input: the format determines how a text is read,
+/// and nothing of what the job does. Format 3 counts time by rounds, so a job may mean something else there.
 pub fn law_upgrade()
     ensures { UpgradingKeepsTheMeaning }
 {}

@@ -2,7 +2,7 @@
 //! nothing at run time.
 //!
 //! The layer promises seven laws of these definitions: monotone sight, the root, causality, the settled table, that labels are
-//! given once, that a job means the same in format 2, and a tick by which every job has ended. It uses the definitions of the
+//! given once, that a job of format 1 means the same in format 2, and a tick by which every job has ended. It uses the definitions of the
 //! tree, the input's parts, the kernels, the exceptions and the cancel scopes.
 #![tactic(auto)]
 

@@ -12,7 +12,7 @@ use Rattle.batch_commit.specs.Entries.{Added}
 use Rattle.cancel_scopes.specs.Sight.{seen}
 use Rattle.cancel_scopes.specs.Tree.{Tree, outer_of, IsOwn, IsChain, IsApart}
 use Rattle.job_tree.specs.Tree.{Tree as Job}
-use Rattle.job_tree.specs.InRange.{most_steps}
+use Rattle.job_tree.specs.Formats.{most_steps}
 use Rattle.job_tree.specs.Names.{size_of}
 use Rattle.job_tree.proofs.Sizes.{few_steps}
 use Rattle.job_meaning.specs.Follow.{IsSettled}

@@ -9,7 +9,7 @@ use Rattle.exc_groups.specs.Exceptions.{Label, Exc, cancelled}
 use Rattle.exc_groups.specs.Split.{Wanted, named, keep, drop}
 use Rattle.cancel_scopes.specs.Sight.{Tick, sight, catches}
 use Rattle.job_meaning.specs.Log.{Table}
-use Rattle.job_meaning.specs.Moments.{Clock, by_ticks, by_rounds, tick_of, start_of, a_round_after, wakes_at, gives_up_at, Now, only_at, far}
+use Rattle.job_meaning.specs.Moments.{Clock, by_ticks, by_rounds, tick_of, a_round_after, wakes_at, gives_up_at, Now, only_at, far}
 use Rattle.job_meaning.specs.Walk.{Stack, Here, Kind, home_of, label_on, with_own, from_for, stack_for, left_with, exc_after, latest, label_here, label_over, stack_inside, here_in, in_pass}
 use Rattle.job_meaning.proofs.Late.{latest_ends}
 use Rattle.job_meaning.proofs.MomentLemmas.{round_after, wakes_after, gives_up_after}

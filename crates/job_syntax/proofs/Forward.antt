@@ -3,7 +3,8 @@ use Rattle.std.proofs.Common.{◌≡◌, ℕ, Bool, true, false, cond, List, [],
 use Rattle.std.specs.Str.{bytes_eq}
 use Rattle.std.proofs.lemmas.Slice.Eq.{bytes_eq-Decides}
 use Rattle.job_tree.specs.declared.format.Format.{Format}
-use Rattle.job_tree.specs.declared.format.Format.TheVariants.{One, Two}
+use Rattle.job_tree.specs.declared.format.Format.TheVariants.{One, Two, Three}
+use Rattle.job_tree.specs.Formats.{extends_format_1}
 use Rattle.job_tree.specs.declared.deadline.Deadline.TheVariants.{Never, After, At}
 use Rattle.job_tree.specs.Tree.{Step, sleep, checkpoint, forever, pace, find, head, longest, need, raise, cancel, scope, nursery, start, repeat, attempt, Steps, stop, step, unhandled, except, uncleaned, finally, Tree}
 use Rattle.job_tokens.specs.declared.token.Mark.TheVariants as mark
@@ -134,12 +135,12 @@ nursery_step format inside ss ps (r, (n, e), (r', (d, s, body, may, are, e'), (q
     step_on format inside (nursery n d s body) ss (keyword word.Nursery ∷ ps) q b.0 (may, are) b.1
     (ap (on (keyword word.Nursery)) (e ∙ ap (on (name_piece role.Given n)) tail_is)) fits
 
-repeat_step : (format : Format) (inside : Bool) (ss : List Nonterminal) (ps : List Piece) → format ≡ Two →
+repeat_step : (format : Format) (inside : Bool) (ss : List Nonterminal) (ps : List Piece) → extends_format_1 format ≡ true →
     Fits format (nonterminal.Number ∷ nonterminal.Open ∷ nonterminal.Steps ∷ outer_block inside ∷ ss) ps →
     BlockFits format inside ss (keyword word.Repeat ∷ ps)
-repeat_step format inside ss ps two (r, (n, e), (r', e', (r'', (body, are, e''), (q, block, fits)))) =
+repeat_step format inside ss ps may (r, (n, e), (r', e', (r'', (body, are, e''), (q, block, fits)))) =
     let b = block_of format inside r'' q block in
-    step_on format inside (repeat n body) ss (keyword word.Repeat ∷ ps) q b.0 (two, are) b.1
+    step_on format inside (repeat n body) ss (keyword word.Repeat ∷ ps) q b.0 (may, are) b.1
     (ap (on (keyword word.Repeat)) (e ∙ ap (on (number n)) (e' ∙ ap (on opens) (e'' ∙ ap (steps_pieces body) b.2)))) fits
 
 start_step : (format : Format) (ss : List Nonterminal) (ps : List Piece) → Fits format (nonterminal.Given ∷ nonterminal.Over ∷ nonterminal.Items ∷ ss) ps →
@@ -178,6 +179,7 @@ by_step format inside word.Nursery ss ps left = nursery_step format inside ss ps
 by_step format true word.Start ss ps left = start_step format ss ps left
 by_step format false word.Start ss ps left = absurd left
 by_step Two inside word.Repeat ss ps left = repeat_step Two inside ss ps refl left
+by_step Three inside word.Repeat ss ps left = repeat_step Three inside ss ps refl left
 by_step One inside word.Repeat ss ps left = absurd left
 by_step format inside word.Try ss ps left = try_step format inside ss ps left
 by_step format inside _ ss ps left = absurd left
@@ -232,6 +234,7 @@ by_cleanup format inside word.Scope ss ps left = unclean format inside ss (keywo
 by_cleanup format inside word.Nursery ss ps left = unclean format inside ss (keyword word.Nursery ∷ ps)
     (by_step format inside word.Nursery ss ps left)
 by_cleanup Two inside word.Repeat ss ps left = unclean Two inside ss (keyword word.Repeat ∷ ps) (by_step Two inside word.Repeat ss ps left)
+by_cleanup Three inside word.Repeat ss ps left = unclean Three inside ss (keyword word.Repeat ∷ ps) (by_step Three inside word.Repeat ss ps left)
 by_cleanup One inside word.Repeat ss ps left = absurd left
 by_cleanup format inside word.Try ss ps left = unclean format inside ss (keyword word.Try ∷ ps) (by_step format inside word.Try ss ps left)
 by_cleanup format inside _ ss ps left = absurd left
@@ -322,6 +325,9 @@ by_nursery_shield One k ss ps left = absurd left
 by_nursery_shield Two word.Shield ss ps left =
     let b = items_on Two ss ps left in (b.0, (true, b.1, tt, b.2, ap (on (keyword word.Shield)) b.3), b.4)
 by_nursery_shield Two _ ss ps left = absurd left
+by_nursery_shield Three word.Shield ss ps left =
+    let b = items_on Three ss ps left in (b.0, (true, b.1, tt, b.2, ap (on (keyword word.Shield)) b.3), b.4)
+by_nursery_shield Three _ ss ps left = absurd left
 
 by_nursery : (format : Format) (k : Keyword) (ss : List Nonterminal) (ps : List Piece) → Left format (nursery_rest format k) ss ps →
     Fits format (nonterminal.Nursery ∷ ss) (keyword k ∷ ps)
@@ -331,6 +337,11 @@ by_nursery Two word.After ss ps (r, (n, e), (q, (s, body, may, are, e'), fits)) 
 by_nursery Two word.Shield ss ps left =
     let b = items_on Two ss ps left in (b.0, (Never, true, b.1, tt, b.2, ap (on (keyword word.Shield)) b.3), b.4)
 by_nursery Two _ ss ps left = absurd left
+by_nursery Three word.After ss ps (r, (n, e), (q, (s, body, may, are, e'), fits)) =
+    (q, (After n, s, body, tt, are, ap (on (keyword word.After)) (e ∙ ap (on (number n)) e')), fits)
+by_nursery Three word.Shield ss ps left =
+    let b = items_on Three ss ps left in (b.0, (Never, true, b.1, tt, b.2, ap (on (keyword word.Shield)) b.3), b.4)
+by_nursery Three _ ss ps left = absurd left
 
 by_over : (format : Format) (k : Keyword) (ss : List Nonterminal) (ps : List Piece) → Left format (over_rest k) ss ps →
     Fits format (nonterminal.Over ∷ ss) (keyword k ∷ ps)

@@ -1,7 +1,8 @@
 -- The grammar, nonterminal by nonterminal: each can be completed, and a first token determines what must follow it.
 use Rattle.std.proofs.Common.{◌≡◌, ℕ, Bool, true, false, List, [], ◌∷◌, ◌++◌, Option, Some, None, ◌⊎◌, inl, inr, refl, sym, subst}
 use Rattle.job_tree.specs.declared.format.Format.{Format}
-use Rattle.job_tree.specs.declared.format.Format.TheVariants.{One, Two}
+use Rattle.job_tree.specs.declared.format.Format.TheVariants.{One, Two, Three}
+use Rattle.job_tree.specs.Formats.{extends_format_1}
 use Rattle.job_tree.specs.declared.deadline.Deadline.{Deadline}
 use Rattle.job_tree.specs.declared.deadline.Deadline.TheVariants.{Never, After, At}
 use Rattle.job_tree.specs.Tree.{sleep, checkpoint, forever, pace, find, head, longest, need, raise, cancel, scope, nursery, start, repeat, attempt, Steps, stop, step, Handled, unhandled, except, Cleaned, uncleaned, finally, Tree}
@@ -45,6 +46,7 @@ shortest format nonterminal.Semicolon rest = ends ∷ rest
 pub plain_head : (format : Format) → IsNurseryHead format Never false
 plain_head One = (refl, refl)
 plain_head Two = tt
+plain_head Three = tt
 
 shortest_stands : (format : Format) (s : Nonterminal) (rest : List Piece) → Stands format s (shortest format s rest) rest
 shortest_stands format nonterminal.Job rest = (record { format = format; name = []; steps = stop }, refl, tt, refl)
@@ -121,8 +123,8 @@ start_left format true n o body others ss rest e are following fits = (
 )
 start_left format false n o body others ss rest e are following fits = absurd cc
 
-repeat_left : (format : Format) (inside : Bool) (n : ℕ) (body others : Steps) (ss : List Nonterminal) (rest : List Piece) → format ≡ Two →
-    AreSteps format false body → AreSteps format inside others → Fits format ss rest
+repeat_left : (format : Format) (inside : Bool) (n : ℕ) (body others : Steps) (ss : List Nonterminal) (rest : List Piece) →
+    extends_format_1 format ≡ true → AreSteps format false body → AreSteps format inside others → Fits format ss rest
     → Left format (step_rest format inside word.Repeat) ss (number n ∷ opens ∷ steps_pieces body (steps_pieces others rest))
 repeat_left Two inside n body others ss rest e are following fits = (
   opens ∷ steps_pieces body (steps_pieces others rest),
@@ -131,6 +133,15 @@ repeat_left Two inside n body others ss rest e are following fits = (
     steps_pieces body (steps_pieces others rest),
     refl,
     (steps_pieces others rest, (body, are, refl), (rest, block_stands Two inside others rest following, fits)),
+  ),
+)
+repeat_left Three inside n body others ss rest e are following fits = (
+  opens ∷ steps_pieces body (steps_pieces others rest),
+  (n, refl),
+  (
+    steps_pieces body (steps_pieces others rest),
+    refl,
+    (steps_pieces others rest, (body, are, refl), (rest, block_stands Three inside others rest following, fits)),
   ),
 )
 repeat_left One inside n body others ss rest e are following fits = absurd cc
@@ -353,6 +364,7 @@ on_nursery_shield : (format : Format) (s : Bool) (body : Steps) (ss : List Nonte
     Goes format nonterminal.NurseryShield ss (flag_pieces word.Shield s (opens ∷ steps_pieces body rest))
 unfolding keyword_of
 on_nursery_shield Two true body ss rest may are fits = ((steps_pieces body rest, refl, (rest, (body, are, refl), fits)), refl)
+on_nursery_shield Three true body ss rest may are fits = ((steps_pieces body rest, refl, (rest, (body, are, refl), fits)), refl)
 on_nursery_shield One true body ss rest may are fits = let e = may.1 in absurd cc
 on_nursery_shield format false body ss rest may are fits = ((rest, (body, are, refl), fits), refl)
 
@@ -364,6 +376,10 @@ on_nursery Two (After n) s body ss rest may are fits =
     ((flag_pieces word.Shield s (opens ∷ steps_pieces body rest), (n, refl), (rest, (s, body, tt, are, refl), fits)), refl)
 on_nursery Two (At n) s body ss rest may are fits = absurd may
 on_nursery Two Never true body ss rest may are fits = ((steps_pieces body rest, refl, (rest, (body, are, refl), fits)), refl)
+on_nursery Three (After n) s body ss rest may are fits =
+    ((flag_pieces word.Shield s (opens ∷ steps_pieces body rest), (n, refl), (rest, (s, body, tt, are, refl), fits)), refl)
+on_nursery Three (At n) s body ss rest may are fits = absurd may
+on_nursery Three Never true body ss rest may are fits = ((steps_pieces body rest, refl, (rest, (body, are, refl), fits)), refl)
 on_nursery One (After n) s body ss rest may are fits = let e = may.0 in absurd cc
 on_nursery One (At n) s body ss rest may are fits = let e = may.0 in absurd cc
 on_nursery One Never true body ss rest may are fits = let e = may.1 in absurd cc

@@ -2,7 +2,8 @@
 use Rattle.std.proofs.Common.{◌≡◌, ℕ, ◌≤◌, nat_le, Bool, true, false, ◌&&◌, cond, List, [], ◌∷◌, Option, Some, None, refl, subst}
 use Rattle.std.proofs.lemmas.Bool.{leb-true}
 use Rattle.job_tree.specs.declared.format.Format.{Format}
-use Rattle.job_tree.specs.declared.format.Format.TheVariants.{One, Two}
+use Rattle.job_tree.specs.declared.format.Format.TheVariants.{One, Two, Three}
+use Rattle.job_tree.specs.Formats.{extends_format_1}
 use Rattle.job_tree.specs.declared.limits.TheConstants.{MAX_NUMBER, MAX_PACE, MAX_COPIES, MAX_PASSES}
 use Rattle.job_tree.specs.declared.deadline.Deadline.{Deadline}
 use Rattle.job_tree.specs.declared.deadline.Deadline.TheVariants.{Never, After, At}
@@ -88,10 +89,11 @@ over_fit : (format : Format) (n : ℕ) → IsFit format word.Over n → (1 ≤ n
 unfolding keyword_of
 over_fit format n e = between 1 MAX_COPIES n e
 
-repeat_fit : (format : Format) (n : ℕ) → format ≡ Two → IsFit format word.Repeat n → n ≤ MAX_PASSES
+repeat_fit : (format : Format) (n : ℕ) → extends_format_1 format ≡ true → IsFit format word.Repeat n → n ≤ MAX_PASSES
 unfolding keyword_of
-repeat_fit Two n two e = (between 0 MAX_PASSES n e).1
-repeat_fit One n two e = absurd cc
+repeat_fit Two n may e = (between 0 MAX_PASSES n e).1
+repeat_fit Three n may e = (between 0 MAX_PASSES n e).1
+repeat_fit One n may e = absurd cc
 
 -- ---- construct by construct
 

@@ -1,150 +1,217 @@
--- A job of format 1 is also one of format 2: its blocks are in the grammar, and its numbers in their ranges.
-use Rattle.std.proofs.Common.{◌≡◌, ℕ, Bool, true, false, List, [], ◌∷◌, Option, Some, None, refl, sym, subst}
+-- A job of a format is also one of each newer format: its blocks are in the grammar, and its numbers in their ranges.
+use Rattle.std.proofs.Common.{◌≡◌, ℕ, Bool, true, false, List, [], ◌∷◌, Option, Some, None, refl, sym, subst, ◌∙◌}
 use Rattle.job_tree.specs.declared.format.Format.{Format}
-use Rattle.job_tree.specs.declared.format.Format.TheVariants.{One, Two}
+use Rattle.job_tree.specs.declared.format.Format.TheVariants.{One, Two, Three}
 use Rattle.job_tree.specs.declared.deadline.Deadline.{Deadline}
 use Rattle.job_tree.specs.declared.deadline.Deadline.TheVariants.{Never, After, At}
+use Rattle.job_tree.specs.Formats.{extends_format_1, newer}
 use Rattle.job_tree.specs.Tree.{Step, sleep, checkpoint, forever, pace, find, head, longest, need, raise, cancel, scope, nursery, start, repeat, attempt, Steps, stop, step, Handled, unhandled, except, Cleaned, uncleaned, finally, Tree}
 use Rattle.job_tokens.specs.declared.token.Token.{Token}
+use Rattle.job_tokens.specs.declared.token.Shape.{Shape}
+use Rattle.job_tokens.specs.declared.token.Shape.TheVariants as shape
 use Rattle.job_tokens.specs.Shapes.{shapes_of}
 use Rattle.job_syntax.specs.declared.keyword.Keyword.{Keyword}
 use Rattle.job_syntax.specs.declared.keyword.Keyword.TheVariants as word
 use Rattle.job_syntax.specs.Keywords.{keyword_of}
-use Rattle.job_syntax.specs.Pieces.{Piece, shapes_in, opens, deadline_pieces, flag_pieces, over_pieces, steps_pieces, step_pieces, handler_pieces, cleanup_pieces, job_pieces, IsNurseryHead, AreSteps, IsStep, IsHandler, IsCleanup}
-use Rattle.job_syntax.specs.Ranges.{number_fault}
+use Rattle.job_syntax.specs.Pieces.{Piece, shapes_in, opens, deadline_pieces, flag_pieces, over_pieces, steps_pieces, step_pieces, handler_pieces, cleanup_pieces, job_pieces, IsNurseryDeadline, IsNurseryHead, AreSteps, IsStep, IsHandler, IsCleanup}
+use Rattle.job_syntax.specs.Ranges.{keyword_in, most_passes, fits, number_fault}
 use Rattle.job_syntax.proofs.InRange.{AllInRange, all_in_range, no_fault}
 
 -- ---- blocks
 
-head_again : (format : Format) (d : Deadline) (s : Bool) → IsNurseryHead format d s → IsNurseryHead Two d s
-head_again Two d s may = may
-head_again One Never s may = tt
-head_again One (After n) s may = tt
-head_again One (At n) s may = let e = may.0 in absurd cc
+-- the first format has nothing that the second one does not have
+abbrev IsUpTo : Format → Format → Type 0
+IsUpTo One to = Unit {0}
+IsUpTo Two to = extends_format_1 to ≡ true
+IsUpTo Three to = extends_format_1 to ≡ true
+
+-- no format has anything that a newer one does not have
+up_to_newer : (to format : Format) → IsUpTo format (newer to format)
+up_to_newer to One = tt
+up_to_newer One Two = refl
+up_to_newer Two Two = refl
+up_to_newer Three Two = refl
+up_to_newer One Three = refl
+up_to_newer Two Three = refl
+up_to_newer Three Three = refl
+
+extends_again : (from to : Format) → IsUpTo from to → extends_format_1 from ≡ true → extends_format_1 to ≡ true
+extends_again One to up may = absurd cc
+extends_again Two to up may = up
+extends_again Three to up may = up
+
+-- a head that both formats may have
+head_on : (to : Format) (d : Deadline) (s : Bool) → extends_format_1 to ≡ true → IsNurseryDeadline d → IsNurseryHead to d s
+head_on One d s may is = absurd cc
+head_on Two d s may is = is
+head_on Three d s may is = is
+
+plain_on : (to : Format) (d : Deadline) (s : Bool) → d ≡ Never → s ≡ false → IsNurseryHead to d s
+plain_on One d s never unshielded = (never, unshielded)
+plain_on Two d s never unshielded = rw never tt
+plain_on Three d s never unshielded = rw never tt
+
+head_again : (from to : Format) (d : Deadline) (s : Bool) → IsUpTo from to → IsNurseryHead from d s → IsNurseryHead to d s
+head_again One to d s up may = plain_on to d s may.0 may.1
+head_again Two to d s up may = head_on to d s up may
+head_again Three to d s up may = head_on to d s up may
 
 mutual
-  -- a block of either format's grammar is one of format 2
-  pub upgraded_steps : (format : Format) (inside : Bool) (ss : Steps) → AreSteps format inside ss → AreSteps Two inside ss
-  upgraded_steps format inside stop a = tt
-  upgraded_steps format inside (step s ss) a = (upgraded_step format inside s a.0, upgraded_steps format inside ss a.1)
+  -- a block of a format's grammar is one of each format that has all of it
+  upgraded_steps : (from to : Format) (inside : Bool) (ss : Steps) → IsUpTo from to → AreSteps from inside ss → AreSteps to inside ss
+  upgraded_steps from to inside stop up a = tt
+  upgraded_steps from to inside (step s ss) up a = (upgraded_step from to inside s up a.0, upgraded_steps from to inside ss up a.1)
 
-  upgraded_step : (format : Format) (inside : Bool) (s : Step) → IsStep format inside s → IsStep Two inside s
-  upgraded_step format inside (sleep n) a = tt
-  upgraded_step format inside checkpoint a = tt
-  upgraded_step format inside forever a = tt
-  upgraded_step format inside (pace k) a = tt
-  upgraded_step format inside (find text) a = tt
-  upgraded_step format inside (head n) a = tt
-  upgraded_step format inside longest a = tt
-  upgraded_step format inside (need text name) a = tt
-  upgraded_step format inside (raise name) a = tt
-  upgraded_step format inside (cancel name) a = tt
-  upgraded_step format inside (scope name d shield fail body) a = upgraded_steps format false body a
-  upgraded_step format inside (nursery name d shield body) a = (head_again format d shield a.0, upgraded_steps format true body a.1)
-  upgraded_step format inside (start name over body) a = (a.0, upgraded_steps format false body a.1)
-  upgraded_step format inside (repeat count body) a = (refl, upgraded_steps format false body a.1)
-  upgraded_step format inside (attempt body handler cleanup) a =
-      (a.0, upgraded_steps format false body a.1, upgraded_handler format handler a.2, upgraded_cleanup format cleanup a.3)
+  upgraded_step : (from to : Format) (inside : Bool) (s : Step) → IsUpTo from to → IsStep from inside s → IsStep to inside s
+  upgraded_step from to inside (sleep n) up a = tt
+  upgraded_step from to inside checkpoint up a = tt
+  upgraded_step from to inside forever up a = tt
+  upgraded_step from to inside (pace k) up a = tt
+  upgraded_step from to inside (find text) up a = tt
+  upgraded_step from to inside (head n) up a = tt
+  upgraded_step from to inside longest up a = tt
+  upgraded_step from to inside (need text name) up a = tt
+  upgraded_step from to inside (raise name) up a = tt
+  upgraded_step from to inside (cancel name) up a = tt
+  upgraded_step from to inside (scope name d shield fail body) up a = upgraded_steps from to false body up a
+  upgraded_step from to inside (nursery name d shield body) up a =
+      (head_again from to d shield up a.0, upgraded_steps from to true body up a.1)
+  upgraded_step from to inside (start name over body) up a = (a.0, upgraded_steps from to false body up a.1)
+  upgraded_step from to inside (repeat count body) up a = (extends_again from to up a.0, upgraded_steps from to false body up a.1)
+  upgraded_step from to inside (attempt body handler cleanup) up a =
+      (a.0, upgraded_steps from to false body up a.1, upgraded_handler from to handler up a.2, upgraded_cleanup from to cleanup up a.3)
 
-  upgraded_handler : (format : Format) (x : Handled) → IsHandler format x → IsHandler Two x
-  upgraded_handler format unhandled a = tt
-  upgraded_handler format (except name body) a = upgraded_steps format false body a
+  upgraded_handler : (from to : Format) (x : Handled) → IsUpTo from to → IsHandler from x → IsHandler to x
+  upgraded_handler from to unhandled up a = tt
+  upgraded_handler from to (except name body) up a = upgraded_steps from to false body up a
 
-  upgraded_cleanup : (format : Format) (x : Cleaned) → IsCleanup format x → IsCleanup Two x
-  upgraded_cleanup format uncleaned a = tt
-  upgraded_cleanup format (finally body) a = upgraded_steps format false body a
+  upgraded_cleanup : (from to : Format) (x : Cleaned) → IsUpTo from to → IsCleanup from x → IsCleanup to x
+  upgraded_cleanup from to uncleaned up a = tt
+  upgraded_cleanup from to (finally body) up a = upgraded_steps from to false body up a
 
 -- ---- numbers
 
--- numbers of tokens that are in the ranges of format 1 are in those of format 2
-abbrev Again : List Piece → Type 0
-Again ps = (before : Option Keyword) → AllInRange One before (shapes_in ps) → AllInRange Two before (shapes_in ps)
+-- numbers of tokens that are in the ranges of format 1 are in those of another format
+abbrev Again : Format → List Piece → Type 0
+Again to ps = (before : Option Keyword) → AllInRange One before (shapes_in ps) → AllInRange to before (shapes_in ps)
 
-flag_again : (k : Keyword) (b : Bool) (rest : List Piece) → Again rest → Again (flag_pieces k b rest)
-flag_again k false rest again = again
-flag_again k true rest again = λ before all. (all.0, again _ all.1)
+flag_again : (to : Format) (k : Keyword) (b : Bool) (rest : List Piece) → Again to rest → Again to (flag_pieces k b rest)
+flag_again to k false rest again = again
+flag_again to k true rest again = λ before all. (all.0, again _ all.1)
 
-deadline_again : (d : Deadline) (rest : List Piece) → Again rest → Again (deadline_pieces d rest)
+deadline_again : (to : Format) (d : Deadline) (rest : List Piece) → Again to rest → Again to (deadline_pieces d rest)
 unfolding keyword_of
-deadline_again Never rest again = again
-deadline_again (After n) rest again = λ before all. (all.0, (all.1.0, again _ all.1.1))
-deadline_again (At n) rest again = λ before all. (all.0, (all.1.0, again _ all.1.1))
+deadline_again to Never rest again = again
+deadline_again to (After n) rest again = λ before all. (all.0, (all.1.0, again _ all.1.1))
+deadline_again to (At n) rest again = λ before all. (all.0, (all.1.0, again _ all.1.1))
 
-over_again : (o : Option ℕ) (rest : List Piece) → Again rest → Again (over_pieces o rest)
+over_again : (to : Format) (o : Option ℕ) (rest : List Piece) → Again to rest → Again to (over_pieces o rest)
 unfolding keyword_of
-over_again None rest again = again
-over_again (Some n) rest again = λ before all. (all.0, (all.1.0, again _ all.1.1))
+over_again to None rest again = again
+over_again to (Some n) rest again = λ before all. (all.0, (all.1.0, again _ all.1.1))
 
-opens_again : (rest : List Piece) → Again rest → Again (opens ∷ rest)
-opens_again rest again = λ before all. (all.0, again _ all.1)
+opens_again : (to : Format) (rest : List Piece) → Again to rest → Again to (opens ∷ rest)
+opens_again to rest again = λ before all. (all.0, again _ all.1)
 
 mutual
   unfolding keyword_of
 
-  steps_again : (ss : Steps) (inside : Bool) (rest : List Piece) → AreSteps One inside ss → Again rest → Again (steps_pieces ss rest)
-  steps_again stop inside rest a again = λ before all. (all.0, again _ all.1)
-  steps_again (step s ss) inside rest a again =
-      step_again s inside (steps_pieces ss rest) a.0 (steps_again ss inside rest a.1 again)
+  steps_again : (to : Format) (ss : Steps) (inside : Bool) (rest : List Piece) → AreSteps One inside ss → Again to rest → Again to (steps_pieces ss rest)
+  steps_again to stop inside rest a again = λ before all. (all.0, again _ all.1)
+  steps_again to (step s ss) inside rest a again =
+      step_again to s inside (steps_pieces ss rest) a.0 (steps_again to ss inside rest a.1 again)
 
-  step_again : (s : Step) (inside : Bool) (rest : List Piece) → IsStep One inside s → Again rest → Again (step_pieces s rest)
-  step_again (sleep n) inside rest a again = λ before all. (all.0, (all.1.0, (all.1.1.0, again _ all.1.1.1)))
-  step_again checkpoint inside rest a again = λ before all. (all.0, (all.1.0, again _ all.1.1))
-  step_again forever inside rest a again = λ before all. (all.0, (all.1.0, again _ all.1.1))
-  step_again (pace k) inside rest a again = λ before all. (all.0, (all.1.0, (all.1.1.0, again _ all.1.1.1)))
-  step_again (find text) inside rest a again = λ before all. (all.0, (all.1.0, (all.1.1.0, again _ all.1.1.1)))
-  step_again (head n) inside rest a again = λ before all. (all.0, (all.1.0, (all.1.1.0, again _ all.1.1.1)))
-  step_again longest inside rest a again = λ before all. (all.0, (all.1.0, again _ all.1.1))
-  step_again (need text name) inside rest a again =
+  step_again : (to : Format) (s : Step) (inside : Bool) (rest : List Piece) → IsStep One inside s → Again to rest → Again to (step_pieces s rest)
+  step_again to (sleep n) inside rest a again = λ before all. (all.0, (all.1.0, (all.1.1.0, again _ all.1.1.1)))
+  step_again to checkpoint inside rest a again = λ before all. (all.0, (all.1.0, again _ all.1.1))
+  step_again to forever inside rest a again = λ before all. (all.0, (all.1.0, again _ all.1.1))
+  step_again to (pace k) inside rest a again = λ before all. (all.0, (all.1.0, (all.1.1.0, again _ all.1.1.1)))
+  step_again to (find text) inside rest a again = λ before all. (all.0, (all.1.0, (all.1.1.0, again _ all.1.1.1)))
+  step_again to (head n) inside rest a again = λ before all. (all.0, (all.1.0, (all.1.1.0, again _ all.1.1.1)))
+  step_again to longest inside rest a again = λ before all. (all.0, (all.1.0, again _ all.1.1))
+  step_again to (need text name) inside rest a again =
       λ before all. (all.0, (all.1.0, (all.1.1.0, (all.1.1.1.0, again _ all.1.1.1.1))))
-  step_again (raise name) inside rest a again = λ before all. (all.0, (all.1.0, (all.1.1.0, again _ all.1.1.1)))
-  step_again (cancel name) inside rest a again = λ before all. (all.0, (all.1.0, (all.1.1.0, again _ all.1.1.1)))
-  step_again (scope name d shield fail body) inside rest a again =
+  step_again to (raise name) inside rest a again = λ before all. (all.0, (all.1.0, (all.1.1.0, again _ all.1.1.1)))
+  step_again to (cancel name) inside rest a again = λ before all. (all.0, (all.1.0, (all.1.1.0, again _ all.1.1.1)))
+  step_again to (scope name d shield fail body) inside rest a again =
       let block = opens ∷ steps_pieces body rest in
       let flagged = flag_pieces word.Fail fail block in
-      let more = deadline_again d (flag_pieces word.Shield shield flagged) (flag_again word.Shield shield flagged
-      (flag_again word.Fail fail block (opens_again (steps_pieces body rest) (steps_again body false rest a again)))) in
+      let more = deadline_again to d (flag_pieces word.Shield shield flagged) (flag_again to word.Shield shield flagged
+      (flag_again to word.Fail fail block (opens_again to (steps_pieces body rest) (steps_again to body false rest a again)))) in
       λ before all. (all.0, (all.1.0, more _ all.1.1))
-  step_again (nursery name d shield body) inside rest a again =
+  step_again to (nursery name d shield body) inside rest a again =
       let block = opens ∷ steps_pieces body rest in
-      let more = deadline_again d (flag_pieces word.Shield shield block) (flag_again word.Shield shield block
-      (opens_again (steps_pieces body rest) (steps_again body true rest a.1 again))) in
+      let more = deadline_again to d (flag_pieces word.Shield shield block) (flag_again to word.Shield shield block
+      (opens_again to (steps_pieces body rest) (steps_again to body true rest a.1 again))) in
       λ before all. (all.0, (all.1.0, more _ all.1.1))
-  step_again (start name over body) inside rest a again =
-      let more = over_again over (opens ∷ steps_pieces body rest)
-      (opens_again (steps_pieces body rest) (steps_again body false rest a.1 again)) in
+  step_again to (start name over body) inside rest a again =
+      let more = over_again to over (opens ∷ steps_pieces body rest)
+      (opens_again to (steps_pieces body rest) (steps_again to body false rest a.1 again)) in
       λ before all. (all.0, (all.1.0, more _ all.1.1))
-  step_again (repeat count body) inside rest a again = let e = a.0 in absurd cc
-  step_again (attempt body handler cleanup) inside rest a again =
-      let cleaned = cleanup_again cleanup rest a.3 again in
-      let handled = handler_again handler (cleanup_pieces cleanup rest) a.2 cleaned in
-      let more = steps_again body false (handler_pieces handler (cleanup_pieces cleanup rest)) a.1 handled in
+  step_again to (repeat count body) inside rest a again = let e = a.0 in absurd cc
+  step_again to (attempt body handler cleanup) inside rest a again =
+      let cleaned = cleanup_again to cleanup rest a.3 again in
+      let handled = handler_again to handler (cleanup_pieces cleanup rest) a.2 cleaned in
+      let more = steps_again to body false (handler_pieces handler (cleanup_pieces cleanup rest)) a.1 handled in
       λ before all. (all.0, (all.1.0, more _ all.1.1))
 
-  handler_again : (x : Handled) (rest : List Piece) → IsHandler One x → Again rest → Again (handler_pieces x rest)
-  handler_again unhandled rest a again = again
-  handler_again (except name body) rest a again =
-      let more = steps_again body false rest a again in
+  handler_again : (to : Format) (x : Handled) (rest : List Piece) → IsHandler One x → Again to rest → Again to (handler_pieces x rest)
+  handler_again to unhandled rest a again = again
+  handler_again to (except name body) rest a again =
+      let more = steps_again to body false rest a again in
       λ before all. (all.0, (all.1.0, (all.1.1.0, more _ all.1.1.1)))
 
-  cleanup_again : (x : Cleaned) (rest : List Piece) → IsCleanup One x → Again rest → Again (cleanup_pieces x rest)
-  cleanup_again uncleaned rest a again = again
-  cleanup_again (finally body) rest a again =
-      let more = steps_again body false rest a again in
+  cleanup_again : (to : Format) (x : Cleaned) (rest : List Piece) → IsCleanup One x → Again to rest → Again to (cleanup_pieces x rest)
+  cleanup_again to uncleaned rest a again = again
+  cleanup_again to (finally body) rest a again =
+      let more = steps_again to body false rest a again in
       λ before all. (all.0, (all.1.0, more _ all.1.1))
 
-by_format : (format : Format) (steps : Steps) (ps : List Piece) → AreSteps format false steps → ps ≡ steps_pieces steps [] →
-    (before : Option Keyword) → AllInRange format before (shapes_in ps) → AllInRange Two before (shapes_in ps)
-by_format Two steps ps are e before all = all
-by_format One steps ps are e before all =
-    subst (λ (xs : List Piece). AllInRange Two before (shapes_in xs)) (sym e)
-    (steps_again steps false [] are (λ c none. tt) before (subst (λ (xs : List Piece). AllInRange One before (shapes_in xs)) e all))
+-- formats with the same range for `repeat` have the same ranges
+fits_again : (from to : Format) → most_passes from ≡ most_passes to → (before : Option Keyword) (n : Option ℕ) →
+    fits from before n ≡ fits to before n
+fits_again from to same before None = refl
+fits_again from to same (Some word.Repeat) (Some n) = rw same refl
+fits_again from to same None (Some n) = refl
+fits_again from to same (Some _) (Some n) = refl
 
--- numbers of a job's tokens that are in the ranges of its format are in those of format 2
-pub upgraded_numbers : (job : Tree) (tokens : List Token) → AreSteps job.format false job.steps →
-    shapes_of tokens ≡ shapes_in (job_pieces job) → number_fault job.format None tokens ≡ None → number_fault Two None tokens ≡ None
-upgraded_numbers job tokens are e none =
+all_again : (from to : Format) → most_passes from ≡ most_passes to → (before : Option Keyword) (shapes : List Shape) →
+    AllInRange from before shapes → AllInRange to before shapes
+all_again from to same before [] all = tt
+all_again from to same before (shape.Word w ∷ shapes) all = (refl, all_again from to same (keyword_in (shape.Word w)) shapes all.1)
+all_again from to same before (shape.Number n ∷ shapes) all =
+    (sym (fits_again from to same before n) ∙ all.0, all_again from to same (keyword_in (shape.Number n)) shapes all.1)
+all_again from to same before (shape.Text t ∷ shapes) all = (refl, all_again from to same (keyword_in (shape.Text t)) shapes all.1)
+all_again from to same before (shape.Mark m ∷ shapes) all = (refl, all_again from to same (keyword_in (shape.Mark m)) shapes all.1)
+
+-- formats that extend format 1 have the same range for `repeat`
+same_passes : (from to : Format) → extends_format_1 from ≡ true → extends_format_1 to ≡ true → most_passes from ≡ most_passes to
+same_passes from to a b = rw (a, b) refl
+
+by_format : (from to : Format) (steps : Steps) (ps : List Piece) → IsUpTo from to → AreSteps from false steps → ps ≡ steps_pieces steps [] →
+    (before : Option Keyword) → AllInRange from before (shapes_in ps) → AllInRange to before (shapes_in ps)
+by_format Two to steps ps up are e before all = all_again Two to (same_passes Two to refl up) before (shapes_in ps) all
+by_format Three to steps ps up are e before all = all_again Three to (same_passes Three to refl up) before (shapes_in ps) all
+by_format One to steps ps up are e before all =
+    subst (λ (xs : List Piece). AllInRange to before (shapes_in xs)) (sym e)
+    (steps_again to steps false [] are (λ c none. tt) before (subst (λ (xs : List Piece). AllInRange One before (shapes_in xs)) e all))
+
+-- numbers of a job's tokens that are in the ranges of its format are in those of each format that has all of it
+upgraded_numbers : (to : Format) (job : Tree) (tokens : List Token) → IsUpTo job.format to → AreSteps job.format false job.steps →
+    shapes_of tokens ≡ shapes_in (job_pieces job) → number_fault job.format None tokens ≡ None → number_fault to None tokens ≡ None
+upgraded_numbers to job tokens up are e none =
     let all : AllInRange job.format None (shapes_in (job_pieces job)) =
     subst (AllInRange job.format None) e (all_in_range job.format None tokens none) in
-    let more : AllInRange Two None (shapes_in (job_pieces job)) =
-    (all.0, (all.1.0, (all.1.1.0, by_format job.format job.steps (steps_pieces job.steps []) are refl _ all.1.1.1))) in
-    no_fault Two None tokens (subst (AllInRange Two None) (sym e) more)
+    let more : AllInRange to None (shapes_in (job_pieces job)) =
+    (all.0, (all.1.0, (all.1.1.0, by_format job.format to job.steps (steps_pieces job.steps []) up are refl _ all.1.1.1))) in
+    no_fault to None tokens (subst (AllInRange to None) (sym e) more)
+
+-- ---- the same job in a newer format
+
+pub newer_steps : (to : Format) (job : Tree) → AreSteps job.format false job.steps → AreSteps (newer to job.format) false job.steps
+newer_steps to job are = upgraded_steps job.format (newer to job.format) false job.steps (up_to_newer to job.format) are
+
+pub newer_numbers : (to : Format) (job : Tree) (tokens : List Token) → AreSteps job.format false job.steps →
+    shapes_of tokens ≡ shapes_in (job_pieces job) → number_fault job.format None tokens ≡ None →
+    number_fault (newer to job.format) None tokens ≡ None
+newer_numbers to job tokens are e none = upgraded_numbers (newer to job.format) job tokens (up_to_newer to job.format) are e none

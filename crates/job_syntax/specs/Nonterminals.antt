@@ -1,7 +1,7 @@
 -- What may follow a token, nonterminal by nonterminal.
-use Rattle.std.specs.Prelude.{List, [], ◌∷◌, Bool, true, false, Option, Some, None}
+use Rattle.std.specs.Prelude.{List, [], ◌∷◌, Bool, true, false, Option, Some, None, if◌then◌else◌}
 use Rattle.job_tree.specs.declared.format.Format.{Format}
-use Rattle.job_tree.specs.declared.format.Format.TheVariants.{One, Two}
+use Rattle.job_tree.specs.Formats.{extends_format_1}
 use Rattle.job_tokens.specs.declared.token.Mark.{Mark}
 use Rattle.job_tokens.specs.declared.token.Mark.TheVariants as mark
 use Rattle.job_tokens.specs.declared.token.Shape.{Shape}
@@ -46,10 +46,9 @@ abbrev pub start_rest : Bool → Rest
 start_rest true = Some (Given ∷ Over ∷ Items ∷ [])
 start_rest false = None
 
--- after `repeat`, which begins a step only in format 2
+-- after `repeat`, which begins no step in format 1
 abbrev pub repeat_rest : Format → Bool → Rest
-repeat_rest One inside = None
-repeat_rest Two inside = Some (Number ∷ Open ∷ Steps ∷ outer_block inside ∷ [])
+repeat_rest format inside = if extends_format_1 format then Some (Number ∷ Open ∷ Steps ∷ outer_block inside ∷ []) else None
 
 -- after the first word of a step
 abbrev pub step_rest : Format → Bool → Keyword → Rest
@@ -95,14 +94,20 @@ scope_rest word.After = Some (Number ∷ Shield ∷ [])
 scope_rest word.At = Some (Number ∷ Shield ∷ [])
 scope_rest k = shield_rest k
 
--- after a word in the head of a nursery, which has such words only in format 2
+-- after a word in the head of a nursery, which has no such words in format 1
+abbrev pub nursery_shield_words : Keyword → Rest
+nursery_shield_words word.Shield = Some (Open ∷ Items ∷ [])
+nursery_shield_words _ = None
+
+abbrev pub nursery_words : Keyword → Rest
+nursery_words word.After = Some (Number ∷ NurseryShield ∷ [])
+nursery_words k = nursery_shield_words k
+
 abbrev pub nursery_shield_rest : Format → Keyword → Rest
-nursery_shield_rest Two word.Shield = Some (Open ∷ Items ∷ [])
-nursery_shield_rest format _ = None
+nursery_shield_rest format k = if extends_format_1 format then nursery_shield_words k else None
 
 abbrev pub nursery_rest : Format → Keyword → Rest
-nursery_rest Two word.After = Some (Number ∷ NurseryShield ∷ [])
-nursery_rest format k = nursery_shield_rest format k
+nursery_rest format k = if extends_format_1 format then nursery_words k else None
 
 abbrev pub over_rest : Keyword → Rest
 over_rest word.Over = Some (Number ∷ Open ∷ Steps ∷ [])

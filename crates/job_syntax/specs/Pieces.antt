@@ -4,7 +4,8 @@ use Rattle.std.specs.Prelude.{◌≡◌, ℕ, List, [], ◌∷◌, map, Bool, tr
 use Rattle.job_tree.specs.declared.deadline.Deadline.{Deadline}
 use Rattle.job_tree.specs.declared.deadline.Deadline.TheVariants.{Never, After, At}
 use Rattle.job_tree.specs.declared.format.Format.{Format}
-use Rattle.job_tree.specs.declared.format.Format.TheVariants.{One, Two}
+use Rattle.job_tree.specs.declared.format.Format.TheVariants.{One, Two, Three}
+use Rattle.job_tree.specs.Formats.{extends_format_1}
 use Rattle.job_tree.specs.Tree.{Step, sleep, checkpoint, forever, pace, find, head, longest, need, raise, cancel, scope, nursery, start, repeat, attempt, Steps, stop, step, Handled, unhandled, except, Cleaned, uncleaned, finally, Tree}
 use Rattle.job_tokens.specs.declared.token.Mark.{Mark}
 use Rattle.job_tokens.specs.declared.token.Mark.TheVariants as mark
@@ -119,15 +120,19 @@ HasTail (except name body) cleanup = Unit {0}
 HasTail unhandled (finally body) = Unit {0}
 HasTail unhandled uncleaned = ⊥
 
--- what may follow the name of a nursery: nothing in format 1; no `at` in format 2
+-- what may follow the name of a nursery: nothing in format 1; no `at` in formats 2 and 3
+abbrev pub IsNurseryDeadline : Deadline → Type 0
+IsNurseryDeadline Never = Unit {0}
+IsNurseryDeadline (After n) = Unit {0}
+IsNurseryDeadline (At n) = ⊥
+
 abbrev pub IsNurseryHead : Format → Deadline → Bool → Type 0
 IsNurseryHead One deadline shield = (deadline ≡ Never) × (shield ≡ false)
-IsNurseryHead Two Never shield = Unit {0}
-IsNurseryHead Two (After n) shield = Unit {0}
-IsNurseryHead Two (At n) shield = ⊥
+IsNurseryHead Two deadline shield = IsNurseryDeadline deadline
+IsNurseryHead Three deadline shield = IsNurseryDeadline deadline
 
 abbrev mutual
-  -- the grammar of a block: a `start` only directly inside a nursery, and a `repeat` only in format 2
+  -- the grammar of a block: a `start` only directly inside a nursery, and no `repeat` in format 1
   pub AreSteps : Format → Bool → Steps → Type 0
   AreSteps format inside stop = Unit {0}
   AreSteps format inside (step s ss) = IsStep format inside s × AreSteps format inside ss
@@ -146,7 +151,7 @@ abbrev mutual
   IsStep format inside (scope name deadline shield fail body) = AreSteps format false body
   IsStep format inside (nursery name deadline shield body) = IsNurseryHead format deadline shield × AreSteps format true body
   IsStep format inside (start name over body) = (inside ≡ true) × AreSteps format false body
-  IsStep format inside (repeat count body) = (format ≡ Two) × AreSteps format false body
+  IsStep format inside (repeat count body) = (extends_format_1 format ≡ true) × AreSteps format false body
   IsStep format inside (attempt body handler cleanup) = HasTail handler cleanup × AreSteps format false body × IsHandler format handler
       × IsCleanup format cleanup
 

@@ -2,7 +2,7 @@
 use Rattle.std.specs.Prelude.{ℕ, List, [], ◌∷◌, Bool, true, false, ◌&&◌, nat_le, Option, Some, None, if◌then◌else◌}
 use Rattle.job_tree.specs.declared.limits.TheConstants.{MAX_NUMBER, MAX_PACE, MAX_COPIES, MAX_PASSES}
 use Rattle.job_tree.specs.declared.format.Format.{Format}
-use Rattle.job_tree.specs.declared.format.Format.TheVariants.{One, Two}
+use Rattle.job_tree.specs.Formats.{extends_format_1}
 use Rattle.job_tokens.specs.declared.token.Shape.{Shape}
 use Rattle.job_tokens.specs.declared.token.Shape.TheVariants as shape
 use Rattle.job_tokens.specs.declared.token.Token.{Token}
@@ -19,10 +19,9 @@ keyword_in (shape.Mark mark) = None
 
 -- the maximum of a number after `repeat`, which begins no step in format 1
 abbrev pub most_passes : Format → ℕ
-most_passes One = MAX_NUMBER
-most_passes Two = MAX_PASSES
+most_passes format = if extends_format_1 format then MAX_PASSES else MAX_NUMBER
 
--- the minimum and the maximum of a number after a keyword; `repeat` has its own range in format 2
+-- the minimum and the maximum of a number after a keyword; `repeat` has its own range in formats 2 and 3
 abbrev pub range_of : Format → Option Keyword → ℕ × ℕ
 range_of format (Some word.Over) = (1, MAX_COPIES)
 range_of format (Some word.Pace) = (1, MAX_PACE)

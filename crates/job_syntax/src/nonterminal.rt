@@ -153,8 +153,8 @@ impl Nonterminal {
     }
 }
 
-// Returns what follows the first word of a step. A `start` may occur only directly inside a nursery, and a `repeat` only in
-// format 2.
+// Returns what follows the first word of a step. A `start` may occur only directly inside a nursery, and format 1 has
+// no `repeat`.
 fn step_rest(format: Format, inside: bool, keyword: Keyword) -> Option<&'static [Nonterminal]>
     ensures { Gives (λ x. reverse x.now) result (step_rest format inside keyword) }
 {
@@ -168,18 +168,18 @@ fn step_rest(format: Format, inside: bool, keyword: Keyword) -> Option<&'static 
         Keyword::Scope => rest!(outer inside, Scope, Given),
         Keyword::Nursery => rest!(outer inside, Nursery, Given),
         Keyword::Start if inside => rest!(Items, Over, Given),
-        Keyword::Repeat if format == Format::Two => rest!(outer inside, Steps, Open, Number),
+        Keyword::Repeat if format.extends_format_1() => rest!(outer inside, Steps, Open, Number),
         Keyword::Try => rest!(tail inside, Steps, Open),
         _ => None,
     }
 }
 
-// Returns what follows a word in the head of a nursery. Only in format 2 has the head such words.
+// Returns what follows a word in the head of a nursery. In format 1 it has no such words.
 fn nursery_rest(format: Format, keyword: Keyword) -> Option<&'static [Nonterminal]>
     ensures { Gives (λ x. reverse x.now) result (nursery_rest format keyword) }
 {
-    match (format, keyword) {
-        (Format::Two, Keyword::After) => rest!(NurseryShield, Number),
+    match keyword {
+        Keyword::After if format.extends_format_1() => rest!(NurseryShield, Number),
         _ => nursery_shield_rest(format, keyword),
     }
 }
@@ -188,8 +188,8 @@ fn nursery_rest(format: Format, keyword: Keyword) -> Option<&'static [Nontermina
 fn nursery_shield_rest(format: Format, keyword: Keyword) -> Option<&'static [Nonterminal]>
     ensures { Gives (λ x. reverse x.now) result (nursery_shield_rest format keyword) }
 {
-    match (format, keyword) {
-        (Format::Two, Keyword::Shield) => rest!(Items, Open),
+    match keyword {
+        Keyword::Shield if format.extends_format_1() => rest!(Items, Open),
         _ => None,
     }
 }

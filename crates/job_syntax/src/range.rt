@@ -73,8 +73,9 @@ fn range_of(format: Format, before: Option<Keyword>) -> (u64, u64)
 fn most_passes(format: Format) -> u64
     ensures { result ≡ most_passes format }
 {
-    match format {
-        Format::One => MAX_NUMBER,
-        Format::Two => MAX_PASSES,
+    if format.extends_format_1() {
+        MAX_PASSES
+    } else {
+        MAX_NUMBER
     }
 }

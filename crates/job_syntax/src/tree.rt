@@ -12,7 +12,7 @@ use job_tokens::{Mark, Token};
 use job_tree::{Body, Deadline, Handler, Name, Step, Text};
 use std::alloc::{AllocError, Global};
 
-/// Returns the name and the steps of the job with these tokens, of either format, if its blocks are nested at most 32 deep.
+/// Returns the name and the steps of the job with these tokens, of any format, if its blocks are nested at most 32 deep.
 /// Otherwise returns `None`. Call it with tokens in which `check_grammar` finds no fault: it does not check where a `start` occurs or
 /// what follows a `try`. The only error is that memory was refused.
 pub fn job_at(alloc: Global, tokens: &[Token]) -> Result<Option<(Name, Body)>, AllocError>

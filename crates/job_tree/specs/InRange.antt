@@ -1,12 +1,11 @@
 -- The ranges of the numbers of a job.
 use Rattle.std.specs.Prelude.{ℕ, ◌≤◌, Option, Some, None}
-use Rattle.job_tree.specs.declared.limits.TheConstants.{MAX_NUMBER, MAX_PACE, MAX_COPIES, MAX_PASSES, MAX_STEPS, MAX_STEPS_OF_FORMAT_1}
+use Rattle.job_tree.specs.declared.limits.TheConstants.{MAX_NUMBER, MAX_PACE, MAX_COPIES, MAX_PASSES}
 use Rattle.job_tree.specs.declared.deadline.Deadline.{Deadline}
-use Rattle.job_tree.specs.declared.format.Format.{Format}
-use Rattle.job_tree.specs.declared.format.Format.TheVariants.{One, Two}
 use Rattle.job_tree.specs.declared.deadline.Deadline.TheVariants.{Never, After, At}
 use Rattle.job_tree.specs.Tree.{Step, sleep, checkpoint, forever, pace, find, head, longest, need, raise, cancel, scope, nursery, start, repeat, attempt, Steps, stop, step, Handled, unhandled, except, Cleaned, uncleaned, finally, Tree}
 use Rattle.job_tree.specs.Names.{size_of}
+use Rattle.job_tree.specs.Formats.{most_steps}
 
 -- the number of a deadline is at most the maximum
 abbrev pub IsInRangeDeadline : Deadline → Type 0
@@ -49,16 +48,6 @@ abbrev mutual
   pub IsInRangeCleanup : Cleaned → Type 0
   IsInRangeCleanup uncleaned = Unit {0}
   IsInRangeCleanup (finally body) = AreInRange body
-
--- the number in the first line of a text of this format
-abbrev pub number_of : Format → ℕ
-number_of One = 1
-number_of Two = 2
-
--- the maximum number of step instances of a job of this format
-abbrev pub most_steps : Format → ℕ
-most_steps One = MAX_STEPS_OF_FORMAT_1
-most_steps Two = MAX_STEPS
 
 -- a job whose numbers are in their ranges, with no more step instances than its format allows
 pub record IsInRange (job : Tree) : Type 0 where

@@ -1,4 +1,5 @@
 pub mod Tree
+pub mod Formats
 pub mod Names
 pub mod Starting
 pub mod Words

@@ -5,7 +5,8 @@ use Rattle.std.proofs.Common.{ap, ◌∙◌}
 use Rattle.job_tree.specs.declared.deadline.Deadline.{Deadline}
 use Rattle.job_tree.specs.declared.deadline.Deadline.TheVariants.{Never, After, At}
 use Rattle.job_tree.specs.declared.format.Format.{Format}
-use Rattle.job_tree.specs.declared.format.Format.TheVariants.{One, Two}
+use Rattle.job_tree.specs.declared.format.Format.TheVariants.{One, Two, Three}
+use Rattle.job_tree.specs.Formats.{number_of}
 use Rattle.job_tree.specs.Tree.{Step, sleep, checkpoint, forever, pace, find, head, longest, need, raise, cancel, scope, nursery, start, repeat, attempt, Steps, stop, step, Handled, unhandled, except, Cleaned, uncleaned, finally, Tree}
 
 abbrev to_pair : Deadline → ℕ × ℕ
@@ -222,21 +223,20 @@ steps_code =
     code_by (List Mark) (coded_list mark_code) (λ ss. marks_of ss []) (λ ms. first_block (read_marks ms))
     (λ ss. ap first_block (read_block ss []))
 
-abbrev is_two : Format → Bool
-is_two One = false
-is_two Two = true
+abbrev format_numbered : ℕ → Format
+format_numbered zero = One
+format_numbered (suc zero) = One
+format_numbered (suc (suc zero)) = Two
+format_numbered (suc (suc (suc n))) = Three
 
-abbrev format_if : Bool → Format
-format_if false = One
-format_if true = Two
-
-pub format_again : (f : Format) → format_if (is_two f) ≡ f
+pub format_again : (f : Format) → format_numbered (number_of f) ≡ f
 format_again One = refl
 format_again Two = refl
+format_again Three = refl
 
 -- the code of a format
 abbrev pub format_code : Coded Format
-format_code = code_by Bool coded_bool is_two format_if format_again
+format_code = code_by ℕ coded_ℕ number_of format_numbered format_again
 
 -- the code of a job
 abbrev pub tree_code : Coded Tree

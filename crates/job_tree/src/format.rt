@@ -1,26 +1,29 @@
 ghost use Rattle.std.specs.Prelude.{◌≡◌};
-ghost use Rattle.job_tree.specs.InRange.{most_steps, number_of};
+ghost use Rattle.job_tree.specs.Formats.{number_of, most_steps, extends_format_1, newer};
 
 use crate::limits::{MAX_STEPS, MAX_STEPS_OF_FORMAT_1};
 
-/// The format of a job text, as its first line says. Each job of format 1 is also a job of format 2, with the same
-/// meaning.
+/// The format of a job text, as its first line says. Each text of format 1 or 2 with the first line of a later format is a
+/// job of that format. In format 2 it has the same meaning, and in format 3 the meaning by rounds.
 #[derive(Clone, Copy, Debug, PartialEq, Eq)]
 pub enum Format {
     /// `trio-job 1`
     One,
     /// `trio-job 2`. It adds `repeat`, nurseries with a deadline and a shield, and larger jobs.
     Two,
+    /// `trio-job 3`. A tick has rounds, which are passes of Trio's run loop.
+    Three,
 }
 
 impl Format {
-    /// Returns the number in the first line: 1 or 2.
+    /// Returns the number in the first line: 1, 2 or 3.
     pub fn number(self) -> u64
         ensures { result ≡ number_of self }
     {
         match self {
             Format::One => 1,
             Format::Two => 2,
+            Format::Three => 3,
         }
     }
 
@@ -30,7 +33,29 @@ impl Format {
     {
         match self {
             Format::One => MAX_STEPS_OF_FORMAT_1,
-            Format::Two => MAX_STEPS,
+            Format::Two | Format::Three => MAX_STEPS,
+        }
+    }
+
+    /// Returns whether this format has what format 2 added to format 1: `repeat`, and nurseries with a deadline and a
+    /// shield.
+    pub fn extends_format_1(self) -> bool
+        ensures { result ≡ extends_format_1 self }
+    {
+        match self {
+            Format::One => false,
+            Format::Two | Format::Three => true,
+        }
+    }
+
+    /// Returns the newer one of two formats.
+    pub fn newer(self, other: Format) -> Format
+        ensures { result ≡ newer self other }
+    {
+        match (self, other) {
+            (Format::Three, _) | (_, Format::Three) => Format::Three,
+            (Format::Two, _) | (_, Format::Two) => Format::Two,
+            (Format::One, Format::One) => Format::One,
         }
     }
 }

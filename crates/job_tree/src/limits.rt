@@ -1,4 +1,4 @@
-/// The maximum of each number in a job text. The numbers after `pace`, `over` and (in format 2) `repeat` have lower
+/// The maximum of each number in a job text. The numbers after `pace`, `over` and (from format 2 on) `repeat` have lower
 /// maximums.
 pub const MAX_NUMBER: u64 = 1_000_000_000;
 

@@ -2,7 +2,7 @@
 //! of jobs.
 
 use crate::fixtures::{job, push_bytes, push_digit, wrong};
-use job_grammar::{Job, JobFault, JobKind, read_job, to_format_2, write_job};
+use job_grammar::{Format, Job, JobFault, JobKind, read_job, write_job};
 use std::alloc::{AllocError, Global};
 use std::test::Fail;
 
@@ -48,7 +48,7 @@ fn are_answered(alloc: Global, rows: &[Row]) -> Result<(), Fail> {
 // Refusals of texts up to their grammar.
 const REFUSALS: &[Row] = &[
     (b"", 3, 0),
-    (b"trio-job 3\njob main { }", 3, 0),
+    (b"trio-job 4\njob main { }", 3, 0),
     (b"trio-job 1\njob main \xff", 2, 20),
     (b"trio-job 1\njob main { find \"a }", 4, 27),
     (b"trio-job 1\njob main { find \"\"; }", 4, 27),
@@ -266,7 +266,11 @@ fn each_prefix_of_a_job_text_is_refused(rt: HostRuntime) -> Result<(), Fail> {
 
 // The job, as it is or in format 2.
 fn upgrade_if(job: Job, upgrades: bool) -> Job {
-    if upgrades { to_format_2(job) } else { job }
+    if upgrades {
+        job.in_format(Format::Two)
+    } else {
+        job
+    }
 }
 
 // The canonical text of a job, as it is or in format 2.
@@ -300,7 +304,7 @@ fn numbers(alloc: Global, text: &[u8]) -> Result<(u64, usize, u64), Fail> {
 
 // The format of a job that was upgraded to format 2.
 fn format_of_upgraded(alloc: Global, text: &[u8]) -> Result<u64, Fail> {
-    Ok(to_format_2(job(alloc, text)?).format())
+    Ok(job(alloc, text)?.in_format(Format::Two).format())
 }
 
 // Whether a job has that name.

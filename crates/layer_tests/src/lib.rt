@@ -5,7 +5,11 @@
 #![tactic(auto)]
 
 #[cfg(test)]
+mod bars;
+#[cfg(test)]
 mod batches;
+#[cfg(test)]
+mod chart_texts;
 #[cfg(test)]
 mod checks;
 #[cfg(test)]
@@ -16,6 +20,8 @@ mod clocks;
 mod deadlines;
 #[cfg(test)]
 mod exits;
+#[cfg(test)]
+mod finer_ticks;
 mod fixtures;
 #[cfg(test)]
 mod grammar;
@@ -23,6 +29,8 @@ mod grammar;
 mod groups;
 #[cfg(test)]
 mod kernels;
+#[cfg(test)]
+mod meetings;
 #[cfg(test)]
 mod names;
 #[cfg(test)]

@@ -101,4 +101,14 @@ fn blocks_keep_their_steps(rt: HostRuntime) -> Result<(), Fail> {
 fn each_format_has_its_number_and_maximum_size(rt: HostRuntime) {
     assert!(rt; Format::One.number() == 1 && Format::One.most_steps() == 100_000);
     assert!(rt; Format::Two.number() == 2 && Format::Two.most_steps() == 1_000_000);
+    assert!(rt; Format::Three.number() == 3 && Format::Three.most_steps() == 1_000_000);
+}
+
+#[test]
+fn formats_2_and_3_extend_format_1(rt: HostRuntime) {
+    assert!(rt; !Format::One.extends_format_1());
+    assert!(rt; Format::Two.extends_format_1() && Format::Three.extends_format_1());
+    assert!(rt; Format::One.newer(Format::Two) == Format::Two);
+    assert!(rt; Format::Three.newer(Format::Two) == Format::Three);
+    assert!(rt; Format::Two.newer(Format::Two) == Format::Two);
 }

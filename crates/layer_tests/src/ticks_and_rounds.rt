@@ -4,9 +4,10 @@ use job_tree::{Deadline, Format};
 use moments::{Clock, FAR, ROUNDS_IN_A_TICK};
 
 #[test]
-fn formats_1_and_2_are_counted_by_ticks(rt: HostRuntime) {
+fn formats_1_and_2_are_counted_by_ticks_and_format_3_by_rounds(rt: HostRuntime) {
     assert!(rt; Clock::of(Format::One) == Clock::ByTicks);
     assert!(rt; Clock::of(Format::Two) == Clock::ByTicks);
+    assert!(rt; Clock::of(Format::Three) == Clock::ByRounds);
 }
 
 #[test]

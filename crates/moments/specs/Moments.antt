@@ -3,7 +3,7 @@
 use Rattle.std.specs.Prelude.{ℕ, zero, suc, ◌+◌, ◌*◌, ◌/◌, min, max, Option, Some, None}
 use Rattle.job_tree.specs.declared.deadline.Deadline.{Deadline}
 use Rattle.job_tree.specs.declared.format.Format.{Format}
-use Rattle.job_tree.specs.declared.format.Format.TheVariants.{One, Two}
+use Rattle.job_tree.specs.declared.format.Format.TheVariants.{One, Two, Three}
 use Rattle.job_tree.specs.declared.deadline.Deadline.TheVariants.{Never, After, At}
 use Rattle.moments.specs.declared.clock.Clock.{Clock}
 use Rattle.moments.specs.declared.clock.Clock.TheVariants.{ByTicks, ByRounds}
@@ -11,6 +11,7 @@ use Rattle.moments.specs.declared.clock.Clock.TheVariants.{ByTicks, ByRounds}
 abbrev pub clock_of : Format → Clock
 clock_of One = ByTicks
 clock_of Two = ByTicks
+clock_of Three = ByRounds
 
 -- more rounds than a tick of any job has
 abbrev pub rounds_in_a_tick : ℕ

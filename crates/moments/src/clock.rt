@@ -29,6 +29,7 @@ impl Clock {
         match format {
             Format::One => Clock::ByTicks,
             Format::Two => Clock::ByTicks,
+            Format::Three => Clock::ByRounds,
         }
     }
 

@@ -1,7 +1,6 @@
 ghost use Rattle.std.specs.Prelude.{◌≡◌, ◌≤◌, length, vec_len, IfOk};
 ghost use Rattle.std.specs.Option.{option_copied};
 ghost use Rattle.job_meaning.specs.declared.limits.TheConstants.{MAX_INPUT};
-ghost use Rattle.job_meaning.specs.Laws.{in_format_2};
 ghost use Rattle.nursery_app.specs.Checking.{as_it_is};
 ghost use Rattle.nursery_app.specs.Statuses.{status_of};
 ghost use Rattle.story_app.specs.Statuses.{story_status_of};
@@ -14,7 +13,7 @@ use job_files::shown_name;
 use job_grammar::JobFault;
 use nursery_app::{
     CheckVerdict, Forward, MAX_INPUT, NoGate, Pick, Reverse, Settings, Turn, Verdict, WriteOut,
-    check, send, serve, split_feed, upgrade,
+    check, send, serve, split_feed,
 };
 use nursery_cli::{DEFAULT_LIMIT, ExplainArgs, Order, RunArgs};
 use refusal_text::refusal_message;
@@ -270,28 +269,6 @@ fn check_text<R: Print + Eprint + AllocGlobal>(rt: &R, job: &str, text: &[u8]) -
     let verdict = check(rt.alloc(), text, &mut out)?;
     if let CheckVerdict::JobRefused(fault) = verdict {
         tell_refusal(rt, job, text, fault);
-    }
-    Ok(verdict.status())
-}
-
-// Writes the canonical text of the same job in format 2, and returns the status.
-pub(crate) fn upgrade_job<R: Files + Input + Print + Eprint + AllocGlobal>(
-    rt: &R,
-    job: &str,
-) -> Result<u8, Stop> {
-    let text = read_job_text(rt, job)?;
-    upgrade_text(rt, job, text.as_slice())
-}
-
-// Writes the canonical text in format 2 of a job text, and returns the status.
-fn upgrade_text<R: Print + Eprint + AllocGlobal>(rt: &R, job: &str, text: &[u8]) -> Result<u8, Stop>
-    ensures { IfOk result (TellsAnswer in_format_2 text.now) }
-{
-    let mut out = WriteOut::new(io::writer(rt));
-    let verdict = upgrade(rt.alloc(), text, &mut out)?;
-    match verdict {
-        CheckVerdict::JobRefused(fault) => tell_refusal(rt, job, text, fault),
-        CheckVerdict::Fine => {}
     }
     Ok(verdict.status())
 }

@@ -1,7 +1,7 @@
 //! The program `nursery`: `run` runs a job file over an input file, `explain` writes the story of such a run, `chart` draws it,
 //! `faults` writes the outcome of the job if any one of its waiting steps fails or hangs, `races` the places where a hair changes
 //! its outcome, `sweep` the outcome for each value of one of its numbers, `fmt` formats a job text, `check` writes a job's
-//! canonical text, `upgrade` that of the same job in format 2. Without arguments it serves standard input: a job text, a line
+//! canonical text, `upgrade` that of the same job in a newer format. Without arguments it serves standard input: a job text, a line
 //! that is exactly `%input`, and the input. Its output goes to standard output, and what went wrong to standard error. The work
 //! is in `nursery_app`, `story_app`, `chart_app`, `json_app`, `table_app` and `format_app`.
 #![tactic(auto)]
@@ -19,9 +19,10 @@ mod sources;
 mod stop;
 mod sweep;
 mod texts;
+mod upgrades;
 mod warnings;
 
-use crate::answers::{check_job, explain_job, run_feed, run_job, show_help, upgrade_job};
+use crate::answers::{check_job, explain_job, run_feed, run_job, show_help};
 use crate::charts::chart_job;
 use crate::exports::trio_job;
 use crate::faults::faults_job;
@@ -31,6 +32,7 @@ use crate::races::races_job;
 use crate::stop::Stop;
 use crate::sweep::sweep_job;
 use crate::texts::{show_completions, show_man_page};
+use crate::upgrades::upgrade_job;
 use feed_tests::test_paths;
 use nursery_cli::{Command, CommandFault, read_command};
 use std::env;
@@ -82,7 +84,7 @@ where
         ) => Ok(test_paths(rt, paths.as_slice(), accept, settings)?),
         Ok(Command::Trio { job }) => trio_job(rt, job.as_str()),
         Ok(Command::Check { job }) => check_job(rt, job.as_str()),
-        Ok(Command::Upgrade { job }) => upgrade_job(rt, job.as_str()),
+        Ok(Command::Upgrade { job, format }) => upgrade_job(rt, job.as_str(), format),
         Ok(Command::Completions { shell }) => show_completions(rt, shell),
         Ok(Command::Man) => show_man_page(rt),
         Ok(Command::Help { text }) => show_help(rt, text.as_str()),

@@ -1,7 +1,9 @@
--- The order and the shell that a word names, and the settings of a run.
+-- The order, the shell and the format that a word names, and the settings of a run.
 use Rattle.std.specs.Prelude.{ℕ, Bool, true, false, cond, ◌&&◌, nat_le, Option, Some, None, List, codes}
 use Rattle.std.specs.Option.{unwrap_or}
 use Rattle.std.specs.Str.{bytes_eq}
+use Rattle.job_tree.specs.declared.format.Format.{Format}
+use Rattle.job_tree.specs.declared.format.Format.TheVariants.{Two, Three}
 use Rattle.job_runner.specs.Settings.{Chosen}
 use Rattle.job_runner.specs.declared.limits.TheConstants.{MAX_WORKERS, MAX_LIMIT}
 use Rattle.nursery_cli.specs.Cuts.{number_in}
@@ -20,6 +22,11 @@ order_named (Some word) = cond (bytes_eq word (codes "reverse")) Reverse (cond (
 abbrev pub shell_named : Option (List ℕ) → Shell
 shell_named None = Bash
 shell_named (Some word) = cond (bytes_eq word (codes "zsh")) Zsh (cond (bytes_eq word (codes "fish")) Fish Bash)
+
+-- the format that a word names; format 3 for any other word, and if there is none
+abbrev pub format_named : Option (List ℕ) → Format
+format_named None = Three
+format_named (Some word) = cond (bytes_eq word (codes "2")) Two Three
 
 -- the number that a word spells, or another one if there is no such word
 abbrev pub number_or : ℕ → Option (List ℕ) → ℕ

@@ -2,6 +2,7 @@
 use Rattle.std.specs.Prelude.{◌≡◌, ℕ, ◌≤◌, nat_le, Bool, true, cond, not, ◌||◌, Option, Some, None, List, length, IsTrue, is_some, codes}
 use Rattle.std.specs.Option.{option_map}
 use Rattle.std.specs.Str.{bytes_eq}
+use Rattle.job_tree.specs.Formats.{extends_format_1}
 use Rattle.job_syntax.specs.Keywords.{keyword_of}
 use Rattle.nursery_cli.specs.declared.command.Command.{Command}
 use Rattle.nursery_cli.specs.declared.command.Command.TheVariants.{Feed, Run, Explain, Chart, Faults, Races, Sweep, Fmt, Lint, Test, Trio, Check, Upgrade, Completions, Man, Help}
@@ -46,7 +47,7 @@ IsWritten job modes.Write = IsTrue (not (bytes_eq job (codes "-")))
 IsWritten job modes.Check = Unit {0}
 
 -- A label is short enough, a chart has a width in its range or none, a faulty step can raise its exception, a sweep has values, a
--- file that is formatted in place is not standard input, and there is something to test.
+-- file that is formatted in place is not standard input, a job is upgraded to format 2 or 3, and there is something to test.
 abbrev pub IsFit : Command → Type 0
 IsFit Feed = Unit {0}
 IsFit (Run args) = Unit {0}
@@ -60,7 +61,7 @@ IsFit (Lint job json) = Unit {0}
 IsFit (Test paths accept settings) = 1 ≤ length paths.items
 IsFit (Trio job) = Unit {0}
 IsFit (Check job) = Unit {0}
-IsFit (Upgrade job) = Unit {0}
+IsFit (Upgrade job format) = IsTrue (extends_format_1 format)
 IsFit (Completions shell) = Unit {0}
 IsFit Man = Unit {0}
 IsFit (Help text) = Unit {0}

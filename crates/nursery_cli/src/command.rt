@@ -3,6 +3,7 @@ ghost use Rattle.nursery_cli.specs.declared.command.CommandFault.TheVariants.{No
 
 use crate::arguments::{ChartArgs, ExplainArgs, FaultsArgs, RacesArgs, RunArgs, SweepArgs};
 use job_runner::Settings;
+use job_tree::Format;
 use std::alloc::AllocError;
 use thiserror::Error;
 
@@ -79,10 +80,12 @@ pub enum Command {
         /// The job file, or `-` for standard input.
         job: String,
     },
-    /// Prints the canonical text of the same job in format 2.
+    /// Prints the canonical text of the same job in a newer format.
     Upgrade {
         /// The job file, or `-` for standard input.
         job: String,
+        /// The format, 2 or 3.
+        format: Format,
     },
     /// Prints the script that completes the program's words in a shell.
     Completions {

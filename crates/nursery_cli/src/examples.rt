@@ -282,8 +282,12 @@ const UPGRADE_EXAMPLE: &str = "Example:
       find \"er\";
     }
     $ nursery upgrade first.job
-    trio-job 2
-    job main{find\"er\";}";
+    trio-job 3
+    job main{find\"er\";}
+
+Standard error says whether the job's report over an empty input is another one in the new format. In
+format 3 a cancellation is seen in the tick in which it is made, as in Trio; in format 2 a job means what
+it meant in format 1.";
 
 const COMPLETIONS_EXAMPLE: &str = "Example: for bash, from now on in each new shell:
 

@@ -182,6 +182,15 @@ pub(crate) const CHECK: ArgRow = ArgRow {
     ..FLAG
 };
 
+pub(crate) const FORMAT: ArgRow = ArgRow {
+    name: "to",
+    takes: Takes::OneOf(&["2", "3"]),
+    value_name: "N",
+    default: Some("3"),
+    help: "The format of the text, 2 or 3",
+    ..OPTION
+};
+
 pub(crate) const PATHS: ArgRow = ArgRow {
     name: "paths",
     takes: Takes::Words,

@@ -3,7 +3,7 @@ ghost use Rattle.std.specs.Option.{option_map};
 ghost use Rattle.std.specs.Str.{bytes_eq};
 ghost use Rattle.std.specs.String.{string_bytes};
 ghost use Rattle.nursery_cli.specs.declared.command.Command.TheVariants.{Feed};
-ghost use Rattle.nursery_cli.specs.Named.{order_named, shell_named};
+ghost use Rattle.nursery_cli.specs.Named.{format_named, order_named, shell_named};
 ghost use Rattle.nursery_cli.specs.Reads.{Reads};
 ghost use Rattle.nursery_cli.specs.Words.{IsFit, IsAsked, IsLabel, IsWidth, is_label, spelled_label, may_be_raised};
 
@@ -18,7 +18,7 @@ use clap::ArgMatches;
 use clap::error::ErrorKind;
 use job_runner::Settings;
 use job_syntax::Keyword;
-use job_tree::Name;
+use job_tree::{Format, Name};
 use std::alloc::{AllocError, Global};
 
 // The error if standard input is to be written.
@@ -189,6 +189,7 @@ fn job_command(alloc: Global, name: &str, inner: &ArgMatches<'_>) -> Result<Comm
         }),
         "upgrade" => Ok(Command::Upgrade {
             job: String::from_str(alloc, job)?,
+            format: format_named(inner.get_str("to")),
         }),
         _ => Ok(Command::Check {
             job: String::from_str(alloc, job)?,
@@ -410,6 +411,16 @@ fn shell_named(name: Option<&str>) -> Shell
         Some("zsh") => Shell::Zsh,
         Some("fish") => Shell::Fish,
         _ => Shell::Bash,
+    }
+}
+
+// Returns the format with a number that the parser accepted, and format 3 if there is none.
+fn format_named(number: Option<&str>) -> Format
+    ensures { result ≡ format_named (option_map (λ word. word.now) number.entry) }
+{
+    match number {
+        Some("2") => Format::Two,
+        _ => Format::Three,
     }
 }
 

@@ -1,5 +1,5 @@
 use crate::options::{
-    ACCEPT, ArgRow, CHECK, DENIED_KINDS, DENY_RACES, FAULT_NAME, INPUT, JOB, JSON, LIMIT,
+    ACCEPT, ArgRow, CHECK, DENIED_KINDS, DENY_RACES, FAULT_NAME, FORMAT, INPUT, JOB, JSON, LIMIT,
     OPTIONAL_INPUT, ORDER, PATHS, SHELL, SVG, TARGET_NAME, TARGET_PLACE, TASK, VALUES, WIDTH,
     WORKERS, WRITE,
 };
@@ -116,8 +116,8 @@ pub(crate) const COMMANDS: &[CommandRow] = &[
     },
     CommandRow {
         name: "upgrade",
-        about: "Writes the canonical text of the same job in format 2, which has loops and larger jobs",
-        args: &[JOB],
+        about: "Writes the canonical text of the same job in a newer format, and says whether its report changes",
+        args: &[JOB, FORMAT],
         group: None,
     },
     CommandRow {

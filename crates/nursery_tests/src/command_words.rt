@@ -83,7 +83,7 @@ fn text_of(command: &Command) -> &str {
         Command::Completions { .. } => "",
         Command::Man => "",
         Command::Check { job } => job.as_str(),
-        Command::Upgrade { job } => job.as_str(),
+        Command::Upgrade { job, .. } => job.as_str(),
         Command::Help { text } => text.as_str(),
     }
 }
@@ -261,7 +261,7 @@ const HELP: &[Row] = &[
     ("--help", " Writes the canonical text of a job, or says"),
     (
         "--help",
-        " Writes the canonical text of the same job in format 2",
+        " Writes the canonical text of the same job in a newer format",
     ),
     ("-h", "$ nursery run first.job log.txt\n    job main 0\n"),
     ("help", "  line 0+5 error\n"),

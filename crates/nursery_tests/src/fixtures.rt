@@ -1,6 +1,6 @@
 //! What the tests of this crate share: job texts, and serving them under each order of picks.
 
-use job_grammar::Job;
+use job_grammar::{Format, Job};
 use job_report::{MemOut, Out};
 use job_runner::{Forward, Gate, MAX_INPUT, NoGate, Pick, Reverse, Run, Settings, Turn, run};
 use nursery_app::{CheckVerdict, ServeFault, Verdict, check, serve, upgrade};
@@ -17,6 +17,9 @@ pub(crate) const FORMAT_1: &[u8] = b"trio-job 1\n";
 
 /// The first line of a job text of format 2.
 pub(crate) const FORMAT_2: &[u8] = b"trio-job 2\n";
+
+/// The first line of a job text of format 3.
+pub(crate) const FORMAT_3: &[u8] = b"trio-job 3\n";
 
 /// Two lines, of which the first holds `er`.
 pub(crate) const TWO_LINES: &[u8] = b"error\nok\n";
@@ -130,8 +133,8 @@ pub(crate) fn serve_answer<R: Abort + Threads + Sync + AllocGlobal, P: Pick>(
 pub(crate) enum Asked {
     /// The canonical text.
     Checked,
-    /// The canonical text of the same job in format 2.
-    Upgraded,
+    /// The canonical text of the same job in a newer format.
+    Upgraded(Format),
 }
 
 // Requests a job text, again if memory is refused.
@@ -143,7 +146,7 @@ pub(crate) fn request_again(
 ) -> Result<CheckVerdict, ServeFault> {
     match asked {
         Asked::Checked => call_again!(rt, out, check(rt.alloc(), text, out)),
-        Asked::Upgraded => call_again!(rt, out, upgrade(rt.alloc(), text, out)),
+        Asked::Upgraded(format) => call_again!(rt, out, upgrade(rt.alloc(), text, format, out)),
     }
 }
 
@@ -196,7 +199,7 @@ pub(crate) fn assert_rows<R: Abort + Threads + Sync + AllocGlobal>(
     Ok(())
 }
 
-// Checks the reports of worked jobs, which are the same in both formats.
+// Checks the reports of worked jobs, which are the same in formats 1 and 2.
 pub(crate) fn assert_rows_in_both_formats<R: Abort + Threads + Sync + AllocGlobal>(
     rt: &R,
     rows: &[Row],

@@ -8,7 +8,7 @@ use std::process::Abort;
 use std::test::Fail;
 use std::thread::Threads;
 
-// Checks the report of a job without input in both formats.
+// Checks the report of a job without input in formats 1 and 2.
 fn assert_reports<R: Abort + Threads + Sync + AllocGlobal>(
     rt: &R,
     name: &str,

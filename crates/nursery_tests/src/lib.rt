@@ -43,6 +43,8 @@ mod refusals;
 #[cfg(test)]
 mod reports;
 #[cfg(test)]
+mod rounds;
+#[cfg(test)]
 mod snapshots;
 #[cfg(test)]
 mod stories;

@@ -67,11 +67,11 @@ pub(crate) const WRONG: &[Row] = &[
     ),
     (
         "job a { }",
-        "f:1:1: a job text begins with the line `trio-job 1` or `trio-job 2`, ended by a newline alone\njob a { }\n^\n",
+        "f:1:1: a job text begins with the line `trio-job 1`, `trio-job 2` or `trio-job 3`, ended by a newline alone\njob a { }\n^\n",
     ),
     (
         "",
-        "f:1:1: a job text begins with the line `trio-job 1` or `trio-job 2`, ended by a newline alone\n\n^\n",
+        "f:1:1: a job text begins with the line `trio-job 1`, `trio-job 2` or `trio-job 3`, ended by a newline alone\n\n^\n",
     ),
     (
         "trio-job 1\njob a { sleep 1s; }",
@@ -111,7 +111,7 @@ pub(crate) const WRONG: &[Row] = &[
     ),
     (
         "trio-job 1\njob a { nursery n { start b over 64 { nursery m { start c over 64 { nursery q { start d over 64 { } } } } } } }",
-        "f:1:1: the job has more than 100000 steps, in format 2 more than 1000000, the copies that `over` makes and the passes of `repeat` counted\ntrio-job 1\n^\nthe job has 270465 steps\n",
+        "f:1:1: the job has more than 1000000 steps, in format 1 more than 100000, the copies that `over` makes and the passes of `repeat` counted\ntrio-job 1\n^\nthe job has 270465 steps\n",
     ),
 ];
 

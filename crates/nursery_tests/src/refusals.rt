@@ -3,7 +3,7 @@
 
 use crate::fixtures::{Asked, assert_answers, assert_written, request_again, text_answer};
 use crate::refusal_texts::{EXPECTED, HELPED, Row, WRONG};
-use job_grammar::{JobFault, JobKind, read_job};
+use job_grammar::{Format, JobFault, JobKind, read_job};
 use job_report::MemOut;
 use nursery_app::CheckVerdict;
 use refusal_text::{Position, message_at, refusal_message};
@@ -50,7 +50,7 @@ const LINES: &[(&str, &[u8])] = &[
         "trio-job 2\njob main { repeat 1000 { repeat 1000 { } } }",
         b"refused J11 TooLarge at 0\n",
     ),
-    ("trio-job 3\njob main { }", b"refused J3 Version at 0\n"),
+    ("trio-job 4\njob main { }", b"refused J3 Version at 0\n"),
     ("", b"refused J3 Version at 0\n"),
 ];
 
@@ -97,10 +97,28 @@ fn check_writes_the_canonical_text(rt: HostRuntime) -> Result<(), Fail> {
 #[test]
 fn upgrade_writes_the_job_in_format_2(rt: HostRuntime) -> Result<(), Fail> {
     for &(text, status, _checked, upgraded) in CHECKS {
-        let (told, out) = text_answer(&rt, Asked::Upgraded, text.as_bytes())?;
+        let (told, out) = text_answer(&rt, Asked::Upgraded(Format::Two), text.as_bytes())?;
         assert_written(&rt, text, &out, upgraded);
         assert!(rt; told == status, "{text}");
     }
+    Ok(())
+}
+
+#[test]
+fn upgrade_writes_the_job_in_the_newer_format(rt: HostRuntime) -> Result<(), Fail> {
+    for text in [
+        "trio-job 1\njob main { }",
+        "trio-job 2\njob main { }",
+        "trio-job 3\njob main { }",
+    ] {
+        let (told, out) = text_answer(&rt, Asked::Upgraded(Format::Three), text.as_bytes())?;
+        assert_written(&rt, text, &out, b"trio-job 3\njob main{}\n");
+        assert!(rt; told == 0, "{text}");
+    }
+    let text = "trio-job 3\njob main { }";
+    let (told, out) = text_answer(&rt, Asked::Upgraded(Format::Two), text.as_bytes())?;
+    assert_written(&rt, text, &out, b"trio-job 3\njob main{}\n");
+    assert!(rt; told == 0, "{text}");
     Ok(())
 }
 

@@ -1,9 +1,10 @@
-//! Jobs that were upgraded: for the text that `upgrade` writes, `serve` writes the report of the text that was
-//! upgraded.
+//! Jobs that were upgraded to format 2: for the text that `upgrade` writes, `serve` writes the report of the text that
+//! was upgraded.
 
 use crate::fixtures::{Asked, FORMAT_1, Row, assert_written, job_text, serve_answer, text_answer};
 use crate::nested_jobs::{nested_steps, push_down};
 use crate::worked_jobs::{HANDLERS, NURSERIES, PARTS, PLAIN, SCOPES};
+use job_grammar::Format;
 use job_report::{MemOut, Out};
 use job_runner::Forward;
 use std::process::Abort;
@@ -16,7 +17,7 @@ fn serve_upgrade<R: Abort + Threads + Sync + AllocGlobal>(
     text: &[u8],
     input: &[u8],
 ) -> Result<MemOut, Fail> {
-    let (_fine, upgraded) = text_answer(rt, Asked::Upgraded, text)?;
+    let (_fine, upgraded) = text_answer(rt, Asked::Upgraded(Format::Two), text)?;
     let (_status, out) = serve_answer(rt, upgraded.taken(), input, 1, &mut Forward)?;
     Ok(out)
 }

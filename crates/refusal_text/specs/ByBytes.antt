@@ -27,13 +27,17 @@ ascii_advice text at = if has_order_mark text then Some advice.ByteOrderMark els
 
 -- the first line ends with a carriage return and a newline
 abbrev pub has_returns : List ℕ → Bool
-has_returns text = starts_with nat_eq text (codes "trio-job 1\r\n") || starts_with nat_eq text (codes "trio-job 2\r\n")
+has_returns text =
+    starts_with nat_eq text (codes "trio-job 1\r\n")
+    || (starts_with nat_eq text (codes "trio-job 2\r\n") || starts_with nat_eq text (codes "trio-job 3\r\n"))
 
 -- a blank follows the number in the first line
 abbrev pub has_blank : List ℕ → Bool
-has_blank text = starts_with nat_eq text (codes "trio-job 1 ") || starts_with nat_eq text (codes "trio-job 2 ")
+has_blank text =
+    starts_with nat_eq text (codes "trio-job 1 ")
+    || (starts_with nat_eq text (codes "trio-job 2 ") || starts_with nat_eq text (codes "trio-job 3 "))
 
--- the hint for a text that begins with the first line of neither format
+-- the hint for a text that begins with the first line of no format
 abbrev pub version_advice : List ℕ → Option Advice
 version_advice text =
     if has_returns text then Some advice.CarriageReturn

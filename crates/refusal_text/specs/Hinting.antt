@@ -4,7 +4,7 @@ use Rattle.std.specs.Io.Iter.{u64_saturate}
 use Rattle.job_tree.specs.Tree.{Tree}
 use Rattle.job_tree.specs.Names.{size_of}
 use Rattle.job_tree.specs.declared.format.Format.{Format}
-use Rattle.job_tree.specs.declared.format.Format.TheVariants.{One, Two}
+use Rattle.job_tree.specs.declared.format.Format.TheVariants.{One, Two, Three}
 use Rattle.job_tokens.specs.declared.token.Shape.{Shape}
 use Rattle.job_tokens.specs.declared.token.Token.{Token}
 use Rattle.job_tokens.specs.Shapes.{word_in, shapes_of}
@@ -85,6 +85,7 @@ IsTokenHint text at h = (tokens : List Token) × (fault : Option ℕ) × HasToke
 abbrev pub is_newer : Format → Rest → Bool
 is_newer One rest = is_some rest
 is_newer Two rest = false
+is_newer Three rest = false
 
 -- the keyword that a token nearly is, among those that may be read for the nonterminal
 abbrev pub near_hint : Format → Nonterminal → Shape → Option Hint

@@ -44,7 +44,7 @@ expected_sentence (Some nonterminal.Semicolon) = codes "expected `;`"
 abbrev pub sentence_of : JobKind → Option ℕ → Option Nonterminal → List ℕ
 sentence_of TooLong byte asked = codes "the job text has more than 65536 bytes"
 sentence_of NotAscii byte asked = codes "this byte is not ASCII"
-sentence_of Version byte asked = codes "a job text begins with the line `trio-job 1` or `trio-job 2`, ended by a newline alone"
+sentence_of Version byte asked = codes "a job text begins with the line `trio-job 1`, `trio-job 2` or `trio-job 3`, ended by a newline alone"
 sentence_of Token byte asked = token_sentence byte
 sentence_of Number byte asked =
     codes "a number out of its range: `over` takes 1 to 64, `pace` 1 to 1000000, `repeat` 0 to 1000, others 0 to 1000000000; no leading zero"
@@ -54,5 +54,5 @@ sentence_of Twice byte asked = codes "this name was given before: jobs, scopes, 
 sentence_of NotEnclosing byte asked = codes "no enclosing scope or nursery has this name"
 sentence_of Reserved byte asked = codes "this name is reserved: a name must not be a keyword or `Cancelled`, and `TooSlow` is allowed only after `except`"
 sentence_of TooLarge byte asked =
-    codes "the job has more than 100000 steps, in format 2 more than 1000000, the copies that `over` makes and the passes of `repeat` counted"
+    codes "the job has more than 1000000 steps, in format 1 more than 100000, the copies that `over` makes and the passes of `repeat` counted"
 sentence_of NoMemory byte asked = codes "no memory"

@@ -41,7 +41,7 @@ fn has_order_mark(text: &[u8]) -> bool
         || (text.starts_with(b"\xff\xfe") || text.starts_with(b"\xfe\xff"))
 }
 
-// Returns the hint for a text that begins with the first line of neither format.
+// Returns the hint for a text that begins with the first line of no format.
 pub(crate) fn version_advice(text: &[u8]) -> Option<Advice>
     ensures { result ≡ version_advice text.now }
 {
@@ -58,14 +58,16 @@ pub(crate) fn version_advice(text: &[u8]) -> Option<Advice>
 fn has_returns(text: &[u8]) -> bool
     ensures { result ≡ has_returns text.now }
 {
-    text.starts_with(b"trio-job 1\r\n") || text.starts_with(b"trio-job 2\r\n")
+    text.starts_with(b"trio-job 1\r\n")
+        || (text.starts_with(b"trio-job 2\r\n") || text.starts_with(b"trio-job 3\r\n"))
 }
 
 // Returns whether a blank follows the number in the first line.
 fn has_blank(text: &[u8]) -> bool
     ensures { result ≡ has_blank text.now }
 {
-    text.starts_with(b"trio-job 1 ") || text.starts_with(b"trio-job 2 ")
+    text.starts_with(b"trio-job 1 ")
+        || (text.starts_with(b"trio-job 2 ") || text.starts_with(b"trio-job 3 "))
 }
 
 // Returns the hint for a byte with which no token begins, given the byte before it.

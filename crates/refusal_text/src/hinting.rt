@@ -174,7 +174,7 @@ fn is_newer(format: Format, nonterminal: Nonterminal, shape: &Shape) -> bool
 {
     match format {
         Format::One => nonterminal.next(Format::Two, *shape).is_some(),
-        Format::Two => false,
+        Format::Two | Format::Three => false,
     }
 }
 

@@ -8,7 +8,7 @@ use std::alloc::{AllocError, Global};
 /// The format and the tokens of a refused text, read once to explain its refusal.
 #[derive(Drop)]
 pub(crate) struct LexedText {
-    /// The format of the first line, or format 1 if the text begins with neither first line.
+    /// The format of the first line, or format 1 if the text begins with no first line.
     pub format: Format,
     /// The tokens after the first line, in order, up to `fault`.
     pub tokens: Vec<Token>,

@@ -17,7 +17,7 @@ pub(crate) fn sentence_of(
         JobKind::TooLong => "the job text has more than 65536 bytes",
         JobKind::NotAscii => "this byte is not ASCII",
         JobKind::Version =>
-            "a job text begins with the line `trio-job 1` or `trio-job 2`, ended by a newline alone",
+            "a job text begins with the line `trio-job 1`, `trio-job 2` or `trio-job 3`, ended by a newline alone",
         JobKind::Token => token_sentence(byte),
         JobKind::Number => {
             "a number out of its range: `over` takes 1 to 64, `pace` 1 to 1000000, `repeat` 0 to 1000, others 0 to 1000000000; no leading zero"
@@ -30,7 +30,7 @@ pub(crate) fn sentence_of(
         JobKind::Reserved =>
             "this name is reserved: a name must not be a keyword or `Cancelled`, and `TooSlow` is allowed only after `except`",
         JobKind::TooLarge =>
-            "the job has more than 100000 steps, in format 2 more than 1000000, the copies that `over` makes and the passes of `repeat` counted",
+            "the job has more than 1000000 steps, in format 1 more than 100000, the copies that `over` makes and the passes of `repeat` counted",
         JobKind::NoMemory => "no memory",
     }
 }
