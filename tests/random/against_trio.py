@@ -9,7 +9,7 @@ PROGRAM is the built executable (crates/nursery/out/nursery after `rt run`). It 
 also run as a Trio program under MockClock: its scopes, shields, deadlines and levels of cancellation are Trio's, its splits of
 groups Python's.
 
-Without `--format` the jobs are of formats 1 and 2. What these fix otherwise (docs/RULES.md, "Differences from Trio") is put on top of
+Without `--format` the jobs are of formats 1 and 2. What is different there (docs/RULES.md, "Formats 1 and 2") is put on top of
 Trio: a cancellation by `cancel` or by a member that failed sets the scope's deadline to the next tick, and waiting at a nursery's end
 is shielded.
 
