@@ -1,13 +1,13 @@
 tick 0
   heartbeat  starts
   heartbeat  enters nursery link
+  heartbeat  waits for nursery link
   beat       starts in nursery link
   beat       enters scope due.0
   beat       sleeps until 3
   work       starts in nursery link
   work       enters scope session (deadline 7)
   work       sleeps forever
-  heartbeat  waits for nursery link
 tick 3
   beat       finds 1 line
   beat       leaves scope due.0: completed
@@ -32,9 +32,8 @@ tick 10
   work       finds 2 lines
   work       leaves scope flush: completed
   work       leaves scope session: cancellation caught
-  work       cancels nursery link from 11
+  work       cancels nursery link from 10
   work       ends: done
-tick 11
   beat       is cancelled while sleeping since 9 by nursery link (cancelled by work at 10)
   beat       leaves scope due.3: Cancelled propagates
   beat       ends: cancelled

@@ -1,6 +1,7 @@
 tick 0
   shards   starts
   shards   enters nursery parts
+  shards   waits for nursery parts
   shard.0  starts in nursery parts
   shard.0  enters scope limit.0 (deadline 4)
   shard.0  sleeps until 2
@@ -10,7 +11,6 @@ tick 0
   shard.2  starts in nursery parts
   shard.2  enters scope limit.2 (deadline 4)
   shard.2  sleeps until 2
-  shards   waits for nursery parts
 tick 2
   shard.0  finds 1 line
   shard.0  leaves scope limit.0: completed

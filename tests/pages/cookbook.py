@@ -10,6 +10,7 @@ it names a feed as (`tests/faults/NAME.feed`), they are its job and what becomes
 (`examples/NAME.chart`), the next indented block is that.
 In the cookbook a block of lines of its story may follow, and stands for each example; there is no other block. In README the job has its first
 line, so that it can be pasted, and a block that begins with a tick is lines of the story. In README and the manual other blocks stand too.
+Each job shown is of format 3, and no block has the first line of another format.
 """
 
 import os
@@ -17,7 +18,8 @@ import re
 import sys
 
 ROOT = os.path.join(os.path.dirname(os.path.abspath(__file__)), "..", "..")
-FIRST_LINES = ("trio-job 1\n", "trio-job 2\n", "trio-job 3\n")
+FIRST_LINE = "trio-job 3\n"
+OLDER = re.compile("trio-job [12]")
 NAMED = re.compile(r"\(`(examples|tests/faults|tests/limits/again)/(\w+)\.(feed|chart|races|sweep)`")
 
 
@@ -42,9 +44,9 @@ def pieces_of(page):
 
 def job_of(folder, name):
     feed = content_of(folder, name + ".feed")
-    if not feed.startswith(FIRST_LINES):
-        raise Wrong(f"{folder}/{name}.feed does not begin with the line `trio-job 1`, `trio-job 2` or `trio-job 3`")
-    return feed.partition("\n")[2].partition("%input\n")[0]
+    if not feed.startswith(FIRST_LINE):
+        raise Wrong(f"{folder}/{name}.feed, which a page shows, does not begin with the line `trio-job 3`")
+    return feed.removeprefix(FIRST_LINE).partition("%input\n")[0]
 
 
 def are_told(name, block):
@@ -57,6 +59,8 @@ def compare_page(page, text, is_cookbook):
     """Compares each block shown of an example. Gives the names of the examples shown."""
     shown, wanted, untold = [], [], []
     for is_block, piece in pieces_of(text):
+        if is_block and OLDER.search(piece):
+            raise Wrong(f"{page} shows a job of an older format:\n{piece}")
         if not is_block:
             for folder, name, kind in NAMED.findall(piece):
                 if wanted:
@@ -70,8 +74,8 @@ def compare_page(page, text, is_cookbook):
                 shown.append(name)
         elif wanted:
             name, what, right = wanted.pop(0)
-            is_whole = what == "job" and not is_cookbook and piece.partition("\n")[0] + "\n" in FIRST_LINES
-            if (piece.partition("\n")[2] if is_whole else piece) != right:
+            is_whole = what == "job" and not is_cookbook and piece.startswith(FIRST_LINE)
+            if (piece.removeprefix(FIRST_LINE) if is_whole else piece) != right:
                 raise Wrong(f"{page} shows another {what} of {name} than is stored:\n{piece}")
         elif is_cookbook:
             if shown[-1:] != untold[-1:] or not are_told(untold.pop(), piece):

@@ -1,6 +1,7 @@
 #!/bin/sh
 # The examples and the jobs of tests/, by the program that the gate built: `nursery test` compares each with what is kept beside it, by 1, 3 and 64
-# workers. Then orders of picks, sweeps, and the pictures that the pages show.
+# workers. Then orders of picks, sweeps, and the pictures that the pages show. The examples are of format 3; those of tests/ticks are the same
+# designs in formats 1 and 2.
 set -eu
 cd "$(dirname "$0")/../.."
 nursery=$PWD/crates/nursery/out/nursery
@@ -8,9 +9,9 @@ folder=$(mktemp -d)
 trap 'rm -rf "$folder"' EXIT
 
 for workers in 1 3 64; do
-    "$nursery" test examples tests/races tests/faults tests/rounds --workers "$workers"
+    "$nursery" test examples tests/races tests/faults tests/rounds tests/ticks --workers "$workers"
     "$nursery" test tests/limits/endless --limit 100 --workers "$workers"
-    "$nursery" test tests/limits/again --limit 20 --workers "$workers"
+    "$nursery" test tests/limits/again tests/limits/again_in_ticks --limit 20 --workers "$workers"
 done
 
 # parts FEED: the job and the input of a feed, in two files.
@@ -19,10 +20,12 @@ parts() {
     sed '1,/^%input$/d' "$1" > "$folder/input"
 }
 
-parts examples/race.feed
-for order in forward reverse turn; do
-    "$nursery" explain "$folder/job" "$folder/input" --order "$order" --workers 64 | cmp - examples/race.story
-    echo "the story of examples/race.feed is the same in the order $order"
+for name in examples/race tests/ticks/race; do
+    parts "$name.feed"
+    for order in forward reverse turn; do
+        "$nursery" explain "$folder/job" "$folder/input" --order "$order" --workers 64 | cmp - "$name.story"
+        echo "the story of $name.feed is the same in the order $order"
+    done
 done
 
 # sweeps FEED WORD..: what becomes of a feed's job for each value of a number, with these options, is what is kept beside it.
@@ -35,8 +38,12 @@ sweeps() {
 }
 
 for workers in 1 3 64; do
-    sweeps tests/limits/again/again_in_budget.feed --of budget --values 10..30 --workers "$workers"
-    sweeps examples/supervisor.feed --of flush --values 1..9 --workers "$workers"
+    for feed in tests/limits/again/again_in_budget.feed tests/limits/again_in_ticks/again_in_budget.feed; do
+        sweeps "$feed" --of budget --values 10..30 --workers "$workers"
+    done
+    for feed in examples/supervisor.feed tests/ticks/supervisor.feed; do
+        sweeps "$feed" --of flush --values 1..9 --workers "$workers"
+    done
 done
 
 for name in retry shutdown supervisor; do

@@ -25,7 +25,7 @@ def jobs_of_pages():
     for page in PAGES:
         for is_block, piece in pieces_of(content_of(page)):
             if is_block and piece.startswith("job ") and "{" in piece.partition("\n")[0]:
-                yield page, "trio-job 2\n" + piece
+                yield page, "trio-job 3\n" + piece
             elif is_block and piece.startswith("trio-job "):
                 yield page, piece
 
