@@ -27,7 +27,7 @@ WANTED = {
         [
             "reader  is cancelled while sleeping since 0 by nursery workers (writer failed at 4)",
             "writer  raises DiskFull",
-            "writer  ends: raised DiskFull(writer@4); nursery workers is cancelled from 5",
+            "writer  ends: raised DiskFull(writer@4); nursery workers is cancelled from 4",
         ],
     ),
     "shutdown": (
