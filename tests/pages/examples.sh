@@ -46,8 +46,14 @@ for workers in 1 3 64; do
     done
 done
 
+# draws FEED PICTURE: the chart of a feed as SVG is this picture.
+draws() {
+    parts "$1"
+    "$nursery" chart --svg "$folder/job" "$folder/input" | cmp - "$2"
+    echo "$2 is what is drawn"
+}
+
 for name in retry shutdown supervisor; do
-    parts "examples/$name.feed"
-    "$nursery" chart --svg "$folder/job" "$folder/input" | cmp - "docs/pictures/$name.svg"
-    echo "docs/pictures/$name.svg is what is drawn"
+    draws "examples/$name.feed" "docs/pictures/$name.svg"
+    draws "tests/ticks/$name.feed" "tests/ticks/$name.svg"
 done
