@@ -1,10 +1,9 @@
-//! What several tests need: names, labels, jobs, exceptions and events, and texts of the results of calls.
+//! What several tests need: names, labels, jobs and exceptions, and texts of the results of calls.
 
 use buffer_parts::Part;
 use exc_groups::{Exc, Label, Whose};
 use job_grammar::{Job, read_job};
 use job_meaning::MAX_INPUT;
-use job_story::{Event, Happening, Kind, Range, What};
 use job_tree::Name;
 use std::alloc::{AllocError, Global};
 use std::test::Fail;
@@ -42,38 +41,13 @@ pub(crate) fn root<'a>(alloc: Global, job: &'a Job) -> Result<Task<'a>, Fail> {
 
 // What the task of that name raised at tick 0.
 pub(crate) fn raised_exc(alloc: Global, exc: &[u8], task: &[u8]) -> Result<Exc, Fail> {
+    let name = word(exc)?;
+    let task = label(alloc, task)?;
     Ok(Exc::Raised {
-        name: word(exc)?,
-        task: label(alloc, task)?,
+        name,
+        task,
         tick: 0,
     })
-}
-
-// An event of the task `m` in this moment.
-pub(crate) fn event(alloc: Global, moment: u64, what: What) -> Result<Event, Fail> {
-    Ok(Event {
-        tick: moment,
-        task: label(alloc, b"m")?,
-        what,
-    })
-}
-
-// That the root starts, with an empty input.
-pub(crate) fn starts() -> What {
-    What::Starts {
-        home: None,
-        part: Range { from: 0, to: 0 },
-    }
-}
-
-// That a task enters the scope `s`.
-pub(crate) fn enters(alloc: Global) -> Result<What, Fail> {
-    Ok(What::Happens(Happening::Enters {
-        kind: Kind::Scope { fail: false },
-        label: label(alloc, b"s")?,
-        deadline: None,
-        shield: false,
-    }))
 }
 
 // The failure of a row of a table, with its number from 0 on.

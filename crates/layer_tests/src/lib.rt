@@ -5,11 +5,7 @@
 #![tactic(auto)]
 
 #[cfg(test)]
-mod bars;
-#[cfg(test)]
 mod batches;
-#[cfg(test)]
-mod chart_texts;
 #[cfg(test)]
 mod checks;
 #[cfg(test)]
@@ -21,7 +17,6 @@ mod deadlines;
 #[cfg(test)]
 mod exits;
 #[cfg(test)]
-mod finer_ticks;
 mod fixtures;
 #[cfg(test)]
 mod grammar;
@@ -29,8 +24,6 @@ mod grammar;
 mod groups;
 #[cfg(test)]
 mod kernels;
-#[cfg(test)]
-mod meetings;
 #[cfg(test)]
 mod names;
 #[cfg(test)]

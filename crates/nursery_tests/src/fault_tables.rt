@@ -1,10 +1,11 @@
 //! What `faults` writes of worked jobs: the same by 1, 3 and 64 threads; and the lines of it that are denied.
 
-use crate::fixtures::{LIMIT, call_again};
+use crate::fixtures::{LIMIT, call_again, same, same_answer};
 use fault_text::Deny;
 use job_report::{MemOut, Out};
 use job_runner::{NoGate, Settings};
 use job_tree::Name;
+use nursery_app::ServeFault;
 use std::process::Abort;
 use std::test::Fail;
 use std::thread::Threads;
@@ -17,6 +18,30 @@ const ALL: Deny = Deny {
     lost: true,
 };
 
+// Calls `faults` with a writer that has not failed.
+fn faults_into<R: Abort + Threads + Sync + AllocGlobal>(
+    rt: &R,
+    text: &[u8],
+    settings: Settings,
+    name: Name,
+    out: &mut MemOut,
+) -> Result<FaultsVerdict, ServeFault> {
+    assert!(rt; out.failures() == 0);
+    let alloc = rt.alloc();
+    faults(
+        rt,
+        alloc,
+        text,
+        b"",
+        settings,
+        name,
+        ALL,
+        Form::Text,
+        &NoGate,
+        out,
+    )
+}
+
 // Calls `faults`, again if memory is refused.
 fn faults_again<R: Abort + Threads + Sync + AllocGlobal>(
     rt: &R,
@@ -26,24 +51,32 @@ fn faults_again<R: Abort + Threads + Sync + AllocGlobal>(
 ) -> Result<FaultsVerdict, Fail> {
     let settings = Settings::new(workers, LIMIT).ok_or("settings")?;
     let name = Name::new(b"Fault").ok_or("name")?;
-    let alloc = rt.alloc();
-    let answer = call_again!(
-        rt,
-        out,
-        faults(
-            rt,
-            alloc,
-            text,
-            b"",
-            settings,
-            name,
-            ALL,
-            Form::Text,
-            &NoGate,
-            out
-        )
-    );
+    let answer = call_again!(rt, out, faults_into(rt, text, settings, name, out));
     Ok(answer?)
+}
+
+// Returns the status of a table, and the table.
+fn table_of<R: Abort + Threads + Sync + AllocGlobal>(
+    rt: &R,
+    text: &[u8],
+    workers: usize,
+) -> Result<(u8, MemOut), Fail> {
+    let mut out = MemOut::new(rt.alloc(), 100_000, 7, None)?;
+    let verdict = faults_again(rt, text, workers, &mut out)?;
+    Ok((verdict.status(), out))
+}
+
+// Returns the lines of a table that are denied.
+fn denied_of<R: Abort + Threads + Sync + AllocGlobal>(
+    rt: &R,
+    text: &[u8],
+    workers: usize,
+) -> Result<Vec<u8>, Fail> {
+    let mut out = MemOut::new(rt.alloc(), 100_000, 7, None)?;
+    match faults_again(rt, text, workers, &mut out)? {
+        FaultsVerdict::Told { denied } => Ok(denied),
+        _ => Err("a refusal")?,
+    }
 }
 
 const FAILS: &str = "trio-job 1\njob m { sleep 2; raise Boom; }";
@@ -87,30 +120,32 @@ const TABLES: &[(&str, u8, &[u8])] = &[
     ),
 ];
 
+// Checks the status and the table of a row by 1, 3 and 64 threads.
+fn assert_table<R: Abort + Threads + Sync + AllocGlobal>(
+    rt: &R,
+    row: &(&str, u8, &[u8]),
+) -> Result<(), Fail> {
+    let (text, status, expected) = *row;
+    for workers in [1, 3, 64] {
+        let answer = table_of(rt, text.as_bytes(), workers)?;
+        same_answer(text, &answer, status, expected)?;
+    }
+    Ok(())
+}
+
 #[test]
 fn faults_are_listed_in_the_order_of_their_places(rt: HostRuntime) -> Result<(), Fail> {
-    for &(text, status, expected) in TABLES {
-        for workers in [1, 3, 64] {
-            let mut out = MemOut::new(rt.alloc(), 100_000, 7, None)?;
-            let verdict = faults_again(&rt, text.as_bytes(), workers, &mut out)?;
-            assert_eq!(rt; verdict.status(), status);
-            assert_eq!(rt; out.taken(), expected);
-        }
+    for i in 0..TABLES.len() {
+        assert_table(&rt, &TABLES[i])?;
     }
     Ok(())
 }
 
 #[test]
 fn denied_lines_are_reported_unchanged(rt: HostRuntime) -> Result<(), Fail> {
-    let mut out = MemOut::new(rt.alloc(), 100_000, 7, None)?;
-    let FaultsVerdict::Told { denied } = faults_again(&rt, FAILS.as_bytes(), 1, &mut out)? else {
-        return Err(Fail::from("a refusal"));
-    };
-    assert_eq!(rt; denied.as_slice(), HANGS);
-    let mut out = MemOut::new(rt.alloc(), 100_000, 7, None)?;
-    let FaultsVerdict::Told { denied } = faults_again(&rt, CLEANS.as_bytes(), 2, &mut out)? else {
-        return Err(Fail::from("a refusal"));
-    };
-    assert!(rt; denied.as_slice().starts_with(LOSES));
+    let hangs = denied_of(&rt, FAILS.as_bytes(), 1)?;
+    same("what is denied", hangs.as_slice(), HANGS)?;
+    let loses = denied_of(&rt, CLEANS.as_bytes(), 2)?;
+    assert!(rt; loses.as_slice().starts_with(LOSES));
     Ok(())
 }

@@ -1,6 +1,6 @@
 //! The formatted texts of jobs: what `format_text` returns, and where `check_format` finds that a text differs.
 
-use crate::fixtures::call_again;
+use crate::fixtures::{call_again, same, same_answer};
 use format_app::{FormatCheck, FormatFault, FormatVerdict, check_format, format, format_text};
 use job_grammar::JobKind;
 use job_report::{MemOut, Out};
@@ -51,13 +51,18 @@ fn formatted_text(alloc: Global, text: &[u8]) -> Result<Vec<u8>, Fail> {
     }
 }
 
+// Checks the formatted text of a job text.
+fn assert_formatted(alloc: Global, text: &str, expected: &str) -> Result<(), Fail> {
+    let bytes = formatted_text(alloc, text.as_bytes())?;
+    same(text, bytes.as_slice(), expected.as_bytes())
+}
+
 #[test]
 fn each_step_has_its_line_and_short_blocks_one(rt: HostRuntime) -> Result<(), Fail> {
-    for &(text, expected) in TEXTS {
-        let bytes = formatted_text(rt.alloc(), text.as_bytes())?;
-        assert_eq!(rt; bytes.as_slice(), expected.as_bytes());
-        let again = formatted_text(rt.alloc(), expected.as_bytes())?;
-        assert_eq!(rt; again.as_slice(), expected.as_bytes());
+    for i in 0..TEXTS.len() {
+        let (text, expected) = TEXTS[i];
+        assert_formatted(rt.alloc(), text, expected)?;
+        assert_formatted(rt.alloc(), expected, expected)?;
     }
     Ok(())
 }
@@ -84,11 +89,11 @@ const PLACES: &[(&str, FormatCheck)] = &[
 
 #[test]
 fn a_difference_has_its_place(rt: HostRuntime) -> Result<(), Fail> {
-    for &(text, expected) in PLACES {
-        assert!(rt;
-            format_check(rt.alloc(), text.as_bytes())? == expected,
-            "{text}"
-        );
+    for i in 0..PLACES.len() {
+        let (text, expected) = PLACES[i];
+        if format_check(rt.alloc(), text.as_bytes())? != expected {
+            Err(text)?;
+        }
     }
     let found = format_check(rt.alloc(), b"trio-job 1\njob a { slep 1; }")?;
     assert!(rt;
@@ -113,16 +118,31 @@ fn nested_job(alloc: Global, steps: usize) -> Result<Vec<u8>, Fail> {
     Ok(text)
 }
 
+// Returns the length of the formatted text of such a job.
+fn formatted_length(alloc: Global, steps: usize) -> Result<usize, Fail> {
+    let text = nested_job(alloc, steps)?;
+    let bytes = formatted_text(alloc, text.as_slice())?;
+    Ok(bytes.len())
+}
+
 // The formatted text has 2,439 bytes without the innermost steps, and 76 for each of these.
 #[test]
 fn a_text_is_formatted_up_to_the_greatest_length(rt: HostRuntime) -> Result<(), Fail> {
-    let most = nested_job(rt.alloc(), 800)?;
-    let bytes = formatted_text(rt.alloc(), most.as_slice())?;
+    assert!(rt; formatted_length(rt.alloc(), 800)? == 2_439 + 800 * 76);
     let long = nested_job(rt.alloc(), 900)?;
     let found = format_check(rt.alloc(), long.as_slice())?;
-    assert_eq!(rt; bytes.len(), 2_439 + 800 * 76);
     assert!(rt; found == FormatCheck::TooLong(2_439 + 900 * 76));
     Ok(())
+}
+
+// Calls `format` with a writer that has not failed.
+fn format_into<R: Abort + AllocGlobal>(
+    rt: &R,
+    text: &[u8],
+    out: &mut MemOut,
+) -> Result<FormatVerdict, ServeFault> {
+    assert!(rt; out.failures() == 0);
+    format(rt.alloc(), text, out)
 }
 
 // Calls `format`, again if memory is refused.
@@ -131,7 +151,14 @@ fn format_again<R: Abort + AllocGlobal>(
     text: &[u8],
     out: &mut MemOut,
 ) -> Result<FormatVerdict, ServeFault> {
-    call_again!(rt, out, format(rt.alloc(), text, out))
+    call_again!(rt, out, format_into(rt, text, out))
+}
+
+// Returns the status for a job text, and what is written.
+fn format_answer<R: Abort + AllocGlobal>(rt: &R, text: &[u8]) -> Result<(u8, MemOut), Fail> {
+    let mut out = MemOut::new(rt.alloc(), 1_000_000, 7, None)?;
+    let verdict = format_again(rt, text, &mut out)?;
+    Ok((verdict.status(), out))
 }
 
 // A job text, the status, and what is written.
@@ -142,11 +169,10 @@ const ANSWERS: &[(&str, u8, &str)] = &[
 
 #[test]
 fn the_formatted_text_or_the_refusal_is_written(rt: HostRuntime) -> Result<(), Fail> {
-    for &(text, status, expected) in ANSWERS {
-        let mut out = MemOut::new(rt.alloc(), 1_000_000, 7, None)?;
-        let verdict = format_again(&rt, text.as_bytes(), &mut out)?;
-        assert_eq!(rt; verdict.status(), status);
-        assert_eq!(rt; out.taken(), expected.as_bytes());
+    for i in 0..ANSWERS.len() {
+        let (text, status, expected) = ANSWERS[i];
+        let answer = format_answer(&rt, text.as_bytes())?;
+        same_answer(text, &answer, status, expected.as_bytes())?;
     }
     Ok(())
 }

@@ -29,8 +29,11 @@ const SIZES: &[(&str, u64)] = &[
 
 #[test]
 fn jobs_of_format_2_have_sizes_up_to_a_million(rt: HostRuntime) -> Result<(), Fail> {
-    for &(text, expected) in SIZES {
-        assert!(rt; size_in(rt.alloc(), text.as_bytes())? == expected, "{text}");
+    for i in 0..SIZES.len() {
+        let (text, expected) = SIZES[i];
+        if size_in(rt.alloc(), text.as_bytes())? != expected {
+            Err(text)?;
+        }
     }
     Ok(())
 }

@@ -1,5 +1,6 @@
 //! The tests of the crates `job_runner`, `job_report`, `job_lint`, `nursery_app`, `format_app`, `story_app`, `chart_app`, `sweep_app`,
-//! `table_app`, `expect_text`, `test_app`, `refusal_text` and `nursery_cli`, through what these make public.
+//! `table_app`, `expect_text`, `test_app`, `refusal_text` and `nursery_cli`, and of what charts and races are made of (`chart_bars`,
+//! `chart_text`, `job_edits`, `race_copies`), through what these make public.
 //!
 //! They show what no clause says: that the reports of worked jobs, worked out by hand, are those of the definitions; the results for
 //! command lines and refused texts; the results when readers and writers fail; and, for the layers below too, that a call that was
@@ -7,15 +8,21 @@
 #![tactic(auto)]
 
 #[cfg(test)]
+mod bars;
+#[cfg(test)]
 mod batch_by_batch;
 #[cfg(test)]
 mod calls_made_again;
+#[cfg(test)]
+mod chart_texts;
 #[cfg(test)]
 mod charts;
 #[cfg(test)]
 mod command_words;
 #[cfg(test)]
 mod fault_tables;
+#[cfg(test)]
+mod finer_ticks;
 #[cfg(test)]
 mod fixtures;
 #[cfg(test)]
@@ -28,6 +35,8 @@ mod json_documents;
 mod large_jobs;
 #[cfg(test)]
 mod lint_warnings;
+#[cfg(test)]
+mod meetings;
 #[cfg(test)]
 mod nested_jobs;
 #[cfg(test)]
@@ -48,6 +57,8 @@ mod rounds;
 mod snapshots;
 #[cfg(test)]
 mod stories;
+#[cfg(test)]
+mod story_events;
 #[cfg(test)]
 mod sweep_tables;
 #[cfg(test)]

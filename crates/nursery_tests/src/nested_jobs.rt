@@ -1,5 +1,6 @@
-//! Texts of 31 nested blocks, the maximum depth that the job `main` may have.
+//! Texts of 31 nested blocks, the maximum depth that the job `main` may have, and a report of theirs.
 
+use crate::fixtures::{FORMAT_1, job_text};
 use std::alloc::{AllocError, Global};
 
 // The number of blocks.
@@ -53,4 +54,17 @@ pub(crate) fn nested_steps(
     text.extend_from_slice(steps)?;
     push_each(&mut text, b" }")?;
     Ok(text)
+}
+
+// Returns the text of a job of format 1 with these steps.
+pub(crate) fn nested_job(alloc: Global, block: &[u8], steps: &[u8]) -> Result<Vec<u8>, AllocError> {
+    let steps = nested_steps(alloc, block, steps)?;
+    job_text(alloc, FORMAT_1, steps.as_slice())
+}
+
+// Returns the report of the job of 31 nested scopes around `sleep 1`.
+pub(crate) fn scopes_report(alloc: Global) -> Result<Vec<u8>, AllocError> {
+    let mut report = Vec::from_slice(alloc, b"job main 1\ntask main 0 1 done\n")?;
+    push_down(&mut report, b"  scope s", b" 1 passed\n")?;
+    Ok(report)
 }

@@ -2,10 +2,10 @@
 
 ghost use Rattle.std.specs.Prelude.{◌<◌};
 
-use crate::fixtures::{FORMAT_1, HALVES, LIMIT, assert_written, job_text, run_of, serve_into};
-use crate::nested_jobs::nested_steps;
+use crate::fixtures::{HALVES, LIMIT, run_of, same, serve_into, wrong};
+use crate::nested_jobs::nested_job;
 use job_grammar::read_job;
-use job_report::MemOut;
+use job_report::{MemOut, Out};
 use job_runner::{
     Forward, Gate, NoGate, Outcome, Pick, Record, Reverse, ScopeFrom, Settings, Turn,
 };
@@ -15,12 +15,16 @@ use std::test::Fail;
 use std::thread::Threads;
 
 // Checks the ticks in which tasks started and ended.
-fn assert_ticks(rt: &impl Abort, records: &[Record<'_>], ticks: &[(u64, u64)]) {
-    assert!(rt; records.len() == ticks.len());
-    for (i, &(start, end)) in ticks.iter().enumerate() {
-        let (from, to) = ticks_of(records.get(i));
-        assert!(rt; from == start && to == end, "task {i}");
+fn assert_ticks(records: &[Record<'_>], ticks: &[(u64, u64)]) -> Result<(), Fail> {
+    if records.len() != ticks.len() {
+        Err(("tasks", records.len()))?;
     }
+    for i in 0..ticks.len() {
+        if ticks_of(records.get(i)) != ticks[i] {
+            return Err(wrong(i));
+        }
+    }
+    Ok(())
 }
 
 // Returns the ticks in which a task started and ended.
@@ -55,10 +59,9 @@ fn assert_turns<R: Abort + Threads + Sync + AllocGlobal, P: Pick>(
 ) -> Result<(), Fail> {
     let job = read_job(rt.alloc(), text)?;
     let done = run_of(rt, &job, b"", 64, picker, &NoGate)?;
-    assert_eq!(rt; done.turns(), turns);
-    assert_ticks(rt, done.records(), ticks);
+    assert!(rt; done.turns() == turns);
     assert!(rt; is_done(done.records().last(), name, indices));
-    Ok(())
+    assert_ticks(done.records(), ticks)
 }
 
 // The name and the indices of the root.
@@ -89,8 +92,7 @@ fn a_nursery_without_tasks_takes_two_turns(rt: HostRuntime) -> Result<(), Fail> 
 
 #[test]
 fn nested_scopes_take_no_turn(rt: HostRuntime) -> Result<(), Fail> {
-    let steps = nested_steps(rt.alloc(), b"scope s", b"sleep 1;")?;
-    let text = job_text(rt.alloc(), FORMAT_1, steps.as_slice())?;
+    let text = nested_job(rt.alloc(), b"scope s", b"sleep 1;")?;
     assert_turns(&rt, text.as_slice(), &mut Forward, 2, &[(0, 1)], MAIN)
 }
 
@@ -105,36 +107,56 @@ job main { nursery n { start a over 64 { nursery m {
     assert_turns(&rt, text, &mut Forward, 16_514, ticks.as_slice(), last)
 }
 
-#[test]
-fn orders_pick_their_places(rt: HostRuntime) {
-    let mut reverse = Reverse;
-    let mut turn = Turn { calls: 0 };
-    for (left, last, place) in [
-        (3, 2, 0),
-        (3, 2, 1),
-        (3, 2, 2),
-        (3, 2, 0),
-        (5, 4, 4),
-        (1, 0, 0),
-    ] {
-        assert_eq!(rt; reverse.pick(left), last);
-        assert_eq!(rt; turn.pick(left), place);
+// How many are left, and which are picked from the last to the first and in turn, one call after another.
+const PICKS: &[(usize, usize, usize)] = &[
+    (3, 2, 0),
+    (3, 2, 1),
+    (3, 2, 2),
+    (3, 2, 0),
+    (5, 4, 4),
+    (1, 0, 0),
+];
+
+// Returns which of some are picked, and 99 if none is left.
+fn picked<P: Pick>(picker: &mut P, left: usize) -> usize {
+    if left == 0 {
+        return 99;
     }
-    let mut turn = Turn { calls: u64::MAX };
-    assert_eq!(rt; turn.pick(10), 5);
-    assert_eq!(rt; turn.pick(10), 0);
+    picker.pick(left)
 }
 
 #[test]
-fn settings_have_their_ranges(rt: HostRuntime) {
-    for (workers, limit, fits) in [
-        (0, 1, false),
-        (65, 1, false),
-        (1, 4_294_967_296, false),
-        (64, 4_294_967_295, true),
-    ] {
-        assert_eq!(rt; Settings::new(workers, limit).is_some(), fits);
+fn orders_pick_their_places(rt: HostRuntime) -> Result<(), Fail> {
+    let mut turn = Turn { calls: 0 };
+    for i in 0..PICKS.len() {
+        let (left, last, place) = PICKS[i];
+        if picked(&mut Reverse, left) != last || picked(&mut turn, left) != place {
+            return Err(wrong(i));
+        }
     }
+    let mut turn = Turn { calls: u64::MAX };
+    assert!(rt; turn.pick(10) == 5);
+    assert!(rt; turn.pick(10) == 0);
+    Ok(())
+}
+
+// How many workers, a limit, and whether there are such settings.
+const SETTINGS: &[(usize, u64, bool)] = &[
+    (0, 1, false),
+    (65, 1, false),
+    (1, 4_294_967_296, false),
+    (64, 4_294_967_295, true),
+];
+
+#[test]
+fn settings_have_their_ranges() -> Result<(), Fail> {
+    for i in 0..SETTINGS.len() {
+        let (workers, limit, fits) = SETTINGS[i];
+        if Settings::new(workers, limit).is_some() != fits {
+            return Err(wrong(i));
+        }
+    }
+    Ok(())
 }
 
 // The tick from which each of a job's scopes and nurseries was cancelled, by its name.
@@ -147,11 +169,28 @@ const FROMS: &[(&[u8], &[(&[u8], Option<u64>)])] = &[
 ];
 
 // Checks from which ticks scopes were cancelled.
-fn assert_froms(rt: &impl Abort, froms: &[ScopeFrom], wanted: &[(&[u8], Option<u64>)]) {
-    assert!(rt; froms.len() == wanted.len());
-    for (i, &(name, seen)) in wanted.iter().enumerate() {
-        assert!(rt; is_from(froms.get(i), name, seen), "scope {i}");
+fn assert_froms(froms: &[ScopeFrom], wanted: &[(&[u8], Option<u64>)]) -> Result<(), Fail> {
+    if froms.len() != wanted.len() {
+        Err(("scopes", froms.len()))?;
     }
+    for i in 0..wanted.len() {
+        let (name, seen) = wanted[i];
+        if !is_from(froms.get(i), name, seen) {
+            return Err(wrong(i));
+        }
+    }
+    Ok(())
+}
+
+// Checks from which ticks the scopes of a job were cancelled.
+fn assert_froms_of<R: Abort + Threads + Sync + AllocGlobal>(
+    rt: &R,
+    text: &[u8],
+    wanted: &[(&[u8], Option<u64>)],
+) -> Result<(), Fail> {
+    let job = read_job(rt.alloc(), text)?;
+    let done = run_of(rt, &job, b"", 1, &mut Forward, &NoGate)?;
+    assert_froms(done.froms(), wanted)
 }
 
 // Returns whether a scope of that name was cancelled from that tick.
@@ -164,10 +203,9 @@ fn is_from(from: Option<&ScopeFrom>, name: &[u8], seen: Option<u64>) -> bool {
 
 #[test]
 fn a_run_has_the_ticks_from_which_its_scopes_were_cancelled(rt: HostRuntime) -> Result<(), Fail> {
-    for &(text, froms) in FROMS {
-        let job = read_job(rt.alloc(), text)?;
-        let done = run_of(&rt, &job, b"", 1, &mut Forward, &NoGate)?;
-        assert_froms(&rt, done.froms(), froms);
+    for i in 0..FROMS.len() {
+        let (text, froms) = FROMS[i];
+        assert_froms_of(&rt, text, froms)?;
     }
     Ok(())
 }
@@ -252,9 +290,8 @@ fn two_workers_serve_at_once(rt: HostRuntime) -> Result<(), Fail> {
         &gate,
         &mut out,
     )?;
-    assert_written(&rt, "two workers", &out, TWO_REPORTS);
     assert!(rt; gate.have_met());
-    Ok(())
+    same("two workers", out.taken(), TWO_REPORTS)
 }
 
 // A picker that picks the first, and notes how many were left each time, as the digits of a number.
@@ -338,7 +375,6 @@ job main { nursery n { start a { sleep 2; raise A; } start b { sleep 2; raise B;
 
 #[test]
 fn a_request_within_nested_scopes_is_gated_once(rt: HostRuntime) -> Result<(), Fail> {
-    let steps = nested_steps(rt.alloc(), b"scope s", b"find \"a\"; sleep 1;")?;
-    let text = job_text(rt.alloc(), FORMAT_1, steps.as_slice())?;
+    let text = nested_job(rt.alloc(), b"scope s", b"find \"a\"; sleep 1;")?;
     assert_goes(&rt, text.as_slice(), b"a", 111, 3, 1)
 }

@@ -1,15 +1,39 @@
 //! What `races` writes of worked jobs: the same by 1, 3 and 64 threads; the lines of it that are denied; and why nothing is
 //! written.
 
-use crate::fixtures::{LIMIT, call_again};
+use crate::fixtures::{LIMIT, call_again, same, same_answer};
 use job_report::{MemOut, Out};
 use job_runner::{NoGate, Settings};
+use nursery_app::ServeFault;
 use std::process::Abort;
 use std::test::Fail;
 use std::thread::Threads;
 use table_app::{Form, RacesVerdict, races};
 
-// Calls `races` over three lines, again if memory is refused. Races are denied.
+// Calls `races` over three lines with a writer that has not failed. Races are denied.
+fn races_into<R: Abort + Threads + Sync + AllocGlobal>(
+    rt: &R,
+    text: &[u8],
+    settings: Settings,
+    out: &mut MemOut,
+) -> Result<RacesVerdict, ServeFault> {
+    assert!(rt; out.failures() == 0);
+    let input = b"GET /a\nGET /b\nGET /c\n";
+    let alloc = rt.alloc();
+    races(
+        rt,
+        alloc,
+        text,
+        input,
+        settings,
+        true,
+        Form::Text,
+        &NoGate,
+        out,
+    )
+}
+
+// The same, again if memory is refused.
 fn races_again<R: Abort + Threads + Sync + AllocGlobal>(
     rt: &R,
     text: &[u8],
@@ -17,24 +41,32 @@ fn races_again<R: Abort + Threads + Sync + AllocGlobal>(
     out: &mut MemOut,
 ) -> Result<RacesVerdict, Fail> {
     let settings = Settings::new(workers, LIMIT).ok_or("settings")?;
-    let input = b"GET /a\nGET /b\nGET /c\n";
-    let alloc = rt.alloc();
-    let answer = call_again!(
-        rt,
-        out,
-        races(
-            rt,
-            alloc,
-            text,
-            input,
-            settings,
-            true,
-            Form::Text,
-            &NoGate,
-            out
-        )
-    );
+    let answer = call_again!(rt, out, races_into(rt, text, settings, out));
     Ok(answer?)
+}
+
+// Returns the status of a table, and the table.
+fn table_of<R: Abort + Threads + Sync + AllocGlobal>(
+    rt: &R,
+    text: &[u8],
+    workers: usize,
+) -> Result<(u8, MemOut), Fail> {
+    let mut out = MemOut::new(rt.alloc(), 100_000, 7, None)?;
+    let verdict = races_again(rt, text, workers, &mut out)?;
+    Ok((verdict.status(), out))
+}
+
+// Returns the lines of a table that are denied.
+fn denied_of<R: Abort + Threads + Sync + AllocGlobal>(
+    rt: &R,
+    text: &[u8],
+    workers: usize,
+) -> Result<Vec<u8>, Fail> {
+    let mut out = MemOut::new(rt.alloc(), 100_000, 7, None)?;
+    match races_again(rt, text, workers, &mut out)? {
+        RacesVerdict::Told { denied } => Ok(denied),
+        _ => Err("no table")?,
+    }
 }
 
 const MEETS: &str =
@@ -106,26 +138,30 @@ const TABLES: &[(&str, u8, &[u8])] = &[
     ),
 ];
 
+// Checks the status and the table of a row by 1, 3 and 64 threads.
+fn assert_table<R: Abort + Threads + Sync + AllocGlobal>(
+    rt: &R,
+    row: &(&str, u8, &[u8]),
+) -> Result<(), Fail> {
+    let (text, status, expected) = *row;
+    for workers in [1, 3, 64] {
+        let answer = table_of(rt, text.as_bytes(), workers)?;
+        same_answer(text, &answer, status, expected)?;
+    }
+    Ok(())
+}
+
 #[test]
 fn races_are_listed_in_the_order_of_their_places(rt: HostRuntime) -> Result<(), Fail> {
-    for &(text, status, expected) in TABLES {
-        for workers in [1, 3, 64] {
-            let mut out = MemOut::new(rt.alloc(), 100_000, 7, None)?;
-            let verdict = races_again(&rt, text.as_bytes(), workers, &mut out)?;
-            assert_eq!(rt; verdict.status(), status);
-            assert_eq!(rt; out.taken(), expected);
-        }
+    for i in 0..TABLES.len() {
+        assert_table(&rt, &TABLES[i])?;
     }
     Ok(())
 }
 
 #[test]
 fn denied_races_are_reported_without_the_counts(rt: HostRuntime) -> Result<(), Fail> {
-    let mut out = MemOut::new(rt.alloc(), 100_000, 7, None)?;
-    let RacesVerdict::Told { denied } = races_again(&rt, MEETS.as_bytes(), 2, &mut out)? else {
-        return Err(Fail::from("no table"));
-    };
+    let denied = denied_of(&rt, MEETS.as_bytes(), 2)?;
     let (lines, _) = OF_MEETS.split_at(OF_MEETS.len() - 17);
-    assert_eq!(rt; denied.as_slice(), lines);
-    Ok(())
+    same("what is denied", denied.as_slice(), lines)
 }

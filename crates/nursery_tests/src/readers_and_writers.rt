@@ -1,7 +1,7 @@
 //! Readers and writers: sending stops only if a writer fails, a reader is read whole or not at all, and a feed is split at
 //! its mark.
 
-use crate::fixtures::{FORMAT_1, LIMIT, TWO_LINES, job_text, serve_again};
+use crate::fixtures::{FORMAT_1, LIMIT, TWO_LINES, job_text, same, serve_again, wrong};
 use job_report::{MemOut, Out, PutFault, SendFault, WriteOut, send};
 use job_runner::{Forward, MAX_INPUT, Settings};
 use nursery_app::{ReadFault, ServeFault, read_whole, split_feed};
@@ -26,8 +26,8 @@ fn assert_sends<W: Out>(
         Ok(()) => None,
         Err(SendFault { sent }) => Some(sent),
     };
-    assert_eq!(rt; stopped, stop);
-    assert_eq!(rt; out.failures(), failures);
+    assert!(rt; stopped == stop);
+    assert!(rt; out.failures() == failures);
 }
 
 // The space of a writer into memory, how many bytes it takes for each put, the put at which it fails, where it stops a
@@ -41,11 +41,14 @@ const INTO_MEMORY: &[(usize, usize, Option<u64>, Option<usize>, u64, &[u8])] = &
 
 #[test]
 fn sending_into_memory_stops_where_it_fails(rt: HostRuntime) -> Result<(), Fail> {
-    for &(room, piece, fail_at, stop, failures, taken) in INTO_MEMORY {
+    for i in 0..INTO_MEMORY.len() {
+        let (room, piece, fail_at, stop, failures, taken) = INTO_MEMORY[i];
         assert!(rt; piece > 0);
         let mut out = MemOut::new(rt.alloc(), room, piece, fail_at)?;
         assert_sends(&rt, TEXT, &mut out, stop, failures);
-        assert_eq!(rt; out.taken(), taken);
+        if out.taken() != taken {
+            return Err(wrong(i));
+        }
     }
     Ok(())
 }
@@ -90,13 +93,17 @@ impl Write for Fake {
     }
 }
 
+// How many bytes a writer takes for each write, after how many writes it fails, where it stops a sending, and how often it failed.
+const INTO_WRITER: &[(usize, u64, Option<usize>, u64)] = &[
+    (0, 100, Some(0), 1),
+    (4, 1, Some(4), 1),
+    (100, 1, None, 0),
+];
+
 #[test]
 fn sending_into_a_writer_stops_where_it_fails(rt: HostRuntime) {
-    for (piece, writes, stop, failures) in [
-        (0, 100, Some(0), 1),
-        (4, 1, Some(4), 1),
-        (100, 1, None, 0),
-    ] {
+    for i in 0..INTO_WRITER.len() {
+        let (piece, writes, stop, failures) = INTO_WRITER[i];
         let mut out = WriteOut::new(Fake { piece, writes });
         assert_sends(&rt, TEXT, &mut out, stop, failures);
     }
@@ -105,10 +112,13 @@ fn sending_into_a_writer_stops_where_it_fails(rt: HostRuntime) {
 #[test]
 fn faults_of_writers_have_their_texts(rt: HostRuntime) -> Result<(), Fail> {
     let put = PutFault.to_string(rt.alloc())?;
-    assert_eq!(rt; put.as_str(), "the writer failed");
+    same("a put", put.as_bytes(), b"the writer failed")?;
     let send = SendFault { sent: 10 }.to_string(rt.alloc())?;
-    assert_eq!(rt; send.as_str(), "the writer failed after 10 bytes");
-    Ok(())
+    same(
+        "a sending",
+        send.as_bytes(),
+        b"the writer failed after 10 bytes",
+    )
 }
 
 #[test]
@@ -125,9 +135,8 @@ fn a_writer_that_fails_took_the_beginning(rt: HostRuntime) -> Result<(), Fail> {
         &mut out,
     );
     assert!(rt; matches!(answer, Err(ServeFault::Send { sent: 10 })));
-    assert_eq!(rt; out.taken(), b"job main 0".as_slice());
-    assert_eq!(rt; out.failures(), 1);
-    Ok(())
+    assert!(rt; out.failures() == 1);
+    same("the report", out.taken(), b"job main 0")
 }
 
 // A feed, the job text in it, and the input.
@@ -139,12 +148,15 @@ const FEEDS: &[(&str, &[u8], &[u8])] = &[
 ];
 
 #[test]
-fn a_feed_is_cut_at_its_mark(rt: HostRuntime) {
-    for &(feed, job, input) in FEEDS {
+fn a_feed_is_cut_at_its_mark() -> Result<(), Fail> {
+    for i in 0..FEEDS.len() {
+        let (feed, job, input) = FEEDS[i];
         let (front, after) = split_feed(feed.as_bytes());
-        assert_eq!(rt; front, job, "{feed}");
-        assert_eq!(rt; after, input, "{feed}");
+        if front != job || after != input {
+            Err(feed)?;
+        }
     }
+    Ok(())
 }
 
 // A reader that returns `each` bytes for each read, for `left` reads, and then fails or ends.
@@ -181,27 +193,34 @@ fn length_of<R: Read>(
     }
 }
 
+// How many reads there are, how many bytes each returns, whether the reader fails then, how many bytes it may have, and how many
+// are read.
+const READERS: &[(u64, usize, bool, usize, Result<usize, ReadFault>)] = &[
+    (1, 5, false, 5, Ok(5)),
+    (1, 5, false, 4, Err(ReadFault::TooLong)),
+    (1, 2, true, 9, Err(ReadFault::Device)),
+    (0, 2, true, 9, Err(ReadFault::Device)),
+    (1_000_000, 1, false, 4, Err(ReadFault::TooLong)),
+    (0, 1, false, 0, Ok(0)),
+    // The reader may fail at each read.
+    (1, 1, true, 9, Err(ReadFault::Device)),
+    (2, 1, true, 9, Err(ReadFault::Device)),
+    (3, 1, true, 9, Err(ReadFault::Device)),
+    (4, 1, true, 9, Err(ReadFault::Device)),
+    (5, 1, true, 9, Err(ReadFault::Device)),
+    (0, 1, true, 9, Err(ReadFault::Device)),
+];
+
 #[test]
 fn a_reader_is_read_whole_or_not_at_all(rt: HostRuntime) -> Result<(), Fail> {
-    for (left, each, fails, most, expected) in [
-        (1, 5, false, 5, Ok(5)),
-        (1, 5, false, 4, Err(ReadFault::TooLong)),
-        (1, 2, true, 9, Err(ReadFault::Device)),
-        (0, 2, true, 9, Err(ReadFault::Device)),
-        (1_000_000, 1, false, 4, Err(ReadFault::TooLong)),
-        (0, 1, false, 0, Ok(0)),
-        // The reader may fail at each read.
-        (1, 1, true, 9, Err(ReadFault::Device)),
-        (2, 1, true, 9, Err(ReadFault::Device)),
-        (3, 1, true, 9, Err(ReadFault::Device)),
-        (4, 1, true, 9, Err(ReadFault::Device)),
-        (5, 1, true, 9, Err(ReadFault::Device)),
-        (0, 1, true, 9, Err(ReadFault::Device)),
-    ] {
+    for i in 0..READERS.len() {
+        let (left, each, fails, most, expected) = READERS[i];
         let mut reader = Piecewise { left, each, fails };
-        assert_eq!(rt; length_of(rt.alloc(), &mut reader, most)?, expected);
+        let found = length_of(rt.alloc(), &mut reader, most)?;
         let reads = left.saturating_sub(reader.left);
-        assert!(rt; reads <= (most as u64).saturating_add(2));
+        if found != expected || reads > (most as u64).saturating_add(2) {
+            return Err(wrong(i));
+        }
     }
     Ok(())
 }
@@ -210,12 +229,14 @@ fn a_reader_is_read_whole_or_not_at_all(rt: HostRuntime) -> Result<(), Fail> {
 fn a_slice_is_read_whole(rt: HostRuntime) -> Result<(), Fail> {
     let mut five = b"error".as_slice();
     let bytes = read_whole(rt.alloc(), &mut five, 5)?;
-    assert_eq!(rt; bytes.as_slice(), b"error".as_slice());
+    same("the slice", bytes.as_slice(), b"error")
+}
+
+#[test]
+fn a_slice_that_is_too_long_is_refused(rt: HostRuntime) -> Result<(), Fail> {
     let one_too_many = vec![in rt.alloc(); b'x'; 16_777_217]?;
     let mut all = one_too_many.as_slice();
-    assert_eq!(rt;
-        length_of(rt.alloc(), &mut all, MAX_INPUT)?,
-        Err(ReadFault::TooLong)
-    );
+    let found = length_of(rt.alloc(), &mut all, MAX_INPUT)?;
+    assert!(rt; found == Err(ReadFault::TooLong));
     Ok(())
 }

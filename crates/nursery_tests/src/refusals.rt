@@ -1,13 +1,15 @@
 //! Job texts that are refused: the line of the refusal, what `check` and `upgrade` write, and how `refusal_message` shows the
 //! place.
 
-use crate::fixtures::{Asked, assert_answers, assert_written, request_again, text_answer};
+use crate::fixtures::{
+    Asked, assert_answers, request_again, same, same_answer, text_answer, wrong,
+};
 use crate::refusal_texts::{EXPECTED, HELPED, Row, WRONG};
 use job_grammar::{Format, JobFault, JobKind, read_job};
 use job_report::MemOut;
 use nursery_app::CheckVerdict;
 use refusal_text::{Position, message_at, refusal_message};
-use std::alloc::Global;
+use std::alloc::{AllocError, Global};
 use std::process::Abort;
 use std::test::Fail;
 
@@ -56,7 +58,8 @@ const LINES: &[(&str, &[u8])] = &[
 
 #[test]
 fn a_refusal_is_reported_in_one_line(rt: HostRuntime) -> Result<(), Fail> {
-    for &(text, line) in LINES {
+    for i in 0..LINES.len() {
+        let (text, line) = LINES[i];
         assert_answers(&rt, text, b"", 2, line)?;
     }
     Ok(())
@@ -84,42 +87,54 @@ const CHECKS: &[(&str, u8, &[u8], &[u8])] = &[
     ),
 ];
 
+// Checks what is written for a requested job text, and the status of the verdict.
+fn assert_text(
+    rt: &(impl Abort + AllocGlobal),
+    asked: Asked,
+    text: &str,
+    status: u8,
+    expected: &[u8],
+) -> Result<(), Fail> {
+    let answer = text_answer(rt, asked, text.as_bytes())?;
+    same_answer(text, &answer, status, expected)
+}
+
 #[test]
 fn check_writes_the_canonical_text(rt: HostRuntime) -> Result<(), Fail> {
-    for &(text, status, checked, _upgraded) in CHECKS {
-        let (told, out) = text_answer(&rt, Asked::Checked, text.as_bytes())?;
-        assert_written(&rt, text, &out, checked);
-        assert!(rt; told == status, "{text}");
+    for i in 0..CHECKS.len() {
+        let (text, status, checked, _upgraded) = CHECKS[i];
+        assert_text(&rt, Asked::Checked, text, status, checked)?;
     }
     Ok(())
 }
 
 #[test]
 fn upgrade_writes_the_job_in_format_2(rt: HostRuntime) -> Result<(), Fail> {
-    for &(text, status, _checked, upgraded) in CHECKS {
-        let (told, out) = text_answer(&rt, Asked::Upgraded(Format::Two), text.as_bytes())?;
-        assert_written(&rt, text, &out, upgraded);
-        assert!(rt; told == status, "{text}");
+    for i in 0..CHECKS.len() {
+        let (text, status, _checked, upgraded) = CHECKS[i];
+        assert_text(&rt, Asked::Upgraded(Format::Two), text, status, upgraded)?;
     }
     Ok(())
 }
 
+// A job text of each format.
+const OF_EACH_FORMAT: &[&str] = &[
+    "trio-job 1\njob main { }",
+    "trio-job 2\njob main { }",
+    "trio-job 3\njob main { }",
+];
+
+// The same job in format 3.
+const IN_FORMAT_3: &[u8] = b"trio-job 3\njob main{}\n";
+
 #[test]
 fn upgrade_writes_the_job_in_the_newer_format(rt: HostRuntime) -> Result<(), Fail> {
-    for text in [
-        "trio-job 1\njob main { }",
-        "trio-job 2\njob main { }",
-        "trio-job 3\njob main { }",
-    ] {
-        let (told, out) = text_answer(&rt, Asked::Upgraded(Format::Three), text.as_bytes())?;
-        assert_written(&rt, text, &out, b"trio-job 3\njob main{}\n");
-        assert!(rt; told == 0, "{text}");
+    let newest = Asked::Upgraded(Format::Three);
+    for i in 0..OF_EACH_FORMAT.len() {
+        assert_text(&rt, newest, OF_EACH_FORMAT[i], 0, IN_FORMAT_3)?;
     }
-    let text = "trio-job 3\njob main { }";
-    let (told, out) = text_answer(&rt, Asked::Upgraded(Format::Two), text.as_bytes())?;
-    assert_written(&rt, text, &out, b"trio-job 3\njob main{}\n");
-    assert!(rt; told == 0, "{text}");
-    Ok(())
+    let older = Asked::Upgraded(Format::Two);
+    assert_text(&rt, older, "trio-job 3\njob main { }", 0, IN_FORMAT_3)
 }
 
 #[test]
@@ -139,12 +154,18 @@ fn check_reports_the_fault_of_a_refused_text(rt: HostRuntime) -> Result<(), Fail
     Ok(())
 }
 
-#[test]
-fn a_text_that_nests_thousands_deep_is_refused(rt: HostRuntime) -> Result<(), Fail> {
-    let mut text = Vec::from_slice(rt.alloc(), b"trio-job 1\njob main{")?;
+// Returns a text in which blocks are nested thousands deep.
+fn deep_text(alloc: Global) -> Result<Vec<u8>, AllocError> {
+    let mut text = Vec::from_slice(alloc, b"trio-job 1\njob main{")?;
     for _ in 0..16_378u64 {
         text.extend_from_slice(b"try{")?;
     }
+    Ok(text)
+}
+
+#[test]
+fn a_text_that_nests_thousands_deep_is_refused(rt: HostRuntime) -> Result<(), Fail> {
+    let text = deep_text(rt.alloc())?;
     let mut out = MemOut::new(rt.alloc(), 100, 100, None)?;
     let verdict = request_again(&rt, Asked::Checked, text.as_slice(), &mut out)?;
     assert!(rt; matches!(verdict, CheckVerdict::JobRefused(_)));
@@ -161,29 +182,39 @@ fn message_of(alloc: Global, text: &[u8]) -> Result<String, Fail> {
 }
 
 // Checks how refused texts are explained, where the file is named `f`.
-fn assert_messages(rt: &(impl Abort + AllocGlobal), rows: &[Row]) -> Result<(), Fail> {
-    for &(text, expected) in rows {
-        let told = message_of(rt.alloc(), text.as_bytes())?;
-        assert_eq!(rt; told.as_str(), expected, "{text}");
+fn assert_messages(alloc: Global, rows: &[Row]) -> Result<(), Fail> {
+    for i in 0..rows.len() {
+        let (text, expected) = rows[i];
+        let told = message_of(alloc, text.as_bytes())?;
+        same(text, told.as_bytes(), expected.as_bytes())?;
     }
     Ok(())
 }
 
 #[test]
 fn a_syntax_fault_says_what_was_expected(rt: HostRuntime) -> Result<(), Fail> {
-    assert_messages(&rt, EXPECTED)
+    assert_messages(rt.alloc(), EXPECTED)
 }
 
 #[test]
 fn other_refusals_say_what_is_wrong(rt: HostRuntime) -> Result<(), Fail> {
-    assert_messages(&rt, WRONG)
+    assert_messages(rt.alloc(), WRONG)
+}
+
+// Fails if a message ends otherwise than expected, and prints what it explains and itself.
+fn same_end(name: &str, message: &str, last: &str) -> Result<(), Fail> {
+    if message.ends_with(last) {
+        return Ok(());
+    }
+    Err((name, message))?
 }
 
 #[test]
 fn a_refusal_ends_with_a_hint(rt: HostRuntime) -> Result<(), Fail> {
-    for &(text, last) in HELPED {
+    for i in 0..HELPED.len() {
+        let (text, last) = HELPED[i];
         let told = message_of(rt.alloc(), text.as_bytes())?;
-        assert!(rt; told.as_str().ends_with(last), "{text}");
+        same_end(text, told.as_str(), last)?;
     }
     Ok(())
 }
@@ -200,8 +231,7 @@ fn a_long_line_is_cut_around_the_place(rt: HostRuntime) -> Result<(), Fail> {
         kind: JobKind::Depth,
     };
     let shown = refusal_message(rt.alloc(), "f", &text, fault)?;
-    assert_eq!(rt; shown.as_str(), CUT);
-    Ok(())
+    same("the long line", shown.as_bytes(), CUT.as_bytes())
 }
 
 // Two places in a text of four lines, and the first line of the message about the second, counted on from the first.
@@ -217,13 +247,21 @@ const HEADINGS: &[(usize, usize, &str)] = &[
     (99, 0, "f:1:1: said\n"),
 ];
 
+// Returns the message about the second place in that text, counted on from the first.
+fn message_from(alloc: Global, first: usize, at: usize) -> Result<String, AllocError> {
+    let text = b"ab\n\ncde\nf";
+    let position = Position::of(text, first).moved_to(text, at);
+    message_at(alloc, "f", text, position, "said")
+}
+
 #[test]
 fn a_place_is_counted_on_from_another(rt: HostRuntime) -> Result<(), Fail> {
-    let text = b"ab\n\ncde\nf";
-    for &(first, at, heading) in HEADINGS {
-        let position = Position::of(text, first).moved_to(text, at);
-        let message = message_at(rt.alloc(), "f", text, position, "said")?;
-        assert!(rt; message.as_str().starts_with(heading), "{at}");
+    for i in 0..HEADINGS.len() {
+        let (first, at, heading) = HEADINGS[i];
+        let message = message_from(rt.alloc(), first, at)?;
+        if !message.as_str().starts_with(heading) {
+            return Err(wrong(i));
+        }
     }
     Ok(())
 }

@@ -1,6 +1,6 @@
 //! What `nursery test` compares: the outputs of a feed, texts that differ, and expectations. The expected values are worked out by hand.
 
-use crate::fixtures::LIMIT;
+use crate::fixtures::{LIMIT, wrong};
 use expect_text::{ExpectLine, Expectation, first_difference, first_match, read_expectation};
 use job_runner::Settings;
 use std::process::Abort;
@@ -18,14 +18,21 @@ const TEXTS: &[(&[u8], &[u8], usize)] = &[
     (b"", b"a", 1),
 ];
 
+// Returns the number of the first line that differs, and 0 if none does.
+fn line_of_difference(kept: &[u8], now: &[u8]) -> usize {
+    match first_difference(kept, now) {
+        Some(difference) => difference.line,
+        None => 0,
+    }
+}
+
 #[test]
-fn texts_differ_at_their_first_other_line(rt: HostRuntime) -> Result<(), Fail> {
-    for &(kept, now, wanted) in TEXTS {
-        let line = match first_difference(kept, now) {
-            Some(difference) => difference.line,
-            None => 0,
-        };
-        assert!(rt; line == wanted, "{line} for {wanted}");
+fn texts_differ_at_their_first_other_line() -> Result<(), Fail> {
+    for i in 0..TEXTS.len() {
+        let (kept, now, wanted) = TEXTS[i];
+        if line_of_difference(kept, now) != wanted {
+            return Err(wrong(i));
+        }
     }
     Ok(())
 }
@@ -44,9 +51,12 @@ const PATTERNS: &[(&[u8], &[u8], usize)] = &[
 
 #[test]
 fn a_pattern_matches_a_whole_line(rt: HostRuntime) -> Result<(), Fail> {
-    for &(pattern, text, wanted) in PATTERNS {
+    for i in 0..PATTERNS.len() {
+        let (pattern, text, wanted) = PATTERNS[i];
         let found = first_match(rt.alloc(), pattern, text)?;
-        assert!(rt; found.unwrap_or(0) == wanted);
+        if found.unwrap_or(0) != wanted {
+            return Err(wrong(i));
+        }
     }
     Ok(())
 }
@@ -75,10 +85,12 @@ const LINES: &[(&[u8], &str)] = &[
 ];
 
 #[test]
-fn a_line_is_read_as_an_expectation(rt: HostRuntime) -> Result<(), Fail> {
-    for &(line, wanted) in LINES {
-        let word = word_of(line);
-        assert!(rt; word == wanted, "{word} for {wanted}");
+fn a_line_is_read_as_an_expectation() -> Result<(), Fail> {
+    for i in 0..LINES.len() {
+        let (line, wanted) = LINES[i];
+        if word_of(line) != wanted {
+            return Err(wrong(i));
+        }
     }
     Ok(())
 }
@@ -102,9 +114,12 @@ const OUTPUTS: &[(Output, &[u8])] = &[
 #[test]
 fn an_output_is_what_the_command_writes(rt: HostRuntime) -> Result<(), Fail> {
     let settings = Settings::new(3, LIMIT).ok_or("settings")?;
-    for &(kind, wanted) in OUTPUTS {
+    for i in 0..OUTPUTS.len() {
+        let (kind, wanted) = OUTPUTS[i];
         let bytes = output_of(&rt, rt.alloc(), JOB, b"", settings, kind)?;
-        assert!(rt; bytes.as_slice() == wanted, "{kind:?}");
+        if bytes.as_slice() != wanted {
+            return Err(wrong(i));
+        }
     }
     Ok(())
 }
@@ -166,9 +181,12 @@ const MET: &[(&[u8], &str)] = &[
 
 #[test]
 fn an_expectation_is_met_or_not(rt: HostRuntime) -> Result<(), Fail> {
-    for &(line, wanted) in MET {
+    for i in 0..MET.len() {
+        let (line, wanted) = MET[i];
         let word = met_word(&rt, line)?;
-        assert!(rt; word == wanted, "{word} for {wanted}");
+        if word != wanted {
+            Err((wanted, word))?;
+        }
     }
     Ok(())
 }

@@ -1,6 +1,6 @@
 //! The stories that `explain` writes of worked jobs: the same under each order of picks, by 1 and by 64 workers.
 
-use crate::fixtures::{LIMIT, call_again};
+use crate::fixtures::{LIMIT, call_again, same, same_answer};
 use job_report::{MemOut, Out};
 use job_runner::{Forward, NoGate, Pick, Reverse, Settings};
 use nursery_app::ServeFault;
@@ -8,6 +8,20 @@ use std::process::Abort;
 use std::test::Fail;
 use std::thread::Threads;
 use story_app::{StoryVerdict, explain, running_at_limit};
+
+// Calls `explain` with a writer that has not failed.
+fn explain_into<R: Abort + Threads + Sync + AllocGlobal, P: Pick>(
+    rt: &R,
+    text: &[u8],
+    task: Option<&[u8]>,
+    settings: Settings,
+    picker: &mut P,
+    out: &mut MemOut,
+) -> Result<StoryVerdict, ServeFault> {
+    assert!(rt; out.failures() == 0);
+    let alloc = rt.alloc();
+    explain(rt, alloc, text, b"", settings, task, picker, &NoGate, out)
+}
 
 // Calls `explain`, again if memory is refused.
 fn explain_again<R: Abort + Threads + Sync + AllocGlobal, P: Pick>(
@@ -18,12 +32,7 @@ fn explain_again<R: Abort + Threads + Sync + AllocGlobal, P: Pick>(
     picker: &mut P,
     out: &mut MemOut,
 ) -> Result<StoryVerdict, ServeFault> {
-    let alloc = rt.alloc();
-    call_again!(
-        rt,
-        out,
-        explain(rt, alloc, text, b"", settings, task, picker, &NoGate, out)
-    )
+    call_again!(rt, out, explain_into(rt, text, task, settings, picker, out))
 }
 
 // Returns the status and the story of a job text, or of a task.
@@ -96,15 +105,23 @@ const STORIES: &[(&str, Option<&[u8]>, u8, &[u8])] = &[
     ("trio-job 1\njob m { sleep 101; }", None, 3, LATE),
 ];
 
+// Checks the status and the story of a row, by some workers in one order of picks.
+fn assert_story<R: Abort + Threads + Sync + AllocGlobal, P: Pick>(
+    rt: &R,
+    row: &(&str, Option<&[u8]>, u8, &[u8]),
+    workers: usize,
+    picker: &mut P,
+) -> Result<(), Fail> {
+    let (text, task, status, expected) = *row;
+    let answer = story_of(rt, text.as_bytes(), task, workers, picker)?;
+    same_answer(text, &answer, status, expected)
+}
+
 #[test]
 fn explain_writes_the_story(rt: HostRuntime) -> Result<(), Fail> {
-    for &(text, task, status, expected) in STORIES {
-        let (told, out) = story_of(&rt, text.as_bytes(), task, 1, &mut Forward)?;
-        assert_eq!(rt; told, status);
-        assert_eq!(rt; out.taken(), expected);
-        let (told, out) = story_of(&rt, text.as_bytes(), task, 64, &mut Reverse)?;
-        assert_eq!(rt; told, status);
-        assert_eq!(rt; out.taken(), expected);
+    for i in 0..STORIES.len() {
+        assert_story(&rt, &STORIES[i], 1, &mut Forward)?;
+        assert_story(&rt, &STORIES[i], 64, &mut Reverse)?;
     }
     Ok(())
 }
@@ -130,8 +147,7 @@ fn the_nearest_task_is_named(rt: HostRuntime) -> Result<(), Fail> {
     let StoryVerdict::NoTask { nearest } = verdict else {
         return Err(Fail::from("a story"));
     };
-    assert_eq!(rt; nearest.as_slice(), NEAREST);
-    Ok(())
+    same("the nearest task", nearest.as_slice(), NEAREST)
 }
 
 #[test]
@@ -147,8 +163,7 @@ fn a_writer_that_fails_has_the_beginning_of_a_story(rt: HostRuntime) -> Result<(
         &mut out,
     );
     assert!(rt; matches!(stopped, Err(ServeFault::Send { sent: 10 })));
-    assert_eq!(rt; out.taken(), FRONT);
-    Ok(())
+    same("the story", out.taken(), FRONT)
 }
 
 #[test]
@@ -156,6 +171,5 @@ fn what_still_runs_at_the_limit_is_listed(rt: HostRuntime) -> Result<(), Fail> {
     let settings = Settings::new(1, 1).ok_or("settings")?;
     let text = FAILS.as_bytes();
     let lines = running_at_limit(&rt, rt.alloc(), text, b"", settings, &mut Forward, &NoGate)?;
-    assert_eq!(rt; lines.as_slice(), RUNNING);
-    Ok(())
+    same("what still runs", lines.as_slice(), RUNNING)
 }

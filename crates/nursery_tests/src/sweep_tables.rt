@@ -1,11 +1,11 @@
 //! What `sweep` writes of worked jobs: the same by 1, 3 and 64 threads; and why a text does not have the number that is meant.
 
-use crate::fixtures::{LIMIT, call_again};
+use crate::fixtures::{LIMIT, call_again, same, same_answer, wrong};
 use job_edits::Target;
 use job_report::{MemOut, Out};
 use job_runner::{NoGate, Settings};
 use job_tree::Name;
-use nursery_app::place_at;
+use nursery_app::{ServeFault, place_at};
 use refusal_text::pointed_message;
 use std::alloc::{AllocError, Global};
 use std::process::Abort;
@@ -13,6 +13,31 @@ use std::test::Fail;
 use std::thread::Threads;
 use sweep_app::Missing;
 use table_app::{Form, SweepVerdict, sweep};
+
+// Calls `sweep` with a writer that has not failed.
+fn sweep_into<R: Abort + Threads + Sync + AllocGlobal>(
+    rt: &R,
+    text: &[u8],
+    settings: Settings,
+    target: Target,
+    values: &[u64],
+    out: &mut MemOut,
+) -> Result<SweepVerdict, ServeFault> {
+    assert!(rt; out.failures() == 0);
+    let alloc = rt.alloc();
+    sweep(
+        rt,
+        alloc,
+        text,
+        b"",
+        settings,
+        target,
+        values,
+        Form::Text,
+        &NoGate,
+        out,
+    )
+}
 
 // Calls `sweep`, again if memory is refused.
 fn sweep_again<R: Abort + Threads + Sync + AllocGlobal>(
@@ -24,23 +49,7 @@ fn sweep_again<R: Abort + Threads + Sync + AllocGlobal>(
     out: &mut MemOut,
 ) -> Result<SweepVerdict, Fail> {
     let settings = Settings::new(workers, LIMIT).ok_or("settings")?;
-    let alloc = rt.alloc();
-    let answer = call_again!(
-        rt,
-        out,
-        sweep(
-            rt,
-            alloc,
-            text,
-            b"",
-            settings,
-            target,
-            values,
-            Form::Text,
-            &NoGate,
-            out
-        )
-    );
+    let answer = call_again!(rt, out, sweep_into(rt, text, settings, target, values, out));
     Ok(answer?)
 }
 
@@ -62,20 +71,18 @@ fn target_of(asked: Asked) -> Result<Target, Fail> {
     }
 }
 
-// Returns the status of a sweep, and the bytes that it writes.
+// Returns the status of a sweep, and what it writes.
 fn answer_of<R: Abort + Threads + Sync + AllocGlobal>(
     rt: &R,
     text: &str,
     workers: usize,
     asked: Asked,
     values: &[u64],
-) -> Result<(u8, Vec<u8>), Fail> {
-    let mut out = MemOut::new(rt.alloc(), 100_000, 7, None)?;
+) -> Result<(u8, MemOut), Fail> {
     let target = target_of(asked)?;
+    let mut out = MemOut::new(rt.alloc(), 100_000, 7, None)?;
     let verdict = sweep_again(rt, text.as_bytes(), workers, target, values, &mut out)?;
-    let mut bytes = Vec::new(rt.alloc());
-    bytes.extend_from_slice(out.taken())?;
-    Ok((verdict.status(), bytes))
+    Ok((verdict.status(), out))
 }
 
 const LATE: &str = "trio-job 1\njob m { scope s after 2 fail { sleep 3; } }";
@@ -98,31 +105,23 @@ const OF_PACED: &[u8] = b"as it is  done, ends 100
 #[test]
 fn a_deadline_takes_each_value(rt: HostRuntime) -> Result<(), Fail> {
     for workers in [1, 3, 64] {
-        let (status, bytes) = answer_of(&rt, LATE, workers, Asked::Of("s"), &[1, 2, 3, 4, 5])?;
-        assert_eq!(rt; status, 0);
-        assert_eq!(rt; bytes.as_slice(), OF_LATE);
+        let answer = answer_of(&rt, LATE, workers, Asked::Of("s"), &[1, 2, 3, 4, 5])?;
+        same_answer(LATE, &answer, 0, OF_LATE)?;
     }
     Ok(())
 }
 
 #[test]
 fn the_number_at_a_place_takes_each_value(rt: HostRuntime) -> Result<(), Fail> {
-    let (status, bytes) = answer_of(&rt, PACED, 2, Asked::At(2, 33), &[0, 1, 2])?;
-    assert_eq!(rt; status, 0);
-    assert_eq!(rt; bytes.as_slice(), OF_PACED);
-    Ok(())
+    let answer = answer_of(&rt, PACED, 2, Asked::At(2, 33), &[0, 1, 2])?;
+    same_answer(PACED, &answer, 0, OF_PACED)
 }
 
 #[test]
 fn a_refused_text_has_its_refusal(rt: HostRuntime) -> Result<(), Fail> {
     let text = "trio-job 1\njob m { cancel x; }";
-    let (status, bytes) = answer_of(&rt, text, 1, Asked::Of("s"), &[1])?;
-    assert_eq!(rt; status, 2);
-    assert_eq!(rt;
-        bytes.as_slice(),
-        b"refused J9 NotEnclosing at 26\n".as_slice()
-    );
-    Ok(())
+    let answer = answer_of(&rt, text, 1, Asked::Of("s"), &[1])?;
+    same_answer(text, &answer, 2, b"refused J9 NotEnclosing at 26\n")
 }
 
 // Returns why the text does not have the number that is meant, in words. Nothing is written.
@@ -131,13 +130,14 @@ fn reason_of<R: Abort + Threads + Sync + AllocGlobal>(
     text: &str,
     asked: Asked,
 ) -> Result<String, Fail> {
+    let target = target_of(asked)?;
     let mut out = MemOut::new(rt.alloc(), 100_000, 7, None)?;
-    let verdict = sweep_again(rt, text.as_bytes(), 1, target_of(asked)?, &[1], &mut out)?;
-    assert_eq!(rt; verdict.status(), 2);
+    let verdict = sweep_again(rt, text.as_bytes(), 1, target, &[1], &mut out)?;
+    assert!(rt; verdict.status() == 2);
     assert!(rt; out.taken().is_empty());
     match verdict {
         SweepVerdict::NoTarget(missing) => words_of(rt.alloc(), &missing),
-        SweepVerdict::Told | SweepVerdict::JobRefused(_) => Err(Fail::from("the number is there")),
+        SweepVerdict::Told | SweepVerdict::JobRefused(_) => Err("the number is there")?,
     }
 }
 
@@ -175,29 +175,38 @@ const REASONS: &[(&str, Asked, &str)] = &[
 
 #[test]
 fn a_missing_number_is_refused_with_the_reason(rt: HostRuntime) -> Result<(), Fail> {
-    for &(text, asked, reason) in REASONS {
+    for i in 0..REASONS.len() {
+        let (text, asked, reason) = REASONS[i];
         let found = reason_of(&rt, text, asked)?;
-        assert_eq!(rt; found.as_str(), reason);
+        same(text, found.as_bytes(), reason.as_bytes())?;
     }
     Ok(())
 }
 
+// A line and a column of the text below, and the place there.
+const PLACES: &[(usize, usize, Option<usize>)] = &[
+    (1, 1, Some(0)),
+    (1, 3, Some(2)),
+    (2, 1, Some(3)),
+    (3, 2, Some(5)),
+    (1, 4, None),
+    (4, 1, None),
+    (0, 1, None),
+];
+
 #[test]
-fn places_have_a_line_and_a_column(rt: HostRuntime) -> Result<(), Fail> {
-    let text = b"ab\n\nc".as_slice();
-    assert_eq!(rt; place_at(text, 1, 1), Some(0));
-    assert_eq!(rt; place_at(text, 1, 3), Some(2));
-    assert_eq!(rt; place_at(text, 2, 1), Some(3));
-    assert_eq!(rt; place_at(text, 3, 2), Some(5));
-    assert_eq!(rt; place_at(text, 1, 4), None);
-    assert_eq!(rt; place_at(text, 4, 1), None);
-    assert_eq!(rt; place_at(text, 0, 1), None);
+fn places_have_a_line_and_a_column() -> Result<(), Fail> {
+    for i in 0..PLACES.len() {
+        let (line, column, place) = PLACES[i];
+        if place_at(b"ab\n\nc", line, column) != place {
+            return Err(wrong(i));
+        }
+    }
     Ok(())
 }
 
 #[test]
 fn a_place_is_pointed_at(rt: HostRuntime) -> Result<(), Fail> {
     let message = pointed_message(rt.alloc(), "f", b"one\ntwo\n", 5, "here")?;
-    assert_eq!(rt; message.as_str(), "f:2:2: here\ntwo\n ^\n");
-    Ok(())
+    same("the message", message.as_bytes(), b"f:2:2: here\ntwo\n ^\n")
 }

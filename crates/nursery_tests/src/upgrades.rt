@@ -1,8 +1,8 @@
 //! Jobs that were upgraded to format 2: for the text that `upgrade` writes, `serve` writes the report of the text that
 //! was upgraded.
 
-use crate::fixtures::{Asked, FORMAT_1, Row, assert_written, job_text, serve_answer, text_answer};
-use crate::nested_jobs::{nested_steps, push_down};
+use crate::fixtures::{Asked, FORMAT_1, Row, job_text, same, serve_answer, text_answer};
+use crate::nested_jobs::{nested_job, scopes_report};
 use crate::worked_jobs::{HANDLERS, NURSERIES, PARTS, PLAIN, SCOPES};
 use job_grammar::Format;
 use job_report::{MemOut, Out};
@@ -22,15 +22,27 @@ fn serve_upgrade<R: Abort + Threads + Sync + AllocGlobal>(
     Ok(out)
 }
 
+// Checks the report of the upgrade of a text.
+fn assert_upgraded<R: Abort + Threads + Sync + AllocGlobal>(
+    rt: &R,
+    name: &str,
+    text: &[u8],
+    input: &[u8],
+    report: &[u8],
+) -> Result<(), Fail> {
+    let out = serve_upgrade(rt, text, input)?;
+    same(name, out.taken(), report)
+}
+
 // Checks the reports of the upgrades of worked jobs of format 1.
 fn assert_upgraded_rows<R: Abort + Threads + Sync + AllocGlobal>(
     rt: &R,
     rows: &[Row],
 ) -> Result<(), Fail> {
-    for &(steps, input, report) in rows {
+    for i in 0..rows.len() {
+        let (steps, input, report) = rows[i];
         let text = job_text(rt.alloc(), FORMAT_1, steps.as_bytes())?;
-        let out = serve_upgrade(rt, text.as_slice(), input)?;
-        assert_written(rt, steps, &out, report);
+        assert_upgraded(rt, steps, text.as_slice(), input, report)?;
     }
     Ok(())
 }
@@ -54,11 +66,7 @@ fn upgraded_parts_have_their_reports(rt: HostRuntime) -> Result<(), Fail> {
 
 #[test]
 fn upgraded_nested_scopes_have_their_report(rt: HostRuntime) -> Result<(), Fail> {
-    let steps = nested_steps(rt.alloc(), b"scope s", b"sleep 1;")?;
-    let text = job_text(rt.alloc(), FORMAT_1, steps.as_slice())?;
-    let mut report = Vec::from_slice(rt.alloc(), b"job main 1\ntask main 0 1 done\n")?;
-    push_down(&mut report, b"  scope s", b" 1 passed\n")?;
-    let out = serve_upgrade(&rt, text.as_slice(), b"")?;
-    assert_written(&rt, "scopes", &out, report.as_slice());
-    Ok(())
+    let report = scopes_report(rt.alloc())?;
+    let text = nested_job(rt.alloc(), b"scope s", b"sleep 1;")?;
+    assert_upgraded(&rt, "scopes", text.as_slice(), b"", report.as_slice())
 }

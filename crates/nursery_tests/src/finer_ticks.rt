@@ -1,7 +1,7 @@
 //! `job_edits`: how much finer ticks are, and the texts in finer ticks, where time is counted by ticks and by rounds.
 
-use crate::fixtures::{push_bytes, same, wrong};
-use job_edits::{Finer, changed_text, finer_changes, shifted_changes, shifts, sites};
+use crate::fixtures::{same, wrong};
+use job_edits::{Change, Finer, Site, changed_text, finer_changes, shifted_changes, shifts, sites};
 use job_tokens::{Token, lex};
 use moments::Clock;
 use std::alloc::{AllocError, Global};
@@ -14,11 +14,10 @@ fn tokens_of(alloc: Global, text: &[u8]) -> Result<Vec<Token>, AllocError> {
     Ok(lexed.tokens)
 }
 
-// How much finer the ticks of a text are whose job is compared up to a limit.
-fn finer_of(alloc: Global, clock: Clock, text: &[u8], limit: u64) -> Result<Option<Finer>, Fail> {
+// The sites of a text.
+fn sites_of(alloc: Global, text: &[u8]) -> Result<Vec<Site>, AllocError> {
     let tokens = tokens_of(alloc, text)?;
-    let sites = sites(alloc, tokens.as_slice())?;
-    Ok(Finer::of(clock, sites.as_slice(), limit))
+    sites(alloc, tokens.as_slice())
 }
 
 const THOUSAND: Option<Finer> = Some(Finer {
@@ -52,46 +51,76 @@ const FACTORS: &[(&[u8], u64, Option<Finer>, Option<Finer>)] = &[
     ),
 ];
 
-#[test]
-fn by_rounds_ticks_are_ten_times_finer(rt: HostRuntime) -> Result<(), Fail> {
-    let alloc = rt.alloc();
-    for (i, &(text, limit, by_ticks, by_rounds)) in FACTORS.iter().enumerate() {
-        if finer_of(alloc, Clock::ByTicks, text, limit)? != by_ticks {
+// Fails at the first row whose ticks are finer by another factor.
+fn factors_are_right(alloc: Global) -> Result<(), Fail> {
+    for i in 0..FACTORS.len() {
+        let (text, limit, by_ticks, by_rounds) = FACTORS[i];
+        let sites = sites_of(alloc, text)?;
+        if Finer::of(Clock::ByTicks, sites.as_slice(), limit) != by_ticks {
             return Err(wrong(i));
         }
-        if finer_of(alloc, Clock::ByRounds, text, limit)? != by_rounds {
+        if Finer::of(Clock::ByRounds, sites.as_slice(), limit) != by_rounds {
             return Err(wrong(i));
         }
     }
     Ok(())
 }
 
-// The text in finer ticks.
-fn finer_text(alloc: Global, clock: Clock, text: &[u8]) -> Result<Vec<u8>, Fail> {
-    let tokens = tokens_of(alloc, text)?;
-    let sites = sites(alloc, tokens.as_slice())?;
-    let Some(finer) = Finer::of(clock, sites.as_slice(), 100) else {
-        return Err("no finer ticks")?;
-    };
-    let changes = finer_changes(alloc, clock, finer, sites.as_slice())?;
-    let finer = changed_text(alloc, text, changes.as_slice())?;
-    Ok(finer)
+#[test]
+fn by_rounds_ticks_are_ten_times_finer(rt: HostRuntime) -> Result<(), Fail> {
+    factors_are_right(rt.alloc())
 }
 
-// The texts in finer ticks with one place moved by a hair, one after the other.
-fn moved_texts(alloc: Global, clock: Clock, text: &[u8]) -> Result<Vec<u8>, Fail> {
-    let tokens = tokens_of(alloc, text)?;
-    let sites = sites(alloc, tokens.as_slice())?;
-    let Some(finer) = Finer::of(clock, sites.as_slice(), 100) else {
-        return Err("no finer ticks")?;
-    };
-    let shifts = shifts(alloc, sites.as_slice())?;
-    let mut texts = Vec::new(alloc);
-    for shift in shifts.as_slice() {
-        let changes = shifted_changes(alloc, clock, finer, shift, sites.as_slice())?;
-        let moved = changed_text(alloc, text, changes.as_slice())?;
-        push_bytes(&mut texts, moved.as_slice())?;
+// How much finer the ticks of these sites are up to tick 100.
+fn finer_of(clock: Clock, sites: &[Site]) -> Result<Finer, Fail> {
+    match Finer::of(clock, sites, 100) {
+        Some(finer) => Ok(finer),
+        None => Err("no finer ticks")?,
     }
+}
+
+// The text in finer ticks.
+fn finer_text(alloc: Global, clock: Clock, text: &[u8]) -> Result<Vec<u8>, Fail> {
+    let sites = sites_of(alloc, text)?;
+    let finer = finer_of(clock, sites.as_slice())?;
+    let changes = finer_changes(alloc, clock, finer, sites.as_slice())?;
+    let changed = changed_text(alloc, text, changes.as_slice())?;
+    Ok(changed)
+}
+
+// Appends the text with these changes.
+fn push_changed(
+    alloc: Global,
+    texts: &mut Vec<u8>,
+    text: &[u8],
+    changes: &[Change],
+) -> Result<(), AllocError> {
+    let changed = changed_text(alloc, text, changes)?;
+    texts.extend_from_slice(changed.as_slice())
+}
+
+// Appends the texts in finer ticks with one place moved by a hair, one after the other.
+fn push_moved(
+    alloc: Global,
+    texts: &mut Vec<u8>,
+    clock: Clock,
+    text: &[u8],
+    sites: &[Site],
+) -> Result<(), Fail> {
+    let finer = finer_of(clock, sites)?;
+    let shifts = shifts(alloc, sites)?;
+    for shift in shifts.as_slice() {
+        let changes = shifted_changes(alloc, clock, finer, shift, sites)?;
+        push_changed(alloc, texts, text, changes.as_slice())?;
+    }
+    Ok(())
+}
+
+// The same as one text.
+fn moved_texts(alloc: Global, clock: Clock, text: &[u8]) -> Result<Vec<u8>, Fail> {
+    let sites = sites_of(alloc, text)?;
+    let mut texts = Vec::new(alloc);
+    push_moved(alloc, &mut texts, clock, text, sites.as_slice())?;
     Ok(texts)
 }
 
@@ -100,11 +129,13 @@ fn by_ticks_a_text_in_finer_ticks_is_in_format_2(rt: HostRuntime) -> Result<(), 
     let text = b"trio-job 1\njob m { checkpoint; pace 4; }\n";
     let finer = finer_text(rt.alloc(), Clock::ByTicks, text)?;
     same(
+        "the text in finer ticks",
         finer.as_slice(),
         b"trio-job 2\njob m { checkpoint; repeat 1000 { pace 4; } }\n",
     )?;
     let moved = moved_texts(rt.alloc(), Clock::ByTicks, text)?;
     same(
+        "the texts moved by a hair",
         moved.as_slice(),
         b"trio-job 2\njob m { sleep 100; repeat 1000 { pace 4; } }
 trio-job 2\njob m { checkpoint; repeat 1000 { pace 4; } sleep 100; }\n",
@@ -116,11 +147,13 @@ fn by_rounds_the_first_line_stays_as_it_is(rt: HostRuntime) -> Result<(), Fail> 
     let text = b"trio-job 3\njob m { sleep 2; checkpoint; pace 4; }\n";
     let finer = finer_text(rt.alloc(), Clock::ByRounds, text)?;
     same(
+        "the text in finer ticks",
         finer.as_slice(),
         b"trio-job 3\njob m { sleep 20; checkpoint; repeat 10 { pace 4; } }\n",
     )?;
     let moved = moved_texts(rt.alloc(), Clock::ByRounds, text)?;
     same(
+        "the texts moved by a hair",
         moved.as_slice(),
         b"trio-job 3\njob m { sleep 19; checkpoint; repeat 10 { pace 4; } }
 trio-job 3\njob m { sleep 21; checkpoint; repeat 10 { pace 4; } }
