@@ -34,12 +34,14 @@ fn block_of_two(alloc: Global, first: Step, second: Step) -> Result<Body, Fail> 
 
 // A scope of one step, without a deadline or a shield.
 fn scope(alloc: Global, name: &[u8], step: Step) -> Result<Step, Fail> {
+    let name = word(name)?;
+    let body = block(alloc, step)?;
     Ok(Step::Scope {
-        name: word(name)?,
+        name,
         deadline: Deadline::Never,
         shield: false,
         fail: false,
-        body: block(alloc, step)?,
+        body,
     })
 }
 
@@ -104,7 +106,8 @@ fn a_name_is_given_once(rt: HostRuntime) -> Result<(), Fail> {
 // A `cancel` of a scope in a child that is started inside the scope.
 fn across_a_start(alloc: Global) -> Result<Body, Fail> {
     let inner = nursery(alloc, b"t", None, Step::Cancel(word(b"s")?))?;
-    block(alloc, scope(alloc, b"s", inner)?)
+    let outer = scope(alloc, b"s", inner)?;
+    block(alloc, outer)
 }
 
 // A `cancel` of a scope after the scope.
@@ -187,14 +190,18 @@ fn many_children(alloc: Global) -> Result<Body, Fail> {
 
 // A `try` with a handler and a cleanup, and a step after it.
 fn attempt_and_checkpoint(alloc: Global) -> Result<Body, Fail> {
+    let name = word(b"E")?;
+    let body = block(alloc, Step::Checkpoint)?;
+    let of_handler = block(alloc, Step::Checkpoint)?;
+    let cleanup = block(alloc, Step::Checkpoint)?;
     let handler = Handler {
-        name: word(b"E")?,
-        body: block(alloc, Step::Checkpoint)?,
+        name,
+        body: of_handler,
     };
     let attempt = Step::Try {
-        body: block(alloc, Step::Checkpoint)?,
+        body,
         handler: Some(handler),
-        cleanup: Some(block(alloc, Step::Checkpoint)?),
+        cleanup: Some(cleanup),
     };
     block_of_two(alloc, attempt, Step::Checkpoint)
 }

@@ -18,8 +18,9 @@ fn text_of(alloc: Global, exc: &Option<Exc>) -> Result<Vec<u8>, AllocError> {
 
 // What leaves the block `s` of this kind in tick 5, if it catches or if it does not, with this exception.
 fn after_block(alloc: Global, kind: Kind, catches: bool, exc: Exc) -> Result<Vec<u8>, Fail> {
+    let block = label(alloc, b"s")?;
     let left = left_with(alloc, catches, Some(exc))?;
-    let exc = exc_after(alloc, kind, &label(alloc, b"s")?, 5, left)?;
+    let exc = exc_after(alloc, kind, &block, 5, left)?;
     Ok(text_of(alloc, &exc)?)
 }
 
@@ -38,7 +39,8 @@ fn a_nursery_that_catches_nothing_passes_it_on(rt: HostRuntime) -> Result<(), Fa
 // What remains after a handler that raised `B` with the rest `A`.
 fn after_handler(alloc: Global) -> Result<Vec<u8>, Fail> {
     let raised = raised_exc(alloc, b"B", b"b")?;
-    let exc = handler_exc(alloc, Some(raised), Some(raised_exc(alloc, b"A", b"a")?))?;
+    let rest = raised_exc(alloc, b"A", b"a")?;
+    let exc = handler_exc(alloc, Some(raised), Some(rest))?;
     Ok(text_of(alloc, &exc)?)
 }
 

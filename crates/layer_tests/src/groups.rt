@@ -7,15 +7,17 @@ use std::test::Fail;
 
 // The origin of a nursery's group.
 fn nursery(alloc: Global, name: &[u8]) -> Result<Whose, Fail> {
-    Ok(Whose::Nursery(label(alloc, name)?))
+    let label = label(alloc, name)?;
+    Ok(Whose::Nursery(label))
 }
 
 // The nursery's group of two exceptions.
 fn group_of_two(alloc: Global, name: &[u8], first: Exc, second: Exc) -> Result<Exc, Fail> {
+    let whose = nursery(alloc, name)?;
     let mut parts = Vec::new(alloc);
     parts.push(first)?;
     parts.push(second)?;
-    match group(nursery(alloc, name)?, parts) {
+    match group(whose, parts) {
         Some(exc) => Ok(exc),
         None => Err("no group")?,
     }
@@ -39,20 +41,31 @@ fn split_in_two(
     Ok(sides)
 }
 
-// The texts of the two sides of a split, with a bar between them.
+// The texts of two sides, with a bar between them.
+fn text_of_sides(
+    alloc: Global,
+    kept: &Option<Exc>,
+    dropped: &Option<Exc>,
+) -> Result<Vec<u8>, AllocError> {
+    let mut text = Vec::new(alloc);
+    push_side(&mut text, kept)?;
+    push_bytes(&mut text, b"|")?;
+    push_side(&mut text, dropped)?;
+    Ok(text)
+}
+
+// The texts of the two sides of a split.
 fn sides(alloc: Global, exc: Exc, wanted: Match) -> Result<Vec<u8>, AllocError> {
     let (kept, dropped) = split_in_two(alloc, exc, wanted)?;
-    let mut text = Vec::new(alloc);
-    push_side(&mut text, &kept)?;
-    push_bytes(&mut text, b"|")?;
-    push_side(&mut text, &dropped)?;
-    Ok(text)
+    text_of_sides(alloc, &kept, &dropped)
 }
 
 // The two sides of a group that is split by `Cancelled`.
 fn sides_by_cancelled(alloc: Global) -> Result<Vec<u8>, Fail> {
-    let exc = group_of_two(alloc, b"n", raised_exc(alloc, b"A", b"a")?, Exc::Cancelled)?;
-    Ok(sides(alloc, exc, Match::Cancelled)?)
+    let raised = raised_exc(alloc, b"A", b"a")?;
+    let exc = group_of_two(alloc, b"n", raised, Exc::Cancelled)?;
+    let text = sides(alloc, exc, Match::Cancelled)?;
+    Ok(text)
 }
 
 #[test]
@@ -98,14 +111,21 @@ fn copy_of(alloc: Global, exc: &Exc) -> Result<Exc, AllocError> {
     Ok(copy)
 }
 
+// The texts of two exceptions, with a bar between them.
+fn text_of_two(alloc: Global, first: &Exc, second: &Exc) -> Result<Vec<u8>, AllocError> {
+    let mut text = Vec::new(alloc);
+    push_exc(&mut text, first)?;
+    push_bytes(&mut text, b"|")?;
+    push_exc(&mut text, second)?;
+    Ok(text)
+}
+
 // The texts of a group and of its copy.
 fn text_of_copies(alloc: Global) -> Result<Vec<u8>, Fail> {
-    let exc = group_of_two(alloc, b"n", raised_exc(alloc, b"A", b"a")?, Exc::Cancelled)?;
+    let raised = raised_exc(alloc, b"A", b"a")?;
+    let exc = group_of_two(alloc, b"n", raised, Exc::Cancelled)?;
     let copy = copy_of(alloc, &exc)?;
-    let mut text = Vec::new(alloc);
-    push_exc(&mut text, &exc)?;
-    push_bytes(&mut text, b"|")?;
-    push_exc(&mut text, &copy)?;
+    let text = text_of_two(alloc, &exc, &copy)?;
     Ok(text)
 }
 
@@ -131,17 +151,28 @@ fn label_with_name(alloc: Global, label: &Label, name: &[u8]) -> Result<Label, F
     Ok(label.with_name(alloc, word(name)?)?)
 }
 
+// The texts of three labels, with a space between them.
+fn text_of_three(
+    alloc: Global,
+    first: &Label,
+    second: &Label,
+    third: &Label,
+) -> Result<Vec<u8>, AllocError> {
+    let mut text = Vec::new(alloc);
+    push_label(&mut text, first)?;
+    push_bytes(&mut text, b" ")?;
+    push_label(&mut text, second)?;
+    push_bytes(&mut text, b" ")?;
+    push_label(&mut text, third)?;
+    Ok(text)
+}
+
 // The texts of a label, of its copy, and of one of another name.
 fn text_of_labels(alloc: Global) -> Result<Vec<u8>, Fail> {
     let first = label_with_index(alloc, b"p", 1)?;
     let copy = same_label(alloc, &first)?;
     let other = label_with_name(alloc, &first, b"q")?;
-    let mut text = Vec::new(alloc);
-    push_label(&mut text, &first)?;
-    push_bytes(&mut text, b" ")?;
-    push_label(&mut text, &copy)?;
-    push_bytes(&mut text, b" ")?;
-    push_label(&mut text, &other)?;
+    let text = text_of_three(alloc, &first, &copy, &other)?;
     Ok(text)
 }
 
@@ -158,15 +189,22 @@ fn group_of_no_parts(rt: HostRuntime) -> Result<(), Fail> {
     Ok(())
 }
 
-// A group of what was raised and of a group that holds `Cancelled`.
-fn nested_group(alloc: Global) -> Result<Exc, Fail> {
+// A group of `Cancelled` alone.
+fn group_of_cancelled(alloc: Global) -> Result<Exc, Fail> {
+    let whose = nursery(alloc, b"m")?;
     let mut parts = Vec::new(alloc);
     parts.push(Exc::Cancelled)?;
-    let inner = Exc::Group {
-        whose: nursery(alloc, b"m")?,
+    Ok(Exc::Group {
+        whose,
         parts: Parts::new(parts),
-    };
-    group_of_two(alloc, b"n", raised_exc(alloc, b"A", b"a")?, inner)
+    })
+}
+
+// A group of what was raised and of a group that holds `Cancelled`.
+fn nested_group(alloc: Global) -> Result<Exc, Fail> {
+    let inner = group_of_cancelled(alloc)?;
+    let raised = raised_exc(alloc, b"A", b"a")?;
+    group_of_two(alloc, b"n", raised, inner)
 }
 
 // Whether the nested group and what was raised alone hold `Cancelled`.
