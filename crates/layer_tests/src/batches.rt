@@ -188,11 +188,17 @@ fn turns_come_as_the_picker_picks(rt: HostRuntime) -> Result<(), Fail> {
     Ok(())
 }
 
+// How many requests a batch makes.
+fn count_of_requests(batch: &ReadyBatch<'static>) -> Result<usize, AllocError> {
+    let requests = batch.requests()?;
+    Ok(requests.len())
+}
+
 // The turns of three tasks that begin, and how many requests they make.
 fn three_begin(alloc: Global, order: Order) -> Result<(Vec<u8>, usize), AllocError> {
     let calls = [(0, Call::Begin), (1, Call::Begin), (2, Call::Begin)];
     let mut batch = batch_of_calls(alloc, &calls)?;
-    let requests = batch.requests()?.len();
+    let requests = count_of_requests(&batch)?;
     answer_all(alloc, &mut batch)?;
     let text = turns(alloc, &mut batch, &mut picker_of(order))?;
     Ok((text, requests))
@@ -215,17 +221,29 @@ fn three_tasks_begin_as_the_picker_picks(rt: HostRuntime) -> Result<(), Fail> {
     Ok(())
 }
 
-// The number of requests before a batch is the current one, and then their numbers.
-fn request_numbers(alloc: Global) -> Result<(usize, Vec<u8>), AllocError> {
+// A batch of four tasks, of which two make requests, before it is the current one.
+fn four_added(alloc: Global) -> Result<ReadyBatch<'static>, AllocError> {
     let mut batch = ReadyBatch::new(alloc);
     batch.add(TaskId::of(1), Call::Due)?;
     batch.add(TaskId::of(2), Call::Ask(head_request(20)))?;
     batch.add(TaskId::of(3), Call::Seen)?;
     batch.add(TaskId::of(4), Call::Ask(head_request(40)))?;
-    let before = batch.requests()?.len();
-    batch.turn_over();
+    Ok(batch)
+}
+
+// The numbers of the requests of a batch.
+fn numbers_in(alloc: Global, batch: &ReadyBatch<'static>) -> Result<Vec<u8>, AllocError> {
     let requests = batch.requests()?;
-    Ok((before, numbers(alloc, requests.as_slice())?))
+    numbers(alloc, requests.as_slice())
+}
+
+// The number of requests before that batch is the current one, and then their numbers.
+fn request_numbers(alloc: Global) -> Result<(usize, Vec<u8>), AllocError> {
+    let mut batch = four_added(alloc)?;
+    let before = count_of_requests(&batch)?;
+    batch.turn_over();
+    let then = numbers_in(alloc, &batch)?;
+    Ok((before, then))
 }
 
 #[test]
@@ -260,16 +278,22 @@ fn turns_after(
     Ok((before, then, text))
 }
 
+// Fails if the turns of two batches are others than these, or a batch is not over exactly when it has no turn left.
+fn same_turns(first: &[u8], after: &(bool, bool, Vec<u8>)) -> Result<(), Fail> {
+    let (before, then, second) = after;
+    if !*before || *then {
+        return Err("a batch is over once it has no turn left")?;
+    }
+    same(first, b"1:due ")?;
+    same(second.as_slice(), b"2:seen ")
+}
+
 // Fails if what is added does not wait for the next batch.
 fn waits(alloc: Global) -> Result<(), Fail> {
     let mut batch = batch_of_calls(alloc, &[(1, Call::Due)])?;
     let first = turns_before(alloc, &mut batch)?;
-    same(first.as_slice(), b"1:due ")?;
-    let (before, then, second) = turns_after(alloc, &mut batch)?;
-    if !before || then {
-        return Err("a batch is over once it has no turn left")?;
-    }
-    same(second.as_slice(), b"2:seen ")
+    let after = turns_after(alloc, &mut batch)?;
+    same_turns(first.as_slice(), &after)
 }
 
 #[test]

@@ -60,10 +60,15 @@ fn sides(alloc: Global, exc: Exc, wanted: Match) -> Result<Vec<u8>, AllocError> 
     text_of_sides(alloc, &kept, &dropped)
 }
 
+// A group of what was raised and of `Cancelled`.
+fn group_with_cancelled(alloc: Global) -> Result<Exc, Fail> {
+    let raised = raised_exc(alloc, b"A", b"a")?;
+    group_of_two(alloc, b"n", raised, Exc::Cancelled)
+}
+
 // The two sides of a group that is split by `Cancelled`.
 fn sides_by_cancelled(alloc: Global) -> Result<Vec<u8>, Fail> {
-    let raised = raised_exc(alloc, b"A", b"a")?;
-    let exc = group_of_two(alloc, b"n", raised, Exc::Cancelled)?;
+    let exc = group_with_cancelled(alloc)?;
     let text = sides(alloc, exc, Match::Cancelled)?;
     Ok(text)
 }
@@ -120,12 +125,16 @@ fn text_of_two(alloc: Global, first: &Exc, second: &Exc) -> Result<Vec<u8>, Allo
     Ok(text)
 }
 
-// The texts of a group and of its copy.
+// The texts of an exception and of its copy.
+fn text_with_copy(alloc: Global, exc: &Exc) -> Result<Vec<u8>, AllocError> {
+    let copy = copy_of(alloc, exc)?;
+    text_of_two(alloc, exc, &copy)
+}
+
+// The same for a group.
 fn text_of_copies(alloc: Global) -> Result<Vec<u8>, Fail> {
-    let raised = raised_exc(alloc, b"A", b"a")?;
-    let exc = group_of_two(alloc, b"n", raised, Exc::Cancelled)?;
-    let copy = copy_of(alloc, &exc)?;
-    let text = text_of_two(alloc, &exc, &copy)?;
+    let exc = group_with_cancelled(alloc)?;
+    let text = text_with_copy(alloc, &exc)?;
     Ok(text)
 }
 
@@ -168,12 +177,17 @@ fn text_of_three(
 }
 
 // The texts of a label, of its copy, and of one of another name.
+fn text_with_others(alloc: Global, first: &Label) -> Result<Vec<u8>, Fail> {
+    let copy = same_label(alloc, first)?;
+    let other = label_with_name(alloc, first, b"q")?;
+    let text = text_of_three(alloc, first, &copy, &other)?;
+    Ok(text)
+}
+
+// The same for a label with an index.
 fn text_of_labels(alloc: Global) -> Result<Vec<u8>, Fail> {
     let first = label_with_index(alloc, b"p", 1)?;
-    let copy = same_label(alloc, &first)?;
-    let other = label_with_name(alloc, &first, b"q")?;
-    let text = text_of_three(alloc, &first, &copy, &other)?;
-    Ok(text)
+    text_with_others(alloc, &first)
 }
 
 #[test]

@@ -77,9 +77,9 @@ fn exc_of_two_children(alloc: Global) -> Result<Option<Exc>, Fail> {
 }
 
 // The text of an exception, and no bytes for `None`.
-fn text_of(alloc: Global, exc: Option<Exc>) -> Result<Vec<u8>, AllocError> {
+fn text_of(alloc: Global, exc: &Option<Exc>) -> Result<Vec<u8>, AllocError> {
     let mut text = Vec::new(alloc);
-    if let Some(exc) = &exc {
+    if let Some(exc) = exc {
         push_exc(&mut text, exc)?;
     }
     Ok(text)
@@ -87,7 +87,8 @@ fn text_of(alloc: Global, exc: Option<Exc>) -> Result<Vec<u8>, AllocError> {
 
 #[test]
 fn group_of_children_that_end_out_of_order(rt: HostRuntime) -> Result<(), Fail> {
-    let text = text_of(rt.alloc(), exc_of_two_children(rt.alloc())?)?;
+    let exc = exc_of_two_children(rt.alloc())?;
+    let text = text_of(rt.alloc(), &exc)?;
     same(text.as_slice(), b"n[A@a@0;B@b@0;]")
 }
 

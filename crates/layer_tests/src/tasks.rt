@@ -117,13 +117,19 @@ fn push_turned(text: &mut Vec<u8>, turned: &Turned<'_>) -> Result<(), AllocError
     push_stop(text, &turned.stop)
 }
 
+// The text of a turn.
+fn text_of_turned(alloc: Global, turned: &Turned<'_>) -> Result<Vec<u8>, AllocError> {
+    let mut text = Vec::new(alloc);
+    push_turned(&mut text, turned)?;
+    Ok(text)
+}
+
 // The text of a root's first turn.
 fn text_of_turn(alloc: Global, job: &Job, tick: u64) -> Result<Vec<u8>, Fail>
     requires { tick ≤ 2 ^ 62 }
 {
-    let mut text = Vec::new(alloc);
     let turned = first_turn(alloc, job, tick)?;
-    push_turned(&mut text, &turned)?;
+    let text = text_of_turned(alloc, &turned)?;
     Ok(text)
 }
 
@@ -155,14 +161,29 @@ fn a_new_world_is_at_tick_0(rt: HostRuntime) {
     assert!(rt; !has_started(rt.alloc()));
 }
 
+// A scope that is opened in a world, and whether it is open there.
+fn open_scope(world: &mut World<'_>) -> Result<(ScopeId, bool), AllocError> {
+    let scope = world.scopes_mut().open(None, false, Some(3))?;
+    Ok((scope, world.scopes().is_open(scope)))
+}
+
+// The scope of a nursery that is opened in a world.
+fn scope_of_nursery(
+    world: &mut World<'_>,
+    scope: ScopeId,
+    whose: Label,
+) -> Result<ScopeId, AllocError> {
+    let nursery = world.book_mut().open(scope, TaskId::of(4), whose)?;
+    Ok(world.book().scope(nursery))
+}
+
 // A scope that is opened in a world, whether it is open there, and the scope of a nursery that is opened in it.
 fn open_in_world(alloc: Global) -> Result<(ScopeId, bool, ScopeId), Fail> {
     let whose = label(alloc, b"n")?;
     let mut world = World::new(alloc, Clock::ByTicks);
-    let scope = world.scopes_mut().open(None, false, Some(3))?;
-    let is_open = world.scopes().is_open(scope);
-    let nursery = world.book_mut().open(scope, TaskId::of(4), whose)?;
-    Ok((scope, is_open, world.book().scope(nursery)))
+    let (scope, is_open) = open_scope(&mut world)?;
+    let of_nursery = scope_of_nursery(&mut world, scope, whose)?;
+    Ok((scope, is_open, of_nursery))
 }
 
 #[test]
@@ -316,13 +337,17 @@ fn is_child(task: &Task<'_>, name: &[u8], place: usize, scope: ScopeId) -> bool 
 // whether the children are taken in the order of their starts.
 fn starts_two(alloc: Global, job: &Job) -> Result<(bool, bool), Fail> {
     let mut turned = first_turn(alloc, job, 0)?;
-    let Some(outer) = scope_around(&turned) else {
-        return Ok((false, false));
-    };
-    let first = takes_child(&mut turned.world, b"first", 0, outer);
-    let second = takes_child(&mut turned.world, b"second", 1, outer);
-    let is_last = turned.world.take_started().is_none();
-    Ok((true, first && second && is_last))
+    match scope_around(&turned) {
+        Some(outer) => Ok((true, takes_two(&mut turned.world, outer))),
+        None => Ok((false, false)),
+    }
+}
+
+// Whether two children of these names are taken in the order of their starts, and no other.
+fn takes_two(world: &mut World<'_>, scope: ScopeId) -> bool {
+    let first = takes_child(world, b"first", 0, scope);
+    let second = takes_child(world, b"second", 1, scope);
+    first && second && world.take_started().is_none()
 }
 
 // The scope that encloses the innermost one of a task.

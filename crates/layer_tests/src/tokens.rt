@@ -14,6 +14,12 @@ fn places(alloc: Global, tokens: &[Token]) -> Result<Vec<usize>, AllocError> {
     Ok(places)
 }
 
+// Whether tokens have these places.
+fn are_at(alloc: Global, tokens: &[Token], expected: &[usize]) -> Result<bool, AllocError> {
+    let found = places(alloc, tokens)?;
+    Ok(found.as_slice() == expected)
+}
+
 // The canonical text of tokens.
 fn canonical_text(alloc: Global, tokens: &[Token]) -> Result<Vec<u8>, AllocError> {
     let mut shapes = Vec::new(alloc);
@@ -29,8 +35,7 @@ fn canonical_text(alloc: Global, tokens: &[Token]) -> Result<Vec<u8>, AllocError
 fn tokens_have_their_places(rt: HostRuntime) -> Result<(), Fail> {
     let lexed = lex(rt.alloc(), b"find  \"er\";\n{ 7", 26)?;
     assert!(rt; lexed.fault == None);
-    let places = places(rt.alloc(), lexed.tokens.as_slice())?;
-    assert!(rt; places.as_slice() == [11, 17, 21, 23, 25].as_slice());
+    assert!(rt; are_at(rt.alloc(), lexed.tokens.as_slice(), &[11, 17, 21, 23, 25])?);
     let text = canonical_text(rt.alloc(), lexed.tokens.as_slice())?;
     same(text.as_slice(), b"find\"er\";{7")
 }

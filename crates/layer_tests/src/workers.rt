@@ -7,6 +7,7 @@ use scoped_workers::{Bench, Content, Gate, NoGate, Slot, work};
 use std::alloc::{AllocError, Global};
 use std::sync::atomic::{AtomicU64, Ordering};
 use std::test::Fail;
+use std::thread::Threads;
 
 // Three lines of two, one and four bytes.
 const BUFFER: &[u8] = b"aa\nb\ncccc\n";
@@ -37,6 +38,13 @@ fn text_of_answers(alloc: Global, answers: &[Answer<'_>]) -> Result<Vec<u8>, All
         }
         push_bytes(&mut text, b" ")?;
     }
+    Ok(text)
+}
+
+// The answers to the first two requests by two workers, as text.
+fn text_by_two<R: Threads + Sync + AllocGlobal>(rt: &R, gate: &Both) -> Result<Vec<u8>, Fail> {
+    let answers = work(rt, rt.alloc(), 2, &counts(BUFFER)[..2], gate)?;
+    let text = text_of_answers(rt.alloc(), answers.as_slice())?;
     Ok(text)
 }
 
@@ -165,10 +173,8 @@ impl Both {
 #[test]
 fn two_workers_compute_at_once(rt: HostRuntime) -> Result<(), Fail> {
     let gate = Both::new();
-    let answers = work(&rt, rt.alloc(), 2, &counts(BUFFER)[..2], &gate)?;
-    let text = text_of_answers(rt.alloc(), answers.as_slice())?;
-    assert!(rt; gate.has_seen(2));
-    assert!(rt; gate.missed.load(Ordering::SeqCst) == 0);
+    let text = text_by_two(&rt, &gate)?;
+    assert!(rt; gate.has_seen(2) && gate.missed.load(Ordering::SeqCst) == 0);
     same(text.as_slice(), b"1 2 ")
 }
 
@@ -196,14 +202,20 @@ fn count_up(answers: &[Answer<'_>]) -> bool {
     true
 }
 
+// Whether three workers answer these requests by the counts from 0 to 99.
+fn count_up_by_three<R: Threads + Sync + AllocGlobal>(rt: &R, gate: &Both) -> Result<bool, Fail> {
+    let requests = hundred_requests(rt.alloc())?;
+    if requests.len() > 2_000_000 {
+        return Ok(false);
+    }
+    let answers = work(rt, rt.alloc(), 3, requests.as_slice(), gate)?;
+    Ok(answers.len() == 100 && count_up(answers.as_slice()))
+}
+
 #[test]
 fn three_workers_answer_a_hundred_requests(rt: HostRuntime) -> Result<(), Fail> {
     let gate = Both::new();
-    let requests = hundred_requests(rt.alloc())?;
-    assert!(rt; requests.len() <= 2_000_000);
-    let answers = work(&rt, rt.alloc(), 3, requests.as_slice(), &gate)?;
-    assert!(rt; answers.len() == 100);
-    assert!(rt; count_up(answers.as_slice()));
+    assert!(rt; count_up_by_three(&rt, &gate)?);
     assert!(rt; gate.has_seen(100));
     Ok(())
 }
