@@ -222,7 +222,9 @@ fn three_tasks_begin_as_the_picker_picks(rt: HostRuntime) -> Result<(), Fail> {
 }
 
 // A batch of four tasks, of which two make requests, before it is the current one.
-fn four_added(alloc: Global) -> Result<ReadyBatch<'static>, AllocError> {
+fn four_added(alloc: Global) -> Result<ReadyBatch<'static>, AllocError>
+    ensures { IfOk result (λ batch. batch.current ≡ []) }
+{
     let mut batch = ReadyBatch::new(alloc);
     batch.add(TaskId::of(1), Call::Due)?;
     batch.add(TaskId::of(2), Call::Ask(head_request(20)))?;
