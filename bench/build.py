@@ -7,11 +7,13 @@
 
 `rt run` proves one library after the other. This script proves each library of crates.txt as soon as those that it uses are proved, by
 the function of the kit's `rt` that `rt lib` calls, and at last calls `rt run`, which finds them proved. What is proved is kept in `out/`
-of each crate: a second call does only what changed, and so do `rt check` and `rt must-fail` in any clone on this machine. It gives no
-verdict: only `rt ci` does. What a command printed is in `out/build.log` of the crate.
+of each crate: a second call does only what changed, and so do `rt check` and `rt must-fail`, with kit 13f in any clone on this machine, and
+with kit 13b in this one, and in a clone into which `crates/*/out` were copied. It gives no verdict: only `rt ci` does. Edit nothing while it runs. What a command printed
+is in `out/build.log` of the crate.
 """
 import argparse
 import copy
+import functools
 import importlib.machinery
 import importlib.util
 import os
@@ -35,6 +37,12 @@ def load_rt():
 
 
 rt = load_rt()
+
+
+def remember(crate_type):
+    """Has the checksum of a crate, and the list of those below it, made once: the kit follows each of the 900,000 paths of crates.txt."""
+    for name in ("stamp", "below"):
+        setattr(crate_type, name, functools.cache(getattr(crate_type, name)))
 
 
 def heights(crates):
@@ -104,9 +112,11 @@ def main():
     given = parser.parse_args()
     os.chdir(os.path.join(os.path.dirname(os.path.abspath(__file__)), ".."))
     rt.rtlib.stop, rt.rtlib.Crate = rt.stop, rt.Crate
+    remember(rt.Crate)
     rt.Crate.allowed = rt.handles_of(os.getcwd())
     rt.rtlib.guarded()
-    rt.share_work(True)
+    if hasattr(rt, "share_work"):  # (kit 13f keeps what passed for other checkouts, too)
+        rt.share_work(True)
     crates, begin = rt.rtlib.crates_below(os.getcwd()), time.monotonic()
     asked = [it for it in crates if it.name in given.names]
     wanted = {it.name for it in asked} | {below.name for it in asked for below in it.below()}
