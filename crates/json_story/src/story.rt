@@ -2,7 +2,9 @@ ghost use Rattle.std.specs.Prelude.{◌≡◌, ◌++◌, IfOk, OnOk, map, codes,
 ghost use Rattle.serde_json.specs.Data.{Members, member, object};
 ghost use Rattle.serde_json.specs.View.{view};
 ghost use Rattle.serde_json.specs.Written.{compact_text, members_text};
+ghost use Rattle.job_story.specs.Focus.{concerned_tasks, of_tasks};
 ghost use Rattle.job_story.specs.Froms.{table_in};
+ghost use Rattle.story_causes.specs.Knows.{Knows};
 ghost use Rattle.story_causes.specs.Seen.{event_in};
 ghost use Rattle.story_focus.specs.Holds.{label_seen};
 ghost use Rattle.json_report.specs.Values.{document, list_of};
@@ -44,18 +46,47 @@ pub fn story_json<'e>(
     let all = in_order(alloc, walked)?;
     let causes = Causes::of(alloc, all.as_slice(), table)?;
     let known = Known::new(clock, all.as_slice(), table, &causes);
-    let Some(task) = task else {
-        let bytes = kept_json(alloc, job, until, &known, all.as_slice(), walked)?;
-        return Ok(bytes);
-    };
-    let tasks = concerned_tasks(alloc, all.as_slice(), &causes, task)?;
-    let sorted = of_tasks(alloc, all.as_slice(), &tasks)?;
+    match task {
+        Some(task) => concerned_json(
+            alloc,
+            job,
+            until,
+            &known,
+            all.as_slice(),
+            walked,
+            &causes,
+            task,
+        ),
+        None => kept_json(alloc, job, until, &known, all.as_slice(), walked),
+    }
+}
+
+// Returns the events that concern one task as a document, from the events of the story in order and in the order of the walk, and
+// their index.
+fn concerned_json<'e>(
+    alloc: Global,
+    job: Name,
+    until: Option<u64>,
+    known: &Known<'_, 'e>,
+    all: &[&'e Event],
+    walked: &[&'e Event],
+    causes: &Causes<'e>,
+    task: &'e Label,
+) -> Result<Vec<u8>, AllocError>
+    requires { Knows causes.now (froms_in known.now) (map event_in all.now) }
+    ensures { IfOk result (λ bytes. bytes.items
+        ≡ document (kept_json (clock_in known.now) job until (froms_in known.now) (events_in known.now)
+        (of_tasks (concerned_tasks (froms_in known.now) (map event_in all.now) task.entry.now) (map event_in all.now))
+        (of_tasks (concerned_tasks (froms_in known.now) (map event_in all.now) task.entry.now) (map event_in walked.now)))) }
+{
+    let tasks = concerned_tasks(alloc, all, causes, task)?;
+    let sorted = of_tasks(alloc, all, &tasks)?;
     let walked = of_tasks(alloc, walked, &tasks)?;
     let bytes = kept_json(
         alloc,
         job,
         until,
-        &known,
+        known,
         sorted.as_slice(),
         walked.as_slice(),
     )?;

@@ -1,4 +1,5 @@
 ghost use Rattle.std.specs.Prelude.{◌≡◌, map, IfOk};
+ghost use Rattle.job_story.specs.Focus.{concerned_tasks, of_tasks};
 ghost use Rattle.job_story.specs.Froms.{table_in};
 ghost use Rattle.story_causes.specs.Knows.{Knows};
 ghost use Rattle.story_causes.specs.Seen.{event_in};
@@ -29,14 +30,32 @@ pub(crate) fn story<'e>(
     let all = in_order(alloc, walked)?;
     let causes = Causes::of(alloc, all.as_slice(), table)?;
     let known = Known::new(clock, all.as_slice(), table, &causes);
-    let Some(task) = task else {
-        let text = text_until(alloc, all.as_slice(), walked, &known, until)?;
-        return Ok(text);
-    };
-    let tasks = concerned_tasks(alloc, all.as_slice(), &causes, task)?;
-    let sorted = of_tasks(alloc, all.as_slice(), &tasks)?;
+    match task {
+        Some(task) => task_text(alloc, all.as_slice(), walked, &causes, &known, until, task),
+        None => text_until(alloc, all.as_slice(), walked, &known, until),
+    }
+}
+
+// Returns the text of the events that concern one task, whole or up to a limit, from the events of the story in order and in the
+// order of the walk, and their index.
+fn task_text<'e>(
+    alloc: Global,
+    all: &[&'e Event],
+    walked: &[&'e Event],
+    causes: &Causes<'e>,
+    known: &Known<'_, 'e>,
+    until: Option<u64>,
+    task: &'e Label,
+) -> Result<Vec<u8>, AllocError>
+    requires { Knows causes.now (froms_in known.now) (map event_in all.now) }
+    ensures { IfOk result (λ text. text.items ≡ text_until (clock_in known.now) until (froms_in known.now) (events_in known.now)
+        (of_tasks (concerned_tasks (froms_in known.now) (map event_in all.now) task.entry.now) (map event_in all.now))
+        (of_tasks (concerned_tasks (froms_in known.now) (map event_in all.now) task.entry.now) (map event_in walked.now))) }
+{
+    let tasks = concerned_tasks(alloc, all, causes, task)?;
+    let sorted = of_tasks(alloc, all, &tasks)?;
     let walked = of_tasks(alloc, walked, &tasks)?;
-    let text = text_until(alloc, sorted.as_slice(), walked.as_slice(), &known, until)?;
+    let text = text_until(alloc, sorted.as_slice(), walked.as_slice(), known, until)?;
     Ok(text)
 }
 

@@ -1,7 +1,7 @@
 ghost use Rattle.std.specs.Prelude.{◌≡◌, ◌++◌, [], IfOk, OnOk, codes};
 ghost use Rattle.job_tree.specs.Blocks.{steps_of};
 ghost use Rattle.trio_text.specs.Needs.{uses_of};
-ghost use Rattle.trio_text.specs.Program.{IsProgram, WritesRoot, footer, header, with_root, with_start_time};
+ghost use Rattle.trio_text.specs.Program.{IsProgram, WritesRoot, classes, footer, header, helpers, imports, with_root, with_start_time};
 ghost use Rattle.trio_text.specs.Uses.{known_in};
 
 use crate::helpers::{helpers_of, imports_of, push_classes};
@@ -26,17 +26,50 @@ pub fn program(alloc: Global, job: &Job) -> Result<Vec<u8>, AllocError>
 {
     let words = Words::of(alloc, job)?;
     let uses = job_uses(job);
-    let imports = imports_of(alloc, uses)?;
     let functions = functions_of(alloc, &words, uses.start, job)?;
-    let helpers = helpers_of(alloc, uses)?;
-    let footer = footer_of(alloc, job)?;
+    let text = text_around(alloc, &words, uses, functions.as_slice(), job)?;
+    Ok(text)
+}
+
+// Returns the program around its functions: what comes before them, the functions, and what comes after them.
+fn text_around(
+    alloc: Global,
+    words: &Words,
+    uses: Uses,
+    functions: &[u8],
+    job: &Job,
+) -> Result<Vec<u8>, AllocError>
+    ensures { IfOk result (λ text. text.items
+        ≡ header job.now.name ++ imports uses ++ classes (known_in words.now) words.now.raised.keys ++ functions.now
+        ++ helpers uses ++ footer job.now.name) }
+{
+    let mut text = top_of(alloc, words, uses, job)?;
+    text.extend_from_slice(functions)?;
+    push_end(alloc, &mut text, uses, job)?;
+    Ok(text)
+}
+
+// Returns what comes before the functions: the first lines, the imports, and a class for each exception.
+fn top_of(alloc: Global, words: &Words, uses: Uses, job: &Job) -> Result<Vec<u8>, AllocError>
+    ensures { IfOk result (λ text. text.items
+        ≡ header job.now.name ++ imports uses ++ classes (known_in words.now) words.now.raised.keys) }
+{
+    let imports = imports_of(alloc, uses)?;
     let mut text = header_of(alloc, job)?;
     text.extend_from_slice(imports.as_slice())?;
-    push_classes(&mut text, &words)?;
-    text.extend_from_slice(functions.as_slice())?;
-    text.extend_from_slice(helpers.as_slice())?;
-    text.extend_from_slice(footer.as_slice())?;
+    push_classes(&mut text, words)?;
     Ok(text)
+}
+
+// Appends what comes after the functions: the helpers and the last lines.
+fn push_end(alloc: Global, out: &mut Vec<u8>, uses: Uses, job: &Job) -> Result<(), AllocError>
+    ensures { OnOk result (out.new.items ≡ out.old.items ++ helpers uses ++ footer job.now.name) }
+{
+    let helpers = helpers_of(alloc, uses)?;
+    let footer = footer_of(alloc, job)?;
+    out.extend_from_slice(helpers.as_slice())?;
+    out.extend_from_slice(footer.as_slice())?;
+    Ok(())
 }
 
 // Returns the helpers that the steps of a job need.

@@ -14,21 +14,10 @@ returns c =
       functions = functions;
       tasks = subst Q c.job_uses-uses.ensures (subst P c.in_ok-words.ensures.known c.in_ok-functions.ensures);
       parts = rw (
-        c.in_ok-extend_from_slice-4.ensures.items,
-        c.as_slice-4.ensures.value,
-        c.in_ok-footer.ensures,
-        c.in_ok-extend_from_slice-3.ensures.items,
-        c.as_slice-3.ensures.value,
-        c.in_ok-helpers.ensures,
-        c.in_ok-extend_from_slice-2.ensures.items,
-        c.as_slice-2.ensures.value,
-        c.in_ok-push_classes.ensures,
+        c.in_ok-text.ensures,
+        c.as_slice.ensures.value,
         c.in_ok-words.ensures.known,
         c.in_ok-words.ensures.raised,
-        c.in_ok-extend_from_slice.ensures.items,
-        c.as_slice.ensures.value,
-        c.in_ok-imports.ensures,
-        c.in_ok-text.ensures,
         c.job_uses-uses.ensures,
       ) refl;
     }
