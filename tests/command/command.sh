@@ -125,8 +125,8 @@ wants 2 '' 'error: no task has the label `mian`: did you mean `main`?\n' explain
 longest=$(head -c 384 /dev/zero | tr '\0' a)
 wants 2 '' "error: no task has the label \`$longest\`: did you mean \`main\`?\n" explain raise.job --task "$longest"
 wants 2 '' 'error: no task has the label of `--task`: a label has at most 384 bytes\n' explain raise.job --task "a$longest"
-printf 'trio-job 1\njob hedge {\n  nursery calls {\n    start fast { sleep 2; cancel calls; }\n    start slow { sleep 9; }\n  }\n}\n' > hedge.job
-slow='tick 0\n  fast  starts in nursery calls\n  fast  sleeps until 2\n  slow  starts in nursery calls\n  slow  sleeps until 9\ntick 2\n  fast  cancels nursery calls from 3\n  fast  ends: done\ntick 3\n  slow  is cancelled while sleeping since 0 by nursery calls (cancelled by fast at 2)\n  slow  ends: cancelled\n'
+printf 'trio-job 3\njob hedge {\n  nursery calls {\n    start fast { sleep 2; cancel calls; }\n    start slow { sleep 9; }\n  }\n}\n' > hedge.job
+slow='tick 0\n  fast  starts in nursery calls\n  fast  sleeps until 2\n  slow  starts in nursery calls\n  slow  sleeps until 9\ntick 2\n  fast  cancels nursery calls from 2\n  fast  ends: done\n  slow  is cancelled while sleeping since 0 by nursery calls (cancelled by fast at 2)\n  slow  ends: cancelled\n'
 wants 0 "$slow" '' explain hedge.job --task slow
 helps explain "$slow"
 cp raise.job in
@@ -198,13 +198,13 @@ cmp -s kept.job deep.job || fail 'a job with a text that is too long was written
 wants 4 '' 'cannot read the job file\nnone.job: no such file\n' fmt none.job --write
 wants 4 '' 'cannot read the job file\na_folder: is a directory\n' fmt a_folder
 helps fmt 'job hedge { nursery both { start fast { sleep 2; cancel both; } start slow { sleep 9; } } }\n'
-printf 'trio-job 1\njob hedge { nursery both { start fast { sleep 2; cancel both; } start slow { sleep 9; } } }\n' > hedge_in_a_line.job
-wants 0 'trio-job 1\njob hedge {\n  nursery both {\n    start fast {\n      sleep 2;\n      cancel both;\n    }\n    start slow { sleep 9; }\n  }\n}\n' '' fmt hedge_in_a_line.job
-helps fmt 'trio-job 1\njob hedge {\n  nursery both {\n    start fast {\n      sleep 2;\n      cancel both;\n    }\n    start slow { sleep 9; }\n  }\n}\n'
+printf 'trio-job 3\njob hedge { nursery both { start fast { sleep 2; cancel both; } start slow { sleep 9; } } }\n' > hedge_in_a_line.job
+wants 0 'trio-job 3\njob hedge {\n  nursery both {\n    start fast {\n      sleep 2;\n      cancel both;\n    }\n    start slow { sleep 9; }\n  }\n}\n' '' fmt hedge_in_a_line.job
+helps fmt 'trio-job 3\njob hedge {\n  nursery both {\n    start fast {\n      sleep 2;\n      cancel both;\n    }\n    start slow { sleep 9; }\n  }\n}\n'
 
 # ---- lint, trio, completions, man
 
-printf 'trio-job 1\njob late {\n  try { sleep 5; } except Timeout { find "late"; }\n}\n' > late.job
+printf 'trio-job 3\njob late {\n  try { sleep 5; } except Timeout { find "late"; }\n}\n' > late.job
 late='late.job:3:20: nothing in this `try` raises Timeout, so its handler never runs\n  try { sleep 5; } except Timeout { find "late"; }\n                   ^\n'
 wants 1 "$late" '' lint late.job
 helps lint "$late"
@@ -248,12 +248,12 @@ unset COLUMNS
 cp raise.job in
 wants 1 "$drawn" '' chart -
 : > in
-printf 'trio-job 1\njob both {\n  nursery calls {\n    start user { sleep 3; raise Refused; }\n    start mail { sleep 9; }\n  }\n}\n' > both.job
-both='                 0  3 4\nboth             |----| raised calls[Refused(user@3)]\n  nursery calls  (====x caught\nuser             |--! raised Refused(user@3)\nmail             |----x cancelled\n'
+printf 'trio-job 3\njob both {\n  nursery calls {\n    start user { sleep 3; raise Refused; }\n    start mail { sleep 9; }\n  }\n}\n' > both.job
+both='                 0  3\nboth             |--| raised calls[Refused(user@3)]\n  nursery calls  (==x caught\nuser             |--! raised Refused(user@3)\nmail             |--x cancelled\n'
 wants 1 "$both" '' chart both.job
 helps chart "$both"
 words='chart both.job --svg'
-holds 1 out '<svg xmlns="http://www.w3.org/2000/svg"' '<title>both</title>' 'nursery calls is cancelled from 4' '</svg>'
+holds 1 out '<svg xmlns="http://www.w3.org/2000/svg"' '<title>both</title>' 'nursery calls is cancelled from 3' '</svg>'
 
 # ---- faults
 
@@ -284,14 +284,14 @@ words='faults cut.job --deny cut'; holds_denied=$("$nursery" $words 2>&1 > /dev/
 name="nursery $words"
 printf '%s\n' "$holds_denied" > err
 shows err "$(printf "$stuck_and_cut")"
-printf 'trio-job 1\njob calls {\n  nursery all {\n    start user { sleep 2; }\n    start mail { scope limit after 5 { sleep 3; } }\n  }\n}\n' > calls.job
-calls='               as it is    3 done\n4:18  sleep 2  fails       1 raised all[Fault(user@0)]; cancelled: mail\n4:18  sleep 2  fails late  3 raised all[Fault(user@2)]; cancelled: mail\n4:18  sleep 2  hangs       stuck at 1000000; sleeping forever: user\n4:18  sleep 2  cancelled   1 done; cancelled: user, mail\n5:40  sleep 3  fails       1 raised all[Fault(mail@0)]; cancelled: user\n5:40  sleep 3  fails late  3 raised all[Fault(mail@3)]\n5:40  sleep 3  hangs       5 done\n5:40  sleep 3  cancelled   1 done; cancelled: user, mail\n8 faults: 1 stuck, 0 cut a cleanup, 0 lost, 0 not reached\n'
+printf 'trio-job 3\njob calls {\n  nursery all {\n    start user { sleep 2; }\n    start mail { scope limit after 5 { sleep 3; } }\n  }\n}\n' > calls.job
+calls='               as it is    3 done\n4:18  sleep 2  fails       0 raised all[Fault(user@0)]; cancelled: mail\n4:18  sleep 2  fails late  2 raised all[Fault(user@2)]; cancelled: mail\n4:18  sleep 2  hangs       stuck at 1000000; sleeping forever: user\n4:18  sleep 2  cancelled   0 done; cancelled: user, mail\n5:40  sleep 3  fails       0 raised all[Fault(mail@0)]; cancelled: user\n5:40  sleep 3  fails late  3 raised all[Fault(mail@3)]\n5:40  sleep 3  hangs       5 done\n5:40  sleep 3  cancelled   0 done; cancelled: user, mail\n8 faults: 1 stuck, 0 cut a cleanup, 0 lost, 0 not reached\n'
 wants 0 "$calls" '' faults calls.job
 helps faults "$calls"
 
 # ---- races
 
-printf 'trio-job 1\njob both {\n  nursery pair {\n    start a { sleep 5; cancel pair; }\n    start b { sleep 5; }\n  }\n}\n' > both.job
+printf 'trio-job 3\njob both {\n  nursery pair {\n    start a { sleep 5; cancel pair; }\n    start b { sleep 5; }\n  }\n}\n' > both.job
 hairs='4:15  sleep 5  earlier  both: other lines or scopes; b: done -> cancelled\n 5:5  start b  later    both: other lines or scopes; b: done -> cancelled\n5:15  sleep 5  later    both: other lines or scopes; b: done -> cancelled\n'
 both="${hairs}6 hairs: 3 races\n"
 wants 0 "$both" '' races both.job
@@ -318,7 +318,7 @@ wants 1 "$both" "$hairs" races - --deny
 
 # ---- sweeps
 
-printf 'trio-job 1\njob fetch {\n  scope limit after 5 fail { sleep 3; sleep 4; }\n}\n' > fetch.job
+printf 'trio-job 3\njob fetch {\n  scope limit after 5 fail { sleep 3; sleep 4; }\n}\n' > fetch.job
 fetch='as it is  raised TooSlow(limit), ends 5\n1..7      raised TooSlow(limit), ends 1..7\n8..20     done, ends 7\n20 values: 0 stuck, 0 cut a cleanup\n'
 wants 0 "$fetch" '' sweep fetch.job --of limit --values 1..20
 wants 0 "$fetch" '' sweep fetch.job log.txt --at 3:21 --values 1..20:1 --workers 64
@@ -507,7 +507,7 @@ words='check --help'; holds 0 out 'Usage: nursery check <JOB>' 'expected a numbe
 words='upgrade --help'; holds 0 out 'Usage: nursery upgrade [OPTIONS] <JOB>' '--to <N>' 'job main{find"er";}'
 
 # The example that the help of `run` shows is true.
-printf 'trio-job 1\njob watch {\n  scope limit after 10 { pace 2; find "ERROR"; }\n}\n' > watch.job
+printf 'trio-job 3\njob watch {\n  scope limit after 10 { pace 2; find "ERROR"; }\n}\n' > watch.job
 printf 'start\nERROR disk\n' > in
 watched='job watch 1\ntask watch 0 1 done\n  line 6+10 ERROR disk\n  scope limit 1 passed\n'
 wants 0 "$watched" '' run watch.job - --limit 100

@@ -30,7 +30,7 @@ and the input.
 Example: `first.job` shows each line of its input that holds \"er\".
 
     $ cat first.job
-    trio-job 1
+    trio-job 3
     job main {
       find \"er\";
     }
@@ -48,7 +48,7 @@ const RUN_EXAMPLE: &str =
     "Example: the job `watch.job` waits at most 10 ticks, and shows the lines that hold \"ERROR\".
 
     $ cat watch.job
-    trio-job 1
+    trio-job 3
     job watch {
       scope limit after 10 { pace 2; find \"ERROR\"; }
     }
@@ -61,7 +61,7 @@ const RUN_EXAMPLE: &str =
 const EXPLAIN_EXAMPLE: &str = "Example: who cancelled `slow`, and when?
 
     $ cat hedge.job
-    trio-job 1
+    trio-job 3
     job hedge {
       nursery calls {
         start fast { sleep 2; cancel calls; }
@@ -75,9 +75,8 @@ const EXPLAIN_EXAMPLE: &str = "Example: who cancelled `slow`, and when?
       slow  starts in nursery calls
       slow  sleeps until 9
     tick 2
-      fast  cancels nursery calls from 3
+      fast  cancels nursery calls from 2
       fast  ends: done
-    tick 3
       slow  is cancelled while sleeping since 0 by nursery calls (cancelled by fast at 2)
       slow  ends: cancelled";
 
@@ -89,7 +88,7 @@ the fewest things happen are left out.
 Example: one of two calls fails.
 
     $ cat both.job
-    trio-job 1
+    trio-job 3
     job both {
       nursery calls {
         start user { sleep 3; raise Refused; }
@@ -97,11 +96,11 @@ Example: one of two calls fails.
       }
     }
     $ nursery chart both.job
-                     0  3 4
-    both             |----| raised calls[Refused(user@3)]
-      nursery calls  (====x caught
+                     0  3
+    both             |--| raised calls[Refused(user@3)]
+      nursery calls  (==x caught
     user             |--! raised Refused(user@3)
-    mail             |----x cancelled
+    mail             |--x cancelled
 
 Exit status: that of `run`; 3 if the job ends later than the limit, and is drawn up to it.";
 
@@ -113,7 +112,7 @@ const FAULTS_EXAMPLE: &str =
 Example: what if one of two calls fails or hangs?
 
     $ cat calls.job
-    trio-job 1
+    trio-job 3
     job calls {
       nursery all {
         start user { sleep 2; }
@@ -122,14 +121,14 @@ Example: what if one of two calls fails or hangs?
     }
     $ nursery faults calls.job
                    as it is    3 done
-    4:18  sleep 2  fails       1 raised all[Fault(user@0)]; cancelled: mail
-    4:18  sleep 2  fails late  3 raised all[Fault(user@2)]; cancelled: mail
+    4:18  sleep 2  fails       0 raised all[Fault(user@0)]; cancelled: mail
+    4:18  sleep 2  fails late  2 raised all[Fault(user@2)]; cancelled: mail
     4:18  sleep 2  hangs       stuck at 1000000; sleeping forever: user
-    4:18  sleep 2  cancelled   1 done; cancelled: user, mail
-    5:40  sleep 3  fails       1 raised all[Fault(mail@0)]; cancelled: user
+    4:18  sleep 2  cancelled   0 done; cancelled: user, mail
+    5:40  sleep 3  fails       0 raised all[Fault(mail@0)]; cancelled: user
     5:40  sleep 3  fails late  3 raised all[Fault(mail@3)]
     5:40  sleep 3  hangs       5 done
-    5:40  sleep 3  cancelled   1 done; cancelled: user, mail
+    5:40  sleep 3  cancelled   0 done; cancelled: user, mail
     8 faults: 1 stuck, 0 cut a cleanup, 0 lost, 0 not reached
 
 Exit status: 0, or 1 if a line is denied; the others are those of `run`.";
@@ -142,7 +141,7 @@ a task, its lines or its scopes.
 Example: two tasks act in the same tick, and one of them cancels the other.
 
     $ cat both.job
-    trio-job 1
+    trio-job 3
     job both {
       nursery pair {
         start a { sleep 5; cancel pair; }
@@ -164,7 +163,7 @@ job text cannot have is shown as `refused`.
 Example: how long a deadline do these two calls need?
 
     $ cat fetch.job
-    trio-job 1
+    trio-job 3
     job fetch {
       scope limit after 5 fail { sleep 3; sleep 4; }
     }
@@ -185,16 +184,17 @@ The same by the place of the number, which begins in column 21 of line 3:
 Exit status: 0; the others are those of `run`.";
 
 const FMT_EXAMPLE: &str =
-    "A block that is empty or holds one step without a block is written on one line, if that ends at column
-80 or before. The formatted text spells the same job, and formatting it again changes nothing.
+    "A block that is empty or holds one step without a block is written on one line, if there is no comment in
+it and that ends at column 80 or before. The formatted text spells the same job, with the same comments,
+and formatting it again changes nothing.
 
 Example:
 
     $ cat hedge.job
-    trio-job 1
+    trio-job 3
     job hedge { nursery both { start fast { sleep 2; cancel both; } start slow { sleep 9; } } }
     $ nursery fmt hedge.job
-    trio-job 1
+    trio-job 3
     job hedge {
       nursery both {
         start fast {
@@ -220,7 +220,7 @@ scope that nothing cancels; and a handler of an exception that nothing raises.
 Example:
 
     $ cat late.job
-    trio-job 1
+    trio-job 3
     job late {
       try { sleep 5; } except Timeout { find \"late\"; }
     }
@@ -266,7 +266,7 @@ Exit status: 0; the others are those of `check`.";
 const CHECK_EXAMPLE: &str = "Example:
 
     $ cat wait.job
-    trio-job 1
+    trio-job 3
     job main { sleep }
     $ nursery check wait.job
     refused J6 Syntax at 28
