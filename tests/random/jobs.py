@@ -1,7 +1,11 @@
 """Random jobs of all formats: nested lists of steps, each a tuple whose first part is its keyword, and their text."""
 
 import random
+import re
 
+from formats import TOKEN
+
+COMMENTS = [" # a note\n", "\n# on its own line: { \" } ; job\n", "#\n", "# one\n\n\t# and another # one\n  "]
 NEEDLES = ["er", "ok", "absent", "l"]
 NAMES = ["A", "B", "C"]
 
@@ -95,8 +99,16 @@ def random_job(seed, format_=None):
 
 
 def job_of_any_format(seed):
-    """The steps of a random job of format 1, 2 or 3, and its text."""
-    return random_job(seed, 3 if seed % 3 == 0 else None)
+    """The steps of a random job of format 1, 2 or 3, and its text. Every other text of format 3 has comments."""
+    steps, text = random_job(seed, 3 if seed % 3 == 0 else None)
+    return steps, with_comments(text, random.Random(seed)) if seed % 6 == 0 else text
+
+
+def with_comments(text, dice):
+    """A job text of format 3, with comments between some of its tokens, before the first and after the last."""
+    first, _, rest = text.partition("\n")
+    pieces = re.split(f"({TOKEN.pattern})", rest)
+    return first + "\n" + "".join(dice.choice(COMMENTS) if dice.random() < 0.15 and not re.fullmatch(TOKEN, it) else it for it in pieces)
 
 
 def text_of_block(steps):

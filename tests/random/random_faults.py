@@ -21,7 +21,7 @@ from concurrent.futures import ThreadPoolExecutor
 from jobs import job_of_any_format
 
 LIMIT = 1000
-TOKEN = re.compile(r'[A-Za-z][A-Za-z0-9_]*|[0-9]+|"(?:[^"\\]|\\.)*"|[{};]')
+PIECE = re.compile(r'[A-Za-z][A-Za-z0-9_]*|[0-9]+|"(?:[^"\\]|\\.)*"|[{};]|#[^\r\n]*')
 KINDS = {
     "sleep": ["fails", "fails late", "hangs", "cancelled"],
     "pace": ["fails", "fails late", "hangs", "cancelled"],
@@ -146,6 +146,11 @@ class Runs:
         return status == 2 or any(line.endswith(f"  raises {name}") for line in story.splitlines())
 
 
+def tokens_of(text):
+    """The tokens after the first line, each with its place."""
+    return [(found[0], found.start()) for found in PIECE.finditer(text, 11) if not found[0].startswith("#")]
+
+
 def step_text(tokens, at):
     end = next(n for n in range(at, len(tokens)) if tokens[n][0] == ";")
     return " ".join(token[0] for token in tokens[at:end]), tokens[end][1]
@@ -153,7 +158,7 @@ def step_text(tokens, at):
 
 def table(runs, text, name="Fault"):
     """The lines of a job."""
-    tokens = [(found[0], found.start()) for found in TOKEN.finditer(text) if found.start() >= 11]
+    tokens = tokens_of(text)
     outside, reached = fresh("outside", tokens), fresh("reached", tokens)
     start, end = next(at for token, at in tokens if token == "{"), tokens[-1][1]
     rows, kinds = [], []

@@ -14,8 +14,8 @@ import sys
 import tempfile
 from concurrent.futures import ThreadPoolExecutor
 
-from formats import TOKEN, formatted
-from jobs import job_of_any_format
+from formats import formatted, pieces_of
+from jobs import COMMENTS, job_of_any_format
 
 MOST_BYTES = 65536
 BLANKS = [" ", "  ", "\n", "\t", "\r\n", "\n\n  "]
@@ -26,16 +26,20 @@ class Wrong(Exception):
 
 
 def laid_out(text, choices):
-    """The same tokens with other blanks between them: none is needed where one of two neighbours is no word or number."""
+    """The same tokens with other blanks between them, and in format 3 sometimes comments: none is needed where one of two neighbours is no word or
+    number."""
     first, _, rest = text.partition("\n")
+    comments = COMMENTS if first.endswith("3") and choices.random() < 0.7 else []
     out, before = [first + "\n"], False
-    for token in TOKEN.findall(rest):
+    for token in pieces_of(rest)[0]:
         is_word = token[0].isalnum()
         if before and is_word or choices.random() < 0.5:
             out.append(choices.choice(BLANKS))
+        if comments and choices.random() < 0.1:
+            out.append(choices.choice(comments))
         out.append(token)
         before = is_word
-    return "".join(out)
+    return "".join(out) + choices.choice(["", "\n", *comments])
 
 
 def run(program, *words):

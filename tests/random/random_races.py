@@ -18,7 +18,7 @@ import tempfile
 from concurrent.futures import ThreadPoolExecutor
 
 from jobs import job_of_any_format
-from random_faults import LIMIT, TOKEN, Runs, Wrong, refusal_in
+from random_faults import LIMIT, Runs, Wrong, refusal_in, tokens_of
 
 MOST = 1_000_000_000
 FOREVER = 1_099_511_627_776
@@ -162,7 +162,7 @@ def place_text(text, at):
 
 def table(runs, text, limit=LIMIT):
     """The lines of a job that ends by the limit, or the line of the limit."""
-    tokens = [(found[0], found.start()) for found in TOKEN.finditer(text) if found.start() >= 11]
+    tokens = tokens_of(text)
     root, first = tokens[1][0], Shown(runs, text, limit)
     if first.stuck:
         return f"limit {limit}\n"

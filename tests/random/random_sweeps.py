@@ -16,7 +16,7 @@ import tempfile
 from concurrent.futures import ThreadPoolExecutor
 
 from jobs import job_of_any_format
-from random_faults import LIMIT, TOKEN, Runs, Wrong, replaced
+from random_faults import LIMIT, Runs, Wrong, replaced, tokens_of
 
 
 def told(runs, text):
@@ -72,7 +72,7 @@ def compared(program, seed):
     """Compares a sweep over one number of a random job. Gives the number of values."""
     dice = random.Random(seed)
     text = job_of_any_format(seed)[1]
-    tokens = [(found[0], found.start()) for found in TOKEN.finditer(text) if found.start() >= 11]
+    tokens = tokens_of(text)
     numbers = [n for n, (token, _) in enumerate(tokens) if token.isdigit()]
     if not numbers:
         return 0
