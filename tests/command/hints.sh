@@ -33,8 +33,8 @@ hints 'a blank follows the number: the first line ends right after it' 'trio-job
 hints 'a blank follows the number: the first line ends right after it' 'trio-job 2 \njob main { sleep 1; }\n'
 hints 'its line ends are carriage returns and newlines: save it with newlines alone' 'trio-job 1\r\njob main { sleep 1; }\r\n'
 
-job_hints 'a job text has no comments' '# wait'
-job_hints 'a job text has no comments' '// wait'
+job_hints 'format 3 has comments: begin the job text with the line `trio-job 3`' '# wait'
+job_hints 'a comment begins with `#`, in a job text of format 3' '// wait'
 job_hints 'times are whole ticks: choose a smaller tick, and multiply every number' 'sleep 0.5;'
 job_hints 'times are whole ticks: choose a smaller tick, and multiply every number' 'sleep .5;'
 dots='Trio'\''s names are written here without `trio.`: `sleep 1;`, `scope NAME after 5 { .. }`, `nursery NAME { .. }`'

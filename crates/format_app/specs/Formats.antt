@@ -12,7 +12,7 @@ use Rattle.format_app.specs.declared.verdict.FormatCheck.TheVariants as checks
 
 -- the text spells a job whose formatted text would have this number of bytes, more than a job text may have
 abbrev pub HasLongFormat : List ℕ → ℕ → Type 0
-HasLongFormat text bytes = (job : Tree) × Spells text job × IsTooLong job bytes
+HasLongFormat text bytes = (job : Tree) × Spells text job × IsTooLong text job bytes
 
 -- A verdict and its bytes: the formatted text of the job, the line of the refusal, or none.
 abbrev pub IsAnswer : List ℕ → FormatVerdict → List ℕ → Type 0
@@ -39,9 +39,9 @@ check_by_place (Some place) = checks.Differs place
 abbrev pub comparison : List ℕ → List ℕ → FormatCheck
 comparison text bytes = check_by_place (difference text bytes)
 
--- for a text that spells a job: the comparison with the formatted text of the job
+-- for a text that spells a job: the comparison with its formatted text
 abbrev pub IsComparison : List ℕ → FormatCheck → Type 0
-IsComparison text check = (job : Tree) × Spells text job × (check ≡ comparison text (formatted_text job))
+IsComparison text check = (job : Tree) × Spells text job × (check ≡ comparison text (formatted_text text job))
 
 -- the result of the check of a text
 abbrev pub IsCheck : List ℕ → FormatCheck → Type 0

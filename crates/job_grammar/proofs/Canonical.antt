@@ -1,8 +1,8 @@
 -- The canonical text of a job that some text spells also spells that job.
-use Rattle.std.proofs.Common.{◌≡◌, ℕ, ◌+◌, ◌≤◌, Bool, true, false, cond, List, [], ◌∷◌, ◌++◌, length, take, drop, Option, Some, None, inl, inr, refl, sym, ap, subst, ◌∙◌, arith}
+use Rattle.std.proofs.Common.{◌≡◌, ℕ, ◌+◌, ◌<◌, ◌≤◌, Bool, true, false, cond, eqb, ◌||◌, leb, ltb, List, [], ◌∷◌, ◌++◌, length, take, drop, Option, Some, None, ◌⊎◌, inl, inr, refl, sym, ap, subst, ◌∙◌, arith}
 use Rattle.std.specs.List.{prefix_len, list_all}
 use Rattle.std.proofs.lemmas.List.{length-append, length-drop, length-take}
-use Rattle.std.proofs.lemmas.Bool.{cases_lt}
+use Rattle.std.proofs.lemmas.Bool.{cases_lt, leb-true, eqb-true}
 use Rattle.job_tree.specs.declared.format.Format.{Format}
 use Rattle.job_tree.specs.declared.format.Format.TheVariants.{One, Two, Three}
 use Rattle.job_tree.specs.Tree.{Tree}
@@ -11,12 +11,12 @@ use Rattle.job_tokens.specs.declared.token.Shape.{Shape}
 use Rattle.job_tokens.specs.declared.token.Shape.TheVariants as shape
 use Rattle.job_tokens.specs.declared.token.Token.{Token}
 use Rattle.job_tokens.specs.Shapes.{shapes_of}
-use Rattle.job_tokens.specs.Lexing.{Lexes}
+use Rattle.job_tokens.specs.Lexing.{is_blank, is_plain, has_comments, Lexes}
 use Rattle.job_tokens.specs.Canon.{canon_of}
 use Rattle.job_tokens.proofs.Round_bytes.{and_parts}
 use Rattle.job_tokens.proofs.Round_tokens.{IsWritable, AreWritable, canon_lexes}
 use Rattle.job_tokens.proofs.Shortest_tokens.{IsSpelled, AreSpelled, canon_shortest, tokens_spelled}
-use Rattle.job_tokens.proofs.Ascii_texts.{canon_small}
+use Rattle.job_tokens.proofs.Ascii_texts.{is_small, canon_small}
 use Rattle.job_tree.specs.Names.{size_of}
 use Rattle.job_syntax.specs.declared.keyword.Keyword.{Keyword}
 use Rattle.job_syntax.specs.Pieces.{shapes_in, job_pieces}
@@ -34,9 +34,9 @@ use Rattle.job_checks.specs.Reserved.{reserved_in}
 use Rattle.job_checks.proofs.ByShapes.{twice_by_shapes, stray_by_shapes, reserved_by_shapes}
 use Rattle.job_grammar.specs.declared.fault.JobKind.{JobKind}
 use Rattle.job_grammar.specs.declared.fault.JobKind.TheVariants as kind
-use Rattle.job_grammar.specs.Refusals.{most_bytes, first_line, format_of, IsHeadless, is_ascii, HasTokens, AreTokensOf, IsOf, roles_of, stray_of, Finds, Spells}
+use Rattle.job_grammar.specs.Refusals.{most_bytes, first_line, format_of, IsHeadless, is_text_byte, may_have_comments, HasTokens, AreTokensOf, IsOf, roles_of, stray_of, Finds, Spells}
 use Rattle.job_grammar.specs.Canon.{canon}
-use Rattle.job_grammar.proofs.Passing.{format_is, none_of, small_enough, passes_one, passes_two, passes_three, passes_tokens, passes_numbers, passes_syntax, passes_depth, passes_given, passes_cancels, passes_reserved, passes_size, passes_all}
+use Rattle.job_grammar.proofs.Passing.{format_is, comments_by, none_of, small_enough, passes_one, passes_two, passes_three, passes_tokens, passes_numbers, passes_syntax, passes_depth, passes_given, passes_cancels, passes_reserved, passes_size, passes_all}
 
 -- ---- what depends only on the shapes
 
@@ -99,14 +99,49 @@ all_writable format before (t ∷ ts) are none =
 
 -- ---- the checks of the canonical text
 
-all_ascii : (bytes : List ℕ) → list_all is_ascii bytes ≡ true → length bytes ≤ prefix_len is_ascii bytes
-all_ascii [] all = omega arith
-all_ascii (b ∷ bytes) all =
-    let parts = and_parts (is_ascii b) (list_all is_ascii bytes) all in
-    rw parts.0 (omega (arith, all_ascii bytes parts.1))
+or_cases : (x y : Bool) → (x || y) ≡ true → (x ≡ true) ⊎ (y ≡ true)
+or_cases true y e = inl refl
+or_cases false y e = inr e
+
+small_is_below : (b : ℕ) → is_small b ≡ true → ltb b 128 ≡ true
+small_is_below b is = below (by_kind (or_cases (is_plain b) (is_blank b) is))
+  where
+    below : b < 128 → ltb b 128 ≡ true
+    below lt = grind arith
+
+    at : (n : ℕ) → n < 128 → eqb b n ≡ true → b < 128
+    at n lt e = omega (arith, lt, eqb-true b n e)
+
+    by_line : (eqb b 10 ≡ true) ⊎ (eqb b 13 ≡ true) → b < 128
+    by_line (inl e) = at 10 (omega arith) e
+    by_line (inr e) = at 13 (omega arith) e
+
+    by_space : (eqb b 32 ≡ true) ⊎ (eqb b 9 ≡ true) → b < 128
+    by_space (inl e) = at 32 (omega arith) e
+    by_space (inr e) = at 9 (omega arith) e
+
+    by_blank : ((eqb b 32 || eqb b 9) ≡ true) ⊎ ((eqb b 10 || eqb b 13) ≡ true) → b < 128
+    by_blank (inl e) = by_space (or_cases (eqb b 32) (eqb b 9) e)
+    by_blank (inr e) = by_line (or_cases (eqb b 10) (eqb b 13) e)
+
+    by_kind : (is_plain b ≡ true) ⊎ (is_blank b ≡ true) → b < 128
+    by_kind (inl e) = omega (arith, leb-true b 126 (and_parts (leb 32 b) (leb b 126) e).1)
+    by_kind (inr e) = by_blank (or_cases (eqb b 32 || eqb b 9) (eqb b 10 || eqb b 13) e)
+
+-- printable bytes and blanks are bytes of a text of each format
+small_is_text : (format : Format) (b : ℕ) → is_small b ≡ true → is_text_byte format b ≡ true
+small_is_text One b is = small_is_below b is
+small_is_text Two b is = small_is_below b is
+small_is_text Three b is = is
+
+all_text : (format : Format) (bytes : List ℕ) → list_all is_small bytes ≡ true → length bytes ≤ prefix_len (is_text_byte format) bytes
+all_text format [] all = omega arith
+all_text format (b ∷ bytes) all =
+    let parts = and_parts (is_small b) (list_all is_small bytes) all in
+    rw (small_is_text format b parts.0) (omega (arith, all_text format bytes parts.1))
 
 -- a text that passes each test spells the job of its tokens
-passing_spells : (text : List ℕ) (ts : List Token) (job : Tree) → length text ≤ most_bytes → length text ≤ prefix_len is_ascii text →
+passing_spells : (text : List ℕ) (ts : List Token) (job : Tree) → length text ≤ most_bytes → length text ≤ prefix_len (is_text_byte (format_of text)) text →
     take 11 text ≡ first_line job.format → IsOf text ts job → PassesTokens ts job → Spells text job
 passing_spells text ts job short ascii headed is_of found =
     let lexed = is_of.0 in
@@ -142,7 +177,7 @@ record IsHeaded (format : Format) (body : List ℕ) : Type 0 where
   pub line : take 11 (first_line format ++ body) ≡ first_line format
   pub rest : drop 11 (first_line format ++ body) ≡ body
   pub long : length (first_line format ++ body) ≡ 11 + length body
-  pub small : list_all is_ascii (first_line format ++ body) ≡ list_all is_ascii body
+  pub small : list_all is_small (first_line format ++ body) ≡ list_all is_small body
 
 headed_by : (format : Format) (body : List ℕ) → IsHeaded format body
 headed_by One body = record { line = refl; rest = refl; long = length-append (first_line One) body; small = refl }
@@ -151,17 +186,19 @@ headed_by Three body = record { line = refl; rest = refl; long = length-append (
 
 -- the first line, followed by tokens
 pub headed_spells : (limit : ℕ) (body : List ℕ) (job : Tree) (old : List Token) → limit ≤ most_bytes → 11 + length body ≤ limit →
-    list_all is_ascii body ≡ true
-    → (ts : List Token) → Lexes (11 + length body) body ts None → shapes_of ts ≡ shapes_of old → AreTokensOf old job →
+    list_all is_small body ≡ true
+    → (ts : List Token) → Lexes (has_comments job.format) (11 + length body) body ts None → shapes_of ts ≡ shapes_of old → AreTokensOf old job →
     PassesTokens old job → Spells (first_line job.format ++ body) job
-headed_spells limit body job old most short ascii ts lexed same are found =
+headed_spells limit body job old most short small ts lexed same are found =
     let text : List ℕ = first_line job.format ++ body in
     let headed = headed_by job.format body in
+    let of = format_is text job.format headed.line in
     let tokens : HasTokens text ts None =
-    subst (λ (n : ℕ). Lexes n (drop 11 text) ts None) (sym headed.long)
-    (subst (λ (bytes : List ℕ). Lexes (11 + length body) bytes ts None) (sym headed.rest) lexed) in
-    passing_spells text ts job (omega (arith, headed.long, short, most)) (all_ascii text (headed.small ∙ ascii)) headed.line
-    (tokens, (are.0, same ∙ are.1), format_is text job.format headed.line) (by_shapes old ts job (sym same) found)
+    subst (λ (comments : Bool). Lexes comments (length text) (drop 11 text) ts None) (comments_by text job.format of)
+    (subst (λ (n : ℕ). Lexes (has_comments job.format) n (drop 11 text) ts None) (sym headed.long)
+    (subst (λ (bytes : List ℕ). Lexes (has_comments job.format) (11 + length body) bytes ts None) (sym headed.rest) lexed)) in
+    passing_spells text ts job (omega (arith, headed.long, short, most)) (all_text (format_of text) text (headed.small ∙ small)) headed.line
+    (tokens, (are.0, same ∙ are.1), of) (by_shapes old ts job (sym same) found)
 
 -- the canonical text of a job whose tokens are those of some text that is long enough
 canon_again : (text : List ℕ) (job : Tree) (ts : List Token) → HasTokens text ts None → length text ≤ most_bytes → 11 ≤ length text →
@@ -169,13 +206,13 @@ canon_again : (text : List ℕ) (job : Tree) (ts : List Token) → HasTokens tex
 canon_again text job ts lexed short long are found =
     let same = are.1 in
     let shapes = shapes_in (job_pieces job) in
-    let spelled = tokens_spelled (length text) (drop 11 text) ts None lexed in
+    let spelled = tokens_spelled (may_have_comments text) (length text) (drop 11 text) ts None lexed in
     let written : AreWritable shapes = subst AreWritable same (all_writable job.format None ts spelled found.numbers) in
     let shortest : length (canon_of shapes) ≤ length (drop 11 text) =
     subst (λ (ss : List Shape). length (canon_of ss) ≤ length (drop 11 text)) same
-    (canon_shortest (length text) false (drop 11 text) ts tt lexed) in
+    (canon_shortest (may_have_comments text) (length text) false (drop 11 text) ts tt lexed) in
     let bound : 11 + length (canon_of shapes) ≤ length text = omega (arith, shortest, length-drop 11 text, long) in
-    let again = canon_lexes (11 + length (canon_of shapes)) false shapes written (omega arith) in (
+    let again = canon_lexes (has_comments job.format) (11 + length (canon_of shapes)) false shapes written (omega arith) in (
       headed_spells (length text) (canon_of shapes) job ts short bound (canon_small false shapes written)
           again.0 again.1 (again.2 ∙ sym same) are found,
       omega (arith, bound, (headed_by job.format (canon_of shapes)).long),

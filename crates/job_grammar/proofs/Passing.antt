@@ -11,6 +11,7 @@ use Rattle.job_tree.specs.Tree.{Tree}
 use Rattle.job_tree.specs.Formats.{most_steps}
 use Rattle.job_tokens.specs.declared.token.Token.{Token}
 use Rattle.job_tokens.specs.Shapes.{shapes_of}
+use Rattle.job_tokens.specs.Lexing.{has_comments}
 use Rattle.job_tokens.proofs.LeftToRight.{Lexes-unique}
 use Rattle.job_tree.specs.Names.{size_of}
 use Rattle.job_syntax.specs.declared.role.Role.{Role}
@@ -29,7 +30,7 @@ use Rattle.job_grammar.specs.declared.fault.JobKind.{JobKind}
 use Rattle.job_grammar.specs.declared.fault.JobKind.TheVariants as kind
 use Rattle.job_grammar.specs.declared.fault.JobFault.{JobFault}
 use Rattle.job_grammar.specs.Kinds.{number_of}
-use Rattle.job_grammar.specs.Refusals.{most_bytes, first_line, format_of, IsHeadless, is_ascii, HasTokens, IsOf, roles_of, stray_of, Finds, Passes, IsRefused, IsFair, AnswersUnlessMemory, Spells}
+use Rattle.job_grammar.specs.Refusals.{most_bytes, first_line, format_of, IsHeadless, is_text_byte, may_have_comments, HasTokens, IsOf, roles_of, stray_of, Finds, Passes, IsRefused, IsFair, AnswersUnlessMemory, Spells}
 
 next_pass : (text : List ℕ) (n : ℕ) → Passes text n → ((k : JobKind) (at : ℕ) → number_of k ≡ n + 1 → Finds k text at → ⊥) →
     Passes text (n + 1)
@@ -51,7 +52,7 @@ here_long : (text : List ℕ) → length text ≤ most_bytes → (k : JobKind) (
 here_long text short kind.TooLong at e finds = omega (arith, finds.0)
 here_long text short _ at e finds = absurd (omega arith)
 
-here_ascii : (text : List ℕ) → length text ≤ prefix_len is_ascii text → (k : JobKind) (at : ℕ) → number_of k ≡ 2 → Finds k text at → ⊥
+here_ascii : (text : List ℕ) → length text ≤ prefix_len (is_text_byte (format_of text)) text → (k : JobKind) (at : ℕ) → number_of k ≡ 2 → Finds k text at → ⊥
 here_ascii text all kind.NotAscii at e finds = omega (arith, finds.0, finds.1)
 here_ascii text all _ at e finds = absurd (omega arith)
 
@@ -84,8 +85,8 @@ here_version text format is _ at e finds = absurd (omega arith)
 pub passes_one : (text : List ℕ) → length text ≤ most_bytes → Passes text 1
 passes_one text short = next_pass text 0 (no_pass text) (here_long text short)
 
--- a text that passed the first check and is all ASCII passes the second
-pub passes_two : (text : List ℕ) → Passes text 1 → length text ≤ prefix_len is_ascii text → Passes text 2
+-- a text that passed the first check and has only bytes that it may have passes the second
+pub passes_two : (text : List ℕ) → Passes text 1 → length text ≤ prefix_len (is_text_byte (format_of text)) text → Passes text 2
 passes_two text before all = next_pass text 1 before (here_ascii text all)
 
 -- a text that passed these and begins with a first line passes the third
@@ -94,11 +95,16 @@ passes_three text format before is = next_pass text 2 before (here_version text 
 
 -- ---- the tokens
 
+-- a format says whether its texts have comments
+pub comments_by : (text : List ℕ) (format : Format) → format ≡ format_of text → has_comments format ≡ may_have_comments text
+unfolding may_have_comments
+comments_by text format of = ap has_comments of
+
 same_tokens : (text : List ℕ) (a b : List Token) (f g : Option ℕ) → HasTokens text a f → HasTokens text b g → a ≡ b
-same_tokens text a b f g p q = (Lexes-unique (length text) (drop 11 text) a b f g p q).0
+same_tokens text a b f g p q = (Lexes-unique (may_have_comments text) (length text) (drop 11 text) a b f g p q).0
 
 same_end : (text : List ℕ) (a b : List Token) (f g : Option ℕ) → HasTokens text a f → HasTokens text b g → f ≡ g
-same_end text a b f g p q = (Lexes-unique (length text) (drop 11 text) a b f g p q).1
+same_end text a b f g p q = (Lexes-unique (may_have_comments text) (length text) (drop 11 text) a b f g p q).1
 
 none_is_some : (o : Option ℕ) (at : ℕ) → o ≡ None → o ≡ Some at → ⊥
 none_is_some o at p q = cc

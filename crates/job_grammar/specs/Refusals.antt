@@ -1,5 +1,5 @@
 -- Which job a text spells, and why a text is refused.
-use Rattle.std.specs.Prelude.{◌≡◌, ◌≢◌, ◌⊎◌, ℕ, ◌<◌, ◌≤◌, Bool, false, nat_lt, List, [], length, take, drop, Option, Some, None, Result, Err, codes, if◌then◌else◌}
+use Rattle.std.specs.Prelude.{◌≡◌, ◌≢◌, ◌⊎◌, ℕ, ◌<◌, ◌≤◌, Bool, false, ◌||◌, nat_lt, List, [], length, take, drop, Option, Some, None, Result, Err, codes, if◌then◌else◌}
 use Rattle.std.specs.List.{prefix_len}
 use Rattle.std.specs.Str.{bytes_eq}
 use Rattle.job_tree.specs.declared.format.Format.{Format}
@@ -9,7 +9,7 @@ use Rattle.job_tree.specs.Names.{size_of}
 use Rattle.job_tree.specs.Formats.{most_steps}
 use Rattle.job_tokens.specs.declared.token.Token.{Token}
 use Rattle.job_tokens.specs.Shapes.{shapes_of}
-use Rattle.job_tokens.specs.Lexing.{Lexes}
+use Rattle.job_tokens.specs.Lexing.{is_blank, is_plain, has_comments, Lexes}
 use Rattle.job_syntax.specs.declared.role.Role.{Role}
 use Rattle.job_syntax.specs.Pieces.{shapes_in, roles_in, job_pieces, AreSteps}
 use Rattle.job_syntax.specs.Syntax.{LeavesAt, whole_job}
@@ -39,12 +39,18 @@ format_of text =
     if bytes_eq (take 11 text) (first_line Three) then Three
     else (if bytes_eq (take 11 text) (first_line Two) then Two else One)
 
-abbrev pub is_ascii : ℕ → Bool
-is_ascii b = nat_lt b 128
+-- The bytes of a text: those below 128, and in a format with comments only printable bytes and blanks, so that each job of
+-- that format is plain text.
+abbrev pub is_text_byte : Format → ℕ → Bool
+is_text_byte format b = if has_comments format then is_plain b || is_blank b else nat_lt b 128
+
+-- whether the text is of a format with comments
+unfoldable pub may_have_comments : List ℕ → Bool
+may_have_comments text = has_comments (format_of text)
 
 -- the tokens after the first line, up to a place from which no token can be read
 abbrev pub HasTokens : List ℕ → List Token → Option ℕ → Type 0
-HasTokens text tokens fault = Lexes (length text) (drop 11 text) tokens fault
+HasTokens text tokens fault = Lexes (may_have_comments text) (length text) (drop 11 text) tokens fault
 
 -- these are the tokens of this job
 abbrev pub AreTokensOf : List Token → Tree → Type 0
@@ -69,7 +75,7 @@ IsHeadless text = (format : Format) → take 11 text ≢ first_line format
 -- what the check for a kind finds, and where
 abbrev pub Finds : JobKind → List ℕ → ℕ → Type 0
 Finds kind.TooLong text at = (most_bytes < length text) × (at ≡ most_bytes)
-Finds kind.NotAscii text at = (prefix_len is_ascii text ≡ at) × (at < length text)
+Finds kind.NotAscii text at = (prefix_len (is_text_byte (format_of text)) text ≡ at) × (at < length text)
 Finds kind.Version text at = IsHeadless text × (at ≡ 0)
 Finds kind.Token text at = (tokens : List Token) × HasTokens text tokens (Some at)
 Finds kind.Number text at = (tokens : List Token) × HasTokens text tokens None × (number_fault (format_of text) None tokens ≡ Some at)

@@ -10,7 +10,8 @@ use thiserror::Error;
 pub enum JobKind {
     /// The text has more than 65,536 bytes. The place is 65536.
     TooLong,
-    /// A byte is above 127. The place is the first such byte.
+    /// A byte is above 127, or, in format 3, is neither printable nor a blank: space, tab, newline or carriage return. The
+    /// place is the first such byte.
     NotAscii,
     /// The text begins with none of the lines `trio-job 1`, `trio-job 2` and `trio-job 3`. The place is 0.
     Version,

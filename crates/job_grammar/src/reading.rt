@@ -2,13 +2,13 @@ ghost use Rattle.std.specs.Prelude.{◌≡◌, ℕ, drop, Ok, Err, IfOk, IfErr, 
 ghost use Rattle.std.specs.List.{prefix_len};
 ghost use Rattle.job_tree.specs.Tree.{Tree};
 ghost use Rattle.job_grammar.specs.declared.fault.JobKind.{JobKind};
-ghost use Rattle.job_grammar.specs.Refusals.{first_line, format_of, IsHeadless, is_ascii, IsReadTo, Passes, IsRefused, IsFair, IsOfSomeJob, Spells, AnswersUnlessMemory};
+ghost use Rattle.job_grammar.specs.Refusals.{first_line, format_of, IsHeadless, is_text_byte, IsReadTo, Passes, IsRefused, IsFair, IsOfSomeJob, Spells, AnswersUnlessMemory};
 
 use crate::draft::Draft;
 use crate::fault::{JobFault, JobKind, refuse_at};
 use crate::job::Job;
 use job_syntax::{GrammarCheck, Role, check_grammar, depth_fault, number_fault};
-use job_tokens::{Lexed, Token, lex};
+use job_tokens::{Lexed, Token, has_comments, is_blank, is_plain, lex};
 use job_tree::Format;
 use std::alloc::Global;
 
@@ -50,7 +50,7 @@ fn read(alloc: Global, text: &[u8]) -> Result<Job, JobFault>
     ensures { MatchResult result (Spells text.now) (IsFair text.now) }
 {
     let (format, body) = check_bytes(text)?;
-    let tokens = tokens_of(alloc, text, body)?;
+    let tokens = tokens_of(alloc, text, format, body)?;
     check_numbers(text, format, &tokens)?;
     let roles = roles_of(alloc, text, format, &tokens)?;
     check_depth(text, &tokens)?;
@@ -73,10 +73,10 @@ fn check_bytes(text: &[u8]) -> Result<(Format, &[u8]), JobFault>
             kind: JobKind::TooLong,
         });
     }
-    let ascii = count_ascii(text);
-    if ascii < text.len() {
+    let plain = count_text_bytes(format_of(text), text);
+    if plain < text.len() {
         return Err(JobFault {
-            at: ascii,
+            at: plain,
             kind: JobKind::NotAscii,
         });
     }
@@ -116,26 +116,43 @@ fn after_first_line(text: &[u8]) -> Option<(Format, &[u8])>
     None
 }
 
-// Returns the number of bytes before the first that is above 127.
-fn count_ascii(text: &[u8]) -> usize
-    ensures { result ≡ prefix_len is_ascii text.now }
+// Returns the number of bytes before the first that no text of the format has.
+fn count_text_bytes(format: Format, text: &[u8]) -> usize
+    ensures { result ≡ prefix_len (is_text_byte format) text.now }
 {
     for (n, b) in text.iter().enumerate() {
-        if *b >= 128 {
+        if !is_text_byte(format, *b) {
             return n;
         }
     }
     text.len()
 }
 
+// Returns whether a text of the format may have the byte.
+fn is_text_byte(format: Format, b: u8) -> bool
+    ensures { result ≡ is_text_byte format b }
+{
+    if has_comments(format) {
+        return is_plain(b) || is_blank(b);
+    }
+    b < 128
+}
+
 // Returns the tokens of the text. `body` is the text without its first line.
-fn tokens_of(alloc: Global, text: &[u8], body: &[u8]) -> Result<Vec<Token>, JobFault>
+#[tactic(auto, unfolding(crate::specs::Refusals::may_have_comments))]
+fn tokens_of(
+    alloc: Global,
+    text: &[u8],
+    format: Format,
+    body: &[u8],
+) -> Result<Vec<Token>, JobFault>
+    requires format { format ≡ format_of text.now }
     requires after { body.now ≡ drop 11 text.now }
     requires earlier { Passes text.now 3 }
     ensures ok { IfOk result (λ tokens. IsReadTo 4 text.now tokens.items) }
     ensures err { IfErr result (IsFair text.now) }
 {
-    let Lexed { tokens, fault } = lex(alloc, body, text.len())?;
+    let Lexed { tokens, fault } = lex(alloc, format, body, text.len())?;
     refuse_at(fault, JobKind::Token)?;
     Ok(tokens)
 }

@@ -2,17 +2,18 @@ ghost use Rattle.std.specs.Prelude.{◌≡◌, drop, None, IfOk};
 ghost use Rattle.job_grammar.specs.Refusals.{Spells, HasTokens};
 
 use crate::job::Job;
-use crate::reading::FIRST_LINE_LENGTH;
+use crate::reading::{FIRST_LINE_LENGTH, format_of};
 use job_tokens::{Lexed, Token, lex};
 use std::alloc::{AllocError, Global};
 
 /// Returns the tokens of a text. The caller must ensure that the text spells the job. The only error is that memory was
 /// refused.
+#[tactic(auto, unfolding(crate::specs::Refusals::may_have_comments))]
 pub fn spelled_tokens(alloc: Global, text: &[u8], job: &Job) -> Result<Vec<Token>, AllocError>
     requires { Spells text.now job.now }
     ensures { IfOk result (λ tokens. HasTokens text.now tokens.items None) }
 {
-    let Lexed { tokens, fault } = lex(alloc, after_first_line(text), text.len())?;
+    let Lexed { tokens, fault } = lex(alloc, format_of(text), after_first_line(text), text.len())?;
     match fault {
         None => Ok(tokens),
         Some(_) => unreachable!(),

@@ -1,5 +1,6 @@
 -- Columns that are capped at the maximum `u64`.
-use Rattle.std.proofs.Common.{◌≡◌, ℕ, zero, suc, ◌+◌, ◌-◌, ◌<◌, leb, List, [], ◌∷◌, ◌++◌, length, refl, ap, ◌∙◌, arith}
+use Rattle.std.proofs.Common.{◌≡◌, ℕ, zero, suc, ◌+◌, ◌-◌, ◌<◌, Bool, leb, min, List, [], ◌∷◌, ◌++◌, length, take, drop, refl, sym, ap, ◌∙◌, arith}
+use Rattle.std.proofs.lemmas.List.{take_min, drop_min}
 use Rattle.job_tokens.specs.Canon.{token}
 use Rattle.job_layout.specs.declared.spaced.Gap.{Gap}
 use Rattle.job_layout.specs.declared.spaced.Gap.TheVariants as gaps
@@ -52,3 +53,31 @@ next_by before t column end is at =
     let same : u64_saturate (column_after column (t ∷ [])) ≡ u64_saturate (column_after (column_after 0 before) (t ∷ [])) =
     capped_after column (column_after 0 before) (t ∷ []) (omega (arith, is)) in
     omega (arith, at, next, same, column_append 0 before (t ∷ []))
+
+-- ---- flags
+
+drop_next : (n : ℕ) (xs inner : List Bool) (first : Bool) → drop n xs ≡ first ∷ inner → drop (suc n) xs ≡ inner
+drop_next zero [] inner first e = absurd (no_first inner first e)
+  where
+    no_first : (ys : List Bool) (y : Bool) → [] ≡ y ∷ ys → ⊥
+    no_first ys y p = cc
+drop_next zero (x ∷ xs) inner first e = tail_of xs inner x first e
+  where
+    tail_of : (us vs : List Bool) (u v : Bool) → u ∷ us ≡ v ∷ vs → us ≡ vs
+    tail_of us vs u v p = cc
+drop_next (suc n) [] inner first e = absurd (no_first inner first e)
+  where
+    no_first : (ys : List Bool) (y : Bool) → [] ≡ y ∷ ys → ⊥
+    no_first ys y p = cc
+drop_next (suc n) (x ∷ xs) inner first e = drop_next n xs inner first e
+
+-- the flags of the tokens after the first of some tokens
+pub inner_flags : (bare from inner : List Bool) (first : Bool) (before count n less most : ℕ) → n ≡ min before (length bare) → from ≡ drop n bare →
+    from ≡ first ∷ inner → less ≡ count - 1 → most ≡ min less (length inner) → take most inner ≡ take (count - 1) (drop (before + 1) bare)
+inner_flags bare from inner first before count n less most is_n is_from split is_less is_most =
+    let k : before + 1 ≡ suc before = omega arith in
+    let after : drop before bare ≡ first ∷ inner =
+    sym (drop_min before bare) ∙ ap (λ (i : ℕ). drop i bare) (sym is_n) ∙ sym is_from ∙ split in
+    let same : drop (before + 1) bare ≡ inner = ap (λ (i : ℕ). drop i bare) k ∙ drop_next before bare inner first after in
+    ap (λ (i : ℕ). take i inner) (is_most ∙ ap (λ (i : ℕ). min i (length inner)) is_less) ∙ take_min (count - 1) inner
+    ∙ ap (take (count - 1)) (sym same)

@@ -1,5 +1,5 @@
 -- The tokens that are laid out are the tokens of the job, each apart from the one before it.
-use Rattle.std.proofs.Common.{◌≡◌, ℕ, ◌+◌, Bool, true, false, cond, List, [], ◌∷◌, ◌++◌, Option, Some, None, refl, sym, ap, ◌∙◌, append_assoc, append-nil}
+use Rattle.std.proofs.Common.{◌≡◌, ℕ, ◌+◌, Bool, true, false, cond, ◌&&◌, List, [], ◌∷◌, ◌++◌, Option, Some, None, refl, sym, ap, ◌∙◌, append_assoc, append-nil}
 use Rattle.job_tree.specs.declared.deadline.Deadline.TheVariants.{Never, After, At}
 use Rattle.job_tree.specs.Tree.{Step, scope, nursery, start, repeat, attempt, Steps, stop, step, Handled, unhandled, except, Cleaned, uncleaned, finally, Tree}
 use Rattle.job_tokens.specs.declared.token.Mark.TheVariants as mark
@@ -14,7 +14,7 @@ use Rattle.job_layout.specs.Heads.{head_of, is_plain}
 use Rattle.job_layout.specs.declared.spaced.Gap.TheVariants as gaps
 use Rattle.job_layout.specs.declared.spaced.SpacedToken.{SpacedToken}
 use Rattle.job_layout.specs.Spaced.{spaced_tokens, after_gap, mark_after}
-use Rattle.job_layout.specs.Layout.{open_mark, semicolon_mark, plain_block, one_line, fits, fitting_line, line_or, with_block, step_line, with_steps, with_rest, with_handler, with_cleanup, job_tokens}
+use Rattle.job_layout.specs.Layout.{open_mark, semicolon_mark, plain_block, one_line, fits, is_bare, fitting_line, line_or, with_block, step_line, with_steps, with_rest, with_handler, with_cleanup, job_tokens}
 use Rattle.job_layout.proofs.Lexes.{shapes_in, AreApart, AreApartAfter}
 
 abbrev Print : Type 0
@@ -142,10 +142,10 @@ line_prints stop = (λ rest. refl, (tt, (refl, tt)))
 line_prints (step s stop) = plain_prints s (is_plain s) refl
 line_prints (step s (step t ss)) = tt
 
-fitting_prints : (body : Steps) (old : List SpacedToken) (line : Option (List SpacedToken)) → PrintsIfSome body line →
-    PrintsIfSome body (fitting_line old line)
-fitting_prints body old None prints = tt
-fitting_prints body old (Some line) prints = by_test (fits old line)
+fitting_prints : (bare : List Bool) (body : Steps) (old : List SpacedToken) (line : Option (List SpacedToken)) → PrintsIfSome body line →
+    PrintsIfSome body (fitting_line bare old line)
+fitting_prints bare body old None prints = tt
+fitting_prints bare body old (Some line) prints = by_test (fits old line && is_bare bare old line)
   where
     by_test : (fit : Bool) → PrintsIfSome body (cond fit (Some line) None)
     by_test true = prints
@@ -155,9 +155,9 @@ fitting_prints body old (Some line) prints = by_test (fits old line)
 abbrev LaysSteps : Steps → (List SpacedToken → List SpacedToken) → Type 0
 LaysSteps body steps = (before : List SpacedToken) → Lays before (steps_pieces body) (steps before) (steps_pieces stop)
 
-block_lays : (level : ℕ) (body : Steps) (steps : List SpacedToken → List SpacedToken) (left : Print) → LaysSteps body steps →
-    (old : List SpacedToken) → Lays old (λ rest. block_onto body (left rest)) (with_block level body steps old) left
-block_lays level body steps left lays old = by_line (fitting_line old (one_line body)) (fitting_prints body old (one_line body) (line_prints body))
+block_lays : (bare : List Bool) (level : ℕ) (body : Steps) (steps : List SpacedToken → List SpacedToken) (left : Print) → LaysSteps body steps →
+    (old : List SpacedToken) → Lays old (λ rest. block_onto body (left rest)) (with_block bare level body steps old) left
+block_lays bare level body steps left lays old = by_line (fitting_line bare old (one_line body)) (fitting_prints bare body old (one_line body) (line_prints body))
   where
     by_line : (line : Option (List SpacedToken)) → PrintsIfSome body line →
         Lays old (λ rest. block_onto body (left rest)) (line_or level line steps old) left
@@ -173,67 +173,68 @@ block_lays level body steps left lays old = by_line (fitting_line old (one_line 
 -- ---- steps
 
 mutual
-  steps_lay : (level : ℕ) (ss : Steps) → LaysSteps ss (with_steps level ss)
-  steps_lay level stop before = lays_none before (steps_pieces stop)
-  steps_lay level (step s ss) before =
+  steps_lay : (bare : List Bool) (level : ℕ) (ss : Steps) → LaysSteps ss (with_steps bare level ss)
+  steps_lay bare level stop before = lays_none before (steps_pieces stop)
+  steps_lay bare level (step s ss) before =
       let line = step_line level s in
       let all = steps_pieces (step s ss) in
       let after : Print = λ rest. tail_onto s (steps_pieces ss rest) in
-      lays_both before (before ++ line) (with_steps level (step s ss) before) all after (steps_pieces stop)
+      lays_both before (before ++ line) (with_steps bare level (step s ss) before) all after (steps_pieces stop)
       (lays_more before line all after (λ rest. ap pieces_shapes (head_and_tail s (steps_pieces ss rest))
       ∙ head_front s (tail_onto s (steps_pieces ss rest))
       ∙ ap (λ (xs : List Shape). xs ++ pieces_shapes (tail_onto s (steps_pieces ss rest))) (sym (line_shapes level (head_of s))))
       (line_apart level (head_of s)))
-      (lays_both (before ++ line) (with_rest level s (before ++ line)) (with_steps level (step s ss) before) after (steps_pieces ss) (steps_pieces stop)
-      (rest_lays level s (steps_pieces ss) (before ++ line)) (steps_lay level ss (with_rest level s (before ++ line))))
+      (lays_both (before ++ line) (with_rest bare level s (before ++ line)) (with_steps bare level (step s ss) before) after (steps_pieces ss) (steps_pieces stop)
+      (rest_lays bare level s (steps_pieces ss) (before ++ line)) (steps_lay bare level ss (with_rest bare level s (before ++ line))))
 
-  rest_lays : (level : ℕ) (s : Step) (left : Print) (before : List SpacedToken) →
-      Lays before (λ rest. tail_onto s (left rest)) (with_rest level s before) left
-  rest_lays level (scope name deadline shield fail body) left before =
-      block_lays level body (with_steps (level + 1) body) left (steps_lay (level + 1) body) before
-  rest_lays level (nursery name deadline shield body) left before =
-      block_lays level body (with_steps (level + 1) body) left (steps_lay (level + 1) body) before
-  rest_lays level (start name over body) left before =
-      block_lays level body (with_steps (level + 1) body) left (steps_lay (level + 1) body) before
-  rest_lays level (repeat count body) left before =
-      block_lays level body (with_steps (level + 1) body) left (steps_lay (level + 1) body) before
-  rest_lays level (attempt body handler cleanup) left before =
-      let tried = with_block level body (with_steps (level + 1) body) before in
-      let handled = with_handler level handler tried in
-      lays_both before tried (with_cleanup level cleanup handled) (λ rest. tail_onto (attempt body handler cleanup) (left rest))
+  rest_lays : (bare : List Bool) (level : ℕ) (s : Step) (left : Print) (before : List SpacedToken) →
+      Lays before (λ rest. tail_onto s (left rest)) (with_rest bare level s before) left
+  rest_lays bare level (scope name deadline shield fail body) left before =
+      block_lays bare level body (with_steps bare (level + 1) body) left (steps_lay bare (level + 1) body) before
+  rest_lays bare level (nursery name deadline shield body) left before =
+      block_lays bare level body (with_steps bare (level + 1) body) left (steps_lay bare (level + 1) body) before
+  rest_lays bare level (start name over body) left before =
+      block_lays bare level body (with_steps bare (level + 1) body) left (steps_lay bare (level + 1) body) before
+  rest_lays bare level (repeat count body) left before =
+      block_lays bare level body (with_steps bare (level + 1) body) left (steps_lay bare (level + 1) body) before
+  rest_lays bare level (attempt body handler cleanup) left before =
+      let tried = with_block bare level body (with_steps bare (level + 1) body) before in
+      let handled = with_handler bare level handler tried in
+      lays_both before tried (with_cleanup bare level cleanup handled) (λ rest. tail_onto (attempt body handler cleanup) (left rest))
       (λ rest. handler_pieces handler (cleanup_pieces cleanup (left rest))) left
-      (block_lays level body (with_steps (level + 1) body) (λ rest. handler_pieces handler (cleanup_pieces cleanup (left rest)))
-      (steps_lay (level + 1) body) before)
-      (lays_both tried handled (with_cleanup level cleanup handled) (λ rest. handler_pieces handler (cleanup_pieces cleanup (left rest)))
+      (block_lays bare level body (with_steps bare (level + 1) body) (λ rest. handler_pieces handler (cleanup_pieces cleanup (left rest)))
+      (steps_lay bare (level + 1) body) before)
+      (lays_both tried handled (with_cleanup bare level cleanup handled) (λ rest. handler_pieces handler (cleanup_pieces cleanup (left rest)))
       (λ rest. cleanup_pieces cleanup (left rest)) left
-      (handler_lays level handler (λ rest. cleanup_pieces cleanup (left rest)) tried) (cleanup_lays level cleanup left handled))
-  rest_lays level _ left before = lays_more before (semicolon_mark ∷ []) (λ rest. ends ∷ left rest) left (λ rest. refl) (refl, tt)
+      (handler_lays bare level handler (λ rest. cleanup_pieces cleanup (left rest)) tried) (cleanup_lays bare level cleanup left handled))
+  rest_lays bare level _ left before = lays_more before (semicolon_mark ∷ []) (λ rest. ends ∷ left rest) left (λ rest. refl) (refl, tt)
 
-  handler_lays : (level : ℕ) (handler : Handled) (left : Print) (before : List SpacedToken) →
-      Lays before (λ rest. handler_pieces handler (left rest)) (with_handler level handler before) left
-  handler_lays level unhandled left before = lays_none before left
-  handler_lays level (except name body) left before =
+  handler_lays : (bare : List Bool) (level : ℕ) (handler : Handled) (left : Print) (before : List SpacedToken) →
+      Lays before (λ rest. handler_pieces handler (left rest)) (with_handler bare level handler before) left
+  handler_lays bare level unhandled left before = lays_none before left
+  handler_lays bare level (except name body) left before =
       let words = after_gap gaps.Space (pieces_shapes (keyword word.Except ∷ name_piece role.Handled name ∷ [])) in
-      lays_both before (before ++ words) (with_handler level (except name body) before) (λ rest. handler_pieces (except name body) (left rest))
+      lays_both before (before ++ words) (with_handler bare level (except name body) before) (λ rest. handler_pieces (except name body) (left rest))
       (λ rest. block_onto body (left rest)) left
       (lays_more before words (λ rest. handler_pieces (except name body) (left rest)) (λ rest. block_onto body (left rest)) (λ rest. refl) (tt, (tt, tt)))
-      (block_lays level body (with_steps (level + 1) body) left (steps_lay (level + 1) body) (before ++ words))
+      (block_lays bare level body (with_steps bare (level + 1) body) left (steps_lay bare (level + 1) body) (before ++ words))
 
-  cleanup_lays : (level : ℕ) (cleanup : Cleaned) (left : Print) (before : List SpacedToken) →
-      Lays before (λ rest. cleanup_pieces cleanup (left rest)) (with_cleanup level cleanup before) left
-  cleanup_lays level uncleaned left before = lays_none before left
-  cleanup_lays level (finally body) left before =
+  cleanup_lays : (bare : List Bool) (level : ℕ) (cleanup : Cleaned) (left : Print) (before : List SpacedToken) →
+      Lays before (λ rest. cleanup_pieces cleanup (left rest)) (with_cleanup bare level cleanup before) left
+  cleanup_lays bare level uncleaned left before = lays_none before left
+  cleanup_lays bare level (finally body) left before =
       let words = after_gap gaps.Space (pieces_shapes (keyword word.Finally ∷ [])) in
-      lays_both before (before ++ words) (with_cleanup level (finally body) before) (λ rest. cleanup_pieces (finally body) (left rest))
+      lays_both before (before ++ words) (with_cleanup bare level (finally body) before) (λ rest. cleanup_pieces (finally body) (left rest))
       (λ rest. block_onto body (left rest)) left
       (lays_more before words (λ rest. cleanup_pieces (finally body) (left rest)) (λ rest. block_onto body (left rest)) (λ rest. refl) (tt, tt))
-      (block_lays level body (with_steps (level + 1) body) left (steps_lay (level + 1) body) (before ++ words))
+      (block_lays bare level body (with_steps bare (level + 1) body) left (steps_lay bare (level + 1) body) (before ++ words))
 
 -- ---- a job
 
 -- the tokens of a job are those that it prints, and each but the first is apart
-pub job_lays : (job : Tree) → (shapes_in (job_tokens job) ≡ pieces_shapes (job_pieces job)) × AreApartAfter (job_tokens job)
-job_lays job =
+pub job_lays : (bare : List Bool) (job : Tree) →
+    (shapes_in (job_tokens bare job) ≡ pieces_shapes (job_pieces job)) × AreApartAfter (job_tokens bare job)
+job_lays bare job =
     let words = after_gap gaps.Joined (pieces_shapes (keyword word.Job ∷ name_piece role.Given job.name ∷ [])) in
-    let laid = block_lays 0 job.steps (with_steps 1 job.steps) (λ rest. rest) (steps_lay 1 job.steps) words in
-    (sym (laid.same [] ∙ append-nil (shapes_in (job_tokens job))), laid.apart (tt, tt))
+    let laid = block_lays bare 0 job.steps (with_steps bare 1 job.steps) (λ rest. rest) (steps_lay bare 1 job.steps) words in
+    (sym (laid.same [] ∙ append-nil (shapes_in (job_tokens bare job))), laid.apart (tt, tt))

@@ -1,4 +1,5 @@
+pub mod Counting
+pub mod Printing
 pub mod Lexes
 pub mod Laying
 pub mod Formatted
-pub mod Counting

@@ -7,7 +7,7 @@ use Rattle.job_grammar.specs.declared.fault.JobFault.{JobFault}
 use Rattle.job_grammar.specs.Refusals.{most_bytes, IsRefused, Spells}
 use Rattle.job_layout.specs.declared.fault.FormatFault.{FormatFault}
 use Rattle.job_layout.specs.declared.fault.FormatFault.TheVariants.{Refused, TooLong, NoMemory}
-use Rattle.job_layout.specs.Layout.{formatted_text}
+use Rattle.job_layout.specs.Layout.{comments_of, formatted_text}
 
 -- a refusal of a text, or that memory was refused
 abbrev pub fault_by : JobKind → JobFault → FormatFault
@@ -17,25 +17,20 @@ fault_by _ fault = Refused fault
 abbrev pub fault_of : JobFault → FormatFault
 fault_of fault = fault_by fault.kind fault
 
--- the formatted text of the job that a text spells
+-- the formatted text of the job that a text spells: it spells the same job, with the same comments before each token
 pub record IsFormatted (text bytes : List ℕ) : Type 0 where
   pub job : Tree
   pub spelled : Spells text job
-  pub same : bytes ≡ formatted_text job
+  pub same : bytes ≡ formatted_text text job
   pub again : Spells bytes job
+  pub kept : comments_of bytes job ≡ comments_of text job
 
--- a formatted text of this number of bytes, which is more than a job text may have
-abbrev pub IsTooLong : Tree → ℕ → Type 0
-IsTooLong job bytes = (bytes ≡ length (formatted_text job)) × (most_bytes < length (formatted_text job))
-
--- for a job: a formatted text that is too long, or that memory was refused
-abbrev pub IsFairFault : Tree → FormatFault → Type 0
-IsFairFault job (Refused fault) = ⊥
-IsFairFault job (TooLong bytes) = IsTooLong job bytes
-IsFairFault job NoMemory = Unit {0}
+-- the formatted text of a job as a text spells it has this number of bytes, which is more than a job text may have
+abbrev pub IsTooLong : List ℕ → Tree → ℕ → Type 0
+IsTooLong text job bytes = (bytes ≡ length (formatted_text text job)) × (most_bytes < length (formatted_text text job))
 
 -- for a text: a refusal, a formatted text of its job that is too long, or that memory was refused
 abbrev pub IsTextFault : List ℕ → FormatFault → Type 0
 IsTextFault text (Refused fault) = IsRefused text fault.kind fault.at
-IsTextFault text (TooLong bytes) = (job : Tree) × Spells text job × IsTooLong job bytes
+IsTextFault text (TooLong bytes) = (job : Tree) × Spells text job × IsTooLong text job bytes
 IsTextFault text NoMemory = Unit {0}

@@ -1,18 +1,23 @@
 -- The layout of a job text: one step on each line, two spaces for each level. A block that is empty or holds a single step
--- without a block is on one line with what it belongs to, if that line ends at column 80 or before.
-use Rattle.std.specs.Prelude.{ℕ, ◌+◌, Bool, true, false, nat_le, List, [], ◌∷◌, ◌++◌, Option, Some, None, if◌then◌else◌}
+-- without a block is on one line with what it belongs to, if there is no comment in it and that line ends at column 80 or
+-- before. `bare` says for each token whether there is no comment before it.
+use Rattle.std.specs.Prelude.{ℕ, ◌+◌, ◌-◌, Bool, true, false, ◌&&◌, ◌==◌, nat_le, List, [], ◌∷◌, ◌++◌, length, map, take, drop, Option, Some, None, if◌then◌else◌}
+use Rattle.std.specs.List.{list_all}
 use Rattle.job_tree.specs.Tree.{Step, scope, nursery, start, repeat, attempt, Steps, stop, step, Handled, unhandled, except, Cleaned, uncleaned, finally, Tree}
 use Rattle.job_tokens.specs.declared.token.Mark.TheVariants as mark
 use Rattle.job_tokens.specs.declared.token.Shape.{Shape}
+use Rattle.job_tokens.specs.Lexing.{has_comments}
+use Rattle.job_tokens.specs.Comments.{Comment, comments_along}
 use Rattle.job_syntax.specs.declared.keyword.Keyword.TheVariants as word
 use Rattle.job_syntax.specs.declared.role.Role.TheVariants as role
-use Rattle.job_syntax.specs.Pieces.{shapes_in, keyword, name_piece}
+use Rattle.job_syntax.specs.Pieces.{shapes_in, keyword, name_piece, job_pieces}
 use Rattle.job_grammar.specs.Refusals.{first_line}
 use Rattle.job_layout.specs.Heads.{head_of, is_plain}
 use Rattle.job_layout.specs.declared.spaced.Gap.TheVariants as gaps
 use Rattle.job_layout.specs.declared.spaced.SpacedToken.{SpacedToken}
 use Rattle.job_layout.specs.declared.layout.TheConstants.{MAX_COLUMNS}
-use Rattle.job_layout.specs.Spaced.{spaced_text, column_after, mark_after, spaced_tokens, after_gap}
+use Rattle.job_layout.specs.Commented.{first_of, others_of, lines_of, commented_text}
+use Rattle.job_layout.specs.Spaced.{column_after, mark_after, spaced_tokens, after_gap}
 
 -- ---- blocks on one line
 
@@ -38,10 +43,14 @@ one_line (step s (step t ss)) = None
 abbrev pub fits : List SpacedToken → List SpacedToken → Bool
 fits before ts = nat_le (column_after (column_after 0 before) ts) MAX_COLUMNS
 
+-- whether there is no comment between tokens that come after the ones before them
+abbrev pub is_bare : List Bool → List SpacedToken → List SpacedToken → Bool
+is_bare bare before ts = list_all (λ b. b) (take (length ts - 1) (drop (length before + 1) bare))
+
 -- a line, if it fits
-abbrev pub fitting_line : List SpacedToken → Option (List SpacedToken) → Option (List SpacedToken)
-fitting_line before None = None
-fitting_line before (Some line) = if fits before line then Some line else None
+abbrev pub fitting_line : List Bool → List SpacedToken → Option (List SpacedToken) → Option (List SpacedToken)
+fitting_line bare before None = None
+fitting_line bare before (Some line) = if fits before line && is_bare bare before line then Some line else None
 
 -- the line, or otherwise the steps on lines of their own
 abbrev pub line_or : ℕ → Option (List SpacedToken) → (List SpacedToken → List SpacedToken) → List SpacedToken → List SpacedToken
@@ -49,8 +58,8 @@ line_or level (Some line) steps before = before ++ line
 line_or level None steps before = steps (before ++ open_mark ∷ []) ++ mark_after (gaps.Line level) mark.Close ∷ []
 
 -- a block of a step at a level, after the tokens before it
-abbrev pub with_block : ℕ → Steps → (List SpacedToken → List SpacedToken) → List SpacedToken → List SpacedToken
-with_block level body steps before = line_or level (fitting_line before (one_line body)) steps before
+abbrev pub with_block : List Bool → ℕ → Steps → (List SpacedToken → List SpacedToken) → List SpacedToken → List SpacedToken
+with_block bare level body steps before = line_or level (fitting_line bare before (one_line body)) steps before
 
 -- the line that a step begins
 abbrev pub step_line : ℕ → Step → List SpacedToken
@@ -58,38 +67,54 @@ step_line level s = after_gap (gaps.Line level) (head_of s)
 
 abbrev mutual
   -- the steps of a block at a level, after the tokens before them
-  pub with_steps : ℕ → Steps → List SpacedToken → List SpacedToken
-  with_steps level stop before = before
-  with_steps level (step s ss) before = with_steps level ss (with_rest level s (before ++ step_line level s))
+  pub with_steps : List Bool → ℕ → Steps → List SpacedToken → List SpacedToken
+  with_steps bare level stop before = before
+  with_steps bare level (step s ss) before = with_steps bare level ss (with_rest bare level s (before ++ step_line level s))
 
   -- what follows the head of a step: its semicolon or its blocks
-  pub with_rest : ℕ → Step → List SpacedToken → List SpacedToken
-  with_rest level (scope name deadline shield fail body) before = with_block level body (with_steps (level + 1) body) before
-  with_rest level (nursery name deadline shield body) before = with_block level body (with_steps (level + 1) body) before
-  with_rest level (start name over body) before = with_block level body (with_steps (level + 1) body) before
-  with_rest level (repeat count body) before = with_block level body (with_steps (level + 1) body) before
-  with_rest level (attempt body handler cleanup) before =
-      with_cleanup level cleanup (with_handler level handler (with_block level body (with_steps (level + 1) body) before))
-  with_rest level _ before = before ++ semicolon_mark ∷ []
+  pub with_rest : List Bool → ℕ → Step → List SpacedToken → List SpacedToken
+  with_rest bare level (scope name deadline shield fail body) before = with_block bare level body (with_steps bare (level + 1) body) before
+  with_rest bare level (nursery name deadline shield body) before = with_block bare level body (with_steps bare (level + 1) body) before
+  with_rest bare level (start name over body) before = with_block bare level body (with_steps bare (level + 1) body) before
+  with_rest bare level (repeat count body) before = with_block bare level body (with_steps bare (level + 1) body) before
+  with_rest bare level (attempt body handler cleanup) before =
+      with_cleanup bare level cleanup (with_handler bare level handler (with_block bare level body (with_steps bare (level + 1) body) before))
+  with_rest bare level _ before = before ++ semicolon_mark ∷ []
 
-  pub with_handler : ℕ → Handled → List SpacedToken → List SpacedToken
-  with_handler level unhandled before = before
-  with_handler level (except name body) before = with_block level body (with_steps (level + 1) body)
+  pub with_handler : List Bool → ℕ → Handled → List SpacedToken → List SpacedToken
+  with_handler bare level unhandled before = before
+  with_handler bare level (except name body) before = with_block bare level body (with_steps bare (level + 1) body)
       (before ++ after_gap gaps.Space (shapes_in (keyword word.Except ∷ name_piece role.Handled name ∷ [])))
 
-  pub with_cleanup : ℕ → Cleaned → List SpacedToken → List SpacedToken
-  with_cleanup level uncleaned before = before
-  with_cleanup level (finally body) before = with_block level body (with_steps (level + 1) body)
+  pub with_cleanup : List Bool → ℕ → Cleaned → List SpacedToken → List SpacedToken
+  with_cleanup bare level uncleaned before = before
+  with_cleanup bare level (finally body) before = with_block bare level body (with_steps bare (level + 1) body)
       (before ++ after_gap gaps.Space (shapes_in (keyword word.Finally ∷ [])))
 
 -- one step at a level, after the tokens before it
-abbrev pub with_step : ℕ → Step → List SpacedToken → List SpacedToken
-with_step level s before = with_rest level s (before ++ step_line level s)
+abbrev pub with_step : List Bool → ℕ → Step → List SpacedToken → List SpacedToken
+with_step bare level s before = with_rest bare level s (before ++ step_line level s)
 
 -- the tokens of a job, without its first line
-abbrev pub job_tokens : Tree → List SpacedToken
-job_tokens job = with_block 0 job.steps (with_steps 1 job.steps) (after_gap gaps.Joined (shapes_in (keyword word.Job ∷ name_piece role.Given job.name ∷ [])))
+abbrev pub job_tokens : List Bool → Tree → List SpacedToken
+job_tokens bare job = with_block bare 0 job.steps (with_steps bare 1 job.steps)
+    (after_gap gaps.Joined (shapes_in (keyword word.Job ∷ name_piece role.Given job.name ∷ [])))
 
--- the formatted text of a job
-abbrev pub formatted_text : Tree → List ℕ
-formatted_text job = first_line job.format ++ (spaced_text (job_tokens job) ++ 10 ∷ [])
+-- ---- comments
+
+-- the comments before each token of a job in a text that spells it, and those after the last
+abbrev pub comments_of : List ℕ → Tree → List (List Comment)
+comments_of text job = comments_along true (length (shapes_in (job_pieces job))) (if has_comments job.format then drop 11 text else [])
+
+-- for each token, whether there is no comment before it
+abbrev pub bare_of : List (List Comment) → List Bool
+bare_of comments = map (λ before. length before == 0) comments
+
+-- the formatted text of a job with these comments before its tokens, and after the last
+abbrev pub text_with : List (List Comment) → Tree → List ℕ
+text_with comments job = first_line job.format ++ (lines_of (first_of comments)
+    ++ (commented_text 0 (job_tokens (bare_of comments) job) ([] ∷ others_of comments) ++ 10 ∷ []))
+
+-- the formatted text of a job as some text spells it
+abbrev pub formatted_text : List ℕ → Tree → List ℕ
+formatted_text text job = text_with (comments_of text job) job

@@ -1,5 +1,6 @@
 pub mod Heads
 pub mod Spaced
+pub mod Commented
 pub mod Layout
 pub mod Columns
 pub mod Faults

@@ -1,5 +1,5 @@
 -- Tokens with what comes between them, and the columns that they take.
-use Rattle.std.specs.Prelude.{ℕ, zero, suc, ◌+◌, ◌*◌, List, [], ◌∷◌, ◌++◌, length, map}
+use Rattle.std.specs.Prelude.{ℕ, zero, suc, ◌+◌, ◌*◌, List, [], ◌∷◌, length, map}
 use Rattle.job_tokens.specs.declared.token.Mark.{Mark}
 use Rattle.job_tokens.specs.declared.token.Shape.{Shape}
 use Rattle.job_tokens.specs.declared.token.Shape.TheVariants as shapes
@@ -17,11 +17,6 @@ abbrev pub gap_text : Gap → List ℕ
 gap_text gaps.Joined = []
 gap_text gaps.Space = 32 ∷ []
 gap_text (gaps.Line level) = 10 ∷ indent level
-
--- the text of tokens
-abbrev pub spaced_text : List SpacedToken → List ℕ
-spaced_text [] = []
-spaced_text (t ∷ ts) = (gap_text t.gap ++ token t.shape) ++ spaced_text ts
 
 -- the column at which a token begins, if the token before it ends at this column
 abbrev pub start_column : ℕ → Gap → ℕ

@@ -14,16 +14,20 @@ use job_syntax::Keyword;
 use job_tokens::{Mark, Shape};
 use std::alloc::{AllocError, Global};
 
-// Returns the tokens of a job, without its first line.
-pub(crate) fn tokens_of(alloc: Global, job: &Job) -> Result<Vec<SpacedToken>, AllocError>
-    ensures tokens { IfOk result (λ tokens. tokens.items ≡ job_tokens job.now) }
+// Returns the tokens of a job, without its first line. `bare` says for each token whether there is no comment before it.
+pub(crate) fn tokens_of(
+    alloc: Global,
+    bare: &[bool],
+    job: &Job,
+) -> Result<Vec<SpacedToken>, AllocError>
+    ensures tokens { IfOk result (λ tokens. tokens.items ≡ job_tokens bare.now job.now) }
     ensures spelled { OnOk result (IsReadable job.now) }
 {
     let mut head = Vec::new(alloc);
     push_named(&mut head, Keyword::Job, job.name())?;
     let mut layout = Layout::new(alloc);
     push_words(&mut layout, alloc, Gap::Joined, head.as_slice())?;
-    push_block(&mut layout, alloc, 0, job.steps())?;
+    push_block(&mut layout, alloc, bare, 0, job.steps())?;
     Ok(layout.into_tokens())
 }
 
@@ -46,50 +50,63 @@ fn push_words(
 fn push_steps(
     layout: &mut Layout,
     alloc: Global,
+    bare: &[bool],
     level: u64,
     steps: &[Step],
 ) -> Result<(), AllocError>
     requires { AreWithin (32 - level) (steps_of steps.now) }
-    ensures { OnOk result (layout.new ≡ with_steps level (steps_of steps.now) layout.old) }
+    ensures { OnOk result (layout.new ≡ with_steps bare.now level (steps_of steps.now) layout.old) }
 {
     let mut rest = steps;
     'steps: while let Some((first, others)) = rest.split_first() {
-        push_step(layout, alloc, level, first)?;
+        push_step(layout, alloc, bare, level, first)?;
         rest = others;
     }
     Ok(())
 }
 
 #[cycle(blocks)]
-fn push_step(layout: &mut Layout, alloc: Global, level: u64, step: &Step) -> Result<(), AllocError>
+fn push_step(
+    layout: &mut Layout,
+    alloc: Global,
+    bare: &[bool],
+    level: u64,
+    step: &Step,
+) -> Result<(), AllocError>
     requires { IsWithin (32 - level) (step_of step.now) }
-    ensures { OnOk result (layout.new ≡ with_step level (step_of step.now) layout.old) }
+    ensures { OnOk result (layout.new ≡ with_step bare.now level (step_of step.now) layout.old) }
 {
     let head = head_of(alloc, step)?;
     push_words(layout, alloc, Gap::Line(level), head.as_slice())?;
-    push_rest(layout, alloc, level, step)?;
+    push_rest(layout, alloc, bare, level, step)?;
     Ok(())
 }
 
 // Appends what follows the head of a step: its semicolon, or its blocks.
 #[cycle(blocks)]
-fn push_rest(layout: &mut Layout, alloc: Global, level: u64, step: &Step) -> Result<(), AllocError>
+fn push_rest(
+    layout: &mut Layout,
+    alloc: Global,
+    bare: &[bool],
+    level: u64,
+    step: &Step,
+) -> Result<(), AllocError>
     requires { IsWithin (32 - level) (step_of step.now) }
-    ensures { OnOk result (layout.new ≡ with_rest level (step_of step.now) layout.old) }
+    ensures { OnOk result (layout.new ≡ with_rest bare.now level (step_of step.now) layout.old) }
 {
     match step {
-        Step::Scope { body, .. } => push_block(layout, alloc, level, body.as_slice()),
-        Step::Nursery { body, .. } => push_block(layout, alloc, level, body.as_slice()),
-        Step::Start { body, .. } => push_block(layout, alloc, level, body.as_slice()),
-        Step::Repeat { body, .. } => push_block(layout, alloc, level, body.as_slice()),
+        Step::Scope { body, .. } => push_block(layout, alloc, bare, level, body.as_slice()),
+        Step::Nursery { body, .. } => push_block(layout, alloc, bare, level, body.as_slice()),
+        Step::Start { body, .. } => push_block(layout, alloc, bare, level, body.as_slice()),
+        Step::Repeat { body, .. } => push_block(layout, alloc, bare, level, body.as_slice()),
         Step::Try {
             body,
             handler,
             cleanup,
         } => {
-            push_block(layout, alloc, level, body.as_slice())?;
-            push_handler(layout, alloc, level, handler)?;
-            push_cleanup(layout, alloc, level, cleanup)?;
+            push_block(layout, alloc, bare, level, body.as_slice())?;
+            push_handler(layout, alloc, bare, level, handler)?;
+            push_cleanup(layout, alloc, bare, level, cleanup)?;
             Ok(())
         }
         _ => layout.push(alloc, Gap::Joined, Shape::Mark(Mark::Semicolon)),
@@ -100,11 +117,12 @@ fn push_rest(layout: &mut Layout, alloc: Global, level: u64, step: &Step) -> Res
 fn push_handler(
     layout: &mut Layout,
     alloc: Global,
+    bare: &[bool],
     level: u64,
     handler: &Option<Handler>,
 ) -> Result<(), AllocError>
     requires { IsHandlerWithin (32 - level) (handled_of handler.now) }
-    ensures { OnOk result (layout.new ≡ with_handler level (handled_of handler.now) layout.old) }
+    ensures { OnOk result (layout.new ≡ with_handler bare.now level (handled_of handler.now) layout.old) }
 {
     let Some(handler) = handler else {
         return Ok(());
@@ -112,7 +130,7 @@ fn push_handler(
     let mut head = Vec::new(alloc);
     push_named(&mut head, Keyword::Except, handler.name)?;
     push_words(layout, alloc, Gap::Space, head.as_slice())?;
-    push_block(layout, alloc, level, handler.body.as_slice())?;
+    push_block(layout, alloc, bare, level, handler.body.as_slice())?;
     Ok(())
 }
 
@@ -120,11 +138,12 @@ fn push_handler(
 fn push_cleanup(
     layout: &mut Layout,
     alloc: Global,
+    bare: &[bool],
     level: u64,
     cleanup: &Option<Body>,
 ) -> Result<(), AllocError>
     requires { IsCleanupWithin (32 - level) (cleaned_of cleanup.now) }
-    ensures { OnOk result (layout.new ≡ with_cleanup level (cleaned_of cleanup.now) layout.old) }
+    ensures { OnOk result (layout.new ≡ with_cleanup bare.now level (cleaned_of cleanup.now) layout.old) }
 {
     let Some(cleanup) = cleanup else {
         return Ok(());
@@ -132,7 +151,7 @@ fn push_cleanup(
     let mut head = Vec::new(alloc);
     push_keyword(&mut head, Keyword::Finally)?;
     push_words(layout, alloc, Gap::Space, head.as_slice())?;
-    push_block(layout, alloc, level, cleanup.as_slice())?;
+    push_block(layout, alloc, bare, level, cleanup.as_slice())?;
     Ok(())
 }
 
@@ -141,40 +160,45 @@ fn push_cleanup(
 fn push_block(
     layout: &mut Layout,
     alloc: Global,
+    bare: &[bool],
     level: u64,
     steps: &[Step],
 ) -> Result<(), AllocError>
     requires { IsNested level (steps_of steps.now) }
     ensures { OnOk result (layout.new
-        ≡ with_block level (steps_of steps.now) (with_steps (level + 1) (steps_of steps.now)) layout.old) }
+        ≡ with_block bare.now level (steps_of steps.now) (with_steps bare.now (level + 1) (steps_of steps.now)) layout.old) }
 {
-    match fitting_line(layout, alloc, steps)? {
+    match fitting_line(layout, alloc, bare, steps)? {
         Some(line) => {
             layout.extend(alloc, line.as_slice())?;
             Ok(())
         }
         None => {
             layout.push(alloc, Gap::Space, Shape::Mark(Mark::Open))?;
-            push_steps(layout, alloc, level + 1, steps)?;
+            push_steps(layout, alloc, bare, level + 1, steps)?;
             layout.push(alloc, Gap::Line(level), Shape::Mark(Mark::Close))?;
             Ok(())
         }
     }
 }
 
-// Returns the block on one line, if it may be on one line and fits on the current one.
+// Returns the block on one line, if it may be on one line, fits on the current one and has no comment in it.
 fn fitting_line(
     layout: &Layout,
     alloc: Global,
+    bare: &[bool],
     steps: &[Step],
 ) -> Result<Option<Vec<SpacedToken>>, AllocError>
-    ensures { IfOk result (λ line. MatchOption line (fitting_line layout.now (one_line (steps_of steps.now)) ≡ None)
-        (λ found. fitting_line layout.now (one_line (steps_of steps.now)) ≡ Some found.items)) }
+    ensures { IfOk result (λ line. MatchOption line (fitting_line bare.now layout.now (one_line (steps_of steps.now)) ≡ None)
+        (λ found. fitting_line bare.now layout.now (one_line (steps_of steps.now)) ≡ Some found.items)) }
 {
     let Some(line) = one_line(alloc, steps)? else {
         return Ok(None);
     };
     if !layout.fits(alloc, line.as_slice())? {
+        return Ok(None);
+    }
+    if !layout.is_bare(bare, line.as_slice()) {
         return Ok(None);
     }
     Ok(Some(line))

@@ -1,7 +1,8 @@
-ghost use Rattle.std.specs.Prelude.{◌≡◌, ◌++◌, ◌∷◌, [], ◌+◌, length, OnOk, IfOk};
+ghost use Rattle.std.specs.Prelude.{◌≡◌, ◌++◌, ◌∷◌, [], ◌+◌, ◌-◌, length, take, drop, OnOk, IfOk};
+ghost use Rattle.std.specs.List.{list_all};
 ghost use Rattle.job_tokens.specs.Canon.{token};
 ghost use Rattle.job_layout.specs.Spaced.{column_after, start_column, with_gap};
-ghost use Rattle.job_layout.specs.Layout.{fits};
+ghost use Rattle.job_layout.specs.Layout.{fits, is_bare};
 ghost use Rattle.std.specs.Io.Iter.{u64_saturate};
 
 use crate::spaced::{Gap, SpacedToken, width};
@@ -73,12 +74,38 @@ impl Layout {
         Ok(column <= MAX_COLUMNS)
     }
 
+    // Returns whether there is no comment between these tokens, after the ones so far. `bare` says for each token whether there
+    // is no comment before it.
+    pub(crate) fn is_bare(&self, bare: &[bool], tokens: &[SpacedToken]) -> bool
+        ensures { result ≡ is_bare bare.now self.now tokens.now }
+    {
+        are_bare(bare, self.tokens.len(), tokens.len())
+    }
+
     // Returns the tokens.
     pub(crate) fn into_tokens(self) -> Vec<SpacedToken>
         ensures { result.items ≡ self }
     {
         self.tokens
     }
+}
+
+// Returns whether there is no comment before each but the first of `count` tokens after the first `before`.
+fn are_bare(bare: &[bool], before: usize, count: usize) -> bool
+    ensures { result ≡ list_all (λ b. b) (take (count - 1) (drop (before + 1) bare.now)) }
+{
+    let (_, from) = bare.split_at(before.min(bare.len()));
+    let Some((_, inner)) = from.split_first() else {
+        return true;
+    };
+    let (inner, _) = inner.split_at(count.saturating_sub(1).min(inner.len()));
+    are_all_true(inner)
+}
+
+fn are_all_true(flags: &[bool]) -> bool
+    ensures { result ≡ list_all (λ b. b) flags.now }
+{
+    flags.iter().all(|flag| *flag)
 }
 
 // Returns the column at which the tokens end, if the token before them ends at `column`.

@@ -1,15 +1,15 @@
--- Canonical texts have only bytes below 128.
-use Rattle.std.proofs.Common.{◌≡◌, ℕ, ◌+◌, ◌/◌, ◌%◌, ◌<◌, Bool, true, false, eqb, ◌&&◌, ◌||◌, leb, ltb, List, [], ◌∷◌, ◌++◌, length, Some, None, ◌⊎◌, inl, inr, refl, ap, ◌∙◌, arith}
+-- Canonical texts have only bytes that a text of each format may have.
+use Rattle.std.proofs.Common.{◌≡◌, ℕ, ◌+◌, ◌/◌, ◌%◌, ◌<◌, ◌≤◌, Bool, true, false, eqb, ◌&&◌, ◌||◌, leb, ltb, List, [], ◌∷◌, ◌++◌, length, Some, None, ◌⊎◌, inl, inr, refl, ap, ◌∙◌, arith}
 use Rattle.std.specs.List.{list_all, flat_map}
 use Rattle.std.specs.Fmt.{decimal}
-use Rattle.std.proofs.lemmas.Bool.{leb-true, eqb-true}
+use Rattle.std.proofs.lemmas.Bool.{leb-true, ltb-true, eqb-true}
 use Rattle.std.proofs.lemmas.List.Folds.{list_all-append}
 use Rattle.job_tree.specs.Words.{is_letter, is_digit, is_word_byte, starts_word}
 use Rattle.job_tokens.specs.declared.token.Mark.{Mark}
 use Rattle.job_tokens.specs.declared.token.Mark.TheVariants as mark
 use Rattle.job_tokens.specs.declared.token.Shape.{Shape}
 use Rattle.job_tokens.specs.declared.token.Shape.TheVariants as shape
-use Rattle.job_tokens.specs.Lexing.{is_plain}
+use Rattle.job_tokens.specs.Lexing.{is_plain, is_blank}
 use Rattle.digits.specs.Hex.{hex_digit}
 use Rattle.job_tokens.specs.Canon.{unit, mark_byte, token, is_wordlike, gap, canon_after}
 use Rattle.job_tokens.proofs.Round_bytes.{and_parts, and_whole, either_way}
@@ -17,11 +17,15 @@ use Rattle.job_tokens.proofs.Round_numbers.{digits_of_number}
 use Rattle.job_tokens.proofs.Round_strings.{AreBytes}
 use Rattle.job_tokens.proofs.Round_tokens.{IsWritable, AreWritable}
 
+-- printable bytes, and blanks
 abbrev pub is_small : ℕ → Bool
-is_small b = ltb b 128
+is_small b = is_plain b || is_blank b
 
-small : (b : ℕ) → b < 128 → is_small b ≡ true
-small b lt = grind arith
+or_left : (x y : Bool) → x ≡ true → (x || y) ≡ true
+or_left x y e = rw e refl
+
+small : (b : ℕ) → 32 ≤ b → b ≤ 126 → is_small b ≡ true
+small b low high = or_left (is_plain b) (is_blank b) (and_whole (leb 32 b) (leb b 126) (grind arith) (grind arith))
 
 or_cases : (a b : Bool) → (a || b) ≡ true → (a ≡ true) ⊎ (b ≡ true)
 or_cases true b e = inl refl
@@ -37,14 +41,20 @@ all_append : (xs ys : List ℕ) → list_all is_small xs ≡ true → list_all i
 all_append xs ys p q = list_all-append is_small xs ys ∙ and_whole (list_all is_small xs) (list_all is_small ys) p q
 
 digit_small : (b : ℕ) → is_digit b ≡ true → is_small b ≡ true
-digit_small b is = small b (omega (arith, leb-true b 57 (and_parts (leb 48 b) (leb b 57) is).1))
+digit_small b is =
+    let parts = and_parts (leb 48 b) (leb b 57) is in
+    small b (omega (arith, leb-true 48 b parts.0)) (omega (arith, leb-true b 57 parts.1))
 
 letter_small : (b : ℕ) → is_letter b ≡ true → is_small b ≡ true
 letter_small b is = by_case (or_cases (leb 65 b && leb b 90) (leb 97 b && leb b 122) is)
   where
     by_case : ((leb 65 b && leb b 90) ≡ true) ⊎ ((leb 97 b && leb b 122) ≡ true) → is_small b ≡ true
-    by_case (inl t) = small b (omega (arith, leb-true b 90 (and_parts (leb 65 b) (leb b 90) t).1))
-    by_case (inr t) = small b (omega (arith, leb-true b 122 (and_parts (leb 97 b) (leb b 122) t).1))
+    by_case (inl t) =
+        let parts = and_parts (leb 65 b) (leb b 90) t in
+        small b (omega (arith, leb-true 65 b parts.0)) (omega (arith, leb-true b 90 parts.1))
+    by_case (inr t) =
+        let parts = and_parts (leb 97 b) (leb b 122) t in
+        small b (omega (arith, leb-true 97 b parts.0)) (omega (arith, leb-true b 122 parts.1))
 
 word_byte_small : (b : ℕ) → is_word_byte b ≡ true → is_small b ≡ true
 word_byte_small b is = by_line (or_cases (is_letter b || is_digit b) (eqb b 95) is)
@@ -55,14 +65,14 @@ word_byte_small b is = by_line (or_cases (is_letter b || is_digit b) (eqb b 95) 
 
     by_line : ((is_letter b || is_digit b) ≡ true) ⊎ (eqb b 95 ≡ true) → is_small b ≡ true
     by_line (inl t) = by_letter (or_cases (is_letter b) (is_digit b) t)
-    by_line (inr t) = small b (omega (arith, eqb-true b 95 t))
+    by_line (inr t) = small b (omega (arith, eqb-true b 95 t)) (omega (arith, eqb-true b 95 t))
 
 hex_small : (d : ℕ) → d < 16 → is_small (hex_digit d) ≡ true
 hex_small d lt = by_test (either_way (ltb d 10))
   where
     by_test : (ltb d 10 ≡ true) ⊎ (ltb d 10 ≡ false) → is_small (hex_digit d) ≡ true
-    by_test (inl t) = rw t (small (d + 48) (omega arith))
-    by_test (inr f) = rw f (small (d + 87) (omega arith))
+    by_test (inl t) = rw t (small (d + 48) (omega arith) (omega (arith, ltb-true d 10 t)))
+    by_test (inr f) = rw f (small (d + 87) (omega arith) (omega arith))
 
 unit_small : (b : ℕ) → b < 256 → list_all is_small (unit b) ≡ true
 unit_small b lt = by_escape (either_way (eqb b 34 || eqb b 92))
@@ -71,13 +81,13 @@ unit_small b lt = by_escape (either_way (eqb b 34 || eqb b 92))
     one x e = and_whole (is_small x) true e refl
 
     escaped : (eqb b 34) ≡ true ⊎ (eqb b 92) ≡ true → is_small b ≡ true
-    escaped (inl t) = small b (omega (arith, eqb-true b 34 t))
-    escaped (inr t) = small b (omega (arith, eqb-true b 92 t))
+    escaped (inl t) = small b (omega (arith, eqb-true b 34 t)) (omega (arith, eqb-true b 34 t))
+    escaped (inr t) = small b (omega (arith, eqb-true b 92 t)) (omega (arith, eqb-true b 92 t))
 
     by_plain : (eqb b 34 || eqb b 92) ≡ false → (is_plain b ≡ true) ⊎ (is_plain b ≡ false) → list_all is_small (unit b) ≡ true
     by_plain e (inl t) =
         let spelled : unit b ≡ b ∷ [] = rw (e, t) refl in
-        ap (list_all is_small) spelled ∙ one b (small b (omega (arith, leb-true b 126 (and_parts (leb 32 b) (leb b 126) t).1)))
+        ap (list_all is_small) spelled ∙ one b (or_left (is_plain b) (is_blank b) t)
     by_plain e (inr f) =
         let spelled : unit b ≡ 92 ∷ 120 ∷ hex_digit (b / 16) ∷ hex_digit (b % 16) ∷ [] = rw (e, f) refl in
         ap (list_all is_small) spelled ∙ and_whole (is_small (hex_digit (b / 16))) (is_small (hex_digit (b % 16)) && true)
@@ -113,7 +123,7 @@ gap_small true false = refl
 gap_small false true = refl
 gap_small false false = refl
 
--- the canonical text of tokens that can be written is all ASCII
+-- the canonical text of tokens that can be written has only such bytes
 pub canon_small : (before : Bool) (ss : List Shape) → AreWritable ss → list_all is_small (canon_after before ss) ≡ true
 canon_small before [] are = refl
 canon_small before (s ∷ ss) are =

@@ -9,3 +9,4 @@ pub mod Round_tokens
 pub mod Shortest_texts
 pub mod Shortest_tokens
 pub mod Ascii_texts
+pub mod Between

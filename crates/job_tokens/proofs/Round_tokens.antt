@@ -1,5 +1,5 @@
 -- Tokens are read back from their canonical bytes.
-use Rattle.std.proofs.Common.{◌≡◌, ℕ, ◌+◌, ◌-◌, ◌<◌, ◌≤◌, Bool, true, false, cond, eqb, ◌&&◌, ◌||◌, leb, List, [], ◌∷◌, ◌++◌, length, drop, Some, None, ◌⊎◌, inl, inr, refl, sym, ap, subst, ◌∙◌, append_assoc, arith}
+use Rattle.std.proofs.Common.{◌≡◌, ℕ, ◌+◌, ◌-◌, ◌<◌, ◌≤◌, Bool, true, false, cond, eqb, ◌&&◌, ◌||◌, leb, List, [], ◌∷◌, ◌++◌, length, Option, Some, None, ◌⊎◌, inl, inr, refl, sym, ap, subst, ◌∙◌, append_assoc, arith}
 use Rattle.std.specs.List.{prefix_len, list_all}
 use Rattle.std.specs.Fmt.{decimal}
 use Rattle.std.proofs.lemmas.Bool.{cond-true, leb-true, eqb-true}
@@ -13,7 +13,7 @@ use Rattle.job_tokens.specs.declared.token.Shape.TheVariants as shape
 use Rattle.job_tokens.specs.declared.token.Token.{Token}
 use Rattle.job_tokens.specs.Shapes.{shapes_of}
 use Rattle.job_tree.specs.declared.limits.TheConstants.{MAX_NUMBER}
-use Rattle.job_tokens.specs.Lexing.{is_blank, after_blanks, token_at, word_at, number_at, Lexes}
+use Rattle.job_tokens.specs.Lexing.{is_blank, separates, past, skipped, after_blanks, token_at, word_at, number_at, Lexes}
 use Rattle.job_tokens.specs.Canon.{mark_byte, token, is_wordlike, gap, canon_after}
 use Rattle.job_tokens.proofs.Round_bytes.{and_parts, either_way}
 use Rattle.job_tokens.proofs.Round_words.{word_again, token_unless_word, token_unless_number}
@@ -63,6 +63,17 @@ word_byte_not_blank b is = by_test (either_way (is_blank b))
         (blank_cases (λ x. is_word_byte x ≡ false) b refl refl refl refl blank))
     by_test (inr none) = none
 
+-- a byte of a word begins no comment
+word_byte_no_comment : (b : ℕ) → is_word_byte b ≡ true → eqb b 35 ≡ false
+word_byte_no_comment b is = by_test (either_way (eqb b 35))
+  where
+    by_test : (eqb b 35 ≡ true) ⊎ (eqb b 35 ≡ false) → eqb b 35 ≡ false
+    by_test (inl t) = absurd (true_not_false (is_word_byte b) is (subst (λ (x : ℕ). is_word_byte x ≡ false) (sym (eqb-true b 35 t)) refl))
+    by_test (inr f) = f
+
+word_byte_begins : (b : ℕ) → is_word_byte b ≡ true → separates true false b ≡ None
+word_byte_begins b is = rw (word_byte_not_blank b is, word_byte_no_comment b is) refl
+
 -- a letter is a byte of a word
 pub letter_in_word : (b : ℕ) → is_letter b ≡ true → is_word_byte b ≡ true
 letter_in_word b is = or_left (is_letter b) (is_digit b) (eqb b 95) is
@@ -71,28 +82,36 @@ letter_in_word b is = or_left (is_letter b) (is_digit b) (eqb b 95) is
     or_left true y z e = refl
     or_left false y z e = absurd cc
 
--- the first byte is not a blank
+-- the first byte is neither a blank nor the first of a comment
 abbrev pub BeginsAToken : List ℕ → Type 0
 BeginsAToken [] = ⊥
-BeginsAToken (b ∷ bytes) = is_blank b ≡ false
+BeginsAToken (b ∷ bytes) = separates true false b ≡ None
+
+-- such a byte begins a token whether the text may have comments or not
+begins_in_each : (comments : Bool) (b : ℕ) → separates true false b ≡ None → separates comments false b ≡ None
+begins_in_each true b begins = begins
+begins_in_each false b begins = by_test (either_way (is_blank b))
+  where
+    by_test : (is_blank b ≡ true) ⊎ (is_blank b ≡ false) → separates false false b ≡ None
+    by_test (inl t) = absurd (blank_begins (ap (λ (x : Bool). cond x (Some false) (cond (true && eqb b 35) (Some true) None)) t) begins)
+      where
+        blank_begins : {o : Option Bool} {x : Bool} → o ≡ Some x → o ≡ None → ⊥
+        blank_begins p q = cc
+    by_test (inr f) = rw f refl
 
 -- before a token there are no blanks to leave out
-pub no_blanks : (bytes : List ℕ) → BeginsAToken bytes → after_blanks bytes ≡ bytes
-no_blanks [] begins = absurd begins
-no_blanks (b ∷ bytes) begins = rw begins refl
+pub no_blanks : (comments : Bool) (bytes : List ℕ) → BeginsAToken bytes → after_blanks comments bytes ≡ bytes
+no_blanks comments [] begins = absurd begins
+no_blanks comments (b ∷ bytes) begins =
+    ap (λ (o : Option Bool). past o (b ∷ bytes) (λ (further : Bool). skipped comments further bytes)) (begins_in_each comments b begins)
 
-one_blank : (bytes : List ℕ) → BeginsAToken bytes → after_blanks (32 ∷ bytes) ≡ bytes
-one_blank [] begins = absurd begins
-one_blank (b ∷ bytes) begins = let k : 1 + prefix_len is_blank (b ∷ bytes) ≡ 1 =
-    ap (λ (x : Bool). 1 + cond x (1 + prefix_len is_blank bytes) 0) begins in ap (λ (n : ℕ). drop n (32 ∷ b ∷ bytes)) k
+after_gap : (comments x y : Bool) (bytes : List ℕ) → BeginsAToken bytes → after_blanks comments (gap x y ++ bytes) ≡ bytes
+after_gap comments true true bytes begins = no_blanks comments bytes begins
+after_gap comments true false bytes begins = no_blanks comments bytes begins
+after_gap comments false true bytes begins = no_blanks comments bytes begins
+after_gap comments false false bytes begins = no_blanks comments bytes begins
 
-after_gap : (x y : Bool) (bytes : List ℕ) → BeginsAToken bytes → after_blanks (gap x y ++ bytes) ≡ bytes
-after_gap true true bytes begins = one_blank bytes begins
-after_gap true false bytes begins = no_blanks bytes begins
-after_gap false true bytes begins = no_blanks bytes begins
-after_gap false false bytes begins = no_blanks bytes begins
-
-mark_begins : (m : Mark) → is_blank (mark_byte m) ≡ false
+mark_begins : (m : Mark) → separates true false (mark_byte m) ≡ None
 mark_begins mark.Open = refl
 mark_begins mark.Close = refl
 mark_begins mark.Semicolon = refl
@@ -103,17 +122,17 @@ digits_begin : (ds rest : List ℕ) → 0 < length ds → list_all is_digit ds �
 digits_begin [] rest some all = absurd (omega arith)
 digits_begin (b ∷ ds) rest some all = (b, ds, refl, (and_parts (is_digit b) (list_all is_digit ds) all).0)
 
--- the canonical text of a token does not begin with a blank
+-- the canonical text of a token begins with neither a blank nor a comment
 pub token_begins : (s : Shape) (rest : List ℕ) → IsWritable s → BeginsAToken (token s ++ rest)
 token_begins (shape.Word []) rest is = absurd cc
 token_begins (shape.Word (b ∷ word)) rest is =
     let parts = and_parts (starts_word (b ∷ word) && list_all is_word_byte (b ∷ word)) (leb (length (b ∷ word)) 32) is in
-    word_byte_not_blank b (letter_in_word b (and_parts (is_letter b) (list_all is_word_byte (b ∷ word)) parts.0).0)
+    word_byte_begins b (letter_in_word b (and_parts (is_letter b) (list_all is_word_byte (b ∷ word)) parts.0).0)
 token_begins (shape.Number None) rest is = absurd is
 token_begins (shape.Number (Some n)) rest le =
     let are = digits_of_number n (omega arith) in
     let first = digits_begin (decimal n) rest (decimal_nonempty n (omega arith)) are.all in
-    subst (λ (ds : List ℕ). BeginsAToken (ds ++ rest)) (sym first.2) (word_byte_not_blank first.0 (digit_in_word first.0 first.3))
+    subst (λ (ds : List ℕ). BeginsAToken (ds ++ rest)) (sym first.2) (word_byte_begins first.0 (digit_in_word first.0 first.3))
 token_begins (shape.Text text) rest is = refl
 token_begins (shape.Mark m) rest is = mark_begins m
 
@@ -178,14 +197,14 @@ canon_stops true (shape.Text text ∷ ss) = refl
 canon_stops true (shape.Mark m ∷ ss) = mark_stops m (canon_after false ss)
 
 -- these bytes are read as tokens of these shapes
-abbrev pub LexesAs : ℕ → List ℕ → List Shape → Type 0
-LexesAs end bytes ss = (ts : List Token) × Lexes end bytes ts None × (shapes_of ts ≡ ss)
+abbrev pub LexesAs : Bool → ℕ → List ℕ → List Shape → Type 0
+LexesAs comments end bytes ss = (ts : List Token) × Lexes comments end bytes ts None × (shapes_of ts ≡ ss)
 
 -- the canonical text of tokens that can be written is read as these tokens, to its end
-pub canon_lexes : (end : ℕ) (before : Bool) (ss : List Shape) → AreWritable ss → length (canon_after before ss) ≤ end →
-    LexesAs end (canon_after before ss) ss
-canon_lexes end before [] are le = ([], refl, refl)
-canon_lexes end before (s ∷ ss) are le =
+pub canon_lexes : (comments : Bool) (end : ℕ) (before : Bool) (ss : List Shape) → AreWritable ss → length (canon_after before ss) ≤ end →
+    LexesAs comments end (canon_after before ss) ss
+canon_lexes comments end before [] are le = ([], refl, refl)
+canon_lexes comments end before (s ∷ ss) are le =
     let rest = canon_after (is_wordlike s) ss in
     let bytes = token s ++ rest in
     let all : (gap before (is_wordlike s) ++ token s) ++ rest ≡ gap before (is_wordlike s) ++ bytes =
@@ -193,11 +212,11 @@ canon_lexes end before (s ∷ ss) are le =
     let len : length (gap before (is_wordlike s)) + length bytes ≤ end =
     omega (arith, le, ap (length {A = ℕ}) all, length-append (gap before (is_wordlike s)) bytes) in
     let bound : length rest ≤ end = omega (arith, len, length-append (token s) rest) in
-    let others = canon_lexes end (is_wordlike s) ss are.1 bound in
-    let following : after_blanks ((gap before (is_wordlike s) ++ token s) ++ rest) ≡ bytes =
-    ap after_blanks all ∙ after_gap before (is_wordlike s) bytes (token_begins s rest are.0) in
-    let found : token_at (after_blanks ((gap before (is_wordlike s) ++ token s) ++ rest)) ≡ Some (s, rest) =
+    let others = canon_lexes comments end (is_wordlike s) ss are.1 bound in
+    let following : after_blanks comments ((gap before (is_wordlike s) ++ token s) ++ rest) ≡ bytes =
+    ap (after_blanks comments) all ∙ after_gap comments before (is_wordlike s) bytes (token_begins s rest are.0) in
+    let found : token_at (after_blanks comments ((gap before (is_wordlike s) ++ token s) ++ rest)) ≡ Some (s, rest) =
     ap token_at following ∙ token_again s rest are.0 (canon_stops (is_wordlike s) ss) in
-    let place : end - length bytes + length (after_blanks ((gap before (is_wordlike s) ++ token s) ++ rest)) ≡ end =
+    let place : end - length bytes + length (after_blanks comments ((gap before (is_wordlike s) ++ token s) ++ rest)) ≡ end =
     omega (arith, ap (length {A = ℕ}) following, len) in
     (record { at = end - length bytes; shape = s } ∷ others.0, (rest, found, place, others.1), ap (λ (x : List Shape). s ∷ x) others.2)

@@ -5,7 +5,6 @@ use Rattle.std.specs.Fmt.{decimal}
 use Rattle.std.proofs.lemmas.Bool.{leb-true, eqb-true}
 use Rattle.std.proofs.lemmas.Fmt.{length-decimal-le}
 use Rattle.std.proofs.lemmas.List.{length-append, length-take, length-drop}
-use Rattle.std.proofs.lemmas.List.Sums.{prefix_len-le-length}
 use Rattle.std.proofs.Math.Nat.{mul-le-mul_right, pow-suc}
 use Rattle.job_tree.specs.Words.{is_letter, is_digit, is_word_byte, is_word, is_text}
 use Rattle.job_tokens.specs.declared.token.Mark.TheVariants as mark
@@ -14,7 +13,7 @@ use Rattle.job_tokens.specs.declared.token.Shape.TheVariants as shape
 use Rattle.job_tokens.specs.declared.token.Token.{Token}
 use Rattle.job_tokens.specs.Shapes.{shapes_of}
 use Rattle.job_tree.specs.declared.limits.TheConstants.{MAX_NUMBER}
-use Rattle.job_tokens.specs.Lexing.{Read, Unit_read, Units_read, is_blank, after_blanks, word_at, number_at, number_of, value_after, value_within, has_leading_zero, goes_on, unit_at, after_quote, unless_ended, unit_then, with_unit, units, string_of, string_at, token_at, Lexes}
+use Rattle.job_tokens.specs.Lexing.{Read, Unit_read, Units_read, after_blanks, word_at, number_at, number_of, value_after, value_within, has_leading_zero, goes_on, unit_at, after_quote, unless_ended, unit_then, with_unit, units, string_of, string_at, token_at, separates, past, skipped, Lexes}
 use Rattle.job_tokens.specs.Canon.{unit, token, is_wordlike, gap, canon_after}
 use Rattle.job_tokens.proofs.Round_bytes.{and_parts, chosen, taken_passes, left_stops}
 use Rattle.job_tokens.proofs.Round_words.{token_unless_word, token_unless_number}
@@ -311,45 +310,65 @@ abbrev pub IsFree : Bool → List ℕ → Type 0
 IsFree true bytes = prefix_len is_word_byte bytes ≡ 0
 IsFree false bytes = Unit {0}
 
--- there is a blank between two words or numbers
-blank_between : (before : Bool) (s : Shape) (bytes rest : List ℕ) → IsFree before bytes →
-    IsApart (is_wordlike s) (after_blanks bytes) rest → length (gap before (is_wordlike s)) + length (after_blanks bytes) ≤ length bytes
-blank_between before s bytes rest free apart = by_gap before (is_wordlike s) free apart
+past_within : (o : Option Bool) (b : ℕ) (bs : List ℕ) (further : Bool → List ℕ) → ((inside : Bool) → length (further inside) ≤ length bs) →
+    length (past o (b ∷ bs) further) ≤ length (b ∷ bs)
+past_within None b bs further within = omega arith
+past_within (Some inside) b bs further within = omega (arith, within inside)
+
+skipped_within : (comments inside : Bool) (bytes : List ℕ) → length (skipped comments inside bytes) ≤ length bytes
+skipped_within comments inside [] = omega arith
+skipped_within comments inside (b ∷ bs) = past_within (separates comments inside b) b bs (λ (further : Bool). skipped comments further bs)
+    (λ (further : Bool). skipped_within comments further bs)
+
+-- after the blanks there are all bytes, or fewer
+same_or_shorter : (comments : Bool) (bytes : List ℕ) →
+    (after_blanks comments bytes ≡ bytes) ⊎ (1 + length (after_blanks comments bytes) ≤ length bytes)
+same_or_shorter comments [] = inl refl
+same_or_shorter comments (b ∷ bs) = by_byte (separates comments false b)
   where
-    len : length (after_blanks bytes) ≡ length bytes - prefix_len is_blank bytes
-    len = length-drop (prefix_len is_blank bytes) bytes
+    by_byte : (o : Option Bool) → (past o (b ∷ bs) (λ (further : Bool). skipped comments further bs) ≡ b ∷ bs)
+        ⊎ (1 + length (past o (b ∷ bs) (λ (further : Bool). skipped comments further bs)) ≤ length (b ∷ bs))
+    by_byte None = inl refl
+    by_byte (Some inside) = inr (omega (arith, skipped_within comments inside bs))
 
-    no_blank : prefix_len is_blank bytes ≡ 0 → after_blanks bytes ≡ bytes
-    no_blank e = ap (λ (n : ℕ). drop n bytes) e
+-- there is a blank or a comment between two words or numbers
+blank_between : (comments before : Bool) (s : Shape) (bytes rest : List ℕ) → IsFree before bytes →
+    IsApart (is_wordlike s) (after_blanks comments bytes) rest →
+    length (gap before (is_wordlike s)) + length (after_blanks comments bytes) ≤ length bytes
+blank_between comments before s bytes rest free apart = by_gap before (is_wordlike s) free apart
+  where
+    within : length (after_blanks comments bytes) ≤ length bytes
+    within = skipped_within comments false bytes
 
-    some : prefix_len is_word_byte bytes ≡ 0 → 0 < prefix_len is_word_byte (after_blanks bytes) → (n : ℕ) → prefix_len is_blank bytes ≡ n →
-        1 + length (after_blanks bytes) ≤ length bytes
-    some free begins zero e = absurd (omega (arith, free, begins, ap (prefix_len is_word_byte) (no_blank e)))
-    some free begins (suc n) e = omega (arith, len, e, prefix_len-le-length is_blank bytes)
+    some : prefix_len is_word_byte bytes ≡ 0 → 0 < prefix_len is_word_byte (after_blanks comments bytes) →
+        (after_blanks comments bytes ≡ bytes) ⊎ (1 + length (after_blanks comments bytes) ≤ length bytes) →
+        1 + length (after_blanks comments bytes) ≤ length bytes
+    some free begins (inl same) = absurd (omega (arith, free, begins, ap (prefix_len is_word_byte) same))
+    some free begins (inr shorter) = shorter
 
-    by_gap : (x y : Bool) → IsFree x bytes → IsApart y (after_blanks bytes) rest →
-        length (gap x y) + length (after_blanks bytes) ≤ length bytes
-    by_gap true true free apart = some free apart.1 (prefix_len is_blank bytes) refl
-    by_gap true false free apart = omega (arith, len)
-    by_gap false true free apart = omega (arith, len)
-    by_gap false false free apart = omega (arith, len)
+    by_gap : (x y : Bool) → IsFree x bytes → IsApart y (after_blanks comments bytes) rest →
+        length (gap x y) + length (after_blanks comments bytes) ≤ length bytes
+    by_gap true true free apart = some free apart.1 (same_or_shorter comments bytes)
+    by_gap true false free apart = omega (arith, within)
+    by_gap false true free apart = omega (arith, within)
+    by_gap false false free apart = omega (arith, within)
 
 free_after : (y : Bool) (bytes rest : List ℕ) → IsApart y bytes rest → IsFree y rest
 free_after true bytes rest apart = apart.0
 free_after false bytes rest apart = tt
 
 -- no text of the same tokens is shorter than the canonical one
-pub canon_shortest : (end : ℕ) (before : Bool) (bytes : List ℕ) (ts : List Token) → IsFree before bytes → Lexes end bytes ts None →
+pub canon_shortest : (comments : Bool) (end : ℕ) (before : Bool) (bytes : List ℕ) (ts : List Token) → IsFree before bytes → Lexes comments end bytes ts None →
     length (canon_after before (shapes_of ts)) ≤ length bytes
-canon_shortest end before bytes [] free lexed = omega arith
-canon_shortest end before bytes (t ∷ ts) free (rest, found, place, others) =
-    let is = read_token (after_blanks bytes) (t.shape, rest) found in
+canon_shortest comments end before bytes [] free lexed = omega arith
+canon_shortest comments end before bytes (t ∷ ts) free (rest, found, place, others) =
+    let is = read_token (after_blanks comments bytes) (t.shape, rest) found in
     let following = canon_after (is_wordlike t.shape) (shapes_of ts) in
     omega (
       arith,
-      blank_between before t.shape bytes rest free is.apart,
+      blank_between comments before t.shape bytes rest free is.apart,
       is.shorter,
-      canon_shortest end (is_wordlike t.shape) rest ts (free_after (is_wordlike t.shape) (after_blanks bytes) rest is.apart) others,
+      canon_shortest comments end (is_wordlike t.shape) rest ts (free_after (is_wordlike t.shape) (after_blanks comments bytes) rest is.apart) others,
       length-append (gap before (is_wordlike t.shape) ++ token t.shape) following,
       length-append (gap before (is_wordlike t.shape)) (token t.shape),
     )
@@ -360,7 +379,7 @@ AreSpelled (t ∷ ts) = IsSpelled t.shape × AreSpelled ts
 
 -- tokens that were read are words, strings of bytes, marks, and numbers that have no value or are at most the
 -- maximum
-pub tokens_spelled : (end : ℕ) (bytes : List ℕ) (ts : List Token) (fault : Option ℕ) → Lexes end bytes ts fault → AreSpelled ts
-tokens_spelled end bytes [] fault lexed = tt
-tokens_spelled end bytes (t ∷ ts) fault (rest, found, place, others) =
-    ((read_token (after_blanks bytes) (t.shape, rest) found).spelled, tokens_spelled end rest ts fault others)
+pub tokens_spelled : (comments : Bool) (end : ℕ) (bytes : List ℕ) (ts : List Token) (fault : Option ℕ) → Lexes comments end bytes ts fault → AreSpelled ts
+tokens_spelled comments end bytes [] fault lexed = tt
+tokens_spelled comments end bytes (t ∷ ts) fault (rest, found, place, others) =
+    ((read_token (after_blanks comments bytes) (t.shape, rest) found).spelled, tokens_spelled comments end rest ts fault others)

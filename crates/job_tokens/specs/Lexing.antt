@@ -1,6 +1,8 @@
 -- How the tokens of a text are read: from left to right, each as long as possible.
-use Rattle.std.specs.Prelude.{◌≡◌, ℕ, zero, suc, ◌+◌, ◌*◌, ◌-◌, ◌<◌, List, [], ◌∷◌, Bool, false, ◌&&◌, ◌||◌, ◌==◌, nat_le, nat_lt, length, take, drop, Option, Some, None, if◌then◌else◌}
+use Rattle.std.specs.Prelude.{◌≡◌, ℕ, zero, suc, ◌+◌, ◌*◌, ◌-◌, ◌<◌, List, [], ◌∷◌, Bool, true, false, not, ◌&&◌, ◌||◌, ◌==◌, nat_le, nat_lt, length, take, drop, Option, Some, None, if◌then◌else◌}
 use Rattle.std.specs.List.{prefix_len}
+use Rattle.job_tree.specs.declared.format.Format.{Format}
+use Rattle.job_tree.specs.declared.format.Format.TheVariants.{One, Two, Three}
 use Rattle.job_tree.specs.declared.limits.TheConstants.{MAX_NUMBER}
 use Rattle.job_tree.specs.Words.{is_letter, is_digit, is_word_byte, is_word, is_text}
 use Rattle.job_tokens.specs.declared.token.Shape.{Shape}
@@ -8,15 +10,40 @@ use Rattle.job_tokens.specs.declared.token.Shape.TheVariants.{Word, Number, Text
 use Rattle.job_tokens.specs.declared.token.Mark.TheVariants.{Open, Close, Semicolon}
 use Rattle.job_tokens.specs.declared.token.Token.{Token}
 
--- ---- blanks
+-- ---- blanks and comments
 
--- the bytes that may separate tokens: space, tab, newline and carriage return
+-- blanks: space, tab, newline and carriage return
 abbrev pub is_blank : ℕ → Bool
 is_blank b = ((b == 32) || (b == 9)) || ((b == 10) || (b == 13))
 
--- the bytes from the first that is not a blank
-abbrev pub after_blanks : List ℕ → List ℕ
-after_blanks bytes = drop (prefix_len is_blank bytes) bytes
+-- the bytes that end a line, and with it a comment: newline and carriage return
+abbrev pub ends_line : ℕ → Bool
+ends_line b = (b == 10) || (b == 13)
+
+-- whether texts of a format have comments: from `#` to the end of the line
+abbrev pub has_comments : Format → Bool
+has_comments One = false
+has_comments Two = false
+has_comments Three = true
+
+-- A byte after a token, or `inside` a comment. `Some` if it separates tokens, with whether a comment continues after it;
+-- `None` if a token begins with it, or nothing.
+abbrev pub separates : Bool → Bool → ℕ → Option Bool
+separates comments true b = Some (not (ends_line b))
+separates comments false b = if is_blank b then Some false else (if comments && (b == 35) then Some true else None)
+
+abbrev pub past : Option Bool → List ℕ → (Bool → List ℕ) → List ℕ
+past None bytes further = bytes
+past (Some inside) bytes further = further inside
+
+-- the bytes after the blanks and comments that they begin with, where they may begin `inside` a comment
+abbrev pub skipped : Bool → Bool → List ℕ → List ℕ
+skipped comments inside [] = []
+skipped comments inside (b ∷ bs) = past (separates comments inside b) (b ∷ bs) (λ further. skipped comments further bs)
+
+-- the bytes from the first that is not a blank, and not in a comment of a text that may have comments
+abbrev pub after_blanks : Bool → List ℕ → List ℕ
+after_blanks comments bytes = skipped comments false bytes
 
 -- ---- words
 
@@ -153,12 +180,13 @@ token_at (b ∷ rest) =
     else (if b == 59 then Some (Mark Semicolon, rest)
     else None)))))
 
--- The bytes, the last of a text of `end` bytes, are these tokens with blanks before, between and after them; or they
--- are these tokens up to a place from which no token can be read.
-abbrev pub Lexes : ℕ → List ℕ → List Token → Option ℕ → Type 0
-Lexes end bytes [] None = after_blanks bytes ≡ []
-Lexes end bytes [] (Some at) =
-    (token_at (after_blanks bytes) ≡ None) × (0 < length (after_blanks bytes)) × (at + length (after_blanks bytes) ≡ end)
-Lexes end bytes (t ∷ ts) fault =
-    (rest : List ℕ) × (token_at (after_blanks bytes) ≡ Some (t.shape, rest))
-    × (t.at + length (after_blanks bytes) ≡ end) × Lexes end rest ts fault
+-- The bytes, the last of a text of `end` bytes that may have comments or not, are these tokens with blanks and comments
+-- before, between and after them; or they are these tokens up to a place from which no token can be read.
+abbrev pub Lexes : Bool → ℕ → List ℕ → List Token → Option ℕ → Type 0
+Lexes comments end bytes [] None = after_blanks comments bytes ≡ []
+Lexes comments end bytes [] (Some at) =
+    (token_at (after_blanks comments bytes) ≡ None) × (0 < length (after_blanks comments bytes))
+    × (at + length (after_blanks comments bytes) ≡ end)
+Lexes comments end bytes (t ∷ ts) fault =
+    (rest : List ℕ) × (token_at (after_blanks comments bytes) ≡ Some (t.shape, rest))
+    × (t.at + length (after_blanks comments bytes) ≡ end) × Lexes comments end rest ts fault

@@ -1,3 +1,4 @@
 pub mod Shapes
 pub mod Lexing
 pub mod Canon
+pub mod Comments

@@ -1,9 +1,10 @@
 ghost use Rattle.std.specs.Prelude.{◌≡◌, ◌<◌, ◌≤◌, length, IfOk, IfSome};
-ghost use Rattle.job_tokens.specs.Lexing.{after_blanks, token_at, Gives, Lexes};
+ghost use Rattle.job_tokens.specs.Lexing.{has_comments, token_at, Gives, Lexes};
 
+use crate::blanks::skip_blanks;
 use crate::token::{Mark, Shape, Token};
-use crate::{number, run, string, word};
-use job_tree::{is_digit, is_letter};
+use crate::{number, string, word};
+use job_tree::{Format, is_digit, is_letter};
 use std::alloc::{AllocError, Global};
 
 /// The tokens of a text, up to the first place from which no token can be read.
@@ -15,15 +16,16 @@ pub struct Lexed {
     pub fault: Option<usize>,
 }
 
-/// Reads the tokens of `bytes`, which are the last bytes of a text of `end` bytes. Places are counted in bytes from
-/// the start of that text. The caller must ensure that `bytes` has at most `end` bytes. The only error is that
-/// memory was refused; bytes that are no token are reported in `Lexed::fault`.
-pub fn lex(alloc: Global, bytes: &[u8], end: usize) -> Result<Lexed, AllocError>
+/// Reads the tokens of `bytes`, which are the last bytes of a text of `end` bytes, in a format. Places are counted in bytes
+/// from the start of that text. Blanks separate tokens, and so do the comments of a format that has them (`has_comments`).
+/// The caller must ensure that `bytes` has at most `end` bytes. The only error is that memory was refused; bytes that are no
+/// token are reported in `Lexed::fault`.
+pub fn lex(alloc: Global, format: Format, bytes: &[u8], end: usize) -> Result<Lexed, AllocError>
     requires { length bytes.now ≤ end }
-    ensures { IfOk result (λ found. Lexes end bytes.now found.tokens.items found.fault) }
+    ensures { IfOk result (λ found. Lexes (has_comments format) end bytes.now found.tokens.items found.fault) }
 {
     let mut tokens = Vec::new(alloc);
-    let mut rest = skip_blanks(bytes);
+    let mut rest = skip_blanks(format, bytes);
     while !rest.is_empty() {
         let at = end - rest.len();
         let Some((shape, after)) = token_at(rest) else {
@@ -33,7 +35,7 @@ pub fn lex(alloc: Global, bytes: &[u8], end: usize) -> Result<Lexed, AllocError>
             });
         };
         tokens.push(Token { at, shape })?;
-        rest = skip_blanks(after);
+        rest = skip_blanks(format, after);
     }
     Ok(Lexed {
         tokens,
@@ -41,16 +43,8 @@ pub fn lex(alloc: Global, bytes: &[u8], end: usize) -> Result<Lexed, AllocError>
     })
 }
 
-// Returns the bytes from the first that is not a blank.
-fn skip_blanks(bytes: &[u8]) -> &[u8]
-    ensures value { result.now ≡ after_blanks bytes.now }
-    ensures shorter { length result.now ≤ length bytes.now }
-{
-    bytes.split_at(run::count_blanks(bytes)).1
-}
-
 // Returns the token at the start of the bytes, and the bytes after it.
-fn token_at(bytes: &[u8]) -> Option<(Shape, &[u8])>
+pub(crate) fn token_at(bytes: &[u8]) -> Option<(Shape, &[u8])>
     ensures value { Gives (λ x. (x.0, x.1.now)) result (token_at bytes.now) }
     ensures shorter { IfSome result (λ x. length x.1.now < length bytes.now) }
 {

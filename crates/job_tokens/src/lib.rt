@@ -4,7 +4,9 @@
 //! from which no token can be read. The crate uses `job_tree` for names and strings.
 #![tactic(auto)]
 
+mod blanks;
 mod canon;
+mod comments;
 mod lexing;
 mod number;
 mod run;
@@ -12,6 +14,9 @@ mod string;
 mod token;
 mod word;
 
+pub use blanks::{ends_line, has_comments, is_blank};
 pub use canon::push_canon;
+pub use comments::{skip_token, split_line, split_separator};
 pub use lexing::{Lexed, lex};
+pub use string::is_plain;
 pub use token::{Mark, Shape, Token};

@@ -1,29 +1,8 @@
 ghost use Rattle.std.specs.Prelude.{◌≡◌, ◌≤◌, length};
 ghost use Rattle.std.specs.List.{prefix_len};
 ghost use Rattle.job_tree.specs.Words.{is_digit, is_word_byte};
-ghost use Rattle.job_tokens.specs.Lexing.{is_blank};
 
 use job_tree::{is_digit, is_word_byte};
-
-/// Returns whether the byte is a blank: a byte that may separate tokens.
-pub fn is_blank(b: u8) -> bool
-    ensures { result ≡ is_blank b }
-{
-    (b == b' ' || b == b'\t') || (b == b'\n' || b == b'\r')
-}
-
-/// Returns the number of blanks at the start of the bytes.
-pub fn count_blanks(bytes: &[u8]) -> usize
-    ensures within { result ≤ length bytes.now }
-    ensures count { result ≡ prefix_len is_blank bytes.now }
-{
-    for (n, b) in bytes.iter().enumerate() {
-        if !is_blank(*b) {
-            return n;
-        }
-    }
-    bytes.len()
-}
 
 /// Returns the number of word bytes at the start of the bytes.
 pub fn count_word_bytes(bytes: &[u8]) -> usize

@@ -62,7 +62,9 @@ fn unit_at(bytes: &[u8]) -> Option<(u8, &[u8])>
     None
 }
 
-fn is_plain(b: u8) -> bool
+/// Returns whether the byte is printable: a space, or a visible character of ASCII. Such a byte spells itself in a string, unless
+/// it is a quote or a backslash.
+pub fn is_plain(b: u8) -> bool
     ensures { result ≡ is_plain b }
 {
     b' ' <= b && b <= b'~'

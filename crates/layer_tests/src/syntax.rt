@@ -10,7 +10,7 @@ use std::test::Fail;
 
 // Whether a text is a job, as far as its grammar, its numbers and its depth are concerned.
 fn is_followed(alloc: Global, text: &[u8]) -> Result<bool, Fail> {
-    let lexed = lex(alloc, text, text.len())?;
+    let lexed = lex(alloc, Format::One, text, text.len())?;
     let tokens = lexed.tokens.as_slice();
     let checked = check_grammar(alloc, Format::One, tokens, text.len())?;
     Ok(
@@ -23,7 +23,7 @@ fn is_followed(alloc: Global, text: &[u8]) -> Result<bool, Fail> {
 
 // Whether the tokens of a text are a job.
 fn is_job(alloc: Global, text: &[u8]) -> Result<bool, Fail> {
-    let lexed = lex(alloc, text, text.len())?;
+    let lexed = lex(alloc, Format::One, text, text.len())?;
     let job = job_at(alloc, lexed.tokens.as_slice())?;
     Ok(job.is_some())
 }
@@ -46,7 +46,7 @@ const FAULTS: &[(&'static [u8], Option<usize>)] = &[
 
 // Where the tokens of a text leave the grammar.
 fn fault(alloc: Global, text: &[u8]) -> Result<Option<usize>, Fail> {
-    let lexed = lex(alloc, text, text.len())?;
+    let lexed = lex(alloc, Format::One, text, text.len())?;
     let checked = check_grammar(alloc, Format::One, lexed.tokens.as_slice(), text.len())?;
     Ok(checked.fault)
 }

@@ -2,6 +2,7 @@
 
 use crate::fixtures::{same, wrong};
 use job_tokens::{Mark, Shape, Token, lex, push_canon};
+use job_tree::Format;
 use std::alloc::{AllocError, Global};
 use std::test::Fail;
 
@@ -33,32 +34,36 @@ fn canonical_text(alloc: Global, tokens: &[Token]) -> Result<Vec<u8>, AllocError
 
 #[test]
 fn tokens_have_their_places(rt: HostRuntime) -> Result<(), Fail> {
-    let lexed = lex(rt.alloc(), b"find  \"er\";\n{ 7", 26)?;
+    let lexed = lex(rt.alloc(), Format::One, b"find  \"er\";\n{ 7", 26)?;
     assert!(rt; lexed.fault == None);
     assert!(rt; are_at(rt.alloc(), lexed.tokens.as_slice(), &[11, 17, 21, 23, 25])?);
     let text = canonical_text(rt.alloc(), lexed.tokens.as_slice())?;
     same(text.as_slice(), b"find\"er\";{7")
 }
 
-// Bytes, how many tokens can be read, and the place where no other can.
-const ENDS: &[(&'static [u8], usize, Option<usize>)] = &[
-    (b"find #", 1, Some(5)),
-    (b"7a", 0, Some(0)),
-    (b"{ \"a", 1, Some(2)),
-    (b"", 0, None),
+// Bytes in a format, how many tokens can be read, and the place where no other can.
+const ENDS: &[(Format, &'static [u8], usize, Option<usize>)] = &[
+    (Format::One, b"find #", 1, Some(5)),
+    (Format::Two, b"find # x", 1, Some(5)),
+    (Format::Three, b"find # x", 1, None),
+    (Format::Three, b"find#a\n \"#\" # { }\n;", 3, None),
+    (Format::Three, b"# a\n#", 0, None),
+    (Format::One, b"7a", 0, Some(0)),
+    (Format::One, b"{ \"a", 1, Some(2)),
+    (Format::One, b"", 0, None),
 ];
 
 // How many tokens can be read, and the place where no other can.
-fn end(alloc: Global, bytes: &[u8]) -> Result<(usize, Option<usize>), AllocError> {
-    let lexed = lex(alloc, bytes, bytes.len())?;
+fn end(alloc: Global, format: Format, bytes: &[u8]) -> Result<(usize, Option<usize>), AllocError> {
+    let lexed = lex(alloc, format, bytes, bytes.len())?;
     Ok((lexed.tokens.len(), lexed.fault))
 }
 
 // Fails at the first row with another end.
 fn ends_are_right(alloc: Global) -> Result<(), Fail> {
     for i in 0..ENDS.len() {
-        let (bytes, tokens, fault) = ENDS[i];
-        let (read, place) = end(alloc, bytes)?;
+        let (format, bytes, tokens, fault) = ENDS[i];
+        let (read, place) = end(alloc, format, bytes)?;
         if read != tokens || place != fault {
             return Err(wrong(i));
         }

@@ -2,6 +2,7 @@
 
 use crate::fixtures::{same, wrong};
 use job_edits::{Change, Finer, Site, changed_text, finer_changes, shifted_changes, shifts, sites};
+use job_grammar::format_of;
 use job_tokens::{Token, lex};
 use moments::Clock;
 use std::alloc::{AllocError, Global};
@@ -10,7 +11,7 @@ use std::test::Fail;
 // The tokens after the first line of a text.
 fn tokens_of(alloc: Global, text: &[u8]) -> Result<Vec<Token>, AllocError> {
     let (_, rest) = text.split_at(text.len().min(11));
-    let lexed = lex(alloc, rest, text.len())?;
+    let lexed = lex(alloc, format_of(text), rest, text.len())?;
     Ok(lexed.tokens)
 }
 

@@ -29,6 +29,15 @@ const TEXTS: &[(&str, &str)] = &[
         "trio-job 2\njob a { repeat 3 { try { need \"a\\x00\\\"\\x7e\" B; } except B { raise C; } finally { longest; head 2; } } }",
         "trio-job 2\njob a {\n  repeat 3 {\n    try { need \"a\\x00\\\"~\" B; } except B { raise C; } finally {\n      longest;\n      head 2;\n    }\n  }\n}\n",
     ),
+    // comments: before the job, after tokens, on lines of their own, inside a step, in a short block, after the job
+    (
+        "trio-job 3\n\t# top\njob a { # open\n\n # own\n sleep # in\n 3; # after\n scope s { sleep 1; } # s\n scope t { sleep 2; # c\n }\n # last\n} # end\n# fin",
+        "trio-job 3\n# top\njob a { # open\n  # own\n  sleep # in\n    3; # after\n  scope s { sleep 1; } # s\n  scope t {\n    sleep 2; # c\n  }\n  # last\n} # end\n# fin\n",
+    ),
+    (
+        "trio-job 3\njob a{try{find\"#\";}#1\n#2\nexcept X{}}",
+        "trio-job 3\njob a {\n  try { find \"#\"; } #1\n    #2\n    except X {}\n}\n",
+    ),
     (
         "trio-job 1\njob a { scope s { find \"0123456789012345678901234567890123456789012345678901234567\"; } }",
         "trio-job 1\njob a {\n  scope s { find \"0123456789012345678901234567890123456789012345678901234567\"; }\n}\n",

@@ -55,7 +55,7 @@ pub(crate) const EXPECTED: &[Row] = &[
     ),
     (
         "trio-job 2\njob a { nursery n; }",
-        "f:2:18: expected `{`, or in format 2 `after N` or `shield`\njob a { nursery n; }\n                 ^\n",
+        "f:2:18: expected `after N`, `shield` or `{` (in format 1 only `{`)\njob a { nursery n; }\n                 ^\n",
     ),
 ];
 
@@ -87,7 +87,7 @@ pub(crate) const WRONG: &[Row] = &[
     ),
     (
         "trio-job 1\njob a { # }",
-        "f:2:9: a word, a number, a string or one of `{`, `}` and `;` was expected\njob a { # }\n        ^\na job text has no comments\n",
+        "f:2:9: a word, a number, a string or one of `{`, `}` and `;` was expected\njob a { # }\n        ^\nformat 3 has comments: begin the job text with the line `trio-job 3`\n",
     ),
     (
         "trio-job 1\njob a123456789012345678901234567890123 { }",
@@ -153,7 +153,7 @@ pub(crate) const HELPED: &[Row] = &[
     ),
     (
         "trio-job 1\njob a { // no\n}",
-        "\na job text has no comments\n",
+        "\na comment begins with `#`, in a job text of format 3\n",
     ),
     (
         "trio-job 1\njob a { repeat 2 { } }",

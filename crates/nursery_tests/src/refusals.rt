@@ -53,6 +53,18 @@ const LINES: &[(&str, &[u8])] = &[
         b"refused J11 TooLarge at 0\n",
     ),
     ("trio-job 4\njob main { }", b"refused J3 Version at 0\n"),
+    (
+        "trio-job 2\njob main { # no\n}",
+        b"refused J4 Token at 22\n",
+    ),
+    (
+        "trio-job 3\njob main { # \x07\n}",
+        b"refused J2 NotAscii at 24\n",
+    ),
+    (
+        "trio-job 3\njob main { # a comment\n sleep #}\n ; }",
+        b"refused J6 Syntax at 45\n",
+    ),
     ("", b"refused J3 Version at 0\n"),
 ];
 

@@ -36,7 +36,8 @@ advice_text advice.BlankAfterVersion = codes "a blank follows the number: the fi
 advice_text advice.ByteOrderMark = codes "the text begins with a byte order mark: save it as plain ASCII\n"
 advice_text advice.Feed =
     codes "this is a feed, which holds its input: write `nursery < FILE`, or put the job and the input into two files\n"
-advice_text advice.NoComments = codes "a job text has no comments\n"
+advice_text advice.NewerComment = codes "format 3 has comments: begin the job text with the line `trio-job 3`\n"
+advice_text advice.CommentSign = codes "a comment begins with `#`, in a job text of format 3\n"
 advice_text advice.WholeTicks = codes "times are whole ticks: choose a smaller tick, and multiply every number\n"
 advice_text advice.NewerFormat = codes "format 2 has this: begin the job text with the line `trio-job 2`\n"
 advice_text advice.Unnamed = codes "each job, scope, nursery and start has a name, as in `scope work after 5 { .. }`\n"

@@ -59,7 +59,8 @@ hyphen_advice (Some before) = if is_word_byte before then Some (advice.Python py
 -- the hint for a byte that other languages use
 abbrev pub plain_advice : ℕ → Option Advice
 plain_advice b =
-    if b == 35 || b == 47 then Some advice.NoComments
+    if b == 35 then Some advice.NewerComment
+    else if b == 47 then Some advice.CommentSign
     else if b == 39 then Some (advice.Python python.DoubleQuotes)
     else if b == 40 || b == 41 then Some (advice.Python python.NoParentheses)
     else if b == 58 then Some (advice.Python python.NoColons)

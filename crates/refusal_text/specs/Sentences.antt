@@ -1,5 +1,5 @@
 -- What is wrong with a job text, in a sentence.
-use Rattle.std.specs.Prelude.{ℕ, ◌==◌, if◌then◌else◌, List, Option, Some, None, codes}
+use Rattle.std.specs.Prelude.{ℕ, ◌==◌, nat_lt, if◌then◌else◌, List, Option, Some, None, codes}
 use Rattle.job_tree.specs.Words.{is_digit, is_letter}
 use Rattle.job_syntax.specs.declared.nonterminal.Nonterminal.{Nonterminal}
 use Rattle.job_syntax.specs.declared.nonterminal.Nonterminal.TheVariants as nonterminal
@@ -15,6 +15,11 @@ token_sentence (Some b) =
     else if is_letter b then codes "this word has more than 32 bytes"
     else codes "a word, a number, a string or one of `{`, `}` and `;` was expected"
 
+-- why a text has no such byte: only format 3 refuses bytes below 128 here
+abbrev pub byte_sentence : Option ℕ → List ℕ
+byte_sentence None = codes "this byte is not ASCII"
+byte_sentence (Some b) = if nat_lt b 128 then codes "a control character: a job of format 3 is plain text" else codes "this byte is not ASCII"
+
 -- what the grammar expects at a place; `None` is the end of the text
 abbrev pub expected_sentence : Option Nonterminal → List ℕ
 expected_sentence None = codes "expected the text's end: nothing may follow the job's `}`"
@@ -28,7 +33,7 @@ expected_sentence (Some nonterminal.ItemsCleanup) = codes "expected `finally { .
 expected_sentence (Some nonterminal.Scope) = codes "expected `after N`, `at N`, `shield`, `fail` or `{`"
 expected_sentence (Some nonterminal.Shield) = codes "expected `shield`, `fail` or `{`"
 expected_sentence (Some nonterminal.Fail) = codes "expected `fail` or `{`"
-expected_sentence (Some nonterminal.Nursery) = codes "expected `{`, or in format 2 `after N` or `shield`"
+expected_sentence (Some nonterminal.Nursery) = codes "expected `after N`, `shield` or `{` (in format 1 only `{`)"
 expected_sentence (Some nonterminal.NurseryShield) = codes "expected `shield` or `{`"
 expected_sentence (Some nonterminal.Over) = codes "expected `over N` or `{`"
 expected_sentence (Some nonterminal.Given) = codes "expected a name"
@@ -43,7 +48,7 @@ expected_sentence (Some nonterminal.Semicolon) = codes "expected `;`"
 -- what is wrong at a place with this byte (`None` is the end of the text), where the grammar expects this
 abbrev pub sentence_of : JobKind → Option ℕ → Option Nonterminal → List ℕ
 sentence_of TooLong byte asked = codes "the job text has more than 65536 bytes"
-sentence_of NotAscii byte asked = codes "this byte is not ASCII"
+sentence_of NotAscii byte asked = byte_sentence byte
 sentence_of Version byte asked = codes "a job text begins with the line `trio-job 1`, `trio-job 2` or `trio-job 3`, ended by a newline alone"
 sentence_of Token byte asked = token_sentence byte
 sentence_of Number byte asked =

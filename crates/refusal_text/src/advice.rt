@@ -14,8 +14,10 @@ pub(crate) enum Advice {
     ByteOrderMark,
     /// The text is a feed: its input follows the job.
     Feed,
+    /// What is there would begin a comment in format 3.
+    NewerComment,
     /// What is there begins a comment in other languages.
-    NoComments,
+    CommentSign,
     /// A fraction of a tick.
     WholeTicks,
     /// What is there would be allowed in format 2.
@@ -86,7 +88,10 @@ impl Advice {
             Advice::Feed => {
                 "this is a feed, which holds its input: write `nursery < FILE`, or put the job and the input into two files\n"
             }
-            Advice::NoComments => "a job text has no comments\n",
+            Advice::NewerComment => {
+                "format 3 has comments: begin the job text with the line `trio-job 3`\n"
+            }
+            Advice::CommentSign => "a comment begins with `#`, in a job text of format 3\n",
             Advice::WholeTicks => {
                 "times are whole ticks: choose a smaller tick, and multiply every number\n"
             }

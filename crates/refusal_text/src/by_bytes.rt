@@ -107,7 +107,8 @@ fn plain_advice(byte: u8) -> Option<Advice>
     ensures { result ≡ plain_advice byte }
 {
     match byte {
-        b'#' | b'/' => Some(Advice::NoComments),
+        b'#' => Some(Advice::NewerComment),
+        b'/' => Some(Advice::CommentSign),
         b'\'' => Some(Advice::Python(PythonSyntax::DoubleQuotes)),
         b'(' | b')' => Some(Advice::Python(PythonSyntax::NoParentheses)),
         b':' => Some(Advice::Python(PythonSyntax::NoColons)),

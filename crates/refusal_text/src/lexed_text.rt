@@ -23,9 +23,10 @@ impl LexedText {
         ensures format { IfOk result (λ lexed. lexed.format ≡ format_of text.now) }
     {
         let (_, body) = text.split_at(FIRST_LINE_LENGTH.min(text.len()));
-        let Lexed { tokens, fault } = lex(alloc, body, text.len())?;
+        let format = format_of(text);
+        let Lexed { tokens, fault } = lex(alloc, format, body, text.len())?;
         Ok(LexedText {
-            format: format_of(text),
+            format,
             tokens,
             fault,
         })

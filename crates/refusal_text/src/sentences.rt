@@ -1,5 +1,5 @@
 ghost use Rattle.std.specs.Prelude.{◌≡◌};
-ghost use Rattle.refusal_text.specs.Sentences.{sentence_of, token_sentence, expected_sentence};
+ghost use Rattle.refusal_text.specs.Sentences.{sentence_of, byte_sentence, token_sentence, expected_sentence};
 
 use job_grammar::JobKind;
 use job_syntax::Nonterminal;
@@ -15,7 +15,7 @@ pub(crate) fn sentence_of(
 {
     match kind {
         JobKind::TooLong => "the job text has more than 65536 bytes",
-        JobKind::NotAscii => "this byte is not ASCII",
+        JobKind::NotAscii => byte_sentence(byte),
         JobKind::Version =>
             "a job text begins with the line `trio-job 1`, `trio-job 2` or `trio-job 3`, ended by a newline alone",
         JobKind::Token => token_sentence(byte),
@@ -32,6 +32,16 @@ pub(crate) fn sentence_of(
         JobKind::TooLarge =>
             "the job has more than 1000000 steps, in format 1 more than 100000, the copies that `over` makes and the passes of `repeat` counted",
         JobKind::NoMemory => "no memory",
+    }
+}
+
+// Returns why a text has no such byte.
+fn byte_sentence(byte: Option<u8>) -> &'static str
+    ensures { result.now ≡ byte_sentence byte }
+{
+    match byte {
+        Some(b) if b < 128 => "a control character: a job of format 3 is plain text",
+        _ => "this byte is not ASCII",
     }
 }
 
@@ -68,7 +78,7 @@ fn expected_sentence(nonterminal: Option<Nonterminal>) -> &'static str
         Some(Nonterminal::Scope) => "expected `after N`, `at N`, `shield`, `fail` or `{`",
         Some(Nonterminal::Shield) => "expected `shield`, `fail` or `{`",
         Some(Nonterminal::Fail) => "expected `fail` or `{`",
-        Some(Nonterminal::Nursery) => "expected `{`, or in format 2 `after N` or `shield`",
+        Some(Nonterminal::Nursery) => "expected `after N`, `shield` or `{` (in format 1 only `{`)",
         Some(Nonterminal::NurseryShield) => "expected `shield` or `{`",
         Some(Nonterminal::Over) => "expected `over N` or `{`",
         Some(Nonterminal::Given) => "expected a name",

@@ -6,7 +6,7 @@ use Rattle.job_layout.specs.Layout.{with_steps}
 use Rattle.job_layout.proofs.blocks.+blocks.Given as goal
 
 abbrev pub invariant-push_steps-steps : goal.invariant-push_steps-steps
-invariant-push_steps-steps l = (with_steps l.level (steps_of l.rest) l.layout ≡ with_steps l.level (steps_of l.fn.steps) l.fn.layout)
+invariant-push_steps-steps l = (with_steps l.bare l.level (steps_of l.rest) l.layout ≡ with_steps l.bare l.level (steps_of l.fn.steps) l.fn.layout)
     × AreWithin (32 - l.level) (steps_of l.rest) × (weight_of (steps_of l.rest) ≤ weight_of (steps_of l.fn.steps))
 
 abbrev pub decreases-push_steps-steps : goal.decreases-push_steps-steps
