@@ -19,7 +19,7 @@ import trio.testing
 
 import against_trio
 import trio_export  # the end of a nursery as Trio 0.23 has it
-from formats import TOKEN
+from formats import PIECE
 
 assert trio_export
 ROOT = os.path.join(os.path.dirname(os.path.abspath(__file__)), "..", "..")
@@ -31,7 +31,8 @@ class Reader:
     """Reads a job that is known to be one, as the nested tuples of steps that jobs.py makes."""
 
     def __init__(self, text):
-        self.tokens = TOKEN.findall(text)[::-1]
+        pieces = [piece for piece in PIECE.findall(text) if not piece.isspace() and not piece.startswith("#")]
+        self.tokens = pieces[::-1]
 
     def word(self):
         return self.tokens.pop()
