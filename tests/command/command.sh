@@ -25,14 +25,14 @@ compare() {
     cases=$((cases + 1))
 }
 
-# wants STATUS OUT ERR WORD..: runs the program on the words, with the file `in` as standard input; OUT and ERR are
-# formats of printf, so a `%` is written `%%`.
+# wants STATUS OUT ERR WORD..: runs the program on the words, with the file `in` as standard input, and stops it after a
+# minute; OUT and ERR are formats of printf, so a `%` is written `%%`.
 wants() {
     status=$1 out=$2 err=$3
     shift 3
     name="nursery $*"
     got=0
-    "$nursery" "$@" < in > out 2> err || got=$?
+    timeout 60 "$nursery" "$@" < in > out 2> err || got=$?
     compare "$got" "$status" "$out" "$err"
 }
 
@@ -166,10 +166,12 @@ cp raise.job kept.job
 chmod a-w kept.job
 wants 4 '' "cannot write the job file\\n$PWD/kept.job: permission denied\\n" fmt kept.job --write
 cmp -s raise.job kept.job || fail 'a file without write permission was replaced'
+# What is not a regular file is refused before it is read: this FIFO has no writer.
 mkfifo pipe.job
-cat raise.job > pipe.job &
 wants 4 '' "cannot write the job file\\n$PWD/pipe.job: not a regular file\\n" fmt pipe.job --write
 [ -p pipe.job ] || fail 'a FIFO was replaced'
+mkdir folder.job
+wants 4 '' "cannot write the job file\\n$PWD/folder.job: not a regular file\\n" fmt folder.job --write
 printf "$formatted" | cmp -s - mine.job || fail 'the job file is not formatted'
 [ -L link.job ] || fail 'the link was replaced'
 [ "$(stat -c %a mine.job)" = 640 ] || fail 'the job file has other permissions'

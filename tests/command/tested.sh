@@ -10,12 +10,12 @@ cd "$folder"
 
 cases=0
 
-# wants STATUS OUT ERR WORD..: `nursery test` with these words; OUT and ERR are formats of printf.
+# wants STATUS OUT ERR WORD..: `nursery test` with these words, stopped after a minute; OUT and ERR are formats of printf.
 wants() {
     status=$1 out=$2 err=$3
     shift 3
     got=0
-    "$nursery" test "$@" > out 2> err || got=$?
+    timeout 60 "$nursery" test "$@" > out 2> err || got=$?
     [ "$got" = "$status" ] || { echo "tested.sh: test $*: status $got, wanted $status" >&2; cat out err >&2; exit 1; }
     printf "$out" | cmp -s - out || { echo "tested.sh: test $*: standard output:" >&2; cat out >&2; exit 1; }
     printf "$err" | cmp -s - err || { echo "tested.sh: test $*: standard error:" >&2; cat err >&2; exit 1; }
@@ -127,10 +127,10 @@ if [ "$(id -u)" != 0 ]; then
     printf 'old\n' | cmp - jobs/wait.report
 fi
 chmod u+w jobs jobs/wait.report
+# What is not a regular file is refused before it is read: this FIFO has no writer.
 mkfifo fifo
 mv jobs/wait.report old
 ln -s ../fifo jobs/wait.report
-printf 'old\n' > fifo &
 wants 4 '0 passed, 0 failed, 1 not tested\n' "jobs/wait.report: cannot be written\\n$PWD/fifo: not a regular file\\n" jobs/wait.feed --accept
 rm jobs/wait.report
 mv old jobs/wait.report

@@ -26,7 +26,13 @@ pub(crate) fn test_output<R: Files + Print + Eprint + Threads + Sync + AllocGlob
     requires { length feed.now.input.now ≤ MAX_INPUT }
 {
     let name = name_beside(rt.alloc(), feed.stem, kind.extension())?;
-    let target = Target::of(rt, name.as_str());
+    let target = match Target::of(rt, name.as_str()) {
+        Err(ReplaceFault::NotRegular { reason }) if feed.accept => {
+            // It is not read either: a FIFO would be waited for until it has a writer.
+            return Ok(Some(tell_not_kept(rt, name.as_str(), reason.as_str())?));
+        }
+        target => target,
+    };
     let kept = match read_kept(rt, name.as_str()) {
         Ok(kept) => kept,
         Err(Unread::Missing) => return Ok(None),
@@ -121,22 +127,34 @@ pub(crate) fn keep<R: Files + Print + Eprint + AllocGlobal>(
 ) -> Result<Outcome, TestStop>
     ensures { IfOk result IsKept }
 {
-    let shown = shown_name(rt.alloc(), name)?;
     let replaced = match target {
         Ok(target) => target.replace(rt, bytes),
         Err(fault) => Err(fault),
     };
     match replaced {
         Ok(()) => {
+            let shown = shown_name(rt.alloc(), name)?;
             let line = format!(in rt.alloc(); "{shown}: accepted\n")?;
             show(rt, line.as_bytes())?;
             Ok(Outcome::Accepted)
         }
         Err(ReplaceFault::NoMemory) => Err(TestStop::NoMemory),
-        Err(ReplaceFault::System { reason }) => {
-            let line = format!(in rt.alloc(); "{shown}: cannot be written\n{reason}")?;
-            complain(rt, line.as_str());
-            Ok(Outcome::Fault)
+        Err(ReplaceFault::NotRegular { reason } | ReplaceFault::System { reason }) => {
+            tell_not_kept(rt, name, reason.as_str())
         }
     }
+}
+
+// Prints to standard error that an output cannot be kept, with the line that says why.
+fn tell_not_kept<R: Eprint + AllocGlobal>(
+    rt: &R,
+    name: &str,
+    reason: &str,
+) -> Result<Outcome, TestStop>
+    ensures { IfOk result IsKept }
+{
+    let shown = shown_name(rt.alloc(), name)?;
+    let line = format!(in rt.alloc(); "{shown}: cannot be written\n{reason}")?;
+    complain(rt, line.as_str());
+    Ok(Outcome::Fault)
 }

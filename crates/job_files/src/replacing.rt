@@ -15,7 +15,12 @@ const MAX_TRIES: u32 = 100;
 /// Why a file was not replaced. The file is as it was, and no new file is left beside it.
 #[derive(Debug, Drop)]
 pub enum ReplaceFault {
-    /// The system refused a call, or the file may not be replaced.
+    /// What has this name is not a regular file, but a folder, a FIFO or a device.
+    NotRegular {
+        /// A line that names it and says so.
+        reason: String,
+    },
+    /// The system refused a call, or the file may not be replaced for another reason.
     System {
         /// A line that names the file of the call and says why it failed, or empty if memory was refused for it.
         reason: String,
@@ -49,8 +54,8 @@ struct Seen {
 
 impl Target {
     /// Looks at the file with this name, or at the file that a link with this name leads to. To be called before the file is read, so
-    /// that what is replaced later is what was read. Returns a `ReplaceFault` if there is something that is not a regular file, or a
-    /// file without permission to write it.
+    /// that what is replaced later is what was read. Returns `ReplaceFault::NotRegular` if there is something that is not a regular
+    /// file, which is not opened, so that a FIFO is not waited for; and `ReplaceFault::System` if the file may not be written.
     pub fn of<R: Files + AllocGlobal>(rt: &R, name: &str) -> Result<Target, ReplaceFault> {
         let alloc = rt.alloc();
         match fs::canonicalize(rt, name) {
@@ -127,7 +132,8 @@ fn seen_at<R: Files + AllocGlobal>(rt: &R, path: &str) -> Result<Seen, ReplaceFa
         Err(error) => return Err(fault_of(rt.alloc(), path, error.kind())),
     };
     if !metadata.is_file() {
-        return Err(told(rt.alloc(), path, "not a regular file"));
+        let reason = told_line(rt.alloc(), path, "not a regular file")?;
+        return Err(ReplaceFault::NotRegular { reason });
     }
     let opened = OpenOptions::new().write(true).open(rt, path);
     if let Err(error) = opened {

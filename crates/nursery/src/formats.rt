@@ -32,10 +32,22 @@ pub(crate) fn format_job_file<R: Files + Input + Print + Eprint + AllocGlobal>(
             compare(rt, job, text.as_slice())
         }
         FormatMode::Write => {
-            let target = Target::of(rt, job);
+            let target = target_of(rt, job)?;
             let text = read_job_text(rt, job)?;
             write_formatted(rt, job, target, text.as_slice())
         }
+    }
+}
+
+// Looks at a job file before it is read. What is not a regular file is refused here, since a FIFO would be waited for until it has a
+// writer. Another reason why the file may not be replaced counts only if its text is not formatted.
+fn target_of<R: Files + AllocGlobal>(
+    rt: &R,
+    job: &str,
+) -> Result<Result<Target, ReplaceFault>, Stop> {
+    match Target::of(rt, job) {
+        Err(ReplaceFault::NotRegular { reason }) => Err(Stop::JobFileKept { reason }),
+        target => Ok(target),
     }
 }
 
@@ -113,7 +125,9 @@ fn replace_job_file<R: Files + AllocGlobal>(
     };
     match replaced {
         Ok(()) => Ok(()),
-        Err(ReplaceFault::System { reason }) => Err(Stop::JobFileKept { reason }),
+        Err(ReplaceFault::NotRegular { reason } | ReplaceFault::System { reason }) => {
+            Err(Stop::JobFileKept { reason })
+        }
         Err(ReplaceFault::NoMemory) => Err(Stop::NoMemory),
     }
 }
