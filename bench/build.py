@@ -6,10 +6,11 @@
     python3 bench/build.py job_runner       # a library, and those below it
 
 `rt run` proves one library after the other. This script proves each library of crates.txt as soon as those that it uses are proved, by
-the function of the kit's `rt` that `rt lib` calls, and at last calls `rt run`, which finds them proved. What is proved is kept in `out/`
-of each crate: a second call does only what changed, and so do `rt check` and `rt must-fail`, with kit 13f in any clone on this machine, and
-with kit 13b in this one, and in a clone into which `crates/*/out` were copied. It gives no verdict: only `rt ci` does. Edit nothing while it runs. What a command printed
-is in `out/build.log` of the crate.
+the function of the kit's `rt` that `rt lib` calls, and at last calls `rt run`, which finds them proved. Where fewer libraries than
+processors are ready, a check takes several processors. What is proved is kept in `out/` of each crate: a second call does only what
+changed, and so do `rt check` and `rt must-fail`, with kit 13f in any clone on this machine, and with kit 13b in this one, and in a clone
+into which `crates/*/out` were copied. It gives no verdict: only `rt ci` does. Edit nothing while it runs. What a command printed is in
+`out/build.log` of the crate.
 """
 import argparse
 import copy
@@ -54,12 +55,12 @@ def heights(crates):
     return found
 
 
-def prove(crate, log):
-    """Proves and builds a library, and returns the status."""
+def prove(crate, jobs, log):
+    """Proves and builds a library with so many processes, and returns the status."""
     crate = copy.copy(crate)
     crate.out = log
     try:
-        return crate.build_rlib(["--jobs", "1"], False)
+        return crate.build_rlib(["--jobs", str(jobs)], False)
     except SystemExit:
         return 1
 
@@ -70,15 +71,21 @@ def build_program(crate, log):
         return subprocess.run(["rt", "run"], cwd=crate.folder, stdin=given, stdout=log, stderr=subprocess.STDOUT, check=False).returncode
 
 
-def build(crate):
-    """Proves and builds one crate, and returns whether that succeeded."""
+def build(crate, jobs):
+    """Proves and builds one crate with so many processes, and returns whether that succeeded."""
     begin, path = time.monotonic(), f"{crate.folder}/out/build.log"
     os.makedirs(os.path.dirname(path), exist_ok=True)
     with open(path, "w+", encoding="utf-8", errors="replace") as log:
-        status = build_program(crate, log) if crate.is_program else prove(crate, log)
+        status = build_program(crate, log) if crate.is_program else prove(crate, jobs, log)
     said = "proved and built" if status == 0 else f"FAILED, see {os.path.relpath(path)}"
     print(f"{time.strftime('%H:%M:%S')} {crate.name}: {said}, {time.monotonic() - begin:.0f} s", flush=True)
     return status == 0
+
+
+def shares(ready, free):
+    """The crates to begin with, and how many of the free lanes each takes: if the crates are fewer, the first ones take more."""
+    begun = ready[:free]
+    return [(crate, free // len(begun) + (at < free % len(begun))) for at, crate in enumerate(begun)]
 
 
 def build_all(crates, lanes):
@@ -88,13 +95,14 @@ def build_all(crates, lanes):
     done, running = set(), {}
     with ThreadPoolExecutor(lanes) as pool:
         while left or running:
-            for crate in [it for it in left if {dep.name for dep in it.deps} <= done][: lanes - len(running)]:
+            ready = [it for it in left if {dep.name for dep in it.deps} <= done]
+            for crate, jobs in shares(ready, lanes - sum(jobs for _, jobs in running.values())):
                 left.remove(crate)
-                running[pool.submit(build, crate)] = crate.name
+                running[pool.submit(build, crate, jobs)] = crate.name, jobs
             if not running:
                 return False
             for ended in wait(running, return_when=FIRST_COMPLETED).done:
-                name = running.pop(ended)
+                name, _ = running.pop(ended)
                 if ended.result():
                     done.add(name)
     return True
