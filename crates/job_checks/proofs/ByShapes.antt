@@ -7,7 +7,7 @@ use Rattle.job_tokens.specs.Shapes.{shapes_of}
 use Rattle.job_syntax.specs.declared.role.Role.{Role}
 use Rattle.job_syntax.specs.declared.role.Role.TheVariants as role
 use Rattle.job_checks.specs.Given.{given_by, is_among, twice_at, twice_in}
-use Rattle.job_checks.specs.Cancels.{Cancel, place_of_target, targets_in, stray_in}
+use Rattle.job_checks.specs.Uses.{Use, place_of_target, targets_in, stray_in}
 use Rattle.job_checks.specs.Reserved.{allows, reserved_in}
 
 same_shape : (x y : Token) (xs ys : List Token) → shapes_of (x ∷ xs) ≡ shapes_of (y ∷ ys) → (x.shape ≡ y.shape)
@@ -76,19 +76,19 @@ as_many_in (x ∷ xs) (y ∷ ys) [] e = refl
 as_many_in (x ∷ xs) (y ∷ ys) (r ∷ rs) e =
     as_many_targets r x.at y.at (targets_in xs rs) (targets_in ys rs) (as_many_in xs ys rs (same_shape x y xs ys e).1)
 
-stray_among : (cs : List Cancel) (xs ys : List ℕ) → length xs ≡ length ys → stray_in cs xs ≡ None → stray_in cs ys ≡ None
+stray_among : (us : List Use) (xs ys : List ℕ) → length xs ≡ length ys → stray_in us xs ≡ None → stray_in us ys ≡ None
 stray_among [] xs ys e found = refl
-stray_among (c ∷ cs) [] [] e found = refl
-stray_among (c ∷ cs) [] (y ∷ ys) e found = absurd (omega (arith, e))
-stray_among (c ∷ cs) (x ∷ xs) [] e found = absurd (omega (arith, e))
-stray_among (c ∷ cs) (x ∷ xs) (y ∷ ys) e found = by_among (is_among c.around c.name) found (stray_among cs xs ys (omega (arith, e)))
+stray_among (u ∷ us) [] [] e found = refl
+stray_among (u ∷ us) [] (y ∷ ys) e found = absurd (omega (arith, e))
+stray_among (u ∷ us) (x ∷ xs) [] e found = absurd (omega (arith, e))
+stray_among (u ∷ us) (x ∷ xs) (y ∷ ys) e found = by_among (is_among u.around u.name) found (stray_among us xs ys (omega (arith, e)))
   where
-    by_among : (b : Bool) → cond b (stray_in cs xs) (Some x) ≡ None → (stray_in cs xs ≡ None → stray_in cs ys ≡ None) →
-        cond b (stray_in cs ys) (Some y) ≡ None
+    by_among : (b : Bool) → cond b (stray_in us xs) (Some x) ≡ None → (stray_in us xs ≡ None → stray_in us ys ≡ None) →
+        cond b (stray_in us ys) (Some y) ≡ None
     by_among true found rest = rest found
     by_among false found rest = absurd cc
 
--- whether a `cancel` is stray depends only on the shapes and the roles
-pub stray_by_shapes : (cs : List Cancel) (xs ys : List Token) (roles : List Role) → shapes_of xs ≡ shapes_of ys →
-    stray_in cs (targets_in xs roles) ≡ None → stray_in cs (targets_in ys roles) ≡ None
-stray_by_shapes cs xs ys roles e found = stray_among cs (targets_in xs roles) (targets_in ys roles) (as_many_in xs ys roles e) found
+-- whether a use of a name is stray depends only on the shapes and the roles
+pub stray_by_shapes : (us : List Use) (xs ys : List Token) (roles : List Role) → shapes_of xs ≡ shapes_of ys →
+    stray_in us (targets_in xs roles) ≡ None → stray_in us (targets_in ys roles) ≡ None
+stray_by_shapes us xs ys roles e found = stray_among us (targets_in xs roles) (targets_in ys roles) (as_many_in xs ys roles e) found

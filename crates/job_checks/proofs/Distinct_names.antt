@@ -5,7 +5,7 @@ use Rattle.std.specs.Str.{bytes_eq}
 use Rattle.std.proofs.lemmas.Cmp.{nat_list_eq_equiv}
 use Rattle.job_tree.specs.declared.deadline.Deadline.{Deadline}
 use Rattle.job_tree.specs.declared.deadline.Deadline.TheVariants.{Never, After, At}
-use Rattle.job_tree.specs.Tree.{Step, sleep, checkpoint, forever, pace, find, head, longest, need, raise, cancel, scope, nursery, start, repeat, attempt, Steps, stop, step, Handled, unhandled, except, Cleaned, uncleaned, finally, Tree}
+use Rattle.job_tree.specs.Tree.{Step, sleep, checkpoint, forever, pace, find, head, longest, need, raise, cancel, set_event, wait_for, scope, nursery, event, start, repeat, attempt, Steps, stop, step, Handled, unhandled, except, Cleaned, uncleaned, finally, Tree}
 use Rattle.job_tree.specs.Names.{names_of, names_in, handled_names, cleaned_names, GivesNamesOnce}
 use Rattle.job_tokens.specs.declared.token.Shape.{Shape}
 use Rattle.job_tokens.specs.declared.token.Token.{Token}
@@ -134,6 +134,8 @@ mutual
   step_gives (need t n) rest = refl
   step_gives (raise n) rest = refl
   step_gives (cancel n) rest = refl
+  step_gives (set_event n) rest = refl
+  step_gives (wait_for n) rest = refl
   step_gives (scope n d s f body) rest =
       let block = opens ∷ steps_pieces body rest in
       let flagged = flag_pieces word.Fail f block in
@@ -144,6 +146,7 @@ mutual
       let block = opens ∷ steps_pieces body rest in
       let passed = past_deadline d (flag_pieces word.Shield s block) ∙ past_flag word.Shield s block in
       after_name n (passed ∙ steps_give body rest)
+  step_gives (event n body) rest = after_name n (steps_give body rest)
   step_gives (start n o body) rest = after_name n (past_over o (opens ∷ steps_pieces body rest) ∙ steps_give body rest)
   step_gives (repeat n body) rest = steps_give body rest
   step_gives (attempt body h c) rest =

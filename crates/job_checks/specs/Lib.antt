@@ -1,4 +1,4 @@
 pub mod Given
-pub mod Cancels
+pub mod Uses
 pub mod Reserved
 pub mod Searches

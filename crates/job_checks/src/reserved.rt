@@ -1,13 +1,13 @@
 ghost use Rattle.std.specs.Prelude.{◌≡◌};
-ghost use Rattle.job_checks.specs.Reserved.{reserved_in, allows, is_free, may_be_handled, is_reserved};
+ghost use Rattle.job_checks.specs.Reserved.{reserved_in, allows, is_free, may_be_handled, is_kept, is_reserved};
 
 use job_syntax::{Keyword, Role};
 use job_tokens::{Shape, Token};
 use job_tree::Name;
 
 /// Returns the place of the first name that is reserved, or `None` if there is none. The keywords and `Cancelled`
-/// are reserved, and `TooSlow` is reserved everywhere except after `except`. `roles` are the roles of the tokens,
-/// in the same order.
+/// are reserved, and `TooSlow` is reserved everywhere except after `except`. The keywords that format 3 added are
+/// not reserved. `roles` are the roles of the tokens, in the same order.
 pub fn reserved_name(tokens: &[Token], roles: &[Role]) -> Option<usize>
     ensures { result ≡ reserved_in tokens.now roles.now }
 {
@@ -55,9 +55,19 @@ fn may_be_handled(word: Option<Name>) -> bool
     }
 }
 
-// Returns whether the word is a keyword or `Cancelled`.
+// Returns whether the word is a keyword that may not be a name, or `Cancelled`.
 fn is_reserved(word: Name) -> bool
     ensures { result ≡ is_reserved word }
 {
-    Keyword::of(word).is_some() || word.bytes() == b"Cancelled".as_slice()
+    is_kept(Keyword::of(word)) || word.bytes() == b"Cancelled".as_slice()
+}
+
+// Returns whether this is a keyword that may not be a name.
+fn is_kept(keyword: Option<Keyword>) -> bool
+    ensures { result ≡ is_kept keyword }
+{
+    match keyword {
+        Some(keyword) => !keyword.may_be_name(),
+        None => false,
+    }
 }

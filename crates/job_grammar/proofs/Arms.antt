@@ -25,7 +25,7 @@ use Rattle.job_grammar.specs.declared.fault.JobFault.{JobFault}
 use Rattle.job_grammar.specs.declared.draft.Draft.{Draft}
 use Rattle.job_grammar.specs.Refusals.{format_of, HasTokens, AreTokensOf, IsOf, IsOfSomeJob, IsReadTo, roles_of, stray_of, Passes, IsRefused, IsFair, Spells}
 use Rattle.job_grammar.specs.Drafts.{IsDraftTo, tree_of}
-use Rattle.job_grammar.proofs.Passing.{within, refused_after, passes_tokens, passes_numbers, passes_syntax, passes_depth, passes_given, passes_cancels, passes_reserved, passes_size, passes_all}
+use Rattle.job_grammar.proofs.Passing.{within, refused_after, passes_tokens, passes_numbers, passes_syntax, passes_depth, passes_given, passes_uses, passes_reserved, passes_size, passes_all}
 
 -- the answer of `refuse_at`: a refusal of this kind, at the place that a check found
 abbrev pub IsRefusalAt : Option ℕ → JobKind → JobFault → Type 0
@@ -196,16 +196,16 @@ pub given_passed : (text : List ℕ) (d : Draft) → IsDraftTo 7 text d → twic
 given_passed text d h e = next_draft 7 8 text d h (passes_given text d.tokens.items (tree_of d) h.passes h.is_of
     (by_roles d (twice_in []) None h.roles_are e))
 
--- the first `cancel` that names no enclosing scope or nursery is a refusal of the text of such a draft
+-- the first use of a name that nothing of its kind around it has is a refusal of the text of such a draft
 pub stray_refused : (text : List ℕ) (d : Draft) (at : ℕ) → IsDraftTo 8 text d →
     stray_of (tree_of d) d.tokens.items d.roles.items ≡ Some at → IsRefused text kind.NotEnclosing at
 stray_refused text d at h e = refused_after text 8 kind.NotEnclosing at h.passes refl
     (d.tokens.items, tree_of d, h.is_of, by_roles d (stray_of (tree_of d)) (Some at) h.roles_are e)
 
--- if no `cancel` is stray, the draft passes the check for cancels
+-- if no use of a name is stray, the draft passes the check for uses
 pub stray_passed : (text : List ℕ) (d : Draft) → IsDraftTo 8 text d → stray_of (tree_of d) d.tokens.items d.roles.items ≡ None →
     IsDraftTo 9 text d
-stray_passed text d h e = next_draft 8 9 text d h (passes_cancels text d.tokens.items (tree_of d) h.passes h.is_of
+stray_passed text d h e = next_draft 8 9 text d h (passes_uses text d.tokens.items (tree_of d) h.passes h.is_of
     (by_roles d (stray_of (tree_of d)) None h.roles_are e))
 
 -- the first reserved name is a refusal of the text of such a draft

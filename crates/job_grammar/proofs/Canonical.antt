@@ -29,14 +29,14 @@ use Rattle.job_syntax.proofs.InRange.{numbers_by_shapes}
 use Rattle.job_syntax.proofs.Deep.{depth_by_shapes}
 use Rattle.job_syntax.proofs.Upgraded.{newer_steps, newer_numbers}
 use Rattle.job_checks.specs.Given.{twice_in}
-use Rattle.job_checks.specs.Cancels.{cancels_of}
+use Rattle.job_checks.specs.Uses.{uses_of}
 use Rattle.job_checks.specs.Reserved.{reserved_in}
 use Rattle.job_checks.proofs.ByShapes.{twice_by_shapes, stray_by_shapes, reserved_by_shapes}
 use Rattle.job_grammar.specs.declared.fault.JobKind.{JobKind}
 use Rattle.job_grammar.specs.declared.fault.JobKind.TheVariants as kind
 use Rattle.job_grammar.specs.Refusals.{most_bytes, first_line, format_of, IsHeadless, is_text_byte, may_have_comments, HasTokens, AreTokensOf, IsOf, roles_of, stray_of, Finds, Spells}
 use Rattle.job_grammar.specs.Canon.{canon}
-use Rattle.job_grammar.proofs.Passing.{format_is, comments_by, none_of, small_enough, passes_one, passes_two, passes_three, passes_tokens, passes_numbers, passes_syntax, passes_depth, passes_given, passes_cancels, passes_reserved, passes_size, passes_all}
+use Rattle.job_grammar.proofs.Passing.{format_is, comments_by, none_of, small_enough, passes_one, passes_two, passes_three, passes_tokens, passes_numbers, passes_syntax, passes_depth, passes_given, passes_uses, passes_reserved, passes_size, passes_all}
 
 -- ---- what depends only on the shapes
 
@@ -53,7 +53,7 @@ pub record PassesTokens (ts : List Token) (job : Tree) : Type 0 where
   pub numbers : number_fault job.format None ts ≡ None
   pub depth : depth_fault 0 ts ≡ None
   pub given : twice_in [] ts (roles_of job) ≡ None
-  pub cancels : stray_of job ts (roles_of job) ≡ None
+  pub uses : stray_of job ts (roles_of job) ≡ None
   pub reserved : reserved_in ts (roles_of job) ≡ None
   pub size : size_of job.steps ≤ most_steps job.format
 
@@ -63,7 +63,7 @@ by_shapes ts us job e old = record {
   numbers = numbers_by_shapes job.format None ts us e old.numbers;
   depth = depth_by_shapes 0 ts us e old.depth;
   given = twice_by_shapes [] ts us (roles_of job) e old.given;
-  cancels = stray_by_shapes (cancels_of [] job.steps) ts us (roles_of job) e old.cancels;
+  uses = stray_by_shapes (uses_of [] [] job.steps) ts us (roles_of job) e old.uses;
   reserved = reserved_by_shapes ts us (roles_of job) e old.reserved;
   size = old.size;
 }
@@ -76,7 +76,7 @@ passed text ts job is_of none = record {
       (ts, is_of.0, ap (λ (format : Format). number_fault format None ts) (sym is_of.2) ∙ e));
   depth = none_of (depth_fault 0 ts) (λ at e. none kind.Depth at (ts, is_of.0, e));
   given = none_of (twice_in [] ts (roles_of job)) (λ at e. none kind.Twice at (ts, job, is_of, e));
-  cancels = none_of (stray_of job ts (roles_of job)) (λ at e. none kind.NotEnclosing at (ts, job, is_of, e));
+  uses = none_of (stray_of job ts (roles_of job)) (λ at e. none kind.NotEnclosing at (ts, job, is_of, e));
   reserved = none_of (reserved_in ts (roles_of job)) (λ at e. none kind.Reserved at (ts, job, is_of, e));
   size = small_enough (most_steps job.format) (size_of job.steps) (λ lt. none kind.TooLarge 0 (ts, job, is_of, lt, refl));
 }
@@ -153,7 +153,7 @@ passing_spells text ts job short ascii headed is_of found =
     let three = passes_three text job.format (passes_two text (passes_one text short) ascii) headed in
     let five = passes_numbers text ts (passes_tokens text ts three lexed) lexed numbers in
     let seven = passes_depth text ts (passes_syntax text ts five lexed grammatical) lexed found.depth in
-    let nine = passes_cancels text ts job (passes_given text ts job seven is_of found.given) is_of found.cancels in
+    let nine = passes_uses text ts job (passes_given text ts job seven is_of found.given) is_of found.uses in
     (ts, is_of, passes_all text (passes_size text ts job (passes_reserved text ts job nine is_of found.reserved) is_of found.size))
 
 line_length : (format : Format) → length (first_line format) ≡ 11
@@ -240,7 +240,7 @@ upgraded_passes to ts job are old = record {
   numbers = newer_numbers to job ts are.0 are.1 old.numbers;
   depth = old.depth;
   given = old.given;
-  cancels = old.cancels;
+  uses = old.uses;
   reserved = old.reserved;
   size = more_steps to job.format (size_of job.steps) old.size;
 }

@@ -249,10 +249,10 @@ pub passes_given : (text : List ℕ) (tokens : List Token) (job : Tree) → Pass
     twice_in [] tokens (roles_of job) ≡ None → Passes text 8
 passes_given text tokens job before is_of none = next_pass text 7 before (here_twice text tokens job is_of none)
 
--- if no `cancel` is stray, it also passes the check for cancels
-pub passes_cancels : (text : List ℕ) (tokens : List Token) (job : Tree) → Passes text 8 → IsOf text tokens job →
+-- if no use of a name is stray, it also passes the check for uses
+pub passes_uses : (text : List ℕ) (tokens : List Token) (job : Tree) → Passes text 8 → IsOf text tokens job →
     stray_of job tokens (roles_of job) ≡ None → Passes text 9
-passes_cancels text tokens job before is_of none =
+passes_uses text tokens job before is_of none =
     next_pass text 8 before (here_enclosing text tokens job is_of (λ at. before kind.Depth at (omega arith)) none)
 
 -- if no name is reserved, it also passes the check for reserved names

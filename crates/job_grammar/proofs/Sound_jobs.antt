@@ -20,7 +20,7 @@ pub gives_names_once : (text : List ℕ) (job : Tree) → Spells text job → Gi
 gives_names_once text job (ts, is_of, none) =
     names_once job ts is_of.1.1 (none_of (twice_in [] ts (roles_of job)) (λ at e. none kind.Twice at (ts, job, is_of, e)))
 
--- each start is directly in the body of a nursery
+-- each start is directly in the body of a nursery, or in a `repeat` there
 pub starts_in_nurseries : (text : List ℕ) (job : Tree) → Spells text job → StartsInNurseries job
 starts_in_nurseries text job (ts, is_of, none) = starts_in job.format false job.steps is_of.1.0
 

@@ -16,7 +16,7 @@ use Rattle.job_syntax.specs.Syntax.{LeavesAt, whole_job}
 use Rattle.job_syntax.specs.Ranges.{number_fault}
 use Rattle.job_syntax.specs.Depth.{depth_fault}
 use Rattle.job_checks.specs.Given.{twice_in}
-use Rattle.job_checks.specs.Cancels.{cancels_of, targets_in, stray_in}
+use Rattle.job_checks.specs.Uses.{uses_of, targets_in, stray_in}
 use Rattle.job_checks.specs.Reserved.{reserved_in}
 use Rattle.job_grammar.specs.declared.fault.JobKind.{JobKind}
 use Rattle.job_grammar.specs.declared.fault.JobKind.TheVariants as kind
@@ -64,9 +64,9 @@ IsOf text tokens job = HasTokens text tokens None × AreTokensOf tokens job × (
 abbrev pub roles_of : Tree → List Role
 roles_of job = roles_in (job_pieces job)
 
--- the place of the first `cancel` that names no enclosing scope or nursery
+-- the place of the first `cancel` that names no enclosing scope or nursery, or `set` or `wait` that names no enclosing event
 abbrev pub stray_of : Tree → List Token → List Role → Option ℕ
-stray_of job tokens roles = stray_in (cancels_of [] job.steps) (targets_in tokens roles)
+stray_of job tokens roles = stray_in (uses_of [] [] job.steps) (targets_in tokens roles)
 
 -- the text begins with the first line of no format
 abbrev pub IsHeadless : List ℕ → Type 0

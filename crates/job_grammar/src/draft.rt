@@ -4,7 +4,7 @@ ghost use Rattle.job_grammar.specs.Drafts.{IsDraftTo};
 
 use crate::fault::{JobFault, JobKind, refuse_at};
 use crate::job::Job;
-use job_checks::{given_twice, reserved_name, size_of, stray_cancel};
+use job_checks::{given_twice, reserved_name, size_of, stray_use};
 use job_syntax::{Role, job_at};
 use job_tokens::Token;
 use job_tree::{Body, Format, Name};
@@ -62,14 +62,14 @@ impl<'t> Draft<'t> {
         refuse_at(found, JobKind::Twice)
     }
 
-    /// Checks that each `cancel` names an enclosing scope or nursery. Requires that the checks before this one
-    /// passed. The error is the first that does not.
-    pub fn check_cancels(&self) -> Result<(), JobFault>
+    /// Checks that each `cancel` names an enclosing scope or nursery, and each `set` and `wait` an enclosing event.
+    /// Requires that the checks before this one passed. The error is the first that does not.
+    pub fn check_uses(&self) -> Result<(), JobFault>
         requires { IsDraftTo 8 self.now.text.now self.now }
         ensures ok { OnOk result (IsDraftTo 9 self.now.text.now self.now) }
         ensures err { IfErr result (IsFair self.now.text.now) }
     {
-        let found = stray_cancel(self.steps.as_slice(), &self.tokens, &self.roles);
+        let found = stray_use(self.steps.as_slice(), &self.tokens, &self.roles);
         refuse_at(found, JobKind::NotEnclosing)
     }
 

@@ -27,11 +27,12 @@ pub enum JobKind {
     Syntax,
     /// A block is at depth 33, where the block of the job itself is at depth 1. The place is its `{`.
     Depth,
-    /// A job, scope, nursery or started task has a name that was given before. The place is the later name.
+    /// A job, scope, nursery, event or started task has a name that was given before. The place is the later name.
     Twice,
-    /// A `cancel` names no enclosing scope or nursery. The place is the name in it.
+    /// A `cancel` names no enclosing scope or nursery, or a `set` or `wait` no enclosing event. The place is the name in it.
     NotEnclosing,
-    /// A name is a keyword or `Cancelled`, or `TooSlow` anywhere except after `except`. The place is that name.
+    /// A name is a keyword or `Cancelled`, or `TooSlow` anywhere except after `except`. The place is that name. The keywords
+    /// `event`, `set` and `wait` may be names.
     Reserved,
     /// The job has more than 1,000,000 step instances, or in format 1 more than 100,000. The copies of a `start .. over` and
     /// the passes of a `repeat` are counted. The place is 0.

@@ -29,6 +29,8 @@ pub fn push_head(shapes: &mut Vec<Shape>, step: &Step) -> Result<(), AllocError>
         Step::Need { text, name } => push_need(shapes, *text, *name),
         Step::Raise(name) => push_named(shapes, Keyword::Raise, *name),
         Step::Cancel(name) => push_named(shapes, Keyword::Cancel, *name),
+        Step::Set(name) => push_named(shapes, Keyword::Set, *name),
+        Step::Wait(name) => push_named(shapes, Keyword::Wait, *name),
         Step::Scope {
             name,
             deadline,
@@ -46,6 +48,7 @@ pub fn push_head(shapes: &mut Vec<Shape>, step: &Step) -> Result<(), AllocError>
             shield,
             ..
         } => push_block_head(shapes, Keyword::Nursery, *name, *deadline, *shield),
+        Step::Event { name, .. } => push_named(shapes, Keyword::Event, *name),
         Step::Start { name, over, .. } => push_start_head(shapes, *name, *over),
         Step::Repeat { count, .. } => push_counted(shapes, Keyword::Repeat, *count),
         Step::Try { .. } => push_keyword(shapes, Keyword::Try),

@@ -10,8 +10,8 @@ use job_tree::{Body, Format, Name, Step};
 use std::marker::Model;
 
 /// A job that a text spells. In contracts, it is the tree of the job, and the canonical text of the job spells that tree. So no
-/// name is given twice, each `start` is directly in the body of a nursery, the numbers are in their ranges, and the job has no
-/// more step instances than its format allows.
+/// name is given twice, each `start` is directly in the body of a nursery or in a `repeat` there, the numbers are in their
+/// ranges, and the job has no more step instances than its format allows.
 #[derive(Drop)]
 pub struct Job {
     format: Format,

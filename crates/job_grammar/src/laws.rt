@@ -19,8 +19,8 @@ pub fn canonical_text_spells()
 {}
 
 /// A law about each job that a text spells: no name is given twice, its own included; each `start` is directly in the body
-/// of a nursery; its numbers are in their ranges, and it has no more step instances than its format allows. The function
-/// does nothing when it is called.
+/// of a nursery, or in a `repeat` there; its numbers are in their ranges, and it has no more step instances than its format
+/// allows. The function does nothing when it is called.
 pub fn spelled_jobs_are_sound()
     ensures names { (text : List ℕ) (job : Tree) → Spells text job → GivesNamesOnce job }
     ensures starts { (text : List ℕ) (job : Tree) → Spells text job → StartsInNurseries job }

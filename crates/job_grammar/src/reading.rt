@@ -56,7 +56,7 @@ fn read(alloc: Global, text: &[u8]) -> Result<Job, JobFault>
     check_depth(text, &tokens)?;
     let draft = Draft::new(alloc, text, format, tokens, roles)?;
     draft.check_given(alloc)?;
-    draft.check_cancels()?;
+    draft.check_uses()?;
     draft.check_reserved()?;
     draft.check_size()?;
     Ok(draft.into_job())

@@ -79,6 +79,7 @@ fn push_tail(shapes: &mut Vec<Shape>, step: &Step) -> Result<(), AllocError>
     match step {
         Step::Scope { body, .. } => push_body(shapes, body),
         Step::Nursery { body, .. } => push_body(shapes, body),
+        Step::Event { body, .. } => push_body(shapes, body),
         Step::Start { body, .. } => push_body(shapes, body),
         Step::Repeat { body, .. } => push_body(shapes, body),
         Step::Try {

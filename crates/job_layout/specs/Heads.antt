@@ -1,6 +1,6 @@
 -- The head of a step alone, and the steps of which the head is all but the semicolon.
 use Rattle.std.specs.Prelude.{Bool, true, false, List, []}
-use Rattle.job_tree.specs.Tree.{Step, scope, nursery, start, repeat, attempt}
+use Rattle.job_tree.specs.Tree.{Step, scope, nursery, event, start, repeat, attempt}
 use Rattle.job_tokens.specs.declared.token.Shape.{Shape}
 use Rattle.job_syntax.specs.Pieces.{shapes_in}
 use Rattle.job_grammar.specs.Heads.{head_onto}
@@ -13,6 +13,7 @@ head_of s = shapes_in (head_onto s [])
 abbrev pub is_plain : Step → Bool
 is_plain (scope name deadline shield fail body) = false
 is_plain (nursery name deadline shield body) = false
+is_plain (event name body) = false
 is_plain (start name over body) = false
 is_plain (repeat count body) = false
 is_plain (attempt body handler cleanup) = false

@@ -3,7 +3,7 @@
 -- before. `bare` says for each token whether there is no comment before it.
 use Rattle.std.specs.Prelude.{ℕ, ◌+◌, ◌-◌, Bool, true, false, ◌&&◌, ◌==◌, nat_le, List, [], ◌∷◌, ◌++◌, length, map, take, drop, Option, Some, None, if◌then◌else◌}
 use Rattle.std.specs.List.{list_all}
-use Rattle.job_tree.specs.Tree.{Step, scope, nursery, start, repeat, attempt, Steps, stop, step, Handled, unhandled, except, Cleaned, uncleaned, finally, Tree}
+use Rattle.job_tree.specs.Tree.{Step, scope, nursery, event, start, repeat, attempt, Steps, stop, step, Handled, unhandled, except, Cleaned, uncleaned, finally, Tree}
 use Rattle.job_tokens.specs.declared.token.Mark.TheVariants as mark
 use Rattle.job_tokens.specs.declared.token.Shape.{Shape}
 use Rattle.job_tokens.specs.Lexing.{has_comments}
@@ -75,6 +75,7 @@ abbrev mutual
   pub with_rest : List Bool → ℕ → Step → List SpacedToken → List SpacedToken
   with_rest bare level (scope name deadline shield fail body) before = with_block bare level body (with_steps bare (level + 1) body) before
   with_rest bare level (nursery name deadline shield body) before = with_block bare level body (with_steps bare (level + 1) body) before
+  with_rest bare level (event name body) before = with_block bare level body (with_steps bare (level + 1) body) before
   with_rest bare level (start name over body) before = with_block bare level body (with_steps bare (level + 1) body) before
   with_rest bare level (repeat count body) before = with_block bare level body (with_steps bare (level + 1) body) before
   with_rest bare level (attempt body handler cleanup) before =

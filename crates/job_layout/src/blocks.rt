@@ -97,6 +97,7 @@ fn push_rest(
     match step {
         Step::Scope { body, .. } => push_block(layout, alloc, bare, level, body.as_slice()),
         Step::Nursery { body, .. } => push_block(layout, alloc, bare, level, body.as_slice()),
+        Step::Event { body, .. } => push_block(layout, alloc, bare, level, body.as_slice()),
         Step::Start { body, .. } => push_block(layout, alloc, bare, level, body.as_slice()),
         Step::Repeat { body, .. } => push_block(layout, alloc, bare, level, body.as_slice()),
         Step::Try {

@@ -40,6 +40,7 @@ fn is_plain(step: &Step) -> bool
     match step {
         Step::Scope { .. } => false,
         Step::Nursery { .. } => false,
+        Step::Event { .. } => false,
         Step::Start { .. } => false,
         Step::Repeat { .. } => false,
         Step::Try { .. } => false,

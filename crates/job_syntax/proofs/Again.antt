@@ -3,13 +3,13 @@ use Rattle.std.proofs.Common.{◌≡◌, ℕ, zero, suc, ◌+◌, ◌-◌, ◌<�
 use Rattle.job_tree.specs.declared.format.Format.{Format}
 use Rattle.job_tree.specs.declared.deadline.Deadline.{Deadline}
 use Rattle.job_tree.specs.declared.deadline.Deadline.TheVariants.{Never, After, At}
-use Rattle.job_tree.specs.Tree.{Step, sleep, checkpoint, forever, pace, find, head, longest, need, raise, cancel, scope, nursery, start, repeat, attempt, Steps, stop, step, Handled, unhandled, except, Cleaned, uncleaned, finally, Tree}
+use Rattle.job_tree.specs.Tree.{Step, sleep, checkpoint, forever, pace, find, head, longest, need, raise, cancel, set_event, wait_for, scope, nursery, event, start, repeat, attempt, Steps, stop, step, Handled, unhandled, except, Cleaned, uncleaned, finally, Tree}
 use Rattle.job_tokens.specs.declared.token.Mark.TheVariants as mark
 use Rattle.job_tokens.specs.declared.token.Shape.{Shape}
 use Rattle.job_syntax.specs.declared.keyword.Keyword.{Keyword}
 use Rattle.job_syntax.specs.declared.keyword.Keyword.TheVariants as word
 use Rattle.job_syntax.specs.Keywords.{keyword_of}
-use Rattle.job_syntax.specs.Pieces.{Piece, shapes_in, opens, deadline_pieces, flag_pieces, over_pieces, steps_pieces, step_pieces, handler_pieces, cleanup_pieces, job_pieces, AreSteps, IsStep}
+use Rattle.job_syntax.specs.Pieces.{Piece, shapes_in, opens, deadline_pieces, flag_pieces, over_pieces, steps_pieces, step_pieces, handler_pieces, cleanup_pieces, job_pieces, loop_inside, AreSteps, IsStep}
 use Rattle.job_syntax.specs.Depth.{AreWithin, IsWithin}
 use Rattle.job_syntax.specs.Reading.{Read, Blocks, mark_at, after_word, step_at, steps_with, blocks_at, job_at}
 
@@ -48,6 +48,8 @@ mutual
   long_step (need t n) rest = omega arith
   long_step (raise n) rest = omega arith
   long_step (cancel n) rest = omega arith
+  long_step (set_event n) rest = omega arith
+  long_step (wait_for n) rest = omega arith
   long_step (scope n d s f body) rest = omega (
     arith,
     long_steps body rest,
@@ -61,6 +63,7 @@ mutual
     long_deadline d (flag_pieces word.Shield s (opens ∷ steps_pieces body rest)),
     long_flag word.Shield s (opens ∷ steps_pieces body rest),
   )
+  long_step (event n body) rest = omega (arith, long_steps body rest)
   long_step (start n o body) rest = omega (arith, long_steps body rest, long_over o (opens ∷ steps_pieces body rest))
   long_step (repeat n body) rest = omega (arith, long_steps body rest)
   long_step (attempt body h c) rest =
@@ -115,6 +118,11 @@ nursery_again blocks n (After t) true body rest reads = rw (reads rest) refl
 nursery_again blocks n (At t) false body rest reads = rw (reads rest) refl
 nursery_again blocks n (At t) true body rest reads = rw (reads rest) refl
 
+event_again : (blocks : Blocks) (n : List ℕ) (body : Steps) (rest : List Piece) → ReadsAgain blocks body →
+    step_at blocks (shapes_in (step_pieces (event n body) rest)) ≡ step_read (event n body) rest
+unfolding keyword_of
+event_again blocks n body rest reads = rw (reads rest) refl
+
 repeat_again : (blocks : Blocks) (n : ℕ) (body : Steps) (rest : List Piece) → ReadsAgain blocks body →
     step_at blocks (shapes_in (step_pieces (repeat n body) rest)) ≡ step_read (repeat n body) rest
 unfolding keyword_of
@@ -154,8 +162,11 @@ no_finally (step longest ss) rest = refl
 no_finally (step (need t n) ss) rest = refl
 no_finally (step (raise n) ss) rest = refl
 no_finally (step (cancel n) ss) rest = refl
+no_finally (step (set_event n) ss) rest = refl
+no_finally (step (wait_for n) ss) rest = refl
 no_finally (step (scope n d s f body) ss) rest = refl
 no_finally (step (nursery n d s body) ss) rest = refl
+no_finally (step (event n body) ss) rest = refl
 no_finally (step (start n o body) ss) rest = refl
 no_finally (step (repeat n body) ss) rest = refl
 no_finally (step (attempt body h c) ss) rest = refl
@@ -172,8 +183,11 @@ no_close longest rest = refl
 no_close (need t n) rest = refl
 no_close (raise n) rest = refl
 no_close (cancel n) rest = refl
+no_close (set_event n) rest = refl
+no_close (wait_for n) rest = refl
 no_close (scope n d s f body) rest = refl
 no_close (nursery n d s body) rest = refl
+no_close (event n body) rest = refl
 no_close (start n o body) rest = refl
 no_close (repeat n body) rest = refl
 no_close (attempt body h c) rest = refl
@@ -234,17 +248,22 @@ mutual
   step_again format (need t n) inside depth rest is within none = refl
   step_again format (raise n) inside depth rest is within none = refl
   step_again format (cancel n) inside depth rest is within none = refl
+  step_again format (set_event n) inside depth rest is within none = refl
+  step_again format (wait_for n) inside depth rest is within none = refl
   step_again format (scope n d s f body) inside depth rest is within none =
       scope_again (blocks_at depth) n d s f body rest (block_again format false body depth
       (λ inside' depth' n' rest'. steps_again format body inside' depth' n' rest') is within.0 within.1)
   step_again format (nursery n d s body) inside depth rest is within none =
       nursery_again (blocks_at depth) n d s body rest (block_again format true body depth
       (λ inside' depth' n' rest'. steps_again format body inside' depth' n' rest') is.1 within.0 within.1)
+  step_again format (event n body) inside depth rest is within none =
+      event_again (blocks_at depth) n body rest (block_again format false body depth
+      (λ inside' depth' n' rest'. steps_again format body inside' depth' n' rest') is.1 within.0 within.1)
   step_again format (start n o body) inside depth rest is within none =
       start_again (blocks_at depth) n o body rest (block_again format false body depth
       (λ inside' depth' n' rest'. steps_again format body inside' depth' n' rest') is.1 within.0 within.1)
   step_again format (repeat n body) inside depth rest is within none =
-      repeat_again (blocks_at depth) n body rest (block_again format false body depth
+      repeat_again (blocks_at depth) n body rest (block_again format (loop_inside format inside) body depth
       (λ inside' depth' n' rest'. steps_again format body inside' depth' n' rest') is.1 within.0 within.1)
   step_again format (attempt body (except n handler) (finally clean)) inside depth rest is within none =
       try_both (blocks_at depth) body n handler clean rest

@@ -3,7 +3,7 @@ use Rattle.std.proofs.Common.{◌≡◌, ℕ, suc, ◌+◌, ◌-◌, ◌<◌, �
 use Rattle.std.proofs.lemmas.Bool.{leb-true, le-leb}
 use Rattle.job_tree.specs.declared.deadline.Deadline.{Deadline}
 use Rattle.job_tree.specs.declared.deadline.Deadline.TheVariants.{Never, After, At}
-use Rattle.job_tree.specs.Tree.{Step, sleep, checkpoint, forever, pace, find, head, longest, need, raise, cancel, scope, nursery, start, repeat, attempt, Steps, stop, step, Handled, unhandled, except, Cleaned, uncleaned, finally, Tree}
+use Rattle.job_tree.specs.Tree.{Step, sleep, checkpoint, forever, pace, find, head, longest, need, raise, cancel, set_event, wait_for, scope, nursery, event, start, repeat, attempt, Steps, stop, step, Handled, unhandled, except, Cleaned, uncleaned, finally, Tree}
 use Rattle.job_tokens.specs.declared.token.Shape.{Shape}
 use Rattle.job_tokens.specs.declared.token.Token.{Token}
 use Rattle.job_tokens.specs.Shapes.{shapes_of, mark_in}
@@ -95,6 +95,8 @@ mutual
   step_within (need t n) rest depth more e none = (tt, none.1.1.1.1)
   step_within (raise n) rest depth more e none = (tt, none.1.1.1)
   step_within (cancel n) rest depth more e none = (tt, none.1.1.1)
+  step_within (set_event n) rest depth more e none = (tt, none.1.1.1)
+  step_within (wait_for n) rest depth more e none = (tt, none.1.1.1)
   step_within (scope n d s f body) rest depth more e none =
       let block = opens ∷ steps_pieces body rest in
       let flagged = flag_pieces word.Fail f block in
@@ -106,6 +108,8 @@ mutual
       let shielded = flag_pieces word.Shield s block in
       block_within depth more body rest (λ depth' more'. steps_within body rest depth' more') e
       (past_flag depth word.Shield s block (past_deadline depth d shielded none.1.1))
+  step_within (event n body) rest depth more e none =
+      block_within depth more body rest (λ depth' more'. steps_within body rest depth' more') e none.1.1
   step_within (start n o body) rest depth more e none =
       block_within depth more body rest (λ depth' more'. steps_within body rest depth' more') e
       (past_over depth o (opens ∷ steps_pieces body rest) none.1.1)

@@ -4,9 +4,9 @@ use Rattle.std.specs.Str.{bytes_eq}
 use Rattle.std.proofs.lemmas.Slice.Eq.{bytes_eq-Decides}
 use Rattle.job_tree.specs.declared.format.Format.{Format}
 use Rattle.job_tree.specs.declared.format.Format.TheVariants.{One, Two, Three}
-use Rattle.job_tree.specs.Formats.{extends_format_1}
+use Rattle.job_tree.specs.Formats.{extends_format_1, has_events}
 use Rattle.job_tree.specs.declared.deadline.Deadline.TheVariants.{Never, After, At}
-use Rattle.job_tree.specs.Tree.{Step, sleep, checkpoint, forever, pace, find, head, longest, need, raise, cancel, scope, nursery, start, repeat, attempt, Steps, stop, step, unhandled, except, uncleaned, finally, Tree}
+use Rattle.job_tree.specs.Tree.{Step, sleep, checkpoint, forever, pace, find, head, longest, need, raise, cancel, set_event, wait_for, scope, nursery, event, start, repeat, attempt, Steps, stop, step, unhandled, except, uncleaned, finally, Tree}
 use Rattle.job_tokens.specs.declared.token.Mark.TheVariants as mark
 use Rattle.job_tokens.specs.declared.token.Shape.{Shape}
 use Rattle.job_tokens.specs.declared.token.Shape.TheVariants as shape
@@ -18,7 +18,7 @@ use Rattle.job_syntax.specs.Keywords.{spelling_of, keyword_among, keywords, keyw
 use Rattle.job_syntax.specs.Nonterminals.{Rest, next, text_rest, step_rest, cleanup_rest, tail_rest, scope_rest, shield_rest, fail_rest, over_rest, nursery_rest, nursery_shield_rest, outer_block, tail, cleanup, ◌>>=◌}
 use Rattle.job_syntax.specs.declared.role.Role.{Role}
 use Rattle.job_syntax.specs.declared.role.Role.TheVariants as role
-use Rattle.job_syntax.specs.Pieces.{Piece, keyword, name_piece, number, string, opens, ends, deadline_pieces, flag_pieces, over_pieces, step_pieces, steps_pieces, AreSteps, IsStep}
+use Rattle.job_syntax.specs.Pieces.{Piece, keyword, name_piece, number, string, opens, ends, deadline_pieces, flag_pieces, over_pieces, step_pieces, steps_pieces, loop_inside, AreSteps, IsStep}
 use Rattle.job_syntax.specs.Syntax.{IsBlock, IsTail, IsCleanupAndBlock, Stands, Fits, role_of}
 use Rattle.job_syntax.proofs.Grammar.{Left, plain_head}
 
@@ -136,12 +136,21 @@ nursery_step format inside ss ps (r, (n, e), (r', (d, s, body, may, are, e'), (q
     (ap (on (keyword word.Nursery)) (e ∙ ap (on (name_piece role.Given n)) tail_is)) fits
 
 repeat_step : (format : Format) (inside : Bool) (ss : List Nonterminal) (ps : List Piece) → extends_format_1 format ≡ true →
-    Fits format (nonterminal.Number ∷ nonterminal.Open ∷ nonterminal.Steps ∷ outer_block inside ∷ ss) ps →
+    Fits format (nonterminal.Number ∷ nonterminal.Open ∷ outer_block (loop_inside format inside) ∷ outer_block inside ∷ ss) ps →
     BlockFits format inside ss (keyword word.Repeat ∷ ps)
-repeat_step format inside ss ps may (r, (n, e), (r', e', (r'', (body, are, e''), (q, block, fits)))) =
+repeat_step format inside ss ps may (r, (n, e), (r', e', (r'', looped, (q, block, fits)))) =
+    let l = block_of format (loop_inside format inside) r' r'' looped in
     let b = block_of format inside r'' q block in
-    step_on format inside (repeat n body) ss (keyword word.Repeat ∷ ps) q b.0 (may, are) b.1
-    (ap (on (keyword word.Repeat)) (e ∙ ap (on (number n)) (e' ∙ ap (on opens) (e'' ∙ ap (steps_pieces body) b.2)))) fits
+    step_on format inside (repeat n l.0) ss (keyword word.Repeat ∷ ps) q b.0 (may, l.1) b.1
+    (ap (on (keyword word.Repeat)) (e ∙ ap (on (number n)) (e' ∙ ap (on opens) (l.2 ∙ ap (steps_pieces l.0) b.2)))) fits
+
+event_step : (format : Format) (inside : Bool) (ss : List Nonterminal) (ps : List Piece) → has_events format ≡ true →
+    Fits format (nonterminal.Given ∷ nonterminal.Open ∷ nonterminal.Steps ∷ outer_block inside ∷ ss) ps →
+    BlockFits format inside ss (keyword word.Event ∷ ps)
+event_step format inside ss ps may (r, (n, e), (r', e', (r'', (body, are, e''), (q, block, fits)))) =
+    let b = block_of format inside r'' q block in
+    step_on format inside (event n body) ss (keyword word.Event ∷ ps) q b.0 (may, are) b.1
+    (ap (on (keyword word.Event)) (e ∙ ap (on (name_piece role.Given n)) (e' ∙ ap (on opens) (e'' ∙ ap (steps_pieces body) b.2)))) fits
 
 start_step : (format : Format) (ss : List Nonterminal) (ps : List Piece) → Fits format (nonterminal.Given ∷ nonterminal.Over ∷ nonterminal.Items ∷ ss) ps →
     BlockFits format true ss (keyword word.Start ∷ ps)
@@ -181,6 +190,17 @@ by_step format false word.Start ss ps left = absurd left
 by_step Two inside word.Repeat ss ps left = repeat_step Two inside ss ps refl left
 by_step Three inside word.Repeat ss ps left = repeat_step Three inside ss ps refl left
 by_step One inside word.Repeat ss ps left = absurd left
+by_step Three inside word.Event ss ps left = event_step Three inside ss ps refl left
+by_step Two inside word.Event ss ps left = absurd left
+by_step One inside word.Event ss ps left = absurd left
+by_step Three inside word.Set ss ps left =
+    name_step Three inside set_event role.Target nonterminal.Target (λ ps rest s. s) (keyword word.Set) ss ps (λ n. refl) (λ n rest. refl) left
+by_step Two inside word.Set ss ps left = absurd left
+by_step One inside word.Set ss ps left = absurd left
+by_step Three inside word.Wait ss ps left =
+    name_step Three inside wait_for role.Target nonterminal.Target (λ ps rest s. s) (keyword word.Wait) ss ps (λ n. refl) (λ n rest. refl) left
+by_step Two inside word.Wait ss ps left = absurd left
+by_step One inside word.Wait ss ps left = absurd left
 by_step format inside word.Try ss ps left = try_step format inside ss ps left
 by_step format inside _ ss ps left = absurd left
 
@@ -236,6 +256,15 @@ by_cleanup format inside word.Nursery ss ps left = unclean format inside ss (key
 by_cleanup Two inside word.Repeat ss ps left = unclean Two inside ss (keyword word.Repeat ∷ ps) (by_step Two inside word.Repeat ss ps left)
 by_cleanup Three inside word.Repeat ss ps left = unclean Three inside ss (keyword word.Repeat ∷ ps) (by_step Three inside word.Repeat ss ps left)
 by_cleanup One inside word.Repeat ss ps left = absurd left
+by_cleanup Three inside word.Event ss ps left = unclean Three inside ss (keyword word.Event ∷ ps) (by_step Three inside word.Event ss ps left)
+by_cleanup Two inside word.Event ss ps left = absurd left
+by_cleanup One inside word.Event ss ps left = absurd left
+by_cleanup Three inside word.Set ss ps left = unclean Three inside ss (keyword word.Set ∷ ps) (by_step Three inside word.Set ss ps left)
+by_cleanup Two inside word.Set ss ps left = absurd left
+by_cleanup One inside word.Set ss ps left = absurd left
+by_cleanup Three inside word.Wait ss ps left = unclean Three inside ss (keyword word.Wait ∷ ps) (by_step Three inside word.Wait ss ps left)
+by_cleanup Two inside word.Wait ss ps left = absurd left
+by_cleanup One inside word.Wait ss ps left = absurd left
 by_cleanup format inside word.Try ss ps left = unclean format inside ss (keyword word.Try ∷ ps) (by_step format inside word.Try ss ps left)
 by_cleanup format inside _ ss ps left = absurd left
 

@@ -2,18 +2,18 @@
 use Rattle.std.proofs.Common.{◌≡◌, ℕ, Bool, true, false, List, [], ◌∷◌, ◌++◌, Option, Some, None, ◌⊎◌, inl, inr, refl, sym, subst}
 use Rattle.job_tree.specs.declared.format.Format.{Format}
 use Rattle.job_tree.specs.declared.format.Format.TheVariants.{One, Two, Three}
-use Rattle.job_tree.specs.Formats.{extends_format_1}
+use Rattle.job_tree.specs.Formats.{extends_format_1, has_events}
 use Rattle.job_tree.specs.declared.deadline.Deadline.{Deadline}
 use Rattle.job_tree.specs.declared.deadline.Deadline.TheVariants.{Never, After, At}
-use Rattle.job_tree.specs.Tree.{sleep, checkpoint, forever, pace, find, head, longest, need, raise, cancel, scope, nursery, start, repeat, attempt, Steps, stop, step, Handled, unhandled, except, Cleaned, uncleaned, finally, Tree}
+use Rattle.job_tree.specs.Tree.{sleep, checkpoint, forever, pace, find, head, longest, need, raise, cancel, set_event, wait_for, scope, nursery, event, start, repeat, attempt, Steps, stop, step, Handled, unhandled, except, Cleaned, uncleaned, finally, Tree}
 use Rattle.job_syntax.specs.declared.keyword.Keyword.{Keyword}
 use Rattle.job_syntax.specs.declared.keyword.Keyword.TheVariants as word
 use Rattle.job_syntax.specs.declared.nonterminal.Nonterminal.{Nonterminal}
 use Rattle.job_syntax.specs.declared.nonterminal.Nonterminal.TheVariants as nonterminal
 use Rattle.job_syntax.specs.Keywords.{spelling_of, keyword_of}
-use Rattle.job_syntax.specs.Nonterminals.{Rest, next, step_rest, cleanup_rest, outer_block, tail, cleanup, ◌>>=◌}
+use Rattle.job_syntax.specs.Nonterminals.{Rest, next, event_rest, use_rest, step_rest, cleanup_rest, outer_block, tail, cleanup, ◌>>=◌}
 use Rattle.job_syntax.specs.declared.role.Role.TheVariants as role
-use Rattle.job_syntax.specs.Pieces.{Piece, keyword, name_piece, number, string, opens, closes, ends, deadline_pieces, flag_pieces, over_pieces, steps_pieces, handler_pieces, cleanup_pieces, job_onto, IsNurseryHead, AreSteps, IsHandler, IsCleanup, HasTail}
+use Rattle.job_syntax.specs.Pieces.{Piece, keyword, name_piece, number, string, opens, closes, ends, deadline_pieces, flag_pieces, over_pieces, steps_pieces, handler_pieces, cleanup_pieces, job_onto, IsNurseryHead, loop_inside, AreSteps, IsHandler, IsCleanup, HasTail}
 use Rattle.job_syntax.specs.Syntax.{Stands, Fits, role_of}
 
 -- ---- completion
@@ -123,19 +123,36 @@ start_left format true n o body others ss rest e are following fits = (
 )
 start_left format false n o body others ss rest e are following fits = absurd cc
 
-repeat_left : (format : Format) (inside : Bool) (n : ℕ) (body others : Steps) (ss : List Nonterminal) (rest : List Piece) →
-    extends_format_1 format ≡ true → AreSteps format false body → AreSteps format inside others → Fits format ss rest
-    → Left format (step_rest format inside word.Repeat) ss (number n ∷ opens ∷ steps_pieces body (steps_pieces others rest))
-repeat_left Two inside n body others ss rest e are following fits = (
+-- a number and a block after it, followed by the rest of the enclosing block
+loop_fits : (format : Format) (inside loop : Bool) (n : ℕ) (body others : Steps) (ss : List Nonterminal) (rest : List Piece) →
+    AreSteps format loop body → AreSteps format inside others → Fits format ss rest
+    → Fits format (nonterminal.Number ∷ nonterminal.Open ∷ outer_block loop ∷ outer_block inside ∷ ss)
+    (number n ∷ opens ∷ steps_pieces body (steps_pieces others rest))
+loop_fits format inside loop n body others ss rest are following fits = (
   opens ∷ steps_pieces body (steps_pieces others rest),
   (n, refl),
   (
     steps_pieces body (steps_pieces others rest),
     refl,
-    (steps_pieces others rest, (body, are, refl), (rest, block_stands Two inside others rest following, fits)),
+    (
+      steps_pieces others rest,
+      block_stands format loop body (steps_pieces others rest) are,
+      (rest, block_stands format inside others rest following, fits),
+    ),
   ),
 )
-repeat_left Three inside n body others ss rest e are following fits = (
+
+repeat_left : (format : Format) (inside : Bool) (n : ℕ) (body others : Steps) (ss : List Nonterminal) (rest : List Piece) →
+    extends_format_1 format ≡ true → AreSteps format (loop_inside format inside) body → AreSteps format inside others → Fits format ss rest
+    → Left format (step_rest format inside word.Repeat) ss (number n ∷ opens ∷ steps_pieces body (steps_pieces others rest))
+repeat_left Two inside n body others ss rest e are following fits = loop_fits Two inside false n body others ss rest are following fits
+repeat_left Three inside n body others ss rest e are following fits = loop_fits Three inside inside n body others ss rest are following fits
+repeat_left One inside n body others ss rest e are following fits = absurd cc
+
+event_left : (format : Format) (inside : Bool) (n : List ℕ) (body others : Steps) (ss : List Nonterminal) (rest : List Piece) →
+    has_events format ≡ true → AreSteps format false body → AreSteps format inside others → Fits format ss rest
+    → Left format (event_rest format inside) ss (name_piece role.Given n ∷ opens ∷ steps_pieces body (steps_pieces others rest))
+event_left Three inside n body others ss rest e are following fits = (
   opens ∷ steps_pieces body (steps_pieces others rest),
   (n, refl),
   (
@@ -144,7 +161,19 @@ repeat_left Three inside n body others ss rest e are following fits = (
     (steps_pieces others rest, (body, are, refl), (rest, block_stands Three inside others rest following, fits)),
   ),
 )
-repeat_left One inside n body others ss rest e are following fits = absurd cc
+event_left Two inside n body others ss rest e are following fits = absurd cc
+event_left One inside n body others ss rest e are following fits = absurd cc
+
+use_left : (format : Format) (inside : Bool) (n : List ℕ) (others : Steps) (ss : List Nonterminal) (rest : List Piece) →
+    has_events format ≡ true → AreSteps format inside others → Fits format ss rest
+    → Left format (use_rest format inside) ss (name_piece role.Target n ∷ ends ∷ steps_pieces others rest)
+use_left Three inside n others ss rest e following fits = (
+  ends ∷ steps_pieces others rest,
+  (n, refl),
+  (steps_pieces others rest, refl, (rest, block_stands Three inside others rest following, fits)),
+)
+use_left Two inside n others ss rest e following fits = absurd cc
+use_left One inside n others ss rest e following fits = absurd cc
 
 first_of_block : (format : Format) (inside : Bool) (steps : Steps) (ss : List Nonterminal) (rest : List Piece) → AreSteps format inside steps →
     Fits format ss rest →
@@ -188,6 +217,10 @@ first_of_block format inside (step (raise n) others) ss rest are fits =
 first_of_block format inside (step (cancel n) others) ss rest are fits =
     let following = steps_pieces others rest in
     inr (word.Cancel, refl, (ends ∷ following, (n, refl), (following, refl, (rest, block_stands format inside others rest are.1, fits))))
+first_of_block format inside (step (set_event n) others) ss rest are fits =
+    inr (word.Set, refl, use_left format inside n others ss rest are.0 are.1 fits)
+first_of_block format inside (step (wait_for n) others) ss rest are fits =
+    inr (word.Wait, refl, use_left format inside n others ss rest are.0 are.1 fits)
 first_of_block format inside (step (scope n d s f body) others) ss rest are fits =
     let following = steps_pieces others rest in
     inr (
@@ -210,6 +243,8 @@ first_of_block format inside (step (nursery n d s body) others) ss rest are fits
         (following, (d, s, body, are.0.0, are.0.1, refl), (rest, block_stands format inside others rest are.1, fits)),
       ),
     )
+first_of_block format inside (step (event n body) others) ss rest are fits =
+    inr (word.Event, refl, event_left format inside n body others ss rest are.0.0 are.0.1 are.1 fits)
 first_of_block format inside (step (start n o body) others) ss rest are fits =
     inr (word.Start, refl, start_left format inside n o body others ss rest are.0.0 are.0.1 are.1 fits)
 first_of_block format inside (step (repeat n body) others) ss rest are fits =

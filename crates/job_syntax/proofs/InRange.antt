@@ -7,7 +7,7 @@ use Rattle.job_tree.specs.Formats.{extends_format_1}
 use Rattle.job_tree.specs.declared.limits.TheConstants.{MAX_NUMBER, MAX_PACE, MAX_COPIES, MAX_PASSES}
 use Rattle.job_tree.specs.declared.deadline.Deadline.{Deadline}
 use Rattle.job_tree.specs.declared.deadline.Deadline.TheVariants.{Never, After, At}
-use Rattle.job_tree.specs.Tree.{Step, sleep, checkpoint, forever, pace, find, head, longest, need, raise, cancel, scope, nursery, start, repeat, attempt, Steps, stop, step, Handled, unhandled, except, Cleaned, uncleaned, finally, Tree}
+use Rattle.job_tree.specs.Tree.{Step, sleep, checkpoint, forever, pace, find, head, longest, need, raise, cancel, set_event, wait_for, scope, nursery, event, start, repeat, attempt, Steps, stop, step, Handled, unhandled, except, Cleaned, uncleaned, finally, Tree}
 use Rattle.job_tree.specs.InRange.{AreInRange, IsInRangeStep, IsInRangeHandler, IsInRangeCleanup, IsInRangeDeadline, IsInRangeOver}
 use Rattle.job_tokens.specs.declared.token.Shape.{Shape}
 use Rattle.job_tokens.specs.declared.token.Token.{Token}
@@ -15,7 +15,7 @@ use Rattle.job_tokens.specs.Shapes.{shapes_of}
 use Rattle.job_syntax.specs.declared.keyword.Keyword.{Keyword}
 use Rattle.job_syntax.specs.declared.keyword.Keyword.TheVariants as word
 use Rattle.job_syntax.specs.Keywords.{keyword_of}
-use Rattle.job_syntax.specs.Pieces.{Piece, shapes_in, keyword, number, opens, deadline_pieces, flag_pieces, over_pieces, steps_pieces, step_pieces, handler_pieces, cleanup_pieces, job_pieces, AreSteps, IsStep, IsHandler, IsCleanup}
+use Rattle.job_syntax.specs.Pieces.{Piece, shapes_in, keyword, number, opens, deadline_pieces, flag_pieces, over_pieces, steps_pieces, step_pieces, handler_pieces, cleanup_pieces, job_pieces, loop_inside, AreSteps, IsStep, IsHandler, IsCleanup}
 use Rattle.job_syntax.specs.Ranges.{keyword_in, is_in_range, number_fault}
 
 -- ---- along the shapes
@@ -140,6 +140,8 @@ mutual
   step_in_range format (need t n) inside rest is all = (tt, (None, all.1.1.1.1.1))
   step_in_range format (raise n) inside rest is all = (tt, (None, all.1.1.1.1))
   step_in_range format (cancel n) inside rest is all = (tt, (None, all.1.1.1.1))
+  step_in_range format (set_event n) inside rest is all = (tt, (None, all.1.1.1.1))
+  step_in_range format (wait_for n) inside rest is all = (tt, (None, all.1.1.1.1))
   step_in_range format (scope n d s f body) inside rest is all =
       let block = opens ∷ steps_pieces body rest in
       let flagged = flag_pieces word.Fail f block in
@@ -155,12 +157,13 @@ mutual
       let opened = past_flag format word.Shield s block dated.1 in
       let inner = steps_in_range format body true rest is.1 (None, opened.1.1) in
       ((dated.0, inner.0), inner.1)
+  step_in_range format (event n body) inside rest is all = steps_in_range format body false rest is.1 (None, all.1.1.1.1)
   step_in_range format (start n o body) inside rest is all =
       let copies = over_in_range format o (opens ∷ steps_pieces body rest) (keyword_of n, all.1.1.1) in
       let inner = steps_in_range format body false rest is.1 (None, copies.1.1.1) in
       ((copies.0, inner.0), inner.1)
   step_in_range format (repeat n body) inside rest is all =
-      let inner = steps_in_range format body false rest is.1 (None, all.1.1.1.1) in
+      let inner = steps_in_range format body (loop_inside format inside) rest is.1 (None, all.1.1.1.1) in
       ((repeat_fit format n is.0 all.1.1.0, inner.0), inner.1)
   step_in_range format (attempt body h c) inside rest is all =
       let inner = steps_in_range format body false (handler_pieces h (cleanup_pieces c rest)) is.1 (None, all.1.1.1) in

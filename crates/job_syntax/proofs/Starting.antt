@@ -1,12 +1,45 @@
 -- What the grammar says about where a `start` may occur.
 use Rattle.job_tree.specs.declared.format.Format.{Format}
-use Rattle.job_tree.specs.Tree.{Step, sleep, checkpoint, forever, pace, find, head, longest, need, raise, cancel, scope, nursery, start, repeat, attempt, Steps, stop, step, Handled, unhandled, except, Cleaned, uncleaned, finally}
+use Rattle.job_tree.specs.declared.format.Format.TheVariants.{One, Two, Three}
+use Rattle.job_tree.specs.Tree.{Step, sleep, checkpoint, forever, pace, find, head, longest, need, raise, cancel, set_event, wait_for, scope, nursery, event, start, repeat, attempt, Steps, stop, step, Handled, unhandled, except, Cleaned, uncleaned, finally}
 use Rattle.job_tree.specs.Starting.{StartsIn, StartsAt, HandlerStarts, CleanupStarts}
-use Rattle.std.specs.Prelude.{Bool, true, false}
-use Rattle.job_syntax.specs.Pieces.{AreSteps, IsStep, IsHandler, IsCleanup}
+use Rattle.std.specs.Prelude.{◌≡◌, Bool, true, false}
+use Rattle.job_syntax.specs.Pieces.{loop_inside, AreSteps, IsStep, IsHandler, IsCleanup}
 
 mutual
-  -- in the blocks of the grammar, each `start` is directly in the body of a nursery
+  -- a block without a `start` of its own may stand anywhere
+  starts_anywhere : (inside : Bool) (ss : Steps) → StartsIn false ss → StartsIn inside ss
+  starts_anywhere inside stop a = tt
+  starts_anywhere inside (step s ss) a = (starts_anywhere_at inside s a.0, starts_anywhere inside ss a.1)
+
+  starts_anywhere_at : (inside : Bool) (s : Step) → StartsAt false s → StartsAt inside s
+  starts_anywhere_at inside (sleep n) a = tt
+  starts_anywhere_at inside checkpoint a = tt
+  starts_anywhere_at inside forever a = tt
+  starts_anywhere_at inside (pace k) a = tt
+  starts_anywhere_at inside (find text) a = tt
+  starts_anywhere_at inside (head n) a = tt
+  starts_anywhere_at inside longest a = tt
+  starts_anywhere_at inside (need text name) a = tt
+  starts_anywhere_at inside (raise name) a = tt
+  starts_anywhere_at inside (cancel name) a = tt
+  starts_anywhere_at inside (set_event name) a = tt
+  starts_anywhere_at inside (wait_for name) a = tt
+  starts_anywhere_at inside (scope name d shield fail body) a = a
+  starts_anywhere_at inside (nursery name d shield body) a = a
+  starts_anywhere_at inside (event name body) a = a
+  starts_anywhere_at inside (start name over body) a = let e : false ≡ true = a.0 in absurd cc
+  starts_anywhere_at inside (repeat count body) a = starts_anywhere inside body a
+  starts_anywhere_at inside (attempt body handler cleanup) a = a
+
+-- the block of a `repeat`
+starts_in_loop : (format : Format) (inside : Bool) (ss : Steps) → StartsIn (loop_inside format inside) ss → StartsIn inside ss
+starts_in_loop One inside ss a = starts_anywhere inside ss a
+starts_in_loop Two inside ss a = starts_anywhere inside ss a
+starts_in_loop Three inside ss a = a
+
+mutual
+  -- in the blocks of the grammar, each `start` is directly in the body of a nursery, or in a `repeat` there
   pub starts_in : (format : Format) (inside : Bool) (ss : Steps) → AreSteps format inside ss → StartsIn inside ss
   starts_in format inside stop a = tt
   starts_in format inside (step s ss) a = (starts_at format inside s a.0, starts_in format inside ss a.1)
@@ -23,10 +56,14 @@ mutual
   starts_at format inside (need text name) a = tt
   starts_at format inside (raise name) a = tt
   starts_at format inside (cancel name) a = tt
+  starts_at format inside (set_event name) a = tt
+  starts_at format inside (wait_for name) a = tt
   starts_at format inside (scope name d shield fail body) a = starts_in format false body a
   starts_at format inside (nursery name d shield body) a = starts_in format true body a.1
+  starts_at format inside (event name body) a = starts_in format false body a.1
   starts_at format inside (start name over body) a = (a.0, starts_in format false body a.1)
-  starts_at format inside (repeat count body) a = starts_in format false body a.1
+  starts_at format inside (repeat count body) a =
+      starts_in_loop format inside body (starts_in format (loop_inside format inside) body a.1)
   starts_at format inside (attempt body handler cleanup) a = (
     starts_in format false body a.1,
     handler_starts format handler a.2,

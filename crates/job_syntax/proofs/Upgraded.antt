@@ -4,8 +4,8 @@ use Rattle.job_tree.specs.declared.format.Format.{Format}
 use Rattle.job_tree.specs.declared.format.Format.TheVariants.{One, Two, Three}
 use Rattle.job_tree.specs.declared.deadline.Deadline.{Deadline}
 use Rattle.job_tree.specs.declared.deadline.Deadline.TheVariants.{Never, After, At}
-use Rattle.job_tree.specs.Formats.{extends_format_1, newer}
-use Rattle.job_tree.specs.Tree.{Step, sleep, checkpoint, forever, pace, find, head, longest, need, raise, cancel, scope, nursery, start, repeat, attempt, Steps, stop, step, Handled, unhandled, except, Cleaned, uncleaned, finally, Tree}
+use Rattle.job_tree.specs.Formats.{extends_format_1, has_events, newer}
+use Rattle.job_tree.specs.Tree.{Step, sleep, checkpoint, forever, pace, find, head, longest, need, raise, cancel, set_event, wait_for, scope, nursery, event, start, repeat, attempt, Steps, stop, step, Handled, unhandled, except, Cleaned, uncleaned, finally, Tree}
 use Rattle.job_tokens.specs.declared.token.Token.{Token}
 use Rattle.job_tokens.specs.declared.token.Shape.{Shape}
 use Rattle.job_tokens.specs.declared.token.Shape.TheVariants as shape
@@ -13,7 +13,7 @@ use Rattle.job_tokens.specs.Shapes.{shapes_of}
 use Rattle.job_syntax.specs.declared.keyword.Keyword.{Keyword}
 use Rattle.job_syntax.specs.declared.keyword.Keyword.TheVariants as word
 use Rattle.job_syntax.specs.Keywords.{keyword_of}
-use Rattle.job_syntax.specs.Pieces.{Piece, shapes_in, opens, deadline_pieces, flag_pieces, over_pieces, steps_pieces, step_pieces, handler_pieces, cleanup_pieces, job_pieces, IsNurseryDeadline, IsNurseryHead, AreSteps, IsStep, IsHandler, IsCleanup}
+use Rattle.job_syntax.specs.Pieces.{Piece, shapes_in, opens, deadline_pieces, flag_pieces, over_pieces, steps_pieces, step_pieces, handler_pieces, cleanup_pieces, job_pieces, IsNurseryDeadline, IsNurseryHead, loop_inside, AreSteps, IsStep, IsHandler, IsCleanup}
 use Rattle.job_syntax.specs.Ranges.{keyword_in, most_passes, fits, number_fault}
 use Rattle.job_syntax.proofs.InRange.{AllInRange, all_in_range, no_fault}
 
@@ -23,7 +23,7 @@ use Rattle.job_syntax.proofs.InRange.{AllInRange, all_in_range, no_fault}
 abbrev IsUpTo : Format → Format → Type 0
 IsUpTo One to = Unit {0}
 IsUpTo Two to = extends_format_1 to ≡ true
-IsUpTo Three to = extends_format_1 to ≡ true
+IsUpTo Three to = has_events to ≡ true
 
 -- no format has anything that a newer one does not have
 up_to_newer : (to format : Format) → IsUpTo format (newer to format)
@@ -38,7 +38,23 @@ up_to_newer Three Three = refl
 extends_again : (from to : Format) → IsUpTo from to → extends_format_1 from ≡ true → extends_format_1 to ≡ true
 extends_again One to up may = absurd cc
 extends_again Two to up may = up
-extends_again Three to up may = up
+extends_again Three One up may = let e : false ≡ true = up in absurd cc
+extends_again Three Two up may = refl
+extends_again Three Three up may = refl
+
+events_again : (from to : Format) → IsUpTo from to → has_events from ≡ true → has_events to ≡ true
+events_again One to up may = absurd cc
+events_again Two to up may = absurd cc
+events_again Three to up may = up
+
+-- a `start` may stand in a loop if it could before
+loop_again : (from to : Format) (before after : Bool) → IsUpTo from to → (before ≡ true → after ≡ true) →
+    loop_inside from before ≡ true → loop_inside to after ≡ true
+loop_again One to before after up more may = let e : false ≡ true = may in absurd cc
+loop_again Two to before after up more may = let e : false ≡ true = may in absurd cc
+loop_again Three One before after up more may = let e : false ≡ true = up in absurd cc
+loop_again Three Two before after up more may = let e : false ≡ true = up in absurd cc
+loop_again Three Three before after up more may = more may
 
 -- a head that both formats may have
 head_on : (to : Format) (d : Deadline) (s : Bool) → extends_format_1 to ≡ true → IsNurseryDeadline d → IsNurseryHead to d s
@@ -54,40 +70,49 @@ plain_on Three d s never unshielded = rw never tt
 head_again : (from to : Format) (d : Deadline) (s : Bool) → IsUpTo from to → IsNurseryHead from d s → IsNurseryHead to d s
 head_again One to d s up may = plain_on to d s may.0 may.1
 head_again Two to d s up may = head_on to d s up may
-head_again Three to d s up may = head_on to d s up may
+head_again Three to d s up may = head_on to d s (extends_again Three to up refl) may
 
 mutual
-  -- a block of a format's grammar is one of each format that has all of it
-  upgraded_steps : (from to : Format) (inside : Bool) (ss : Steps) → IsUpTo from to → AreSteps from inside ss → AreSteps to inside ss
-  upgraded_steps from to inside stop up a = tt
-  upgraded_steps from to inside (step s ss) up a = (upgraded_step from to inside s up a.0, upgraded_steps from to inside ss up a.1)
+  -- a block of a format's grammar is one of each format that has all of it, wherever a `start` may stand if it could before
+  upgraded_steps : (from to : Format) (before after : Bool) (ss : Steps) → IsUpTo from to → (before ≡ true → after ≡ true) →
+      AreSteps from before ss → AreSteps to after ss
+  upgraded_steps from to before after stop up more a = tt
+  upgraded_steps from to before after (step s ss) up more a =
+      (upgraded_step from to before after s up more a.0, upgraded_steps from to before after ss up more a.1)
 
-  upgraded_step : (from to : Format) (inside : Bool) (s : Step) → IsUpTo from to → IsStep from inside s → IsStep to inside s
-  upgraded_step from to inside (sleep n) up a = tt
-  upgraded_step from to inside checkpoint up a = tt
-  upgraded_step from to inside forever up a = tt
-  upgraded_step from to inside (pace k) up a = tt
-  upgraded_step from to inside (find text) up a = tt
-  upgraded_step from to inside (head n) up a = tt
-  upgraded_step from to inside longest up a = tt
-  upgraded_step from to inside (need text name) up a = tt
-  upgraded_step from to inside (raise name) up a = tt
-  upgraded_step from to inside (cancel name) up a = tt
-  upgraded_step from to inside (scope name d shield fail body) up a = upgraded_steps from to false body up a
-  upgraded_step from to inside (nursery name d shield body) up a =
-      (head_again from to d shield up a.0, upgraded_steps from to true body up a.1)
-  upgraded_step from to inside (start name over body) up a = (a.0, upgraded_steps from to false body up a.1)
-  upgraded_step from to inside (repeat count body) up a = (extends_again from to up a.0, upgraded_steps from to false body up a.1)
-  upgraded_step from to inside (attempt body handler cleanup) up a =
-      (a.0, upgraded_steps from to false body up a.1, upgraded_handler from to handler up a.2, upgraded_cleanup from to cleanup up a.3)
+  upgraded_step : (from to : Format) (before after : Bool) (s : Step) → IsUpTo from to → (before ≡ true → after ≡ true) →
+      IsStep from before s → IsStep to after s
+  upgraded_step from to before after (sleep n) up more a = tt
+  upgraded_step from to before after checkpoint up more a = tt
+  upgraded_step from to before after forever up more a = tt
+  upgraded_step from to before after (pace k) up more a = tt
+  upgraded_step from to before after (find text) up more a = tt
+  upgraded_step from to before after (head n) up more a = tt
+  upgraded_step from to before after longest up more a = tt
+  upgraded_step from to before after (need text name) up more a = tt
+  upgraded_step from to before after (raise name) up more a = tt
+  upgraded_step from to before after (cancel name) up more a = tt
+  upgraded_step from to before after (set_event name) up more a = events_again from to up a
+  upgraded_step from to before after (wait_for name) up more a = events_again from to up a
+  upgraded_step from to before after (scope name d shield fail body) up more a = upgraded_steps from to false false body up (λ e. e) a
+  upgraded_step from to before after (nursery name d shield body) up more a =
+      (head_again from to d shield up a.0, upgraded_steps from to true true body up (λ e. e) a.1)
+  upgraded_step from to before after (event name body) up more a = (events_again from to up a.0, upgraded_steps from to false false body up (λ e. e) a.1)
+  upgraded_step from to before after (start name over body) up more a = (more a.0, upgraded_steps from to false false body up (λ e. e) a.1)
+  upgraded_step from to before after (repeat count body) up more a = (
+    extends_again from to up a.0,
+    upgraded_steps from to (loop_inside from before) (loop_inside to after) body up (loop_again from to before after up more) a.1,
+  )
+  upgraded_step from to before after (attempt body handler cleanup) up more a =
+      (a.0, upgraded_steps from to false false body up (λ e. e) a.1, upgraded_handler from to handler up a.2, upgraded_cleanup from to cleanup up a.3)
 
   upgraded_handler : (from to : Format) (x : Handled) → IsUpTo from to → IsHandler from x → IsHandler to x
   upgraded_handler from to unhandled up a = tt
-  upgraded_handler from to (except name body) up a = upgraded_steps from to false body up a
+  upgraded_handler from to (except name body) up a = upgraded_steps from to false false body up (λ e. e) a
 
   upgraded_cleanup : (from to : Format) (x : Cleaned) → IsUpTo from to → IsCleanup from x → IsCleanup to x
   upgraded_cleanup from to uncleaned up a = tt
-  upgraded_cleanup from to (finally body) up a = upgraded_steps from to false body up a
+  upgraded_cleanup from to (finally body) up a = upgraded_steps from to false false body up (λ e. e) a
 
 -- ---- numbers
 
@@ -133,6 +158,8 @@ mutual
       λ before all. (all.0, (all.1.0, (all.1.1.0, (all.1.1.1.0, again _ all.1.1.1.1))))
   step_again to (raise name) inside rest a again = λ before all. (all.0, (all.1.0, (all.1.1.0, again _ all.1.1.1)))
   step_again to (cancel name) inside rest a again = λ before all. (all.0, (all.1.0, (all.1.1.0, again _ all.1.1.1)))
+  step_again to (set_event name) inside rest a again = let e : false ≡ true = a in absurd cc
+  step_again to (wait_for name) inside rest a again = let e : false ≡ true = a in absurd cc
   step_again to (scope name d shield fail body) inside rest a again =
       let block = opens ∷ steps_pieces body rest in
       let flagged = flag_pieces word.Fail fail block in
@@ -144,6 +171,7 @@ mutual
       let more = deadline_again to d (flag_pieces word.Shield shield block) (flag_again to word.Shield shield block
       (opens_again to (steps_pieces body rest) (steps_again to body true rest a.1 again))) in
       λ before all. (all.0, (all.1.0, more _ all.1.1))
+  step_again to (event name body) inside rest a again = let e : false ≡ true = a.0 in absurd cc
   step_again to (start name over body) inside rest a again =
       let more = over_again to over (opens ∷ steps_pieces body rest)
       (opens_again to (steps_pieces body rest) (steps_again to body false rest a.1 again)) in
@@ -191,7 +219,8 @@ same_passes from to a b = rw (a, b) refl
 by_format : (from to : Format) (steps : Steps) (ps : List Piece) → IsUpTo from to → AreSteps from false steps → ps ≡ steps_pieces steps [] →
     (before : Option Keyword) → AllInRange from before (shapes_in ps) → AllInRange to before (shapes_in ps)
 by_format Two to steps ps up are e before all = all_again Two to (same_passes Two to refl up) before (shapes_in ps) all
-by_format Three to steps ps up are e before all = all_again Three to (same_passes Three to refl up) before (shapes_in ps) all
+by_format Three to steps ps up are e before all =
+    all_again Three to (same_passes Three to refl (extends_again Three to up refl)) before (shapes_in ps) all
 by_format One to steps ps up are e before all =
     subst (λ (xs : List Piece). AllInRange to before (shapes_in xs)) (sym e)
     (steps_again to steps false [] are (λ c none. tt) before (subst (λ (xs : List Piece). AllInRange One before (shapes_in xs)) e all))
@@ -209,7 +238,7 @@ upgraded_numbers to job tokens up are e none =
 -- ---- the same job in a newer format
 
 pub newer_steps : (to : Format) (job : Tree) → AreSteps job.format false job.steps → AreSteps (newer to job.format) false job.steps
-newer_steps to job are = upgraded_steps job.format (newer to job.format) false job.steps (up_to_newer to job.format) are
+newer_steps to job are = upgraded_steps job.format (newer to job.format) false false job.steps (up_to_newer to job.format) (λ e. e) are
 
 pub newer_numbers : (to : Format) (job : Tree) (tokens : List Token) → AreSteps job.format false job.steps →
     shapes_of tokens ≡ shapes_in (job_pieces job) → number_fault job.format None tokens ≡ None →

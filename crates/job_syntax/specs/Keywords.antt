@@ -1,8 +1,8 @@
 -- The keywords of a job text.
-use Rattle.std.specs.Prelude.{ℕ, List, [], ◌∷◌, Option, Some, None, codes, if◌then◌else◌}
+use Rattle.std.specs.Prelude.{ℕ, List, [], ◌∷◌, Bool, true, false, Option, Some, None, codes, if◌then◌else◌}
 use Rattle.std.specs.Str.{bytes_eq}
 use Rattle.job_syntax.specs.declared.keyword.Keyword.{Keyword}
-use Rattle.job_syntax.specs.declared.keyword.Keyword.TheVariants.{Job, Sleep, Checkpoint, Forever, Pace, Find, Head, Longest, Need, Raise, Cancel, Scope, After, At, Shield, Fail, Nursery, Start, Over, Try, Except, Finally, Repeat}
+use Rattle.job_syntax.specs.declared.keyword.Keyword.TheVariants.{Job, Sleep, Checkpoint, Forever, Pace, Find, Head, Longest, Need, Raise, Cancel, Scope, After, At, Shield, Fail, Nursery, Start, Over, Try, Except, Finally, Repeat, Event, Set, Wait}
 
 abbrev pub spelling_of : Keyword → List ℕ
 spelling_of Job = codes "job"
@@ -28,6 +28,16 @@ spelling_of Try = codes "try"
 spelling_of Except = codes "except"
 spelling_of Finally = codes "finally"
 spelling_of Repeat = codes "repeat"
+spelling_of Event = codes "event"
+spelling_of Set = codes "set"
+spelling_of Wait = codes "wait"
+
+-- whether a keyword may also be a name: those that format 3 added, so that each job of format 2 is a job of format 3
+abbrev pub may_be_name : Keyword → Bool
+may_be_name Event = true
+may_be_name Set = true
+may_be_name Wait = true
+may_be_name _ = false
 
 -- the first of these keywords that has this spelling
 abbrev pub keyword_among : List Keyword → List ℕ → Option Keyword
@@ -37,7 +47,7 @@ keyword_among (k ∷ ks) word = if bytes_eq (spelling_of k) word then Some k els
 -- all keywords
 abbrev pub keywords : List Keyword
 keywords = Job ∷ Sleep ∷ Checkpoint ∷ Forever ∷ Pace ∷ Find ∷ Head ∷ Longest ∷ Need ∷ Raise ∷ Cancel ∷ Scope ∷ After ∷ At ∷ Shield ∷ Fail
-    ∷ Nursery ∷ Start ∷ Over ∷ Try ∷ Except ∷ Finally ∷ Repeat ∷ []
+    ∷ Nursery ∷ Start ∷ Over ∷ Try ∷ Except ∷ Finally ∷ Repeat ∷ Event ∷ Set ∷ Wait ∷ []
 
 -- the keyword that a word is, or `None` if it is not a keyword
 unfoldable pub keyword_of : List ℕ → Option Keyword

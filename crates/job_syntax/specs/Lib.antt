@@ -1,6 +1,6 @@
 pub mod Keywords
-pub mod Nonterminals
 pub mod Pieces
+pub mod Nonterminals
 pub mod Syntax
 pub mod Depth
 pub mod Reading

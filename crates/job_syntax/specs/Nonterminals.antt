@@ -1,7 +1,7 @@
 -- What may follow a token, nonterminal by nonterminal.
 use Rattle.std.specs.Prelude.{List, [], ◌∷◌, Bool, true, false, Option, Some, None, if◌then◌else◌}
 use Rattle.job_tree.specs.declared.format.Format.{Format}
-use Rattle.job_tree.specs.Formats.{extends_format_1}
+use Rattle.job_tree.specs.Formats.{extends_format_1, has_events}
 use Rattle.job_tokens.specs.declared.token.Mark.{Mark}
 use Rattle.job_tokens.specs.declared.token.Mark.TheVariants as mark
 use Rattle.job_tokens.specs.declared.token.Shape.{Shape}
@@ -11,6 +11,7 @@ use Rattle.job_syntax.specs.declared.keyword.Keyword.TheVariants as word
 use Rattle.job_syntax.specs.declared.nonterminal.Nonterminal.{Nonterminal}
 use Rattle.job_syntax.specs.declared.nonterminal.Nonterminal.TheVariants.{Job, Steps, Items, StepsTail, ItemsTail, StepsCleanup, ItemsCleanup, Scope, Shield, Fail, Nursery, NurseryShield, Over, Given, Raised, Handled, Target, Number, Text, Open, Semicolon}
 use Rattle.job_syntax.specs.Keywords.{keyword_of}
+use Rattle.job_syntax.specs.Pieces.{loop_inside}
 
 -- continues with a value, if there is one
 infixl 10 ◌>>=◌
@@ -41,14 +42,22 @@ abbrev pub text_rest : Keyword → Rest
 text_rest word.Job = Some (Given ∷ Open ∷ Steps ∷ [])
 text_rest _ = None
 
--- after `start`, which may occur only directly inside a nursery
+-- after `start`, which may occur only directly inside a nursery, and in format 3 in a `repeat` there
 abbrev pub start_rest : Bool → Rest
 start_rest true = Some (Given ∷ Over ∷ Items ∷ [])
 start_rest false = None
 
 -- after `repeat`, which begins no step in format 1
 abbrev pub repeat_rest : Format → Bool → Rest
-repeat_rest format inside = if extends_format_1 format then Some (Number ∷ Open ∷ Steps ∷ outer_block inside ∷ []) else None
+repeat_rest format inside =
+    if extends_format_1 format then Some (Number ∷ Open ∷ outer_block (loop_inside format inside) ∷ outer_block inside ∷ []) else None
+
+-- after `event`, `set` and `wait`, which begin no step in formats 1 and 2
+abbrev pub event_rest : Format → Bool → Rest
+event_rest format inside = if has_events format then Some (Given ∷ Open ∷ Steps ∷ outer_block inside ∷ []) else None
+
+abbrev pub use_rest : Format → Bool → Rest
+use_rest format inside = if has_events format then Some (Target ∷ Semicolon ∷ outer_block inside ∷ []) else None
 
 -- after the first word of a step
 abbrev pub step_rest : Format → Bool → Keyword → Rest
@@ -66,6 +75,9 @@ step_rest format inside word.Scope = Some (Given ∷ Scope ∷ outer_block insid
 step_rest format inside word.Nursery = Some (Given ∷ Nursery ∷ outer_block inside ∷ [])
 step_rest format inside word.Start = start_rest inside
 step_rest format inside word.Repeat = repeat_rest format inside
+step_rest format inside word.Event = event_rest format inside
+step_rest format inside word.Set = use_rest format inside
+step_rest format inside word.Wait = use_rest format inside
 step_rest format inside word.Try = Some (Open ∷ Steps ∷ tail inside ∷ [])
 step_rest format inside _ = None
 

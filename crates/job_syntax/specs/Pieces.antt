@@ -1,12 +1,12 @@
 -- A job as tokens, each with its role: one short case for each construct. Each construct is printed before the tokens
 -- that follow it (`rest`).
-use Rattle.std.specs.Prelude.{◌≡◌, ℕ, List, [], ◌∷◌, map, Bool, true, false, Option, Some, None}
+use Rattle.std.specs.Prelude.{◌≡◌, ℕ, List, [], ◌∷◌, map, Bool, true, false, ◌&&◌, Option, Some, None}
 use Rattle.job_tree.specs.declared.deadline.Deadline.{Deadline}
 use Rattle.job_tree.specs.declared.deadline.Deadline.TheVariants.{Never, After, At}
 use Rattle.job_tree.specs.declared.format.Format.{Format}
 use Rattle.job_tree.specs.declared.format.Format.TheVariants.{One, Two, Three}
-use Rattle.job_tree.specs.Formats.{extends_format_1}
-use Rattle.job_tree.specs.Tree.{Step, sleep, checkpoint, forever, pace, find, head, longest, need, raise, cancel, scope, nursery, start, repeat, attempt, Steps, stop, step, Handled, unhandled, except, Cleaned, uncleaned, finally, Tree}
+use Rattle.job_tree.specs.Formats.{extends_format_1, has_events}
+use Rattle.job_tree.specs.Tree.{Step, sleep, checkpoint, forever, pace, find, head, longest, need, raise, cancel, set_event, wait_for, scope, nursery, event, start, repeat, attempt, Steps, stop, step, Handled, unhandled, except, Cleaned, uncleaned, finally, Tree}
 use Rattle.job_tokens.specs.declared.token.Mark.{Mark}
 use Rattle.job_tokens.specs.declared.token.Mark.TheVariants as mark
 use Rattle.job_tokens.specs.declared.token.Shape.{Shape}
@@ -88,12 +88,15 @@ abbrev mutual
   step_pieces (need text name) rest = keyword word.Need ∷ string text ∷ name_piece role.Raised name ∷ ends ∷ rest
   step_pieces (raise name) rest = keyword word.Raise ∷ name_piece role.Raised name ∷ ends ∷ rest
   step_pieces (cancel name) rest = keyword word.Cancel ∷ name_piece role.Target name ∷ ends ∷ rest
+  step_pieces (set_event name) rest = keyword word.Set ∷ name_piece role.Target name ∷ ends ∷ rest
+  step_pieces (wait_for name) rest = keyword word.Wait ∷ name_piece role.Target name ∷ ends ∷ rest
   step_pieces (scope name deadline shield fail body) rest =
       keyword word.Scope ∷ name_piece role.Given name ∷ deadline_pieces deadline
       (flag_pieces word.Shield shield (flag_pieces word.Fail fail (opens ∷ steps_pieces body rest)))
   step_pieces (nursery name deadline shield body) rest =
       keyword word.Nursery ∷ name_piece role.Given name ∷ deadline_pieces deadline
       (flag_pieces word.Shield shield (opens ∷ steps_pieces body rest))
+  step_pieces (event name body) rest = keyword word.Event ∷ name_piece role.Given name ∷ opens ∷ steps_pieces body rest
   step_pieces (start name over body) rest = keyword word.Start ∷ name_piece role.Given name ∷ over_pieces over (opens ∷ steps_pieces body rest)
   step_pieces (repeat count body) rest = keyword word.Repeat ∷ number count ∷ opens ∷ steps_pieces body rest
   step_pieces (attempt body handler cleanup) rest =
@@ -131,8 +134,13 @@ IsNurseryHead One deadline shield = (deadline ≡ Never) × (shield ≡ false)
 IsNurseryHead Two deadline shield = IsNurseryDeadline deadline
 IsNurseryHead Three deadline shield = IsNurseryDeadline deadline
 
+-- whether a `start` may stand in the block of a `repeat`: in format 3, if one may stand where that `repeat` is
+abbrev pub loop_inside : Format → Bool → Bool
+loop_inside format inside = has_events format && inside
+
 abbrev mutual
-  -- the grammar of a block: a `start` only directly inside a nursery, and no `repeat` in format 1
+  -- the grammar of a block: a `start` only directly inside a nursery, and in format 3 in a `repeat` there; no `repeat` in
+  -- format 1, and no events in formats 1 and 2
   pub AreSteps : Format → Bool → Steps → Type 0
   AreSteps format inside stop = Unit {0}
   AreSteps format inside (step s ss) = IsStep format inside s × AreSteps format inside ss
@@ -148,10 +156,13 @@ abbrev mutual
   IsStep format inside (need text name) = Unit {0}
   IsStep format inside (raise name) = Unit {0}
   IsStep format inside (cancel name) = Unit {0}
+  IsStep format inside (set_event name) = has_events format ≡ true
+  IsStep format inside (wait_for name) = has_events format ≡ true
   IsStep format inside (scope name deadline shield fail body) = AreSteps format false body
   IsStep format inside (nursery name deadline shield body) = IsNurseryHead format deadline shield × AreSteps format true body
+  IsStep format inside (event name body) = (has_events format ≡ true) × AreSteps format false body
   IsStep format inside (start name over body) = (inside ≡ true) × AreSteps format false body
-  IsStep format inside (repeat count body) = (extends_format_1 format ≡ true) × AreSteps format false body
+  IsStep format inside (repeat count body) = (extends_format_1 format ≡ true) × AreSteps format (loop_inside format inside) body
   IsStep format inside (attempt body handler cleanup) = HasTail handler cleanup × AreSteps format false body × IsHandler format handler
       × IsCleanup format cleanup
 

@@ -4,7 +4,7 @@ use Rattle.std.specs.Str.{bytes_eq}
 use Rattle.job_tree.specs.declared.deadline.Deadline.{Deadline}
 use Rattle.job_tree.specs.declared.deadline.Deadline.TheVariants.{Never, After, At}
 use Rattle.job_tree.specs.declared.format.Format.{Format}
-use Rattle.job_tree.specs.Tree.{Step, sleep, checkpoint, forever, pace, find, head, longest, need, raise, cancel, scope, nursery, start, repeat, attempt, Steps, stop, step, Handled, unhandled, except, Cleaned, uncleaned, finally, Tree}
+use Rattle.job_tree.specs.Tree.{Step, sleep, checkpoint, forever, pace, find, head, longest, need, raise, cancel, set_event, wait_for, scope, nursery, event, start, repeat, attempt, Steps, stop, step, Handled, unhandled, except, Cleaned, uncleaned, finally, Tree}
 use Rattle.job_tokens.specs.declared.token.Mark.{Mark}
 use Rattle.job_tokens.specs.declared.token.Mark.TheVariants as mark
 use Rattle.job_tokens.specs.declared.token.Shape.{Shape}
@@ -109,6 +109,9 @@ nursery_at blocks shapes =
     word_at shapes >>= λ n. deadline_at n.1 >>= λ d. body_at blocks (flag_at word.Shield d.1).1 >>= λ b.
     Some (nursery n.0 d.0 (flag_at word.Shield d.1).0 b.0, b.1)
 
+abbrev pub event_at : Blocks → List Shape → Read Step
+event_at blocks shapes = word_at shapes >>= λ n. body_at blocks n.1 >>= λ b. Some (event n.0 b.0, b.1)
+
 abbrev pub start_at : Blocks → List Shape → Read Step
 start_at blocks shapes = word_at shapes >>= λ n. over_at n.1 >>= λ o. body_at blocks o.1 >>= λ b. Some (start n.0 o.0 b.0, b.1)
 
@@ -127,12 +130,15 @@ plain_step word.Longest shapes = step_to_semicolon longest shapes
 plain_step word.Need shapes = text_at shapes >>= λ t. word_at t.1 >>= λ n. step_to_semicolon (need t.0 n.0) n.1
 plain_step word.Raise shapes = word_at shapes >>= λ n. step_to_semicolon (raise n.0) n.1
 plain_step word.Cancel shapes = word_at shapes >>= λ n. step_to_semicolon (cancel n.0) n.1
+plain_step word.Set shapes = word_at shapes >>= λ n. step_to_semicolon (set_event n.0) n.1
+plain_step word.Wait shapes = word_at shapes >>= λ n. step_to_semicolon (wait_for n.0) n.1
 plain_step _ shapes = None
 
 -- a step, read after its keyword
 abbrev pub step_after : Blocks → Keyword → List Shape → Read Step
 step_after blocks word.Scope shapes = scope_at blocks shapes
 step_after blocks word.Nursery shapes = nursery_at blocks shapes
+step_after blocks word.Event shapes = event_at blocks shapes
 step_after blocks word.Start shapes = start_at blocks shapes
 step_after blocks word.Repeat shapes = repeat_at blocks shapes
 step_after blocks word.Try shapes = try_at blocks shapes

@@ -1,10 +1,10 @@
 ghost use Rattle.std.specs.Prelude.{◌≡◌};
-ghost use Rattle.job_syntax.specs.Keywords.{spelling_of, keyword_among, keyword_of};
+ghost use Rattle.job_syntax.specs.Keywords.{spelling_of, may_be_name, keyword_among, keyword_of};
 
 use job_tree::Name;
 
-/// The words that have a meaning of their own in a job text. None of them may be the name of a job, task, scope,
-/// nursery or exception.
+/// The words that have a meaning of their own in a job text. None of them may be the name of a job, task, scope, nursery,
+/// event or exception, except those that format 3 added: `event`, `set` and `wait`.
 #[derive(Clone, Copy, PartialEq, Eq)]
 pub enum Keyword {
     /// `job`. Begins a job.
@@ -53,10 +53,16 @@ pub enum Keyword {
     Finally,
     /// `repeat`. Runs a block several times. In format 1 it begins no step.
     Repeat,
+    /// `event`. Opens an event. In formats 1 and 2 it begins no step. It may be a name.
+    Event,
+    /// `set`. Sets an event. In formats 1 and 2 it begins no step. It may be a name.
+    Set,
+    /// `wait`. Waits for an event. In formats 1 and 2 it begins no step. It may be a name.
+    Wait,
 }
 
 /// All keywords.
-pub const KEYWORDS: [Keyword; 23] = [
+pub const KEYWORDS: [Keyword; 26] = [
     Keyword::Job,
     Keyword::Sleep,
     Keyword::Checkpoint,
@@ -80,6 +86,9 @@ pub const KEYWORDS: [Keyword; 23] = [
     Keyword::Except,
     Keyword::Finally,
     Keyword::Repeat,
+    Keyword::Event,
+    Keyword::Set,
+    Keyword::Wait,
 ];
 
 impl Keyword {
@@ -111,6 +120,22 @@ impl Keyword {
             Keyword::Except => b"except",
             Keyword::Finally => b"finally",
             Keyword::Repeat => b"repeat",
+            Keyword::Event => b"event",
+            Keyword::Set => b"set",
+            Keyword::Wait => b"wait",
+        }
+    }
+
+    /// Returns whether the keyword may also be a name. It may if format 3 added it: so each job of format 2 is also a job of
+    /// format 3, whatever its names are.
+    pub fn may_be_name(self) -> bool
+        ensures { result ≡ may_be_name self }
+    {
+        match self {
+            Keyword::Event => true,
+            Keyword::Set => true,
+            Keyword::Wait => true,
+            _ => false,
         }
     }
 

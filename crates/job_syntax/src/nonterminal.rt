@@ -1,5 +1,5 @@
 ghost use Rattle.std.specs.Prelude.{◌≡◌, reverse};
-ghost use Rattle.job_syntax.specs.Nonterminals.{step_rest, cleanup_rest, tail_rest, nursery_rest, nursery_shield_rest, next};
+ghost use Rattle.job_syntax.specs.Nonterminals.{repeat_rest, event_rest, use_rest, step_rest, cleanup_rest, tail_rest, nursery_rest, nursery_shield_rest, next};
 ghost use Rattle.job_syntax.specs.Syntax.{role_of};
 ghost use Rattle.job_tree.specs.declared.format.Format.{Format};
 ghost use Rattle.job_tokens.specs.Lexing.{Gives};
@@ -17,7 +17,7 @@ pub enum Nonterminal {
     Job,
     /// The steps of a block, and the `}` after them.
     Steps,
-    /// The steps and starts of a nursery, and the `}` after them.
+    /// The steps and starts of a nursery, or of a `repeat` in one, and the `}` after them.
     Items,
     /// What follows the block of a `try`, and the rest of the enclosing block.
     StepsTail,
@@ -39,7 +39,7 @@ pub enum Nonterminal {
     NurseryShield,
     /// The rest of a `start` after its name.
     Over,
-    /// The name that a job, scope, nursery or started task gets.
+    /// The name that a job, scope, nursery, event or started task gets.
     Given,
     /// The name of an exception that is raised.
     Raised,
@@ -153,8 +153,8 @@ impl Nonterminal {
     }
 }
 
-// Returns what follows the first word of a step. A `start` may occur only directly inside a nursery, and format 1 has
-// no `repeat`.
+// Returns what follows the first word of a step. A `start` may occur only directly inside a nursery, and in format 3 in a
+// `repeat` there. Format 1 has no `repeat`, and formats 1 and 2 have no events.
 fn step_rest(format: Format, inside: bool, keyword: Keyword) -> Option<&'static [Nonterminal]>
     ensures { Gives (λ x. reverse x.now) result (step_rest format inside keyword) }
 {
@@ -168,10 +168,50 @@ fn step_rest(format: Format, inside: bool, keyword: Keyword) -> Option<&'static 
         Keyword::Scope => rest!(outer inside, Scope, Given),
         Keyword::Nursery => rest!(outer inside, Nursery, Given),
         Keyword::Start if inside => rest!(Items, Over, Given),
-        Keyword::Repeat if format.extends_format_1() => rest!(outer inside, Steps, Open, Number),
+        Keyword::Repeat => repeat_rest(format, inside),
+        Keyword::Event => event_rest(format, inside),
+        Keyword::Set => use_rest(format, inside),
+        Keyword::Wait => use_rest(format, inside),
         Keyword::Try => rest!(tail inside, Steps, Open),
         _ => None,
     }
+}
+
+// Returns what follows `repeat`. In format 3 its block may have a `start` where one may stand next to it.
+fn repeat_rest(format: Format, inside: bool) -> Option<&'static [Nonterminal]>
+    ensures { Gives (λ x. reverse x.now) result (repeat_rest format inside) }
+{
+    match format {
+        Format::One => None,
+        Format::Two => rest!(outer inside, Steps, Open, Number),
+        Format::Three => {
+            if inside {
+                rest!(Items, Items, Open, Number)
+            } else {
+                rest!(Steps, Steps, Open, Number)
+            }
+        }
+    }
+}
+
+// Returns what follows `event`, which begins no step in formats 1 and 2.
+fn event_rest(format: Format, inside: bool) -> Option<&'static [Nonterminal]>
+    ensures { Gives (λ x. reverse x.now) result (event_rest format inside) }
+{
+    if !format.has_events() {
+        return None;
+    }
+    rest!(outer inside, Steps, Open, Given)
+}
+
+// Returns what follows `set` and `wait`, which begin no step in formats 1 and 2.
+fn use_rest(format: Format, inside: bool) -> Option<&'static [Nonterminal]>
+    ensures { Gives (λ x. reverse x.now) result (use_rest format inside) }
+{
+    if !format.has_events() {
+        return None;
+    }
+    rest!(outer inside, Semicolon, Target)
 }
 
 // Returns what follows a word in the head of a nursery. In format 1 it has no such words.

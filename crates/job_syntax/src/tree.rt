@@ -4,7 +4,7 @@ ghost use Rattle.job_tokens.specs.Shapes.{shapes_of};
 ghost use Rattle.job_tokens.specs.Lexing.{Gives};
 ghost use Rattle.job_syntax.specs.declared.keyword.Keyword.TheVariants as word;
 ghost use Rattle.job_tree.specs.declared.format.Format.{Format};
-ghost use Rattle.job_syntax.specs.Reading.{word_at, keyword_at, number_at, text_at, mark_at, after_word, flag_at, deadline_at, over_at, body_at, handler_at, cleanup_at, scope_at, nursery_at, start_at, repeat_at, try_at, step_to_semicolon, plain_step, step_at, steps_with, blocks_at, head_at, job_at};
+ghost use Rattle.job_syntax.specs.Reading.{word_at, keyword_at, number_at, text_at, mark_at, after_word, flag_at, deadline_at, over_at, body_at, handler_at, cleanup_at, scope_at, nursery_at, event_at, start_at, repeat_at, try_at, step_to_semicolon, plain_step, step_at, steps_with, blocks_at, head_at, job_at};
 
 use crate::depth::MAX_DEPTH;
 use crate::keyword::Keyword;
@@ -13,8 +13,8 @@ use job_tree::{Body, Deadline, Handler, Name, Step, Text};
 use std::alloc::{AllocError, Global};
 
 /// Returns the name and the steps of the job with these tokens, of any format, if its blocks are nested at most 32 deep.
-/// Otherwise returns `None`. Call it with tokens in which `check_grammar` finds no fault: it does not check where a `start` occurs or
-/// what follows a `try`. The only error is that memory was refused.
+/// Otherwise returns `None`. Call it with tokens in which `check_grammar` finds no fault: it does not check where a `start` occurs,
+/// what follows a `try`, or which steps the format has. The only error is that memory was refused.
 pub fn job_at(alloc: Global, tokens: &[Token]) -> Result<Option<(Name, Body)>, AllocError>
     ensures { (format : Format) → IfOk result (λ x. Gives (λ j. record { format = format; name = j.0; steps = j.1 }) x
         (job_at format (shapes_of tokens.now))) }
@@ -199,6 +199,7 @@ fn step_at(
     match keyword {
         Keyword::Scope => scope_at(alloc, depth, rest),
         Keyword::Nursery => nursery_at(alloc, depth, rest),
+        Keyword::Event => event_at(alloc, depth, rest),
         Keyword::Start => start_at(alloc, depth, rest),
         Keyword::Repeat => repeat_at(alloc, depth, rest),
         Keyword::Try => try_at(alloc, depth, rest),
@@ -275,6 +276,23 @@ fn nursery_at(
         body,
     };
     Ok(Some((nursery, rest)))
+}
+
+#[cycle(tree)]
+fn event_at(
+    alloc: Global,
+    depth: usize,
+    tokens: &[Token],
+) -> Result<Option<(Step, &[Token])>, AllocError>
+    ensures { IfOk result (λ x. Gives (λ s. (step_of s.0, shapes_of s.1.now)) x (event_at (blocks_at depth) (shapes_of tokens.now))) }
+{
+    let Some((name, rest)) = word_at(tokens) else {
+        return Ok(None);
+    };
+    let Some((body, rest)) = body_at(alloc, depth, rest)? else {
+        return Ok(None);
+    };
+    Ok(Some((Step::Event { name, body }, rest)))
 }
 
 #[cycle(tree)]
@@ -414,6 +432,18 @@ fn plain_step(keyword: Keyword, tokens: &[Token]) -> Option<(Step, &[Token])>
                 return None;
             };
             step_to_semicolon(Step::Cancel(name), rest)
+        }
+        Keyword::Set => {
+            let Some((name, rest)) = word_at(tokens) else {
+                return None;
+            };
+            step_to_semicolon(Step::Set(name), rest)
+        }
+        Keyword::Wait => {
+            let Some((name, rest)) = word_at(tokens) else {
+                return None;
+            };
+            step_to_semicolon(Step::Wait(name), rest)
         }
         _ => None,
     }

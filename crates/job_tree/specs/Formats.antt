@@ -17,6 +17,12 @@ extends_format_1 One = false
 extends_format_1 Two = true
 extends_format_1 Three = true
 
+-- whether a format has what format 3 added to format 2: events, and a `start` in a `repeat` in a nursery
+abbrev pub has_events : Format → Bool
+has_events One = false
+has_events Two = false
+has_events Three = true
+
 -- the maximum number of step instances of a job of this format
 abbrev pub most_steps : Format → ℕ
 most_steps One = MAX_STEPS_OF_FORMAT_1

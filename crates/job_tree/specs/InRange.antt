@@ -3,7 +3,7 @@ use Rattle.std.specs.Prelude.{ℕ, ◌≤◌, Option, Some, None}
 use Rattle.job_tree.specs.declared.limits.TheConstants.{MAX_NUMBER, MAX_PACE, MAX_COPIES, MAX_PASSES}
 use Rattle.job_tree.specs.declared.deadline.Deadline.{Deadline}
 use Rattle.job_tree.specs.declared.deadline.Deadline.TheVariants.{Never, After, At}
-use Rattle.job_tree.specs.Tree.{Step, sleep, checkpoint, forever, pace, find, head, longest, need, raise, cancel, scope, nursery, start, repeat, attempt, Steps, stop, step, Handled, unhandled, except, Cleaned, uncleaned, finally, Tree}
+use Rattle.job_tree.specs.Tree.{Step, sleep, checkpoint, forever, pace, find, head, longest, need, raise, cancel, set_event, wait_for, scope, nursery, event, start, repeat, attempt, Steps, stop, step, Handled, unhandled, except, Cleaned, uncleaned, finally, Tree}
 use Rattle.job_tree.specs.Names.{size_of}
 use Rattle.job_tree.specs.Formats.{most_steps}
 
@@ -35,8 +35,11 @@ abbrev mutual
   IsInRangeStep (need text name) = Unit {0}
   IsInRangeStep (raise name) = Unit {0}
   IsInRangeStep (cancel name) = Unit {0}
+  IsInRangeStep (set_event name) = Unit {0}
+  IsInRangeStep (wait_for name) = Unit {0}
   IsInRangeStep (scope name deadline shield fail body) = IsInRangeDeadline deadline × AreInRange body
   IsInRangeStep (nursery name deadline shield body) = IsInRangeDeadline deadline × AreInRange body
+  IsInRangeStep (event name body) = AreInRange body
   IsInRangeStep (start name over body) = IsInRangeOver over × AreInRange body
   IsInRangeStep (repeat count body) = (count ≤ MAX_PASSES) × AreInRange body
   IsInRangeStep (attempt body handler cleanup) = AreInRange body × IsInRangeHandler handler × IsInRangeCleanup cleanup

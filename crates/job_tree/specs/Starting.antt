@@ -1,9 +1,9 @@
--- Where a `start` may occur: directly in the body of a nursery.
+-- Where a `start` may occur: directly in the body of a nursery, or in a `repeat` there.
 use Rattle.std.specs.Prelude.{Bool, true, false, IsTrue}
-use Rattle.job_tree.specs.Tree.{Step, sleep, checkpoint, forever, pace, find, head, longest, need, raise, cancel, scope, nursery, start, repeat, attempt, Steps, stop, step, Handled, unhandled, except, Cleaned, uncleaned, finally, Tree}
+use Rattle.job_tree.specs.Tree.{Step, sleep, checkpoint, forever, pace, find, head, longest, need, raise, cancel, set_event, wait_for, scope, nursery, event, start, repeat, attempt, Steps, stop, step, Handled, unhandled, except, Cleaned, uncleaned, finally, Tree}
 
--- each `start` of a block is directly in the body of a nursery; `nursery_body` says whether the block itself is
--- such a body
+-- each `start` of a block is directly in the body of a nursery, or in a `repeat` that is there, or in such a `repeat`;
+-- `nursery_body` says whether the block itself is such a body, or such a `repeat`
 abbrev mutual
   pub StartsIn : (nursery_body : Bool) → Steps → Type 0
   StartsIn body stop = Unit {0}
@@ -20,10 +20,13 @@ abbrev mutual
   StartsAt body (need text name) = Unit {0}
   StartsAt body (raise name) = Unit {0}
   StartsAt body (cancel name) = Unit {0}
+  StartsAt body (set_event name) = Unit {0}
+  StartsAt body (wait_for name) = Unit {0}
   StartsAt body (scope name deadline shield fail ss) = StartsIn false ss
   StartsAt body (nursery name deadline shield ss) = StartsIn true ss
+  StartsAt body (event name ss) = StartsIn false ss
   StartsAt body (start name over ss) = IsTrue body × StartsIn false ss
-  StartsAt body (repeat count ss) = StartsIn false ss
+  StartsAt body (repeat count ss) = StartsIn body ss
   StartsAt body (attempt ss handler cleanup) = StartsIn false ss × HandlerStarts handler × CleanupStarts cleanup
 
   pub HandlerStarts : Handled → Type 0

@@ -16,8 +16,11 @@ mutual
     need : (text name : List ℕ) → Step
     raise : (name : List ℕ) → Step
     cancel : (name : List ℕ) → Step
+    set_event : (name : List ℕ) → Step
+    wait_for : (name : List ℕ) → Step
     scope : (name : List ℕ) → (deadline : Deadline) → (shield fail : Bool) → (body : Steps) → Step
     nursery : (name : List ℕ) → (deadline : Deadline) → (shield : Bool) → (body : Steps) → Step
+    event : (name : List ℕ) → (body : Steps) → Step
     start : (name : List ℕ) → (over : Option ℕ) → (body : Steps) → Step
     repeat : (count : ℕ) → (body : Steps) → Step
     attempt : (body : Steps) → (handler : Handled) → (cleanup : Cleaned) → Step

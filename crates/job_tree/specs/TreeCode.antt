@@ -7,7 +7,7 @@ use Rattle.job_tree.specs.declared.deadline.Deadline.TheVariants.{Never, After, 
 use Rattle.job_tree.specs.declared.format.Format.{Format}
 use Rattle.job_tree.specs.declared.format.Format.TheVariants.{One, Two, Three}
 use Rattle.job_tree.specs.Formats.{number_of}
-use Rattle.job_tree.specs.Tree.{Step, sleep, checkpoint, forever, pace, find, head, longest, need, raise, cancel, scope, nursery, start, repeat, attempt, Steps, stop, step, Handled, unhandled, except, Cleaned, uncleaned, finally, Tree}
+use Rattle.job_tree.specs.Tree.{Step, sleep, checkpoint, forever, pace, find, head, longest, need, raise, cancel, set_event, wait_for, scope, nursery, event, start, repeat, attempt, Steps, stop, step, Handled, unhandled, except, Cleaned, uncleaned, finally, Tree}
 
 abbrev to_pair : Deadline → ℕ × ℕ
 to_pair Never = (0, 0)
@@ -92,12 +92,15 @@ abbrev mutual
   marks_in (need text name) rest = plain_mark 8 0 text name ∷ rest
   marks_in (raise name) rest = plain_mark 9 0 name [] ∷ rest
   marks_in (cancel name) rest = plain_mark 10 0 name [] ∷ rest
+  marks_in (set_event name) rest = plain_mark 16 0 name [] ∷ rest
+  marks_in (wait_for name) rest = plain_mark 17 0 name [] ∷ rest
   marks_in (scope name deadline shield fail body) rest =
       record { kind = 11; number = 0; first = name; second = []; deadline = deadline; flag = shield; other = fail; over = None }
       ∷ marks_of body rest
   marks_in (nursery name deadline shield body) rest =
       record { kind = 12; number = 0; first = name; second = []; deadline = deadline; flag = shield; other = false; over = None }
       ∷ marks_of body rest
+  marks_in (event name body) rest = plain_mark 18 0 name [] ∷ marks_of body rest
   marks_in (start name over body) rest =
       record { kind = 13; number = 0; first = name; second = []; deadline = Never; flag = false; other = false; over = over }
       ∷ marks_of body rest
@@ -168,8 +171,10 @@ read_kind (suc (suc (suc (suc (suc (suc (suc (suc (suc (suc (suc zero)))))))))))
 read_kind (suc (suc (suc (suc (suc (suc (suc (suc (suc (suc (suc (suc zero)))))))))))) m b = put_block (nursery m.first m.deadline m.flag) b
 read_kind (suc (suc (suc (suc (suc (suc (suc (suc (suc (suc (suc (suc (suc zero))))))))))))) m b = put_block (start m.first m.over) b
 read_kind (suc (suc (suc (suc (suc (suc (suc (suc (suc (suc (suc (suc (suc (suc zero)))))))))))))) m b = put_block (repeat m.number) b
-read_kind (suc (suc (suc (suc (suc (suc (suc (suc (suc (suc (suc (suc (suc (suc (suc k))))))))))))))) m b = put_attempt m.first m.flag
-    m.other b
+read_kind (suc (suc (suc (suc (suc (suc (suc (suc (suc (suc (suc (suc (suc (suc (suc zero))))))))))))))) m b = put_attempt m.first m.flag m.other b
+read_kind (suc (suc (suc (suc (suc (suc (suc (suc (suc (suc (suc (suc (suc (suc (suc (suc zero)))))))))))))))) m b = put (set_event m.first) b
+read_kind (suc (suc (suc (suc (suc (suc (suc (suc (suc (suc (suc (suc (suc (suc (suc (suc (suc zero))))))))))))))))) m b = put (wait_for m.first) b
+read_kind (suc (suc (suc (suc (suc (suc (suc (suc (suc (suc (suc (suc (suc (suc (suc (suc (suc (suc k)))))))))))))))))) m b = put_block (event m.first) b
 
 abbrev read_marks : List Mark → Blocks
 read_marks [] = []
@@ -192,8 +197,11 @@ mutual
   read_step (need text name) rest = refl
   read_step (raise name) rest = refl
   read_step (cancel name) rest = refl
+  read_step (set_event name) rest = refl
+  read_step (wait_for name) rest = refl
   read_step (scope name deadline shield fail body) rest = ap (put_block (scope name deadline shield fail)) (read_block body rest)
   read_step (nursery name deadline shield body) rest = ap (put_block (nursery name deadline shield)) (read_block body rest)
+  read_step (event name body) rest = ap (put_block (event name)) (read_block body rest)
   read_step (start name over body) rest = ap (put_block (start name over)) (read_block body rest)
   read_step (repeat count body) rest = ap (put_block (repeat count)) (read_block body rest)
   read_step (attempt body handler cleanup) rest =

@@ -1,5 +1,5 @@
 ghost use Rattle.std.specs.Prelude.{◌≡◌};
-ghost use Rattle.job_tree.specs.Formats.{number_of, most_steps, extends_format_1, newer};
+ghost use Rattle.job_tree.specs.Formats.{number_of, most_steps, extends_format_1, has_events, newer};
 
 use crate::limits::{MAX_STEPS, MAX_STEPS_OF_FORMAT_1};
 
@@ -11,7 +11,8 @@ pub enum Format {
     One,
     /// `trio-job 2`. It adds `repeat`, nurseries with a deadline and a shield, and larger jobs.
     Two,
-    /// `trio-job 3`. A tick has rounds, which are passes of Trio's run loop.
+    /// `trio-job 3`. It adds comments, events, and a `start` in a `repeat` in a nursery. A tick has rounds, which are passes of
+    /// Trio's run loop.
     Three,
 }
 
@@ -45,6 +46,16 @@ impl Format {
         match self {
             Format::One => false,
             Format::Two | Format::Three => true,
+        }
+    }
+
+    /// Returns whether this format has what format 3 added to format 2: events, and a `start` in a `repeat` in a nursery.
+    pub fn has_events(self) -> bool
+        ensures { result ≡ has_events self }
+    {
+        match self {
+            Format::One | Format::Two => false,
+            Format::Three => true,
         }
     }
 

@@ -44,8 +44,13 @@ pub enum Step {
     },
     /// Raises an exception with this name.
     Raise(Name),
-    /// Cancels the enclosing scope or nursery with this name, from the next tick on. This is not a checkpoint.
+    /// Cancels the enclosing scope or nursery with this name, from the next tick on, in format 3 from the next round on. This
+    /// is not a checkpoint.
     Cancel(Name),
+    /// Sets the enclosing event with this name, from the next round on. This is not a checkpoint. Only in format 3.
+    Set(Name),
+    /// Waits until the enclosing event with this name is set. It is a checkpoint if it is set already. Only in format 3.
+    Wait(Name),
     /// A cancel scope.
     Scope {
         /// Its name.
@@ -67,7 +72,14 @@ pub enum Step {
         deadline: Deadline,
         /// Whether it is a shield: whether it hides cancellations of the enclosing scopes. In a job of format 1 it is not.
         shield: bool,
-        /// The block that runs in it. The `start` steps directly in this block start the children.
+        /// The block that runs in it. The `start` steps directly in this block, and in a `repeat` in it, start the children.
+        body: Body,
+    },
+    /// An event, which tasks that are started in its block can set and wait for. It is never cancelled. Only in format 3.
+    Event {
+        /// Its name.
+        name: Name,
+        /// The block that runs in it.
         body: Body,
     },
     /// Starts a child in the nursery in whose body this step is, or one child for each cut of the task's part of the input.

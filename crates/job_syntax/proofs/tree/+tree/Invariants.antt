@@ -19,6 +19,9 @@ decreases-scope_at l = 8 * l.depth + 3
 abbrev pub decreases-nursery_at : goal.decreases-nursery_at
 decreases-nursery_at l = 8 * l.depth + 3
 
+abbrev pub decreases-event_at : goal.decreases-event_at
+decreases-event_at l = 8 * l.depth + 3
+
 abbrev pub decreases-start_at : goal.decreases-start_at
 decreases-start_at l = 8 * l.depth + 3
 

@@ -1,14 +1,15 @@
 use Rattle.std.proofs.Common.{◌≡◌, ◌+◌, List, ◌++◌, drop}
 use Rattle.job_tree.specs.Weigh.{weight_of, weight_in, handled_weight, cleaned_weight}
 use Rattle.job_tree.specs.Blocks.{step_of, steps_of, handled_of, cleaned_of}
-use Rattle.job_checks.specs.Cancels.{Cancel, cancels_of}
+use Rattle.job_checks.specs.Uses.{Use, uses_of}
 use Rattle.job_checks.specs.Searches.{names_around, found_in}
-use Rattle.job_checks.proofs.cancels.+search.Given as goal
+use Rattle.job_checks.proofs.uses.+search.Given as goal
 
 abbrev pub invariant-search_steps-steps : goal.invariant-search_steps-steps
 invariant-search_steps-steps l =
-    (more : List Cancel) → found_in l.found (cancels_of (names_around l.around) (steps_of (drop l.step-index l.steps)) ++ more)
-    ≡ found_in l.search (cancels_of (names_around l.around) (steps_of l.steps) ++ more)
+    (more : List Use)
+    → found_in l.found (uses_of (names_around l.scopes) (names_around l.events) (steps_of (drop l.step-index l.steps)) ++ more)
+    ≡ found_in l.search (uses_of (names_around l.scopes) (names_around l.events) (steps_of l.steps) ++ more)
 
 abbrev pub decreases-search_steps : goal.decreases-search_steps
 decreases-search_steps l = weight_of (steps_of l.steps.now)

@@ -1,6 +1,6 @@
 use Rattle.std.proofs.Common.{arith}
 use Rattle.job_tree.proofs.Weights.{weight_at}
-use Rattle.job_checks.proofs.cancels.+search.Goals as goal
+use Rattle.job_checks.proofs.uses.+search.Goals as goal
 
 pub search_steps-search_step-found-requires : goal.search_steps-search_step-found-requires
 search_steps-search_step-found-requires t c =

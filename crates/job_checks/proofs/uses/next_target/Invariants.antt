@@ -1,6 +1,6 @@
 use Rattle.std.proofs.Common.{◌≡◌, length}
-use Rattle.job_checks.specs.Cancels.{targets_in}
-use Rattle.job_checks.proofs.cancels.next_target.Given as goal
+use Rattle.job_checks.specs.Uses.{targets_in}
+use Rattle.job_checks.proofs.uses.next_target.Given as goal
 
 abbrev pub invariant-tokens : goal.invariant-tokens
 invariant-tokens l = targets_in l.tokens l.roles ≡ targets_in l.left.tokens.now l.left.roles.now
