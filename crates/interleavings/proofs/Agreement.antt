@@ -1,23 +1,24 @@
 -- If a run agrees with a table, the table and the froms that the run keeps agree in the present moment; and the jump: nothing
 -- that was not done yet happens before the moment to which the clock jumps.
-use Rattle.std.proofs.Common.{◌≡◌, ◌⊎◌, ℕ, zero, suc, ◌+◌, ◌-◌, ◌<◌, ◌≤◌, min, Bool, true, Option, Some, None, List, [], ◌∷◌, refl, sym, ap, ◌∙◌, subst, inl, inr, arith}
+use Rattle.std.proofs.Common.{◌≡◌, ◌⊎◌, ℕ, zero, suc, ◌+◌, ◌-◌, ◌<◌, ◌≤◌, min, max, Bool, true, Option, Some, None, List, [], ◌∷◌, refl, sym, ap, ◌∙◌, subst, inl, inr, arith}
 use Rattle.exc_groups.specs.Exceptions.{Label, Exc}
-use Rattle.cancel_scopes.specs.Sight.{Tick, sight}
+use Rattle.cancel_scopes.specs.Sight.{Tick, Level, sight}
 use Rattle.job_meaning.specs.Log.{Member, Result, Table, least_sign}
-use Rattle.job_meaning.specs.Moments.{Clock, a_round_after, wakes_at}
-use Rattle.job_meaning.specs.Walk.{by_table, latest}
+use Rattle.job_meaning.specs.Moments.{Clock, a_round_after, wakes_at, only_at}
+use Rattle.job_meaning.specs.Walk.{Stack, by_table, event_on, event_wait, latest}
 use Rattle.job_meaning.specs.Before.{upto}
-use Rattle.job_meaning.specs.Rest.{ChildOutcomes, told_members, Stopped, to_begin, asking, asleep, giving_up, awaiting, at_end, task_comes_to}
+use Rattle.job_meaning.specs.Rest.{ChildOutcomes, told_members, Stopped, to_begin, asking, asleep, waiting_for, giving_up, awaiting, at_end, task_comes_to}
 use Rattle.job_meaning.proofs.MomentLemmas.{round_after}
 use Rattle.job_meaning.proofs.Late.{Timed}
-use Rattle.job_meaning.proofs.Clips.{upto_most, sight_near, least_late}
+use Rattle.job_meaning.proofs.Clips.{upto_most, sight_near, event_near, least_late}
 use Rattle.turn_semantics.specs.Midway.{Place, stack_at}
-use Rattle.turn_semantics.specs.Placed.{PlacedStop, IsAmong}
+use Rattle.turn_semantics.specs.Placed.{IsSome, PlacedStop, IsAmong}
+use Rattle.turn_semantics.specs.Wakes.{set_at}
 use Rattle.turn_semantics.specs.Turned.{AgreesOn, AgreesIn, made_sign}
 use Rattle.interleavings.specs.Interleaving.{Started, Tells, Fits, made_least, all_least, EnteredIn, In, Kid, HasFrom, Entered, EachPlace, RunInvariant, live, slept, goes_on, resumes, AllFrom, Unended, members_by, Settling, StaysUntil, Blocked}
 use Rattle.interleavings.proofs.Readings.{upto_from, entered_times, left_fresh}
 use Rattle.interleavings.proofs.Contract.{near_places, agrees_each}
-use Rattle.interleavings.proofs.Lateness.{slept_after, slept_unseen, late_rest, timed_rest, latest_in}
+use Rattle.interleavings.proofs.Lateness.{slept_after, slept_unseen, awaited_after, awaited_unseen, event_there, ends_near, late_rest, timed_rest, latest_in}
 
 -- a record of outcomes says the same as itself
 pub told_tells : (q : Started) → Tells q q.told
@@ -108,21 +109,34 @@ module _ (k f : Table) (whole : Result) (qs : List Started) (o : RunInvariant k 
   pub agrees_in : (q : Started) → In q qs → AgreesIn v k q.left
   agrees_in q i = agrees_each v k q.left (deadline_left q i)
 
+  unseen : (x y : Tick) (u : ℕ) → upto u y ≡ u → v < u → upto (suc v) x ≡ upto (suc v) y → upto (suc v) x ≡ suc v
+  unseen x None u g m j = j
+  unseen x (Some y) u g m j = j ∙ omega arith
+
   sleeps_until : (clock : Clock) (paced : Bool) (n since u : ℕ) (ps : List Place) → v < u → u ≤ wakes_at clock n since →
-      (upto u (sight (stack_at f ps)) ≡ u) ⊎ (u ≤ a_round_after clock since) →
-      upto (suc v) (sight (stack_at k ps)) ≡ upto (suc v) (sight (stack_at f ps)) →
+      (upto u (sight (stack_at f ps).scopes) ≡ u) ⊎ (u ≤ a_round_after clock since) →
+      upto (suc v) (sight (stack_at k ps).scopes) ≡ upto (suc v) (sight (stack_at f ps).scopes) →
       suc v ≤ min (slept clock paced (stack_at k ps) n since).end (wakes_at clock n since)
   sleeps_until clock paced n since u ps m p (inl g) j =
-      let a : upto (suc v) (sight (stack_at k ps)) ≡ suc v = unseen (sight (stack_at k ps)) (sight (stack_at f ps)) g j in
+      let a : upto (suc v) (sight (stack_at k ps).scopes) ≡ suc v = unseen (sight (stack_at k ps).scopes) (sight (stack_at f ps).scopes) u g m j in
       let b : suc v ≤ (slept clock paced (stack_at k ps) n since).end =
       slept_unseen clock paced (stack_at k ps) n since (suc v) (omega arith) a in
       omega arith
-    where
-      unseen : (x y : Tick) → upto u y ≡ u → upto (suc v) x ≡ upto (suc v) y → upto (suc v) x ≡ suc v
-      unseen x None g j = j
-      unseen x (Some y) g j = j ∙ omega arith
   sleeps_until clock paced n since u ps m p (inr g) j =
       let b : a_round_after clock since ≤ (slept clock paced (stack_at k ps) n since).end = slept_after clock paced (stack_at k ps) n since in
+      omega arith
+
+  -- nor is a wait for an event over, whether the event is set by then or not
+  waits_until : (clock : Clock) (since u : ℕ) (st su : Stack) (x y : Option (Level Label)) → IsSome x → v < u →
+      u ≤ max (a_round_after clock since) (set_at clock y since) → (upto u (sight su.scopes) ≡ u) ⊎ (u ≤ a_round_after clock since) →
+      upto (suc v) (sight st.scopes) ≡ upto (suc v) (sight su.scopes) → min (suc v) (set_at clock x since) ≡ min (suc v) (set_at clock y since) →
+      suc v ≤ min (event_wait clock st x (only_at since)).end (max (a_round_after clock since) (set_at clock x since))
+  waits_until clock since u st su x y there m p (inl g) j n =
+      let b : suc v ≤ (event_wait clock st x (only_at since)).end = awaited_unseen clock st x since (suc v) there (omega arith)
+      (unseen (sight st.scopes) (sight su.scopes) u g m j) in
+      omega arith
+  waits_until clock since u st su x y there m p (inr g) j n =
+      let b : a_round_after clock since ≤ (event_wait clock st x (only_at since)).end = awaited_after clock st x since there in
       omega arith
 
   waits_on : (clock : Clock) (q : Started) (children : List ℕ) (ended : ℕ) (c : Unended qs q children) → suc v ≤ (q.told c.number).end →
@@ -141,7 +155,7 @@ module _ (k f : Table) (whole : Result) (qs : List Started) (o : RunInvariant k 
       suc v ≤ resumes k q
   further u m h b small zero q i a z = let w : q.serial < m = small q i in absurd (omega arith)
   further u m h b small (suc n) q i a z =
-      by_stop q.rest.stopped a (b q i)
+      by_stop q.rest.stopped (o.shape q i) a (b q i)
       (λ children c.
       let kid : Kid qs q c.number = o.kids q i c.number c.below in
       let x : q.serial < kid.kid.serial = kid.later in
@@ -159,18 +173,23 @@ module _ (k f : Table) (whole : Result) (qs : List Started) (o : RunInvariant k 
           subst (λ (ms : List Member). u ≤ a_round_after q.here.clock (latest ended ms)) (sym e) c.later in
           omega arith
 
-      by_stop : (s : Stopped) → live s ≡ true → StaysUntil f qs u q s →
+      by_stop : (s : Stopped) → PlacedStop s q.rest.frames q.places → live s ≡ true → StaysUntil f qs u q s →
           ((children : List ℕ) (c : Unended qs q children) → suc v ≤ (q.told c.number).end) →
           suc v ≤ goes_on q.here.clock q.told s (stack_at k q.places) q.stop.at
-      by_stop to_begin l p go = omega arith
-      by_stop (asking kernel purpose) l p go = omega arith
-      by_stop (asleep paced n since) l p go =
+      by_stop to_begin s l p go = omega arith
+      by_stop (asking kernel purpose) s l p go = omega arith
+      by_stop (asleep paced n since) s l p go =
           sleeps_until q.here.clock paced n since u q.places h p.0 p.1
-          (sight_near (suc v) _ _ (near_places v k f q.places (agrees_on q.places (o.placed q i))))
-      by_stop (giving_up since) l p go = omega arith
-      by_stop (awaiting children ended exc) l (inl p) go = waits_on q.here.clock q children ended p (go children p)
-      by_stop (awaiting children ended exc) l (inr p) go = settling children ended p
-      by_stop (at_end t e) l p go = cc
+          (sight_near (suc v) _ _ (near_places v k f q.places (agrees_on q.places (o.placed q i))).0)
+      by_stop (waiting_for event since) s l p go =
+          let near = near_places v k f q.places (agrees_on q.places (o.placed q i)) in
+          waits_until q.here.clock since u (stack_at k q.places) (stack_at f q.places) (event_on event (stack_at k q.places).events)
+          (event_on event (stack_at f q.places).events) (event_there k event q.places s.0) h p.0 p.1 (sight_near (suc v) _ _ near.0)
+          (ends_near (suc v) q.here.clock _ _ since (event_near (suc v) event _ _ near.1))
+      by_stop (giving_up since) s l p go = omega arith
+      by_stop (awaiting children ended exc) s l (inl p) go = waits_on q.here.clock q children ended p (go children p)
+      by_stop (awaiting children ended exc) s l (inr p) go = settling children ended p
+      by_stop (at_end t e) s l p go = cc
 
 -- nothing that was not made happens before the moment to which the clock jumps
 pub climb :

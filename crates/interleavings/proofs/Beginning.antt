@@ -7,7 +7,7 @@ use Rattle.exc_groups.specs.Exceptions.{Label, Exc}
 use Rattle.cancel_scopes.specs.Sight.{Tick}
 use Rattle.job_meaning.specs.Log.{Log, nil, entry, sign, entered, task, followed_by, Result, same_label, least_sign, deadline_of, deadline_if, either, from_by, entered_from, times_entered, Table}
 use Rattle.job_meaning.specs.Moments.{only_at}
-use Rattle.job_meaning.specs.Walk.{by_table, with_sign, sign_if}
+use Rattle.job_meaning.specs.Walk.{no_stack, by_table, with_sign, sign_if}
 use Rattle.job_meaning.specs.Meaning.{root_walk, root_here}
 use Rattle.job_meaning.specs.Follow.{follow, IsSettled}
 use Rattle.job_meaning.specs.Before.{upto}
@@ -57,7 +57,7 @@ deadline_entered_once l d (task m s u e own rest) (inr h) n =
     ∙ deadline_entered_once l d rest h (omega arith)
 
 -- the root signs for nobody
-signed_root : (r : Result) → with_sign [] r ≡ record r { own = [] }
+signed_root : (r : Result) → with_sign no_stack r ≡ record r { own = [] }
 unfolding with_sign
 signed_root r = ap (λ (a : Log). record r { own = []; log = a }) (ap (λ (a : Log). followed_by r.log a) (none r.exc) ∙ followed_nil r.log)
   where
@@ -67,9 +67,9 @@ signed_root r = ap (λ (a : Log). record r { own = []; log = a }) (ap (λ (a : L
 
 -- what is left of the root is all of following the table, but for what it has cancelled itself at its end
 root_comes : (k : Table) (job : Tree) (input : List ℕ) (told : ChildOutcomes) →
-    rest_comes_to (by_table k) told (rest_at_start job.steps) (root_here job input) [] (only_at 0) ≡ root_result k job input
+    rest_comes_to (by_table k) told (rest_at_start job.steps) (root_here job input) no_stack (only_at 0) ≡ root_result k job input
 unfolding follow
-root_comes k job input told = finish_begin (by_table k) told job.steps (root_here job input) [] (only_at 0)
+root_comes k job input told = finish_begin (by_table k) told job.steps (root_here job input) no_stack (only_at 0)
     ∙ signed_root (root_walk (by_table k) job input)
 
 module _ (k f : Table) (job : Tree) (input : List ℕ) (names : GivesNamesOnce job) (nurseries : StartsInNurseries job)

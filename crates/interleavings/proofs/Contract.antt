@@ -1,5 +1,5 @@
 -- What a turn promises, as the other proofs read it: numbers and labels of what it made, the froms after it, and its stop.
-use Rattle.std.proofs.Common.{◌≡◌, ◌⊎◌, ℕ, suc, ◌+◌, ◌<◌, ◌≤◌, min, Option, Some, List, [], ◌∷◌, refl, ap, ◌∙◌, subst, inl, inr, arith}
+use Rattle.std.proofs.Common.{◌≡◌, ◌⊎◌, ℕ, suc, ◌+◌, ◌<◌, ◌≤◌, min, Bool, true, false, Option, Some, List, [], ◌∷◌, refl, ap, ◌∙◌, subst, inl, inr, arith}
 use Rattle.exc_groups.specs.Exceptions.{Label}
 use Rattle.cancel_scopes.specs.Sight.{Tick}
 use Rattle.job_meaning.specs.Log.{Log, nil, entry, sign, entered, task, Table}
@@ -7,7 +7,7 @@ use Rattle.job_meaning.specs.Moments.{Clock, a_round_after, Now}
 use Rattle.job_meaning.specs.Walk.{by_table}
 use Rattle.job_meaning.specs.Before.{upto, Near}
 use Rattle.job_meaning.specs.Rest.{Event, noted, signs, enters, starts, ChildOutcomes, Stopped, Rest, rest_comes_to, rest_weight, stop_weight, frames_weight}
-use Rattle.turn_semantics.specs.Midway.{Place, stack_at, Begun, Move, now_after, after_events, stop_comes_to}
+use Rattle.turn_semantics.specs.Midway.{Place, level_on, stack_at, Begun, Move, now_after, after_events, stop_comes_to}
 use Rattle.turn_semantics.specs.Steps.{froms_after}
 use Rattle.turn_semantics.specs.Placed.{PlacedStop, PlacedAfter}
 use Rattle.turn_semantics.specs.Wakes.{Wake, WakesBy}
@@ -20,8 +20,14 @@ use Rattle.interleavings.proofs.Readings.{upto_from, enters_counted, enters_once
 
 -- a table that agrees with froms for enclosing scopes and nurseries is near them on their stacks
 pub near_places : (t : ℕ) (k f : Table) (ps : List Place) → AgreesOn t k f ps → Near (suc t) (stack_at k ps) (stack_at f ps)
-near_places t k f [] h = tt
-near_places t k f (p ∷ ps) h = (refl, refl, h.0, near_places t k f ps h.1)
+near_places t k f [] h = (tt, tt)
+near_places t k f (p ∷ ps) h = by_kind p.is_event (near_places t k f ps h.1)
+  where
+    by_kind : (b : Bool) → Near (suc t) (stack_at k ps) (stack_at f ps) →
+        Near (suc t) (level_on b (record { label = p.label; shield = p.shield; from = k p.label }) (stack_at k ps))
+        (level_on b (record { label = p.label; shield = p.shield; from = f p.label }) (stack_at f ps))
+    by_kind true n = (n.0, (refl, refl, h.0, n.1))
+    by_kind false n = ((refl, refl, h.0, n.0), n.1)
 
 -- a table that agrees with each deadline in a log agrees with those that the task itself enters
 pub agrees_each : (t : ℕ) (k : Table) (a : Log) →

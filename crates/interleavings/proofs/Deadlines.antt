@@ -1,15 +1,15 @@
 -- By rounds, each deadline is the first moment of a tick: so it is in the log of each walk.
-use Rattle.std.proofs.Common.{◌≡◌, ℕ, zero, suc, ◌+◌, ◌*◌, ◌/◌, Bool, true, false, Option, Some, None, List, [], ◌∷◌, sym, subst, arith, nat_le, if◌then◌else◌}
+use Rattle.std.proofs.Common.{◌≡◌, ℕ, zero, suc, ◌+◌, ◌*◌, ◌/◌, Bool, true, false, Option, Some, None, List, [], ◌∷◌, sym, subst, arith, nat_le, nat_lt, max, if◌then◌else◌}
 use Rattle.job_tree.specs.declared.deadline.Deadline.{Deadline}
 use Rattle.job_tree.specs.declared.deadline.Deadline.TheVariants.{Never, After, At}
-use Rattle.job_tree.specs.Tree.{Step, sleep, checkpoint, forever, pace, find, head, longest, need, raise, cancel, scope, nursery, start, repeat, attempt, Steps, stop, step, Handled, unhandled, except, Cleaned, uncleaned, finally}
+use Rattle.job_tree.specs.Tree.{Step, sleep, checkpoint, forever, pace, find, head, longest, need, raise, cancel, set_event, wait_for, scope, nursery, event, start, repeat, attempt, Steps, stop, step, Handled, unhandled, except, Cleaned, uncleaned, finally}
 use Rattle.buffer_parts.specs.Lines.{Span}
 use Rattle.exc_groups.specs.Exceptions.{Label, Exc, cancelled}
 use Rattle.exc_groups.specs.Split.{Wanted, keep, drop}
-use Rattle.cancel_scopes.specs.Sight.{Tick, sight}
+use Rattle.cancel_scopes.specs.Sight.{Tick, Level, sight}
 use Rattle.job_meaning.specs.Log.{Log, nil, entry, sign, entered, task, followed_by, Result, same_label, either, deadline_if, deadline_of}
 use Rattle.job_meaning.specs.Moments.{Clock, by_rounds, a_round_after, wakes_at, gives_up_at, due, Now, only_at}
-use Rattle.job_meaning.specs.Walk.{Stack, Mode, Here, walk, walk_step, walk_handler, walk_cleanup, done_at, raised_at, now_of, and_then, then_if, wait_by_sight, sleep_result, pace_result, log_of_lines, lines_result, raise_result, need_result, cancel_result, Kind, from_of, block, with_sign, sign_if, home_of, nursery_result, child, each, passes, handler_result, handler_for, handler_if_any, cleanup_result}
+use Rattle.job_meaning.specs.Walk.{Stack, Mode, Here, walk, walk_step, walk_handler, walk_cleanup, done_at, raised_at, now_of, and_then, then_if, wait_by_sight, sleep_result, pace_result, wait_until, set_moment, wait_by, with_line_if, with_line, event_wait, log_of_lines, lines_result, raise_result, need_result, cancel_result, set_result, Kind, from_of, block, event_block, with_sign, sign_if, home_of, nursery_result, child, each, passes, handler_result, handler_for, handler_if_any, cleanup_result}
 use Rattle.interleavings.specs.Laws.{round_of}
 
 -- a deadline is the first moment of a tick, or there is none
@@ -64,11 +64,38 @@ each_waited (Some from) least gives_up end = by_now (nat_le from least) (nat_le 
 
 each_sleeping : (clock : Clock) (st : Stack) (n t : ℕ) → EachOnTick (sleep_result clock st n t).log
 unfolding sleep_result
-each_sleeping clock st n t = each_waited (sight st) (a_round_after clock t) (gives_up_at clock n t) (wakes_at clock n t)
+each_sleeping clock st n t = each_waited (sight st.scopes) (a_round_after clock t) (gives_up_at clock n t) (wakes_at clock n t)
 
 each_pacing : (clock : Clock) (st : Stack) (n t : ℕ) → EachOnTick (pace_result clock st n t).log
 unfolding pace_result
-each_pacing clock st n t = each_waited (sight st) (a_round_after clock t) (a_round_after clock t) (wakes_at clock n t)
+each_pacing clock st n t = each_waited (sight st.scopes) (a_round_after clock t) (a_round_after clock t) (wakes_at clock n t)
+
+each_until : (a : Tick) (least end : ℕ) → EachOnTick (wait_until a least end).log
+each_until None least end = tt
+each_until (Some from) least end = by_order (nat_lt from end)
+  where
+    by_order : (b : Bool) → EachOnTick (if b then raised_at cancelled (only_at (max least from)) else done_at (only_at end)).log
+    by_order true = tt
+    by_order false = tt
+
+each_set : (clock : Clock) (st : Stack) (set t : ℕ) → EachOnTick (wait_by clock st set t).log
+each_set clock st set t = by_round (nat_le set (a_round_after clock t))
+  where
+    by_round : (b : Bool) → EachOnTick (if b then sleep_result clock st 0 t else wait_until (sight st.scopes) (a_round_after clock t) set).log
+    by_round true = each_sleeping clock st 0 t
+    by_round false = each_until (sight st.scopes) (a_round_after clock t) set
+
+each_lined : (label : Label) (r : Result) → EachOnTick r.log → EachOnTick (with_line label r).log
+each_lined label r h = by_exc r.exc
+  where
+    by_exc : (o : Option Exc) → EachOnTick (with_line_if o label r).log
+    by_exc None = tt
+    by_exc (Some e) = h
+
+each_awaiting : (clock : Clock) (st : Stack) (level : Option (Level Label)) (t : Now) → EachOnTick (event_wait clock st level t).log
+unfolding event_wait
+each_awaiting clock st None t = tt
+each_awaiting clock st (Some l) t = each_lined l.label (wait_by clock st (set_moment clock l.from t.at) t.at) (each_set clock st (set_moment clock l.from t.at) t.at)
 
 each_of_lines : (t : ℕ) (ls : List Span) → EachOnTick (log_of_lines t ls)
 each_of_lines t [] = tt
@@ -92,6 +119,11 @@ unfolding cancel_result
 each_cancelling clock None t = tt
 each_cancelling clock (Some l) t = tt
 
+each_setting : (clock : Clock) (label : Option Label) (t : Now) → EachOnTick (set_result clock label t).log
+unfolding set_result
+each_setting clock None t = tt
+each_setting clock (Some l) t = tt
+
 each_block : (clock : Clock) (m : Mode) (kind : Kind) (label : Label) (t : ℕ) (d : Tick) (shield : Bool) (st : Stack) (inside : Tick → Result) →
     OnTick d → ((from : Tick) → EachOnTick (inside from).log) → EachOnTick (block clock m kind label t d shield st inside).log
 unfolding block
@@ -99,9 +131,15 @@ each_block clock m kind label t d shield st inside on h =
     let from : Tick = from_of m label d inside in
     (on, each_followed (inside from).log (entry (inside from).end _ nil) (h from) tt)
 
+-- an event has no deadline
+each_event : (m : Mode) (label : Label) (t : ℕ) (inside : Tick → Result) → ((from : Tick) → EachOnTick (inside from).log) →
+    EachOnTick (event_block m label t inside).log
+unfolding event_block
+each_event m label t inside h = (tt, h (from_of m label None inside))
+
 each_signed : (st : Stack) (r : Result) → EachOnTick r.log → EachOnTick (with_sign st r).log
 unfolding with_sign
-each_signed st r h = each_followed r.log (sign_if r.exc (home_of st) r.end) h (of_sign r.exc (home_of st))
+each_signed st r h = each_followed r.log (sign_if r.exc (home_of st.scopes) r.end) h (of_sign r.exc (home_of st.scopes))
   where
     of_sign : (o : Option Exc) (home : Option Label) → EachOnTick (sign_if o home r.end)
     of_sign None home = tt
@@ -160,11 +198,14 @@ mutual
   each_step m (need text name) here c st t = each_needing _ name here t
   each_step m (raise name) here c st t = each_raising name here t
   each_step m (cancel name) here c st t = each_cancelling here.clock _ t
+  each_step m (set_event name) here c st t = each_setting here.clock _ t
+  each_step m (wait_for name) here c st t = each_awaiting here.clock st _ t
   each_step m (scope name d shield fail body) here c st t =
       each_block here.clock m _ _ t.at _ shield st _ (due_on here.clock c d t.at) (λ from. each_walked m body here c _ t)
   each_step m (nursery name d shield body) here c st t =
       each_block here.clock m _ _ t.at _ shield st _ (due_on here.clock c d t.at)
       (λ from. each_gathered here.clock _ _ (each_signed _ _ (each_walked m body here c _ t)))
+  each_step m (event name body) here c st t = each_event m _ t.at _ (λ from. each_walked m body here c _ t)
   each_step m (start name None body) here c st t =
       each_child _ _ _ t (each_signed st _ (each_walked m body _ c st (only_at (a_round_after here.clock t.at))))
   each_step m (start name (Some k) body) here c st t =

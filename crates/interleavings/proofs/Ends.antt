@@ -1,14 +1,14 @@
 -- If `start` occurs only directly in nurseries, a task ends no earlier than those that it started.
-use Rattle.std.proofs.Common.{◌≡◌, ℕ, zero, suc, ◌≤◌, max, Bool, true, false, Option, Some, None, List, [], ◌∷◌, ◌++◌, refl, subst, arith, nat_le, if◌then◌else◌}
-use Rattle.job_tree.specs.Tree.{Step, sleep, checkpoint, forever, pace, find, head, longest, need, raise, cancel, scope, nursery, start, repeat, attempt, Steps, stop, step, Handled, unhandled, except, Cleaned, uncleaned, finally}
+use Rattle.std.proofs.Common.{◌≡◌, ℕ, zero, suc, ◌≤◌, max, Bool, true, false, Option, Some, None, List, [], ◌∷◌, ◌++◌, refl, subst, arith, nat_le, nat_lt, if◌then◌else◌}
+use Rattle.job_tree.specs.Tree.{Step, sleep, checkpoint, forever, pace, find, head, longest, need, raise, cancel, set_event, wait_for, scope, nursery, event, start, repeat, attempt, Steps, stop, step, Handled, unhandled, except, Cleaned, uncleaned, finally}
 use Rattle.job_tree.specs.Starting.{StartsIn, StartsAt, HandlerStarts, CleanupStarts}
 use Rattle.buffer_parts.specs.Lines.{Span}
 use Rattle.exc_groups.specs.Exceptions.{Label, Exc, cancelled}
 use Rattle.exc_groups.specs.Split.{Wanted, keep, drop}
-use Rattle.cancel_scopes.specs.Sight.{Tick, sight}
+use Rattle.cancel_scopes.specs.Sight.{Tick, Level, sight}
 use Rattle.job_meaning.specs.Log.{Log, nil, entry, sign, entered, task, followed_by, Member, Result}
 use Rattle.job_meaning.specs.Moments.{Clock, a_round_after, wakes_at, gives_up_at, Now, only_at}
-use Rattle.job_meaning.specs.Walk.{Stack, Mode, Here, walk, walk_step, walk_handler, walk_cleanup, done_at, raised_at, now_of, in_sequence, and_then, then_if, wait_by_sight, sleep_result, pace_result, log_of_lines, lines_result, need_result, raise_result, cancel_result, sign_of, Kind, from_of, block, with_sign, sign_if, home_of, latest, nursery_result, child, each, handler_result, handler_for, handler_if_any, cleanup_result, passes}
+use Rattle.job_meaning.specs.Walk.{Stack, Mode, Here, walk, walk_step, walk_handler, walk_cleanup, done_at, raised_at, now_of, in_sequence, and_then, then_if, wait_by_sight, sleep_result, pace_result, wait_until, set_moment, wait_by, with_line_if, with_line, event_wait, log_of_lines, lines_result, need_result, raise_result, cancel_result, set_result, sign_of, Kind, from_of, block, event_block, with_sign, sign_if, home_of, latest, nursery_result, child, each, handler_result, handler_for, handler_if_any, cleanup_result, passes}
 use Rattle.job_meaning.proofs.MomentLemmas.{round_after}
 use Rattle.job_meaning.proofs.Late.{Late, late, latest_ends, child_ends, each_ends, late_passes}
 
@@ -102,11 +102,38 @@ ends_waiting body (Some from) least gives_up end = by_now (nat_le from least) (n
 
 ends_sleeping : (body : Bool) (clock : Clock) (st : Stack) (n t : ℕ) → Ends body (sleep_result clock st n t)
 unfolding sleep_result
-ends_sleeping body clock st n t = ends_waiting body (sight st) (a_round_after clock t) (gives_up_at clock n t) (wakes_at clock n t)
+ends_sleeping body clock st n t = ends_waiting body (sight st.scopes) (a_round_after clock t) (gives_up_at clock n t) (wakes_at clock n t)
 
 ends_pacing : (body : Bool) (clock : Clock) (st : Stack) (n t : ℕ) → Ends body (pace_result clock st n t)
 unfolding pace_result
-ends_pacing body clock st n t = ends_waiting body (sight st) (a_round_after clock t) (a_round_after clock t) (wakes_at clock n t)
+ends_pacing body clock st n t = ends_waiting body (sight st.scopes) (a_round_after clock t) (a_round_after clock t) (wakes_at clock n t)
+
+ends_until : (body : Bool) (a : Tick) (least end : ℕ) → Ends body (wait_until a least end)
+ends_until body None least end = ends_done body (only_at end)
+ends_until body (Some from) least end = by_order (nat_lt from end)
+  where
+    by_order : (b : Bool) → Ends body (if b then raised_at cancelled (only_at (max least from)) else done_at (only_at end))
+    by_order true = ends_raised body cancelled (only_at (max least from))
+    by_order false = ends_done body (only_at end)
+
+ends_set : (body : Bool) (clock : Clock) (st : Stack) (set t : ℕ) → Ends body (wait_by clock st set t)
+ends_set body clock st set t = by_round (nat_le set (a_round_after clock t))
+  where
+    by_round : (b : Bool) → Ends body (if b then sleep_result clock st 0 t else wait_until (sight st.scopes) (a_round_after clock t) set)
+    by_round true = ends_sleeping body clock st 0 t
+    by_round false = ends_until body (sight st.scopes) (a_round_after clock t) set
+
+ends_lined : (body : Bool) (label : Label) (r : Result) → Ends body r → Ends body (with_line label r)
+ends_lined body label r h = by_exc r.exc
+  where
+    by_exc : (o : Option Exc) → Ends body (with_line_if o label r)
+    by_exc None = record { inside = tt; closed = h.closed }
+    by_exc (Some e) = h
+
+ends_awaiting : (body : Bool) (clock : Clock) (st : Stack) (level : Option (Level Label)) (t : Now) → Ends body (event_wait clock st level t)
+unfolding event_wait
+ends_awaiting body clock st None t = ends_done body t
+ends_awaiting body clock st (Some l) t = ends_lined body l.label _ (ends_set body clock st (set_moment clock l.from t.at) t.at)
 
 inside_lines : (e t : ℕ) (ls : List Span) → Inside e (log_of_lines t ls)
 inside_lines e t [] = tt
@@ -137,6 +164,10 @@ ends_cancelling : (body : Bool) (clock : Clock) (o : Option Label) (t : Now) →
 unfolding cancel_result
 ends_cancelling body clock o t = record { inside = inside_sign t.at o t.at; closed = λ e. refl }
 
+ends_setting : (body : Bool) (clock : Clock) (o : Option Label) (t : Now) → Ends body (set_result clock o t)
+unfolding set_result
+ends_setting body clock o t = record { inside = inside_sign t.at o t.at; closed = λ e. refl }
+
 -- with no member open all ends by the end
 inside_closed : (r : Result) → Ends false r → Inside r.end r.log
 inside_closed r h = subst (λ (ms : List Member). Inside (latest r.end ms) r.log) (h.closed refl) h.inside
@@ -152,11 +183,18 @@ ends_block body clock m kind label t d shield st inside h =
       closed = λ e. refl;
     }
 
+ends_event : (body : Bool) (m : Mode) (label : Label) (t : ℕ) (inside : Tick → Result) → ((f : Tick) → Ends body (inside f)) →
+    Ends body (event_block m label t inside)
+unfolding event_block
+ends_event body m label t inside h =
+    let inner : Ends body (inside (from_of m label None inside)) = h (from_of m label None inside) in
+    record { inside = inner.inside; closed = inner.closed }
+
 ends_signed : (body : Bool) (st : Stack) (r : Result) → Ends body r → Ends body (with_sign st r)
 unfolding with_sign
 ends_signed body st r h = record {
   inside = inside_followed (latest r.end r.members) r.log _ h.inside
-      (inside_sign_if (latest r.end r.members) r.exc (home_of st) r.end);
+      (inside_sign_if (latest r.end r.members) r.exc (home_of st.scopes) r.end);
   closed = h.closed;
 }
 
@@ -232,16 +270,19 @@ mutual
   ends_step m body (need text name) here st t p = ends_needing body _ name here t
   ends_step m body (raise name) here st t p = ends_raising body name here t
   ends_step m body (cancel name) here st t p = ends_cancelling body here.clock _ t
+  ends_step m body (set_event name) here st t p = ends_setting body here.clock _ t
+  ends_step m body (wait_for name) here st t p = ends_awaiting body here.clock st _ t
   ends_step m body (scope name d shield fail b) here st t p = ends_block body here.clock m _ _ t.at _ shield st _ (λ f. ends m false b here _ t p)
   ends_step m body (nursery name d shield b) here st t p =
       ends_block body here.clock m _ _ t.at _ shield st _ (λ f. ends_gathered false here.clock _ _ (ends_signed true _ _ (ends m true b here _ t p)))
+  ends_step m body (event name b) here st t p = ends_event body m _ t.at _ (λ f. ends_in body _ (ends m false b here _ t p))
   ends_step m true (start name None b) here st t p = ends_child _ _ _ t (ends_signed false st _ (ends m false b _ st (only_at (a_round_after here.clock t.at)) p.1))
   ends_step m true (start name (Some k) b) here st t p =
       ends_each k _ t (λ i. child_ends _ (a_round_after here.clock t.at) _ t)
       (λ i. ends_child _ (a_round_after here.clock t.at) _ t (ends_signed false st _ (ends m false b _ st (only_at (a_round_after here.clock t.at)) p.1)))
   ends_step m false (start name over b) here st t p = cc
   ends_step m body (repeat count b) here st t p =
-      ends_passes body count 0 _ t (λ i u. ends_in body _ (ends m false b _ st u p)) (λ i u. late m b _ st u)
+      ends_passes body count 0 _ t (λ i u. ends m body b _ st u p) (λ i u. late m b _ st u)
   ends_step m body (attempt b handler cleanup) here st t p =
       ends_cleanup m body cleanup here st _ p.2 (ends_handler m body handler here st _ p.1 (ends_in body _ (ends m false b here st t p.0)))
 

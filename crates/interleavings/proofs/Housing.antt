@@ -5,7 +5,7 @@ use Rattle.job_tree.specs.Tree.{Tree}
 use Rattle.exc_groups.specs.Exceptions.{Label}
 use Rattle.job_meaning.specs.Log.{Table}
 use Rattle.job_meaning.specs.Moments.{a_round_after, Now}
-use Rattle.job_meaning.specs.Rest.{Event, noted, signs, enters, starts, Frame, steps_left, in_scope, in_nursery, in_repeat, in_try, in_handler, in_cleanup, Stopped, to_begin, asking, asleep, giving_up, awaiting, at_end}
+use Rattle.job_meaning.specs.Rest.{Event, noted, signs, enters, starts, Frame, steps_left, in_scope, in_event, in_nursery, in_repeat, in_try, in_handler, in_cleanup, Stopped, to_begin, asking, asleep, waiting_for, giving_up, awaiting, at_end}
 use Rattle.turn_semantics.specs.Midway.{Place, Begun, Move}
 use Rattle.turn_semantics.specs.Placed.{PlacedStop, PlacedAfter, home_after, AllBelow, KidsBelow, KidsAfter, IsAmong, HasChild, WaitsFor, HasChildAfter, AllHoused}
 use Rattle.turn_semantics.specs.Wakes.{Wake, begins, sees, gives_up, is_due, has_answer, settles}
@@ -33,6 +33,8 @@ child_below n i home [] ps b h = absurd h
 child_below n i home (steps_left ss ∷ fs) ps b h = child_below n i home fs ps b h
 child_below n i home (in_scope fail ∷ fs) [] b h = absurd h
 child_below n i home (in_scope fail ∷ fs) (p ∷ ps) b h = child_below n i home fs ps b h
+child_below n i home (in_event ∷ fs) [] b h = absurd h
+child_below n i home (in_event ∷ fs) (p ∷ ps) b h = child_below n i home fs ps b h
 child_below n i home (in_nursery children ∷ fs) [] b h = absurd h
 child_below n i home (in_nursery children ∷ fs) (p ∷ ps) b (inl a) = among_below n i children b.0 a.0
 child_below n i home (in_nursery children ∷ fs) (p ∷ ps) b (inr h) = child_below n i home fs ps b.1 h
@@ -47,6 +49,7 @@ stop_below : (n i : ℕ) (home : List Place) (s : Stopped) (fs : List Frame) (ps
 stop_below n i home to_begin fs ps b (inr h) = child_below n i home fs ps b h
 stop_below n i home (asking kernel purpose) fs ps b (inr h) = child_below n i home fs ps b h
 stop_below n i home (asleep paced m since) fs ps b (inr h) = child_below n i home fs ps b h
+stop_below n i home (waiting_for event since) fs ps b (inr h) = child_below n i home fs ps b h
 stop_below n i home (giving_up since) fs ps b (inr h) = child_below n i home fs ps b h
 stop_below n i home (awaiting children ended exc) fs [] b (inr h) = child_below n i home fs [] b.1 h
 stop_below n i home (awaiting children ended exc) fs (p ∷ ps) b (inl a) = among_below n i children b.0 a.0
@@ -55,6 +58,7 @@ stop_below n i home (at_end u e) fs ps b (inr h) = child_below n i home fs ps b 
 stop_below n i home to_begin fs ps b (inl h) = absurd h
 stop_below n i home (asking kernel purpose) fs ps b (inl h) = absurd h
 stop_below n i home (asleep paced m since) fs ps b (inl h) = absurd h
+stop_below n i home (waiting_for event since) fs ps b (inl h) = absurd h
 stop_below n i home (giving_up since) fs ps b (inl h) = absurd h
 stop_below n i home (awaiting children ended exc) fs [] b (inl h) = absurd h
 stop_below n i home (at_end u e) fs ps b (inl h) = absurd h
@@ -66,6 +70,7 @@ wakes_live : (f : Table) (qs : List Started) (t : Now) (q : Started) (w : Wake) 
 wakes_live f qs t q w to_begin h = refl
 wakes_live f qs t q w (asking kernel purpose) h = refl
 wakes_live f qs t q w (asleep paced n since) h = refl
+wakes_live f qs t q w (waiting_for event since) h = refl
 wakes_live f qs t q w (giving_up since) h = refl
 wakes_live f qs t q w (awaiting children ended exc) h = refl
 wakes_live f qs t q begins (at_end u e) h = absurd h
@@ -92,6 +97,7 @@ none_waited f qs t q w (awaiting children ended e) [] h i home a c among serial 
 none_waited f qs t q w to_begin ps h i home a c among serial l = absurd a
 none_waited f qs t q w (asking kernel purpose) ps h i home a c among serial l = absurd a
 none_waited f qs t q w (asleep paced n since) ps h i home a c among serial l = absurd a
+none_waited f qs t q w (waiting_for event since) ps h i home a c among serial l = absurd a
 none_waited f qs t q w (giving_up since) ps h i home a c among serial l = absurd a
 none_waited f qs t q w (at_end u e) ps h i home a c among serial l = absurd a
 
@@ -336,6 +342,8 @@ home_among i l home [] ps h k = absurd h
 home_among i l home (steps_left ss ∷ fs) ps h k = home_among i l home fs ps h k
 home_among i l home (in_scope fail ∷ fs) [] h k = absurd h
 home_among i l home (in_scope fail ∷ fs) (p ∷ ps) h k = inr (home_among i l home fs ps h k)
+home_among i l home (in_event ∷ fs) [] h k = absurd h
+home_among i l home (in_event ∷ fs) (p ∷ ps) h k = inr (home_among i l home fs ps h k)
 home_among i l home (in_nursery children ∷ fs) [] h k = absurd h
 home_among i l home (in_nursery children ∷ fs) (p ∷ ps) (inl a) k = subst (λ (rs : List Place). Known l (labels_of rs)) a.1 k
 home_among i l home (in_nursery children ∷ fs) (p ∷ ps) (inr h) k = inr (home_among i l home fs ps h k)
@@ -352,8 +360,10 @@ home_within i l home to_begin fs ps (inr h) k = home_among i l home fs ps h k
 home_within i l home (asking kernel purpose) fs ps (inl h) k = absurd h
 home_within i l home (asking kernel purpose) fs ps (inr h) k = home_among i l home fs ps h k
 home_within i l home (asleep paced n since) fs ps (inl h) k = absurd h
+home_within i l home (waiting_for event since) fs ps (inl h) k = absurd h
 home_within i l home (giving_up since) fs ps (inl h) k = absurd h
 home_within i l home (asleep paced n since) fs ps (inr h) k = home_among i l home fs ps h k
+home_within i l home (waiting_for event since) fs ps (inr h) k = home_among i l home fs ps h k
 home_within i l home (giving_up since) fs ps (inr h) k = home_among i l home fs ps h k
 home_within i l home (awaiting children ended exc) fs [] (inl h) k = absurd h
 home_within i l home (awaiting children ended exc) fs [] (inr h) k = home_among i l home fs [] h k
@@ -368,6 +378,7 @@ has_live : (i : ℕ) (home : List Place) (s : Stopped) (fs : List Frame) (ps : L
 has_live i home to_begin fs ps p h = refl
 has_live i home (asking kernel purpose) fs ps p h = refl
 has_live i home (asleep paced n since) fs ps p h = refl
+has_live i home (waiting_for event since) fs ps p h = refl
 has_live i home (giving_up since) fs ps p h = refl
 has_live i home (awaiting children ended exc) fs ps p h = refl
 has_live i home (at_end u e) fs ps p (inl h) = absurd h

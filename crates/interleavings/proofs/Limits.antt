@@ -2,7 +2,7 @@
 use Rattle.std.proofs.Common.{◌≡◌, ℕ, zero, suc, ◌+◌, ◌<◌, ◌≤◌, true, List, [], ◌∷◌, refl, sym, ap, subst, ◌⊎◌, inl, inr, arith}
 use Rattle.job_meaning.specs.Log.{Log, Result, Table, followed_by}
 use Rattle.job_meaning.specs.Walk.{by_table}
-use Rattle.job_meaning.specs.Rest.{Event, noted, signs, enters, starts, ChildOutcomes, fill, Stopped, to_begin, asking, asleep, giving_up, awaiting, at_end, rest_comes_to}
+use Rattle.job_meaning.specs.Rest.{Event, noted, signs, enters, starts, ChildOutcomes, fill, Stopped, to_begin, asking, asleep, waiting_for, giving_up, awaiting, at_end, rest_comes_to}
 use Rattle.turn_semantics.specs.Midway.{stack_at}
 use Rattle.interleavings.specs.Interleaving.{Started, StartsChild, In, Kid, Parent, RunInvariant, live, AllFrom, Unended, Settling, StaysUntil, Blocked}
 use Rattle.interleavings.specs.Laws.{HasNextTurn, GoesOn}
@@ -76,6 +76,8 @@ module _ (k f : Table) (whole : Result) (qs : List Started) (o : RunInvariant k 
       by_stop (asking kernel purpose) e l p go =
           record { next = q; among = i; has = subst (λ (x : Stopped). HasNextTurn qs q x) (sym e) tt }
       by_stop (asleep paced d since) e l p go =
+          record { next = q; among = i; has = subst (λ (x : Stopped). HasNextTurn qs q x) (sym e) tt }
+      by_stop (waiting_for event since) e l p go =
           record { next = q; among = i; has = subst (λ (x : Stopped). HasNextTurn qs q x) (sym e) tt }
       by_stop (giving_up since) e l p go =
           record { next = q; among = i; has = subst (λ (x : Stopped). HasNextTurn qs q x) (sym e) tt }

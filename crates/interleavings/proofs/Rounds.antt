@@ -1,20 +1,22 @@
 -- By rounds, no moment of a run has a greater round than the number of turns so far.
-use Rattle.std.proofs.Common.{◌≡◌, ◌⊎◌, ℕ, zero, suc, ◌+◌, ◌*◌, ◌/◌, ◌<◌, ◌≤◌, min, max, Bool, true, false, Option, Some, None, List, [], ◌∷◌, ◌++◌, refl, sym, ap, ◌∙◌, subst, inl, inr, arith, nat_lt, if◌then◌else◌}
+use Rattle.std.proofs.Common.{◌≡◌, ◌⊎◌, ℕ, zero, suc, ◌+◌, ◌-◌, ◌*◌, ◌/◌, ◌<◌, ◌≤◌, min, max, Bool, true, false, Option, Some, None, List, [], ◌∷◌, ◌++◌, refl, sym, ap, ◌∙◌, subst, inl, inr, arith, nat_lt, if◌then◌else◌}
 use Rattle.job_tree.specs.Tree.{Tree}
 use Rattle.job_tree.specs.Names.{GivesNamesOnce, size_of}
 use Rattle.job_tree.specs.Starting.{StartsInNurseries}
+use Rattle.std.specs.Str.{bytes_eq}
 use Rattle.exc_groups.specs.Exceptions.{Label, Exc}
-use Rattle.cancel_scopes.specs.Sight.{Tick, earlier, next, sight}
+use Rattle.cancel_scopes.specs.Sight.{Tick, Level, earlier, next, sight}
 use Rattle.job_meaning.specs.Log.{Member, Result, Table, tick_if, same_label, from_by, entered_from, least_sign, deadline_of}
-use Rattle.job_meaning.specs.Moments.{Clock, by_ticks, by_rounds, clock_of, tick_of, a_round_after, wakes_at, Now, only_at}
-use Rattle.job_meaning.specs.Walk.{by_table, latest}
+use Rattle.job_meaning.specs.Moments.{Clock, by_ticks, by_rounds, clock_of, tick_of, a_round_after, far, wakes_at, Now, only_at}
+use Rattle.job_meaning.proofs.MomentLemmas.{round_after}
+use Rattle.job_meaning.specs.Walk.{no_stack, by_table, event_on, level_if, set_moment, latest}
 use Rattle.job_meaning.specs.Before.{upto}
 use Rattle.job_meaning.specs.Meaning.{root_here}
 use Rattle.job_meaning.specs.Follow.{follow, IsSettled}
-use Rattle.job_meaning.specs.Rest.{Event, noted, signs, enters, starts, Stopped, to_begin, asking, asleep, giving_up, awaiting, at_end}
-use Rattle.turn_semantics.specs.Midway.{Place, stack_at, Begun, Move, OwnFits}
+use Rattle.job_meaning.specs.Rest.{Event, noted, signs, enters, starts, Stopped, to_begin, asking, asleep, waiting_for, giving_up, awaiting, at_end}
+use Rattle.turn_semantics.specs.Midway.{Place, level_on, stack_at, Begun, Move, OwnFits}
 use Rattle.turn_semantics.specs.Placed.{IsAmong}
-use Rattle.turn_semantics.specs.Wakes.{Wake, begins, sees, gives_up, is_due, has_answer, settles, SettlesAt, SeesAt, WakesBy}
+use Rattle.turn_semantics.specs.Wakes.{Wake, begins, sees, gives_up, is_due, has_answer, settles, set_at, ends_at, SettlesAt, SeesAt, GoesOnWaiting, WakesBy}
 use Rattle.turn_semantics.specs.Turned.{AllBy, MadeAt, made_sign, StopsAt, TurnsOver}
 use Rattle.interleavings.specs.Interleaving.{Started, made_least, In, Kid, RunInvariant, AllFrom, members_by}
 use Rattle.interleavings.specs.Going.{root_result, children_from, task_after_turn}
@@ -83,6 +85,7 @@ abbrev pub StopBelow : ℕ → ℕ → Stopped → Type 0
 StopBelow n at to_begin = round_of at ≤ n
 StopBelow n at (asking kernel purpose) = round_of at < n
 StopBelow n at (asleep paced ticks since) = (round_of at < n) × (since ≡ at)
+StopBelow n at (waiting_for event since) = (round_of at < n) × (since ≡ at)
 StopBelow n at (giving_up since) = (round_of at < n) × (since ≡ at)
 StopBelow n at (awaiting children ended e) = (round_of at < n) × (ended ≡ at)
 StopBelow n at (at_end u e) = (round_of at < n) × (u ≡ at)
@@ -106,6 +109,7 @@ stop_later : (n at : ℕ) (s : Stopped) → StopBelow n at s → StopBelow (n + 
 stop_later n at to_begin h = omega arith
 stop_later n at (asking kernel purpose) h = omega arith
 stop_later n at (asleep paced ticks since) h = let a : round_of at < n = h.0 in (omega arith, h.1)
+stop_later n at (waiting_for event since) h = let a : round_of at < n = h.0 in (omega arith, h.1)
 stop_later n at (giving_up since) h = let a : round_of at < n = h.0 in (omega arith, h.1)
 stop_later n at (awaiting children ended e) h = let a : round_of at < n = h.0 in (omega arith, h.1)
 stop_later n at (at_end u e) h = let a : round_of at < n = h.0 in (omega arith, h.1)
@@ -133,6 +137,7 @@ stop_made : (n : ℕ) (clock : Clock) (t : ℕ) (f : Table) (ps : List Place) (s
 stop_made n clock t f ps to_begin h k = absurd k
 stop_made n clock t f ps (asking kernel purpose) h k = h
 stop_made n clock t f ps (asleep paced ticks since) h k = (h, k.0)
+stop_made n clock t f ps (waiting_for event since) h k = (h, k)
 stop_made n clock t f ps (giving_up since) h k = (h, k)
 stop_made n clock t f ps (awaiting children ended e) h k = (h, k)
 stop_made n clock t f ps (at_end u e) h k = (h, k)
@@ -209,9 +214,9 @@ next_is (Some u) t e = (u, refl, some_same (u + 1) t e)
     some_same x y e = cc
 
 -- what is seen on a stack from t on is a from of one of its levels
-sight_is : (k : Table) (t : ℕ) (P : Type 0) → ((l : Label) → k l ≡ Some t → P) → (ps : List Place) → sight (stack_at k ps) ≡ Some t → P
+sight_is : (k : Table) (t : ℕ) (P : Type 0) → ((l : Label) → k l ≡ Some t → P) → (ps : List Place) → sight (stack_at k ps).scopes ≡ Some t → P
 sight_is k t P h [] e = absurd (none_is t e)
-sight_is k t P h (p ∷ ps) e = by_shield p.shield e (sight_is k t P h ps)
+sight_is k t P h (p ∷ ps) e = by_kind p.is_event e (sight_is k t P h ps)
   where
     of_two : (a b : Tick) → (a ≡ Some t → P) → (b ≡ Some t → P) → earlier a b ≡ Some t → P
     of_two None b i j g = j g
@@ -222,17 +227,37 @@ sight_is k t P h (p ∷ ps) e = by_shield p.shield e (sight_is k t P h ps)
         by_order true g = j g
         by_order false g = i g
 
-    by_shield : (b : Bool) → (if b then k p.label else earlier (k p.label) (sight (stack_at k ps))) ≡ Some t →
-        (sight (stack_at k ps) ≡ Some t → P) → P
+    by_shield : (b : Bool) → (if b then k p.label else earlier (k p.label) (sight (stack_at k ps).scopes)) ≡ Some t →
+        (sight (stack_at k ps).scopes ≡ Some t → P) → P
     by_shield true g more = h p.label g
-    by_shield false g more = of_two (k p.label) (sight (stack_at k ps)) (h p.label) more g
+    by_shield false g more = of_two (k p.label) (sight (stack_at k ps).scopes) (h p.label) more g
+
+    by_kind : (b : Bool) → sight (level_on b (record { label = p.label; shield = p.shield; from = k p.label }) (stack_at k ps)).scopes ≡ Some t →
+        (sight (stack_at k ps).scopes ≡ Some t → P) → P
+    by_kind true g more = more g
+    by_kind false g more = by_shield p.shield g more
+
+-- an event on a stack is set from the from of its label on
+event_is : (k : Table) (name : List ℕ) (Q : Option (Level Label) → Type 0) → Q None → ((l : Level Label) → l.from ≡ k l.label → Q (Some l)) →
+    (ps : List Place) → Q (event_on name (stack_at k ps).events)
+event_is k name Q none some [] = none
+event_is k name Q none some (p ∷ ps) = by_kind p.is_event (bytes_eq name p.label.name) refl (event_is k name Q none some ps)
+  where
+    level : Level Label
+    level = record { label = p.label; shield = p.shield; from = k p.label }
+
+    by_kind : (a b : Bool) → bytes_eq name p.label.name ≡ b → Q (event_on name (stack_at k ps).events) →
+        Q (event_on name (level_on a level (stack_at k ps)).events)
+    by_kind false b e more = more
+    by_kind true true e more = subst (λ (x : Bool). Q (level_if x level (event_on name (stack_at k ps).events))) (sym e) (some level refl)
+    by_kind true false e more = subst (λ (x : Bool). Q (level_if x level (event_on name (stack_at k ps).events))) (sym e) more
 
 -- ---- a turn
 
 -- the deadlines of following a table
 follow_on : (k : Table) (job : Tree) (input : List ℕ) → clock_of job.format ≡ by_rounds → EachOnTick (follow k job input).log
 unfolding follow
-follow_on k job input c = each_walked (by_table k) job.steps (root_here job input) c [] (only_at 0)
+follow_on k job input c = each_walked (by_table k) job.steps (root_here job input) c no_stack (only_at 0)
 
 module _ (k f : Table) (job : Tree) (input : List ℕ) (settled : IsSettled k job input) (on : EachOnTick (follow k job input).log)
     (qs : List Started) (o : RunInvariant k f (root_result k job input) qs) (t : ℕ) (from : AllFrom k qs t)
@@ -283,12 +308,15 @@ module _ (k f : Table) (job : Tree) (input : List ℕ) (settled : IsSettled k jo
         let c : round_of (latest ended ms + 1) ≤ round_of (latest ended ms) + 1 = round_later (latest ended ms) in
         subst (λ (z : ℕ). round_of z ≤ n) a (omega arith)
 
-    seen_below : (since : ℕ) → round_of since < n → SeesAt q.here.clock since t (stack_at k q.places) → round_of t ≤ n
-    seen_below since h (inl e) = sight_is k t (round_of t ≤ n) from_below q.places e
-    seen_below since h (inr e) =
-        let a : since + 1 ≡ t = sym (ap (λ (c : Clock). a_round_after c since) by) ∙ e.0 in
+    next_below : (since : ℕ) → round_of since < n → a_round_after q.here.clock since ≡ t → round_of t ≤ n
+    next_below since h e =
+        let a : since + 1 ≡ t = sym (ap (λ (c : Clock). a_round_after c since) by) ∙ e in
         let b : round_of (since + 1) ≤ round_of since + 1 = round_later since in
         subst (λ (z : ℕ). round_of z ≤ n) a (omega arith)
+
+    seen_below : (since : ℕ) → round_of since < n → SeesAt q.here.clock since t (stack_at k q.places) → round_of t ≤ n
+    seen_below since h (inl e) = sight_is k t (round_of t ≤ n) from_below q.places e
+    seen_below since h (inr e) = next_below since h e.0
 
     due_below : (ticks since : ℕ) → round_of since < n → wakes_at q.here.clock ticks since ≡ t → round_of t ≤ n
     due_below ticks since h e =
@@ -297,36 +325,69 @@ module _ (k f : Table) (job : Tree) (input : List ℕ) (settled : IsSettled k jo
     stopped_in : (since : ℕ) → round_of q.stop.at < n → since ≡ q.stop.at → round_of since < n
     stopped_in since h e = subst (λ (z : ℕ). round_of z < n) (sym e) h
 
+    -- a wait for an event is over a round after it began, when the event is set, or when no wait lasts longer
+    moment_below : (set : Tick) (since : ℕ) → round_of since < n → (set ≡ Some t → round_of t ≤ n) → set_moment q.here.clock set since ≡ t → round_of t ≤ n
+    moment_below None since h from e = due_below (far - tick_of q.here.clock since) since h e
+    moment_below (Some u) since h from e = by_order (split u (wakes_at q.here.clock (far - tick_of q.here.clock since) since))
+      where
+        split : (a b : ℕ) → (min a b ≡ a) ⊎ (min a b ≡ b)
+        split a b = grind arith
+
+        by_order : (min u (wakes_at q.here.clock (far - tick_of q.here.clock since) since) ≡ u)
+            ⊎ (min u (wakes_at q.here.clock (far - tick_of q.here.clock since) since) ≡ wakes_at q.here.clock (far - tick_of q.here.clock since) since) →
+            round_of t ≤ n
+        by_order (inl g) = from (ap (λ (z : ℕ). Some z) (sym g ∙ e))
+        by_order (inr g) = due_below (far - tick_of q.here.clock since) since h (sym g ∙ e)
+
+    set_below : (event : List ℕ) (since : ℕ) → round_of since < n →
+        GoesOnWaiting q.here.clock (ends_at q.here.clock k event since q.places) since t (stack_at k q.places) → round_of t ≤ n
+    set_below event since h (inl e) = next_below since h e.1
+    set_below event since h (inr e) =
+        event_is k event (λ (x : Option (Level Label)). a_round_after q.here.clock since < set_at q.here.clock x since → set_at q.here.clock x since ≡ t →
+        round_of t ≤ n) none some q.places e.0 e.1
+      where
+        none : a_round_after q.here.clock since < since → since ≡ t → round_of t ≤ n
+        none lt g = let a : since ≤ a_round_after q.here.clock since = round_after q.here.clock since in absurd (omega arith)
+
+        some : (l : Level Label) → l.from ≡ k l.label → a_round_after q.here.clock since < set_moment q.here.clock l.from since →
+            set_moment q.here.clock l.from since ≡ t → round_of t ≤ n
+        some l same lt g = moment_below l.from since h (λ x. from_below l.label (sym same ∙ x)) g
+
     by_stop : (own : List Label) (wake : Wake) (s : Stopped) → StopBelow n q.stop.at s →
         WakesBy k q.told q.here q.stop (record { at = t; own = own }) wake s q.places →
         MayWake f qs (record { at = t; own = own }) q wake s → round_of t ≤ n
     by_stop own begins to_begin b w h = subst (λ (v : Now). round_of v.at ≤ n) h b
     by_stop own begins (asking kernel purpose) b w h = absurd h
     by_stop own begins (asleep paced ticks since) b w h = absurd h
+    by_stop own begins (waiting_for event since) b w h = absurd h
     by_stop own begins (giving_up since) b w h = absurd h
     by_stop own begins (awaiting children ended e) b w h = absurd h
     by_stop own begins (at_end u e) b w h = absurd h
     by_stop own (has_answer a) to_begin b w h = absurd h
     by_stop own (has_answer a) (asking kernel purpose) b w h = subst (λ (v : Now). round_of v.at ≤ n) h.0 (omega arith)
     by_stop own (has_answer a) (asleep paced ticks since) b w h = absurd h
+    by_stop own (has_answer a) (waiting_for event since) b w h = absurd h
     by_stop own (has_answer a) (giving_up since) b w h = absurd h
     by_stop own (has_answer a) (awaiting children ended e) b w h = absurd h
     by_stop own (has_answer a) (at_end u e) b w h = absurd h
     by_stop own is_due to_begin b w h = absurd h
     by_stop own is_due (asking kernel purpose) b w h = absurd h
     by_stop own is_due (asleep paced ticks since) b w h = due_below ticks since (stopped_in since b.0 b.1) h.0
+    by_stop own is_due (waiting_for event since) b w h = set_below event since (stopped_in since b.0 b.1) w.0
     by_stop own is_due (giving_up since) b w h = absurd h
     by_stop own is_due (awaiting children ended e) b w h = absurd h
     by_stop own is_due (at_end u e) b w h = absurd h
     by_stop own sees to_begin b w h = absurd h
     by_stop own sees (asking kernel purpose) b w h = absurd h
     by_stop own sees (asleep paced ticks since) b w h = seen_below since (stopped_in since b.0 b.1) w.2
+    by_stop own sees (waiting_for event since) b w h = seen_below since (stopped_in since b.0 b.1) w.0.1
     by_stop own sees (giving_up since) b w h = absurd h
     by_stop own sees (awaiting children ended e) b w h = absurd h
     by_stop own sees (at_end u e) b w h = absurd h
     by_stop own gives_up to_begin b w h = absurd h
     by_stop own gives_up (asking kernel purpose) b w h = absurd h
     by_stop own gives_up (asleep paced ticks since) b w h = absurd h
+    by_stop own gives_up (waiting_for event since) b w h = absurd h
     by_stop own gives_up (giving_up since) b w h =
         let a : round_of since < n = stopped_in since b.0 b.1 in
         let c : round_of (since + 1) ≤ round_of since + 1 = round_later since in
@@ -337,6 +398,7 @@ module _ (k f : Table) (job : Tree) (input : List ℕ) (settled : IsSettled k jo
     by_stop own (settles x) to_begin b w h = absurd h
     by_stop own (settles x) (asking kernel purpose) b w h = absurd h
     by_stop own (settles x) (asleep paced ticks since) b w h = absurd h
+    by_stop own (settles x) (waiting_for event since) b w h = absurd h
     by_stop own (settles x) (giving_up since) b w h = absurd h
     by_stop own (settles x) (awaiting children ended e) b w h =
         let over : WaitIsOver qs q t children ended e x = h.0 in
@@ -445,6 +507,7 @@ stop_within : (n at : ℕ) (s : Stopped) → StopBelow n at s → round_of at �
 stop_within n at to_begin h = h
 stop_within n at (asking kernel purpose) h = omega arith
 stop_within n at (asleep paced ticks since) h = let a : round_of at < n = h.0 in omega arith
+stop_within n at (waiting_for event since) h = let a : round_of at < n = h.0 in omega arith
 stop_within n at (giving_up since) h = let a : round_of at < n = h.0 in omega arith
 stop_within n at (awaiting children ended e) h = let a : round_of at < n = h.0 in omega arith
 stop_within n at (at_end u e) h = let a : round_of at < n = h.0 in omega arith

@@ -5,10 +5,10 @@ use Rattle.job_tree.specs.Names.{GivesNamesOnce, size_of}
 use Rattle.job_tree.specs.Starting.{StartsInNurseries}
 use Rattle.job_meaning.specs.Log.{Result, Table}
 use Rattle.job_meaning.specs.Moments.{Clock, by_ticks, by_rounds, clock_of, tick_of, a_round_after, Now, only_at}
-use Rattle.job_meaning.specs.Walk.{by_table}
+use Rattle.job_meaning.specs.Walk.{no_stack, by_table}
 use Rattle.job_meaning.specs.Meaning.{root_here, records_of, root_log, all_entered, froms_by, meaning, meaning_table}
 use Rattle.job_meaning.specs.Follow.{follow, IsSettled}
-use Rattle.job_meaning.specs.Rest.{ChildOutcomes, Stopped, to_begin, asking, asleep, giving_up, awaiting, at_end, rest_weight, rest_at_start}
+use Rattle.job_meaning.specs.Rest.{ChildOutcomes, Stopped, to_begin, asking, asleep, waiting_for, giving_up, awaiting, at_end, rest_weight, rest_at_start}
 use Rattle.job_meaning.proofs.Settled.{following_is_meaning, table_is_settled}
 use Rattle.turn_semantics.specs.Midway.{Begun, Move, OwnFits}
 use Rattle.turn_semantics.specs.Steps.{froms_after}
@@ -62,36 +62,42 @@ woken_fit : (f : Table) (qs : List Started) (now : Now) (q : Started) (wake : Wa
 woken_fit f qs now q begins to_begin fits h = subst (λ (v : Now). OwnFits q.here.clock v.own) h fits
 woken_fit f qs now q begins (asking kernel purpose) fits h = absurd h
 woken_fit f qs now q begins (asleep paced n since) fits h = absurd h
+woken_fit f qs now q begins (waiting_for event since) fits h = absurd h
 woken_fit f qs now q begins (giving_up since) fits h = absurd h
 woken_fit f qs now q begins (awaiting children ended e) fits h = absurd h
 woken_fit f qs now q begins (at_end u e) fits h = absurd h
 woken_fit f qs now q (has_answer a) to_begin fits h = absurd h
 woken_fit f qs now q (has_answer a) (asking kernel purpose) fits h = subst (λ (v : Now). OwnFits q.here.clock v.own) h.0 fits
 woken_fit f qs now q (has_answer a) (asleep paced n since) fits h = absurd h
+woken_fit f qs now q (has_answer a) (waiting_for event since) fits h = absurd h
 woken_fit f qs now q (has_answer a) (giving_up since) fits h = absurd h
 woken_fit f qs now q (has_answer a) (awaiting children ended e) fits h = absurd h
 woken_fit f qs now q (has_answer a) (at_end u e) fits h = absurd h
 woken_fit f qs now q is_due to_begin fits h = absurd h
 woken_fit f qs now q is_due (asking kernel purpose) fits h = absurd h
 woken_fit f qs now q is_due (asleep paced n since) fits h = none_fits q.here.clock now.own h.2
+woken_fit f qs now q is_due (waiting_for event since) fits h = none_fits q.here.clock now.own h.1
 woken_fit f qs now q is_due (giving_up since) fits h = absurd h
 woken_fit f qs now q is_due (awaiting children ended e) fits h = absurd h
 woken_fit f qs now q is_due (at_end u e) fits h = absurd h
 woken_fit f qs now q sees to_begin fits h = absurd h
 woken_fit f qs now q sees (asking kernel purpose) fits h = absurd h
 woken_fit f qs now q sees (asleep paced n since) fits h = none_fits q.here.clock now.own h.2
+woken_fit f qs now q sees (waiting_for event since) fits h = none_fits q.here.clock now.own h.2
 woken_fit f qs now q sees (giving_up since) fits h = absurd h
 woken_fit f qs now q sees (awaiting children ended e) fits h = absurd h
 woken_fit f qs now q sees (at_end u e) fits h = absurd h
 woken_fit f qs now q gives_up to_begin fits h = absurd h
 woken_fit f qs now q gives_up (asking kernel purpose) fits h = absurd h
 woken_fit f qs now q gives_up (asleep paced n since) fits h = absurd h
+woken_fit f qs now q gives_up (waiting_for event since) fits h = absurd h
 woken_fit f qs now q gives_up (giving_up since) fits h = none_fits q.here.clock now.own h.1
 woken_fit f qs now q gives_up (awaiting children ended e) fits h = absurd h
 woken_fit f qs now q gives_up (at_end u e) fits h = absurd h
 woken_fit f qs now q (settles x) to_begin fits h = absurd h
 woken_fit f qs now q (settles x) (asking kernel purpose) fits h = absurd h
 woken_fit f qs now q (settles x) (asleep paced n since) fits h = absurd h
+woken_fit f qs now q (settles x) (waiting_for event since) fits h = absurd h
 woken_fit f qs now q (settles x) (giving_up since) fits h = absurd h
 woken_fit f qs now q (settles x) (awaiting children ended e) fits h = none_fits q.here.clock now.own h.1
 woken_fit f qs now q (settles x) (at_end u e) fits h = absurd h
@@ -188,7 +194,7 @@ tick_later by_rounds t u le = omega arith
 -- all that following a table starts ends by its end
 ends_whole : (k : Table) (job : Tree) (input : List ℕ) → StartsInNurseries job → Inside (follow k job input).end (follow k job input).log
 unfolding follow
-ends_whole k job input p = ends_by_root (by_table k) job.steps (root_here job input) [] (only_at 0) p
+ends_whole k job input p = ends_by_root (by_table k) job.steps (root_here job input) no_stack (only_at 0) p
 
 -- ---- the laws
 

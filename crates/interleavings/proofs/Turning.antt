@@ -5,13 +5,13 @@ use Rattle.std.proofs.lemmas.Bool.{cases_lt, le-ltb, lt-ltb}
 use Rattle.exc_groups.specs.Exceptions.{Label}
 use Rattle.cancel_scopes.specs.Sight.{Tick}
 use Rattle.job_meaning.specs.Log.{Log, Result, least_sign, from_by, times_entered, Table, followed_by}
-use Rattle.job_meaning.specs.Moments.{a_round_after, wakes_at, Now}
-use Rattle.job_meaning.specs.Walk.{latest}
+use Rattle.job_meaning.specs.Moments.{a_round_after, wakes_at, Now, only_at}
+use Rattle.job_meaning.specs.Walk.{event_on, latest}
 use Rattle.job_meaning.specs.Before.{upto}
-use Rattle.job_meaning.specs.Rest.{Event, ChildOutcomes, fill, told_members, Stopped, to_begin, asking, asleep, giving_up, awaiting, at_end, noted, signs, enters, starts}
+use Rattle.job_meaning.specs.Rest.{Event, ChildOutcomes, fill, told_members, Stopped, to_begin, asking, asleep, waiting_for, giving_up, awaiting, at_end, noted, signs, enters, starts}
 use Rattle.job_meaning.proofs.MomentLemmas.{round_after, wakes_after}
 use Rattle.job_meaning.proofs.Clips.{upto_most}
-use Rattle.job_meaning.proofs.Late.{latest_ends}
+use Rattle.job_meaning.proofs.Late.{late_awaiting, latest_ends}
 use Rattle.turn_semantics.specs.Midway.{Place, stack_at, Begun, Move, begun_comes_to}
 use Rattle.turn_semantics.specs.Steps.{froms_after}
 use Rattle.turn_semantics.specs.Placed.{PlacedStop}
@@ -594,6 +594,11 @@ module _ (k f : Table) (whole : Result) (q : Started) (ys : List Started) (inter
       let x : a_round_after q.here.clock since ≤ (slept q.here.clock paced (stack_at k o.places) n since).end =
       slept_after q.here.clock paced (stack_at k o.places) n since in
       let y : a_round_after q.here.clock since ≤ wakes_at q.here.clock n since = wakes_after q.here.clock n since in
+      omega arith
+  from_stop (waiting_for event since) c =
+      let e : since ≡ now.at = c in
+      let x = (late_awaiting q.here.clock (stack_at k o.places) (event_on event (stack_at k o.places).events) (only_at since)).ends in
+      let y : since ≤ a_round_after q.here.clock since = round_after q.here.clock since in
       omega arith
   from_stop (giving_up since) c = let e : since ≡ now.at = c in omega arith
   from_stop (awaiting children ended exc) c =

@@ -1,14 +1,15 @@
 -- An interleaving that agrees with a table: what is kept of each started task, and what holds of all of them together.
-use Rattle.std.specs.Prelude.{◌≡◌, ℕ, suc, ◌+◌, ◌<◌, ◌≤◌, min, Bool, true, false, List, [], ◌∷◌, ◌⊎◌, if◌then◌else◌}
+use Rattle.std.specs.Prelude.{◌≡◌, ℕ, suc, ◌+◌, ◌<◌, ◌≤◌, min, max, Bool, true, false, List, [], ◌∷◌, ◌⊎◌, if◌then◌else◌}
 use Rattle.exc_groups.specs.Exceptions.{Label}
 use Rattle.cancel_scopes.specs.Sight.{Tick, sight}
 use Rattle.job_meaning.specs.Log.{Log, nil, entry, sign, entered, task, Member, Result, same_label, least_sign, from_by, times_entered, Table}
-use Rattle.job_meaning.specs.Moments.{Clock, a_round_after, wakes_at, Now}
-use Rattle.job_meaning.specs.Walk.{Stack, Here, by_table, sleep_result, pace_result, latest}
+use Rattle.job_meaning.specs.Moments.{Clock, a_round_after, wakes_at, Now, only_at}
+use Rattle.job_meaning.specs.Walk.{Stack, Here, by_table, sleep_result, pace_result, event_on, event_wait, latest}
 use Rattle.job_meaning.specs.Before.{upto}
-use Rattle.job_meaning.specs.Rest.{Event, noted, signs, enters, starts, ChildOutcomes, told_members, Stopped, to_begin, asking, asleep, giving_up, awaiting, at_end, Rest, rest_comes_to, task_comes_to}
+use Rattle.job_meaning.specs.Rest.{Event, noted, signs, enters, starts, ChildOutcomes, told_members, Stopped, to_begin, asking, asleep, waiting_for, giving_up, awaiting, at_end, Rest, rest_comes_to, task_comes_to}
 use Rattle.turn_semantics.specs.Midway.{Place, stack_at}
 use Rattle.turn_semantics.specs.Placed.{PlacedStop, IsAmong}
+use Rattle.turn_semantics.specs.Wakes.{set_at, ends_at}
 use Rattle.turn_semantics.specs.Turned.{made_sign}
 
 -- ---- one started task
@@ -173,6 +174,7 @@ abbrev pub live : Stopped → Bool
 live to_begin = true
 live (asking kernel purpose) = true
 live (asleep paced n since) = true
+live (waiting_for event since) = true
 live (giving_up since) = true
 live (awaiting children ended exc) = true
 live (at_end u e) = false
@@ -187,6 +189,8 @@ abbrev pub goes_on : Clock → ChildOutcomes → Stopped → Stack → ℕ → �
 goes_on clock told to_begin st t = t
 goes_on clock told (asking kernel purpose) st t = t
 goes_on clock told (asleep paced n since) st t = min (slept clock paced st n since).end (wakes_at clock n since)
+goes_on clock told (waiting_for event since) st t =
+    min (event_wait clock st (event_on event st.events) (only_at since)).end (max (a_round_after clock since) (set_at clock (event_on event st.events) since))
 goes_on clock told (giving_up since) st t = suc since
 goes_on clock told (awaiting children ended exc) st t = a_round_after clock (latest ended (told_members told children))
 goes_on clock told (at_end u e) st t = u
@@ -219,14 +223,17 @@ pub record Settling (qs : List Started) (q : Started) (children : List ℕ) (end
       c.rest.stopped ≡ at_end (ends i).end (ends i).exc
   pub later : u ≤ a_round_after q.here.clock (latest ended (members_by ends children))
 
--- A task has its next turn in moment u or later: it begins then; it is due then, and sees no cancellation before, or its sleep
--- has not taken a round by then; or a child has not ended for which it waits.
+-- A task has its next turn in moment u or later: it begins then; it is due then, or its event is set then, and it sees no
+-- cancellation before, or its wait has not taken a round by then; or a child has not ended for which it waits.
 abbrev pub StaysUntil : Table → List Started → ℕ → Started → Stopped → Type 0
 StaysUntil f qs u q to_begin = u ≤ q.stop.at
 StaysUntil f qs u q (asking kernel purpose) = u ≤ q.stop.at
 StaysUntil f qs u q (asleep paced n since) =
     (u ≤ wakes_at q.here.clock n since)
-    × ((upto u (sight (stack_at f q.places)) ≡ u) ⊎ (u ≤ a_round_after q.here.clock since))
+    × ((upto u (sight (stack_at f q.places).scopes) ≡ u) ⊎ (u ≤ a_round_after q.here.clock since))
+StaysUntil f qs u q (waiting_for event since) =
+    (u ≤ max (a_round_after q.here.clock since) (ends_at q.here.clock f event since q.places))
+    × ((upto u (sight (stack_at f q.places).scopes) ≡ u) ⊎ (u ≤ a_round_after q.here.clock since))
 StaysUntil f qs u q (giving_up since) = u ≤ suc since
 StaysUntil f qs u q (awaiting children ended exc) = Unended qs q children ⊎ Settling qs q children ended u
 StaysUntil f qs u q (at_end t e) = Unit {0}

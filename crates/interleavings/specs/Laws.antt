@@ -8,7 +8,7 @@ use Rattle.job_meaning.specs.Log.{Table}
 use Rattle.job_meaning.specs.Moments.{by_rounds, clock_of, rounds_in_a_tick, tick_of, a_round_after}
 use Rattle.job_meaning.specs.Meaning.{root_label, meaning_records, meaning_froms, meaning_end, meaning_table}
 use Rattle.job_meaning.specs.Follow.{IsSettled}
-use Rattle.job_meaning.specs.Rest.{Stopped, to_begin, asking, asleep, giving_up, awaiting, at_end}
+use Rattle.job_meaning.specs.Rest.{Stopped, to_begin, asking, asleep, waiting_for, giving_up, awaiting, at_end}
 use Rattle.turn_semantics.specs.Midway.{Place}
 use Rattle.turn_semantics.specs.Placed.{PlacedStop, home_after, KidsAfter, HasChildAfter}
 use Rattle.turn_semantics.specs.Turned.{AgreesOn, Known, labels_of, EntersIn}
@@ -103,6 +103,7 @@ abbrev pub HasNextTurn : List Started → Started → Stopped → Type 0
 HasNextTurn qs q to_begin = Unit {0}
 HasNextTurn qs q (asking kernel purpose) = Unit {0}
 HasNextTurn qs q (asleep paced n since) = Unit {0}
+HasNextTurn qs q (waiting_for event since) = Unit {0}
 HasNextTurn qs q (giving_up since) = Unit {0}
 HasNextTurn qs q (awaiting children ended exc) = Settling qs q children ended 0
 HasNextTurn qs q (at_end u e) = ⊥

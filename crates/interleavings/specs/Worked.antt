@@ -8,7 +8,7 @@ use Rattle.job_meaning.specs.Log.{Table}
 use Rattle.job_meaning.specs.Moments.{by_ticks, only_at}
 use Rattle.job_meaning.specs.Walk.{Here}
 use Rattle.job_meaning.specs.Meaning.{Record, root_here}
-use Rattle.job_meaning.specs.Rest.{Event, Rest, rest_at_start, Stopped, to_begin, asking, asleep, giving_up, awaiting, at_end}
+use Rattle.job_meaning.specs.Rest.{Event, Rest, rest_at_start, Stopped, to_begin, asking, asleep, waiting_for, giving_up, awaiting, at_end}
 use Rattle.job_meaning.specs.Examples.{block_of, job_of, scope_of, shielded_scope, nursery_of, start_of, label_named, raised_by, group_by, scope_caught, scope_passed, nursery_passed, record_of, main_ran, run_of}
 use Rattle.turn_semantics.specs.Midway.{Place, Begun, Move}
 use Rattle.turn_semantics.specs.Steps.{step_of, turn_of, froms_after}
@@ -79,6 +79,7 @@ abbrev pub end_kept : Stopped → ℕ
 end_kept to_begin = 0
 end_kept (asking kernel purpose) = 0
 end_kept (asleep paced n since) = 0
+end_kept (waiting_for event since) = 0
 end_kept (giving_up since) = 0
 end_kept (awaiting children ended exc) = 0
 end_kept (at_end u e) = u
@@ -87,6 +88,7 @@ abbrev pub exc_kept : Stopped → Option Exc
 exc_kept to_begin = None
 exc_kept (asking kernel purpose) = None
 exc_kept (asleep paced n since) = None
+exc_kept (waiting_for event since) = None
 exc_kept (giving_up since) = None
 exc_kept (awaiting children ended exc) = None
 exc_kept (at_end u e) = e

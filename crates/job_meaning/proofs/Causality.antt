@@ -1,19 +1,19 @@
 -- A cancellation from tick c on changes nothing before tick c.
-use Rattle.std.proofs.Common.{◌≡◌, ℕ, zero, suc, ◌<◌, ◌≤◌, min, Bool, true, false, ◌&&◌, ◌||◌, not, Option, Some, None, List, [], ◌∷◌, refl, ap, sym, ◌∙◌, subst, ◌⊎◌, inl, inr, arith, nat_le, nat_lt, if◌then◌else◌}
+use Rattle.std.proofs.Common.{◌≡◌, ℕ, zero, suc, ◌<◌, ◌≤◌, ◌-◌, min, max, Bool, true, false, ◌&&◌, ◌||◌, not, Option, Some, None, List, [], ◌∷◌, refl, ap, sym, ◌∙◌, subst, ◌⊎◌, inl, inr, arith, nat_le, nat_lt, if◌then◌else◌}
 use Rattle.std.proofs.lemmas.Bool.{true≢false, le-ltb, cases_lt}
 use Rattle.std.proofs.lemmas.Bool.Decides.{nat_tests}
-use Rattle.job_tree.specs.Tree.{Step, sleep, checkpoint, forever, pace, find, head, longest, need, raise, cancel, scope, nursery, start, repeat, attempt, Steps, stop, step, Handled, unhandled, except, Cleaned, uncleaned, finally}
+use Rattle.job_tree.specs.Tree.{Step, sleep, checkpoint, forever, pace, find, head, longest, need, raise, cancel, set_event, wait_for, scope, nursery, event, start, repeat, attempt, Steps, stop, step, Handled, unhandled, except, Cleaned, uncleaned, finally}
 use Rattle.exc_groups.specs.Exceptions.{Label, Exc, cancelled, by_nursery, group_of, parts_of}
 use Rattle.exc_groups.specs.Split.{Wanted, keep, drop}
-use Rattle.cancel_scopes.specs.Sight.{Tick, earlier, sight, seen, is_reached, catches}
-use Rattle.job_meaning.specs.Log.{Log, nil, entry, entered, followed_by, Member, Result}
-use Rattle.job_meaning.specs.Moments.{Clock, tick_of, a_round_after, wakes_at, gives_up_at, Now, only_at}
+use Rattle.cancel_scopes.specs.Sight.{Tick, Level, earlier, sight, seen, is_reached, catches}
+use Rattle.job_meaning.specs.Log.{Log, nil, entry, waited, entered, followed_by, Member, Result}
+use Rattle.job_meaning.specs.Moments.{Clock, tick_of, a_round_after, wakes_at, gives_up_at, far, Now, only_at}
 use Rattle.job_meaning.proofs.MomentLemmas.{round_after, wakes_after, gives_up_after}
-use Rattle.job_meaning.specs.Walk.{Stack, Mode, two_walks, by_table, Here, walk, walk_step, walk_handler, walk_cleanup, done_at, raised_at, now_of, in_sequence, and_then, then_if, wait_by_sight, sleep_result, pace_result, cancel_result, is_among, from_for, stack_for, label_on, Kind, from_of, block, exit_with_from, left_with, left_as, exc_after, stack_inside, with_sign, sign_if, home_of, latest, with_exc, excs_of, nursery_result, child, each, passes, handler_result, handler_for, handler_if_any, handler_exc, with_outcome, outcome_after, cleanup_result}
-use Rattle.job_meaning.specs.Before.{upto, Near, Agree, soon, later, known_members, log_before, exc_if, entered_if, task_if}
+use Rattle.job_meaning.specs.Walk.{Levels, Stack, Mode, two_walks, by_table, Here, walk, walk_step, walk_handler, walk_cleanup, done_at, raised_at, now_of, in_sequence, and_then, then_if, wait_by_sight, sleep_result, pace_result, wait_until, set_moment, wait_by, with_line_if, with_line, event_wait, cancel_result, set_result, is_among, from_for, stack_for, label_on, Kind, from_of, block, event_block, event_result, exit_with_from, left_with, left_as, exc_after, stack_inside, stack_in_event, with_sign, sign_if, home_of, latest, with_exc, excs_of, nursery_result, child, each, passes, handler_result, handler_for, handler_if_any, handler_exc, with_outcome, outcome_after, cleanup_result}
+use Rattle.job_meaning.specs.Before.{upto, NearLevels, Near, Agree, soon, later, known_members, log_before, exc_if, entered_if, task_if}
 use Rattle.job_meaning.specs.Laws.{NothingBeforeItsCause}
-use Rattle.job_meaning.proofs.Late.{Timed, Late, late, late_signed, late_gathered, latest_ends, child_ends, each_ends, late_passes}
-use Rattle.job_meaning.proofs.Clips.{upto_earlier_same, sight_near, seen_near, reached_near, label_near, home_near, both_clipped, clipped_tail, least_near, from_near, both_known, latest_known, all_known}
+use Rattle.job_meaning.proofs.Late.{Timed, Late, late, late_waited, late_until, late_signed, late_gathered, latest_ends, child_ends, each_ends, late_passes}
+use Rattle.job_meaning.proofs.Clips.{upto_earlier_same, sight_near, seen_near, reached_near, label_near, NearEvents, event_near, home_near, both_clipped, clipped_late, clipped_tail, least_near, from_near, both_known, latest_known, all_known}
 
 -- a walk agrees with itself
 pub agree_same : (c : ℕ) (r : Result) → Agree c r r
@@ -137,23 +137,177 @@ pub agree_sleeping : (c : ℕ) (clock : Clock) (st su : Stack) (n t : ℕ) → N
 unfolding sleep_result
 agree_sleeping c clock st su n t near =
     agree_waited c (a_round_after clock t) (gives_up_at clock n t) (wakes_at clock n t) (gives_up_after clock n t) (wakes_after clock n t)
-    (sight st) (sight su) (sight_near c st su near)
+    (sight st.scopes) (sight su.scopes) (sight_near c st.scopes su.scopes near.0)
 
 pub agree_pacing : (c : ℕ) (clock : Clock) (st su : Stack) (n t : ℕ) → Near c st su → Agree c (pace_result clock st n t) (pace_result clock su n t)
 unfolding pace_result
 agree_pacing c clock st su n t near =
     agree_waited c (a_round_after clock t) (a_round_after clock t) (wakes_at clock n t) (omega arith) (wakes_after clock n t)
-    (sight st) (sight su) (sight_near c st su near)
+    (sight st.scopes) (sight su.scopes) (sight_near c st.scopes su.scopes near.0)
+
+-- of near events, the moments in which a wait for them ends are the same when cut at c
+pub set_near : (c : ℕ) (clock : Clock) (f g : Tick) (m : ℕ) → upto c f ≡ upto c g → min c (set_moment clock f m) ≡ min c (set_moment clock g m)
+set_near c clock None None m e = refl
+set_near c clock None (Some y) m e = no_earlier y (wakes_at clock (far - tick_of clock m) m) e
+  where
+    no_earlier : (u last : ℕ) → c ≡ min c u → min c last ≡ min c (min u last)
+    no_earlier u last h = omega arith
+set_near c clock (Some x) None m e = no_earlier x (wakes_at clock (far - tick_of clock m) m) e
+  where
+    no_earlier : (u last : ℕ) → min c u ≡ c → min c (min u last) ≡ min c last
+    no_earlier u last h = omega arith
+set_near c clock (Some x) (Some y) m e = same_cut x y (wakes_at clock (far - tick_of clock m) m) e
+  where
+    same_cut : (u v last : ℕ) → min c u ≡ min c v → min c (min u last) ≡ min c (min v last)
+    same_cut u v last h = omega arith
+
+-- a wait notes nothing
+quiet_waited : (a : Tick) (least gives_up end : ℕ) → (wait_by_sight a least gives_up end).log ≡ nil
+quiet_waited None least gives_up end = refl
+quiet_waited (Some from) least gives_up end = by_now (nat_le from least) (nat_le from end)
+  where
+    by_now : (now due : Bool) →
+        (let r : Result = if now then raised_at cancelled (only_at gives_up) else (if due then raised_at cancelled (only_at from) else done_at (only_at end)) in
+        r.log) ≡ nil
+    by_now true due = refl
+    by_now false true = refl
+    by_now false false = refl
+
+quiet_until : (a : Tick) (least end : ℕ) → (wait_until a least end).log ≡ nil
+quiet_until None least end = refl
+quiet_until (Some from) least end = by_order (nat_lt from end)
+  where
+    by_order : (b : Bool) → (let r : Result = if b then raised_at cancelled (only_at (max least from)) else done_at (only_at end) in r.log) ≡ nil
+    by_order true = refl
+    by_order false = refl
+
+-- ends that are the same when cut at c
+agree_done : (c u v : ℕ) → min c u ≡ min c v → Agree c (done_at (only_at u)) (done_at (only_at v))
+agree_done c u v e = by_order (cases_lt u c)
+  where
+    by_order : (u < c) ⊎ (c ≤ u) → Agree c (done_at (only_at u)) (done_at (only_at v))
+    by_order (inl lt) = soon lt (omega arith) refl refl refl refl
+    by_order (inr le) = later le (omega arith) refl
+
+agree_raised : (c u v : ℕ) → min c u ≡ min c v → Agree c (raised_at cancelled (only_at u)) (raised_at cancelled (only_at v))
+agree_raised c u v e = by_order (cases_lt u c)
+  where
+    by_order : (u < c) ⊎ (c ≤ u) → Agree c (raised_at cancelled (only_at u)) (raised_at cancelled (only_at v))
+    by_order (inl lt) = soon lt (omega arith) refl refl refl refl
+    by_order (inr le) = later le (omega arith) refl
+
+-- waits agree before c by what they see and by their ends, when these are the same cut at c
+agree_until : (c least : ℕ) (a b : Tick) (s u : ℕ) → upto c a ≡ upto c b → min c s ≡ min c u → Agree c (wait_until a least s) (wait_until b least u)
+agree_until c least None None s u e h = agree_done c s u h
+agree_until c least None (Some y) s u e h = by_order (nat_lt y u) refl
+  where
+    by_order : (b : Bool) → nat_lt y u ≡ b → Agree c (done_at (only_at s)) (if b then raised_at cancelled (only_at (max least y)) else done_at (only_at u))
+    by_order true i = later (grind (arith, nat_tests)) (omega arith) refl
+    by_order false i = agree_done c s u h
+agree_until c least (Some x) None s u e h = by_order (nat_lt x s) refl
+  where
+    by_order : (b : Bool) → nat_lt x s ≡ b → Agree c (if b then raised_at cancelled (only_at (max least x)) else done_at (only_at s)) (done_at (only_at u))
+    by_order true i = later (omega arith) (grind (arith, nat_tests)) refl
+    by_order false i = agree_done c s u h
+agree_until c least (Some x) (Some y) s u e h = by_order (nat_lt x s) (nat_lt y u) refl refl
+  where
+    by_order : (a b : Bool) → nat_lt x s ≡ a → nat_lt y u ≡ b → Agree c (if a then raised_at cancelled (only_at (max least x)) else done_at (only_at s))
+        (if b then raised_at cancelled (only_at (max least y)) else done_at (only_at u))
+    by_order true true i j = agree_raised c (max least x) (max least y) (omega arith)
+    by_order true false i j = later (grind (arith, nat_tests)) (grind (arith, nat_tests)) refl
+    by_order false true i j = later (grind (arith, nat_tests)) (grind (arith, nat_tests)) refl
+    by_order false false i j = agree_done c s u h
+
+-- where the next round is at c or later, waits end at c or later
+slept_past : (c : ℕ) (clock : Clock) (st : Stack) (m : ℕ) → c ≤ a_round_after clock m → Past c (done_at (only_at c)) (sleep_result clock st 0 m)
+unfolding sleep_result
+slept_past c clock st m le =
+    let h = late_waited (sight st.scopes) (a_round_after clock m) (gives_up_at clock 0 m) (wakes_at clock 0 m) (a_round_after clock m) (omega arith)
+    (gives_up_after clock 0 m) (wakes_after clock 0 m) in
+    let first = h.ends in
+    record { ends = omega arith; logs = ap (λ (x : Log). log_before c x) (quiet_waited (sight st.scopes) _ _ _) }
+
+until_past : (c least : ℕ) (a : Tick) (end : ℕ) → c ≤ least → least ≤ end → Past c (done_at (only_at c)) (wait_until a least end)
+until_past c least a end le hi =
+    let h = late_until a least end least (omega arith) hi in
+    let first = h.ends in
+    record { ends = omega arith; logs = ap (λ (x : Log). log_before c x) (quiet_until a least end) }
+
+-- waits for events agree where the moments in which they end are the same when cut at c: if one event is set by the next round and the
+-- other later, both are at c or later
+agree_set : (c : ℕ) (clock : Clock) (st su : Stack) (s u m : ℕ) → Near c st su → min c s ≡ min c u →
+    Agree c (wait_by clock st s m) (wait_by clock su u m)
+agree_set c clock st su s u m near h = by_round (nat_le s (a_round_after clock m)) (nat_le u (a_round_after clock m)) refl refl
+  where
+    by_round : (a b : Bool) → nat_le s (a_round_after clock m) ≡ a → nat_le u (a_round_after clock m) ≡ b →
+        Agree c (if a then sleep_result clock st 0 m else wait_until (sight st.scopes) (a_round_after clock m) s)
+        (if b then sleep_result clock su 0 m else wait_until (sight su.scopes) (a_round_after clock m) u)
+    by_round true true i j = agree_sleeping c clock st su 0 m near
+    by_round true false i j =
+        agree_past c (done_at (only_at c)) (done_at (only_at c)) _ _ refl (slept_past c clock st m (grind (arith, nat_tests)))
+        (until_past c _ (sight su.scopes) u (grind (arith, nat_tests)) (grind (arith, nat_tests)))
+    by_round false true i j =
+        agree_past c (done_at (only_at c)) (done_at (only_at c)) _ _ refl
+        (until_past c _ (sight st.scopes) s (grind (arith, nat_tests)) (grind (arith, nat_tests))) (slept_past c clock su m (grind (arith, nat_tests)))
+    by_round false false i j = agree_until c _ _ _ s u (sight_near c st.scopes su.scopes near.0) h
+
+quiet_set : (clock : Clock) (st : Stack) (set m : ℕ) → (wait_by clock st set m).log ≡ nil
+unfolding sleep_result
+quiet_set clock st set m = by_round (nat_le set (a_round_after clock m))
+  where
+    by_round : (b : Bool) →
+        (let r : Result = if b then sleep_result clock st 0 m else wait_until (sight st.scopes) (a_round_after clock m) set in r.log) ≡ nil
+    by_round true = quiet_waited (sight st.scopes) _ _ _
+    by_round false = quiet_until (sight st.scopes) _ _
+
+-- the line of a wait that ended at c or later is cut away
+lined_past : (c : ℕ) (label : Label) (r : Result) → r.log ≡ nil → c ≤ r.end → (o : Option Exc) → Past c r (with_line_if o label r)
+lined_past c label r quiet le None =
+    record {
+      ends = le;
+      logs = clipped_late c r.end (entry r.end (waited label) nil) le (omega arith, tt) ∙ sym (ap (λ (x : Log). log_before c x) quiet);
+    }
+lined_past c label r quiet le (Some e) = past_same c r le
+
+agree_lined : (c : ℕ) (label : Label) (r q : Result) → r.log ≡ nil → q.log ≡ nil → Agree c r q → Agree c (with_line label r) (with_line label q)
+agree_lined c label r q i j (soon b e o x m l) = subst (λ (z : Option Exc). Agree c (with_line_if r.exc label r) (with_line_if z label q)) x (by_exc r.exc)
+  where
+    by_exc : (z : Option Exc) → Agree c (with_line_if z label r) (with_line_if z label q)
+    by_exc None = soon b e o x m (ap (λ (u : ℕ). log_before c (entry u (waited label) nil)) e)
+    by_exc (Some y) = soon b e o x m l
+agree_lined c label r q i j (later f s l) = agree_past c r q _ _ l (lined_past c label r i f r.exc) (lined_past c label q j s q.exc)
+
+-- so a wait for an event agrees before c on near stacks
+pub agree_awaiting : (c : ℕ) (clock : Clock) (st su : Stack) (l k : Option (Level Label)) (t : Now) → Near c st su → NearEvents c l k →
+    Agree c (event_wait clock st l t) (event_wait clock su k t)
+unfolding event_wait
+agree_awaiting c clock st su None None t near e = agree_same c (done_at t)
+agree_awaiting c clock st su None (Some k) t near e = absurd e
+agree_awaiting c clock st su (Some l) None t near e = absurd e
+agree_awaiting c clock st su (Some l) (Some k) t near e =
+    subst (λ (z : Label). Agree c (with_line l.label (wait_by clock st (set_moment clock l.from t.at) t.at))
+    (with_line z (wait_by clock su (set_moment clock k.from t.at) t.at))) e.0
+    (agree_lined c l.label _ _ (quiet_set clock st (set_moment clock l.from t.at) t.at) (quiet_set clock su (set_moment clock k.from t.at) t.at)
+    (agree_set c clock st su (set_moment clock l.from t.at) (set_moment clock k.from t.at) t.at near (set_near c clock l.from k.from t.at e.1)))
 
 -- a `cancel` of a name agrees before c on near stacks
 pub agree_cancelling : (c : ℕ) (clock : Clock) (name : List ℕ) (st su : Stack) (t : Now) → Near c st su →
-    Agree c (cancel_result clock (label_on name st) t) (cancel_result clock (label_on name su) t)
+    Agree c (cancel_result clock (label_on name st.scopes) t) (cancel_result clock (label_on name su.scopes) t)
 agree_cancelling c clock name st su t near =
-    subst (λ (o : Option Label). Agree c (cancel_result clock (label_on name st) t) (cancel_result clock o t)) (label_near c name st su near)
-    (agree_same c (cancel_result clock (label_on name st) t))
+    subst (λ (o : Option Label). Agree c (cancel_result clock (label_on name st.scopes) t) (cancel_result clock o t))
+    (label_near c name st.scopes su.scopes near.0)
+    (agree_same c (cancel_result clock (label_on name st.scopes) t))
+
+-- and so does a `set`
+pub agree_setting : (c : ℕ) (clock : Clock) (name : List ℕ) (st su : Stack) (t : Now) → Near c st su →
+    Agree c (set_result clock (label_on name st.events) t) (set_result clock (label_on name su.events) t)
+agree_setting c clock name st su t near =
+    subst (λ (o : Option Label). Agree c (set_result clock (label_on name st.events) t) (set_result clock o t))
+    (label_near c name st.events su.events near.1)
+    (agree_same c (set_result clock (label_on name st.events) t))
 
 -- what a task sees of near stacks by its own cancels is near
-from_for_near : (c : ℕ) (own : List Label) (m : ℕ) (l k : Label) (f g : Tick) → l ≡ k → upto c f ≡ upto c g →
+pub from_for_near : (c : ℕ) (own : List Label) (m : ℕ) (l k : Label) (f g : Tick) → l ≡ k → upto c f ≡ upto c g →
     upto c (from_for own m l f) ≡ upto c (from_for own m k g)
 from_for_near c own m l k f g e h = subst (λ (z : Label). upto c (from_for own m l f) ≡ upto c (from_for own m z g)) e (by_own (is_among l own))
   where
@@ -161,7 +315,7 @@ from_for_near c own m l k f g e h = subst (λ (z : Label). upto c (from_for own 
     by_own true = upto_earlier_same c f (Some m) g (Some m) h refl
     by_own false = h
 
-stack_for_near : (c : ℕ) (own : List Label) (m : ℕ) (st su : Stack) → Near c st su → Near c (stack_for own m st) (stack_for own m su)
+pub stack_for_near : (c : ℕ) (own : List Label) (m : ℕ) (st su : Levels) → NearLevels c st su → NearLevels c (stack_for own m st) (stack_for own m su)
 stack_for_near c own m [] [] n = n
 stack_for_near c own m [] (k ∷ ks) n = absurd n
 stack_for_near c own m (l ∷ ls) [] n = absurd n
@@ -169,7 +323,7 @@ stack_for_near c own m (l ∷ ls) (k ∷ ks) n =
     (n.0, n.1, from_for_near c own m l.label k.label l.from k.from n.0 n.2, stack_for_near c own m ls ks n.3)
 
 -- whether a block catches in a tick before c depends only on stacks and froms before c
-catches_near : (c : ℕ) (f g : Tick) (shield : Bool) (st su : Stack) (u v : ℕ) → upto c f ≡ upto c g → Near c st su → u < c → u ≡ v →
+pub catches_near : (c : ℕ) (f g : Tick) (shield : Bool) (st su : Levels) (u v : ℕ) → upto c f ≡ upto c g → NearLevels c st su → u < c → u ≡ v →
     catches f shield st u ≡ catches g shield su v
 catches_near c f g shield st su u v e near lt same =
     let a : is_reached f u ≡ is_reached g u = reached_near c f g u e lt in
@@ -200,6 +354,14 @@ left_result clock kind label t d log u own o caught =
       log = entered label t d (followed_by log (entry u (left_as kind label (left_with caught o).caught) nil));
     }
 
+-- the froms of a block are near, where its insides agree
+block_near : (c : ℕ) (label : Label) (t : ℕ) (d : Tick) (m : Mode) (inside inside' : Tick → Result) →
+    ((f : Tick) → Late t (inside f)) → ((f : Tick) → Late t (inside' f)) → ((f g : Tick) → upto c f ≡ upto c g → Agree c (inside f) (inside' g)) →
+    upto c (from_of m label d inside) ≡ upto c (from_of m label d inside')
+block_near c label t d two_walks inside inside' h h' k =
+    from_near c d _ _ (least_near c t label _ _ (h d).timed (h' d).timed (agree_logs (k d d refl)))
+block_near c label t d (by_table table) inside inside' h h' k = refl
+
 module _ (c : ℕ) (clock : Clock) (kind : Kind) (label : Label) (t : ℕ) (d : Tick) where
   same_left : (a b : Log) (u v : ℕ) (n w : List Label) (o p : Option Exc) (x y : Bool) → u < c → log_before c a ≡ log_before c b → u ≡ v → n ≡ w →
       o ≡ p → x ≡ y → Agree c (left_result clock kind label t d a u n o x) (left_result clock kind label t d b v w p y)
@@ -217,25 +379,17 @@ module _ (c : ℕ) (clock : Clock) (kind : Kind) (label : Label) (t : ℕ) (d : 
     agree_left f g r q e (soon b en o x m l) =
         same_left r.log q.log r.end q.end r.own q.own r.exc q.exc _ _ b l en o x (same_catch en o)
       where
-        at_first : catches (from_for r.own r.end label f) shield (stack_for r.own r.end st) r.end
-            ≡ catches (from_for r.own r.end label g) shield (stack_for r.own r.end su) r.end
-        at_first = catches_near c _ _ shield _ _ r.end r.end (from_for_near c r.own r.end label label f g refl e) (stack_for_near c r.own r.end st su near) b refl
+        at_first : catches (from_for r.own r.end label f) shield (stack_for r.own r.end st.scopes) r.end
+            ≡ catches (from_for r.own r.end label g) shield (stack_for r.own r.end su.scopes) r.end
+        at_first = catches_near c _ _ shield _ _ r.end r.end (from_for_near c r.own r.end label label f g refl e) (stack_for_near c r.own r.end st.scopes su.scopes near.0) b refl
 
-        same_catch : r.end ≡ q.end → r.own ≡ q.own → catches (from_for r.own r.end label f) shield (stack_for r.own r.end st) r.end
-            ≡ catches (from_for q.own q.end label g) shield (stack_for q.own q.end su) q.end
-        same_catch i j = at_first ∙ (ap (λ (z : ℕ). catches (from_for r.own z label g) shield (stack_for r.own z su) z) i
-            ∙ ap (λ (z : List Label). catches (from_for z q.end label g) shield (stack_for z q.end su) q.end) j)
+        same_catch : r.end ≡ q.end → r.own ≡ q.own → catches (from_for r.own r.end label f) shield (stack_for r.own r.end st.scopes) r.end
+            ≡ catches (from_for q.own q.end label g) shield (stack_for q.own q.end su.scopes) q.end
+        same_catch i j = at_first ∙ (ap (λ (z : ℕ). catches (from_for r.own z label g) shield (stack_for r.own z su.scopes) z) i
+            ∙ ap (λ (z : List Label). catches (from_for z q.end label g) shield (stack_for z q.end su.scopes) q.end) j)
     agree_left f g r q e (later p s l) =
         later p s (ap (λ (z : Log). entered_if (nat_lt t c) label t d z)
         (clipped_tail c r.end r.log _ p (omega arith, tt) ∙ (l ∙ sym (clipped_tail c q.end q.log _ s (omega arith, tt)))))
-
-    -- the froms of a block are near, where its insides agree
-    block_near : (m : Mode) (inside inside' : Tick → Result) → ((f : Tick) → Late t (inside f)) → ((f : Tick) → Late t (inside' f)) →
-        ((f g : Tick) → upto c f ≡ upto c g → Agree c (inside f) (inside' g)) →
-        upto c (from_of m label d inside) ≡ upto c (from_of m label d inside')
-    block_near two_walks inside inside' h h' k =
-        from_near c d _ _ (least_near c t label _ _ (h d).timed (h' d).timed (agree_logs (k d d refl)))
-    block_near (by_table table) inside inside' h h' k = refl
 
     -- blocks on near stacks agree before c where their insides do
     pub agree_block : (m : Mode) (inside inside' : Tick → Result) → ((f : Tick) → Late t (inside f)) → ((f : Tick) → Late t (inside' f)) →
@@ -243,26 +397,45 @@ module _ (c : ℕ) (clock : Clock) (kind : Kind) (label : Label) (t : ℕ) (d : 
         Agree c (block clock m kind label t d shield st inside) (block clock m kind label t d shield su inside')
     unfolding block
     agree_block m inside inside' h h' k =
-        let e = block_near m inside inside' h h' k in
+        let e = block_near c label t d m inside inside' h h' k in
         agree_left _ _ _ _ e (k _ _ e)
 
 -- near stacks stay near inside a block whose two froms are the same when cut at c
 pub near_within : (c : ℕ) (label : Label) (shield : Bool) (f g : Tick) (st su : Stack) → upto c f ≡ upto c g → Near c st su →
     Near c (stack_inside label shield f st) (stack_inside label shield g su)
-near_within c label shield f g st su e near = (refl, refl, e, near)
+near_within c label shield f g st su e near = ((refl, refl, e, near.0), near.1)
+
+-- an event is entered
+agree_entered : (c : ℕ) (label : Label) (t : ℕ) (r q : Result) → Agree c r q → Agree c (event_result label t r) (event_result label t q)
+agree_entered c label t r q (soon b e o x m l) = soon b e o x m (ap (λ (z : Log). entered_if (nat_lt t c) label t None z) l)
+agree_entered c label t r q (later f s l) = later f s (ap (λ (z : Log). entered_if (nat_lt t c) label t None z) l)
+
+-- events agree before c where their insides do
+pub agree_event : (c : ℕ) (label : Label) (t : ℕ) (m : Mode) (inside inside' : Tick → Result) →
+    ((f : Tick) → Late t (inside f)) → ((f : Tick) → Late t (inside' f)) → ((f g : Tick) → upto c f ≡ upto c g → Agree c (inside f) (inside' g)) →
+    Agree c (event_block m label t inside) (event_block m label t inside')
+unfolding event_block
+agree_event c label t m inside inside' h h' k =
+    let e = block_near c label t None m inside inside' h h' k in
+    agree_entered c label t _ _ (k _ _ e)
+
+-- and near stacks stay near inside an event
+pub near_in_event : (c : ℕ) (label : Label) (f g : Tick) (st su : Stack) → upto c f ≡ upto c g → Near c st su →
+    Near c (stack_in_event label f st) (stack_in_event label g su)
+near_in_event c label f g st su e near = (near.0, (refl, refl, e, near.1))
 
 -- a member's sign at the end of its log
 pub agree_signed : (c : ℕ) (st su : Stack) (r q : Result) → Near c st su → Agree c r q → Agree c (with_sign st r) (with_sign su q)
 unfolding with_sign
 agree_signed c st su r q near (soon b e o x m l) =
     soon b e refl x m (both_clipped c r.log _ q.log _ l (ap (λ (z : Log). log_before c z)
-    (same_sign r.exc q.exc (home_of st) (home_of su) r.end q.end x (home_near c st su near) e)))
+    (same_sign r.exc q.exc (home_of st.scopes) (home_of su.scopes) r.end q.end x (home_near c st.scopes su.scopes near.0) e)))
   where
     same_sign : (o p : Option Exc) (a b : Option Label) (u v : ℕ) → o ≡ p → a ≡ b → u ≡ v → sign_if o a u ≡ sign_if p b v
     same_sign o p a b u v i j k = cc
 agree_signed c st su r q near (later p s l) =
-    later p s (clipped_tail c r.end r.log _ p (timed_sign r.exc (home_of st) r.end)
-    ∙ (l ∙ sym (clipped_tail c q.end q.log _ s (timed_sign q.exc (home_of su) q.end))))
+    later p s (clipped_tail c r.end r.log _ p (timed_sign r.exc (home_of st.scopes) r.end)
+    ∙ (l ∙ sym (clipped_tail c q.end q.log _ s (timed_sign q.exc (home_of su.scopes) q.end))))
   where
     timed_sign : (o : Option Exc) (a : Option Label) (u : ℕ) → Timed u (sign_if o a u)
     timed_sign None a u = tt
@@ -452,6 +625,9 @@ mutual
   agree_step c m (need text name) here st su t near = agree_same c _
   agree_step c m (raise name) here st su t near = agree_same c _
   agree_step c m (cancel name) here st su t near = agree_cancelling c here.clock name st su t near
+  agree_step c m (set_event name) here st su t near = agree_setting c here.clock name st su t near
+  agree_step c m (wait_for name) here st su t near =
+      agree_awaiting c here.clock st su _ _ t near (event_near c name st.events su.events near.1)
   agree_step c m (scope name d shield fail body) here st su t near =
       agree_block c here.clock _ _ t.at _ shield st su near m _ _
       (λ f. late m body here _ t)
@@ -463,6 +639,11 @@ mutual
       (λ f. late_gathered here.clock t.at _ _ (late_signed t.at _ _ (late m body here _ t)))
       (λ f g e. agree_gathered c here.clock _ _ _ (agree_signed c _ _ _ _ (near_within c _ shield f g st su e near)
       (agree c m body here _ _ t (near_within c _ shield f g st su e near))))
+  agree_step c m (event name body) here st su t near =
+      agree_event c _ t.at m _ _
+      (λ f. late m body here _ t)
+      (λ f. late m body here _ t)
+      (λ f g e. agree c m body here _ _ t (near_in_event c _ f g st su e near))
   agree_step c m (start name None body) here st su t near =
       agree_child c _ (a_round_after here.clock t.at) _ _ t (agree_signed c st su _ _ near (agree c m body _ st su (only_at (a_round_after here.clock t.at)) near))
   agree_step c m (start name (Some k) body) here st su t near =

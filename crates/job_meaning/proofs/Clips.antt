@@ -4,10 +4,10 @@ use Rattle.std.proofs.lemmas.Bool.{false≢true, true≢false, le-ltb, lt-ltb}
 use Rattle.std.proofs.lemmas.Bool.Decides.{nat_tests}
 use Rattle.std.specs.Str.{bytes_eq}
 use Rattle.exc_groups.specs.Exceptions.{Label, Exc}
-use Rattle.cancel_scopes.specs.Sight.{Tick, earlier, is_reached, next, sight, seen}
+use Rattle.cancel_scopes.specs.Sight.{Tick, Level, earlier, is_reached, next, sight, seen}
 use Rattle.job_meaning.specs.Log.{Entry, Log, nil, entry, sign, entered, task, followed_by, Member, least_sign, tick_if, same_label, from_by}
-use Rattle.job_meaning.specs.Walk.{Stack, label_on, label_if, home_of, latest}
-use Rattle.job_meaning.specs.Before.{upto, Near, exc_if, known_member, known_members, entry_if, sign_before, entered_if, task_if, log_before}
+use Rattle.job_meaning.specs.Walk.{Levels, label_on, label_if, event_on, level_if, home_of, latest}
+use Rattle.job_meaning.specs.Before.{upto, NearLevels, exc_if, known_member, known_members, entry_if, sign_before, entered_if, task_if, log_before}
 use Rattle.job_meaning.proofs.Late.{Timed}
 
 -- a tick cut at c is at most c
@@ -51,7 +51,7 @@ reached_near c (Some x) None u e lt = le_false (omega arith)
 reached_near c (Some x) (Some y) u e lt = grind (arith, nat_tests)
 
 -- near stacks have near effective deadlines (`sight`)
-pub sight_near : (c : ℕ) (st su : Stack) → Near c st su → upto c (sight st) ≡ upto c (sight su)
+pub sight_near : (c : ℕ) (st su : Levels) → NearLevels c st su → upto c (sight st) ≡ upto c (sight su)
 sight_near c [] [] n = refl
 sight_near c [] (k ∷ ks) n = absurd n
 sight_near c (l ∷ ls) [] n = absurd n
@@ -65,11 +65,11 @@ sight_near c (l ∷ ls) (k ∷ ks) n = by_shield l.shield k.shield n.1 (sight_ne
     by_shield false true e f = absurd (false≢true e)
 
 -- near stacks see the same at each tick before c
-pub seen_near : (c : ℕ) (st su : Stack) (u : ℕ) → Near c st su → u < c → seen st u ≡ seen su u
+pub seen_near : (c : ℕ) (st su : Levels) (u : ℕ) → NearLevels c st su → u < c → seen st u ≡ seen su u
 seen_near c st su u n lt = reached_near c (sight st) (sight su) u (sight_near c st su n) lt
 
 -- near stacks have the same labels
-pub label_near : (c : ℕ) (name : List ℕ) (st su : Stack) → Near c st su → label_on name st ≡ label_on name su
+pub label_near : (c : ℕ) (name : List ℕ) (st su : Levels) → NearLevels c st su → label_on name st ≡ label_on name su
 label_near c name [] [] n = refl
 label_near c name [] (k ∷ ks) n = absurd n
 label_near c name (l ∷ ls) [] n = absurd n
@@ -79,8 +79,30 @@ label_near c name (l ∷ ls) (k ∷ ks) n = same_labels l.label k.label (label_o
         label_if (bytes_eq name a.name) a x ≡ label_if (bytes_eq name b.name) b y
     same_labels a b x y e f = cc
 
+-- two events agree, except where both are set at c or later
+abbrev pub NearEvents : ℕ → Option (Level Label) → Option (Level Label) → Type 0
+NearEvents c None None = Unit {0}
+NearEvents c (Some l) (Some k) = (l.label ≡ k.label) × (upto c l.from ≡ upto c k.from)
+NearEvents c None (Some k) = ⊥
+NearEvents c (Some l) None = ⊥
+
+-- near stacks have near events of each name
+pub event_near : (c : ℕ) (name : List ℕ) (st su : Levels) → NearLevels c st su → NearEvents c (event_on name st) (event_on name su)
+event_near c name [] [] n = tt
+event_near c name [] (k ∷ ks) n = absurd n
+event_near c name (l ∷ ls) [] n = absurd n
+event_near c name (l ∷ ls) (k ∷ ks) n =
+    by_test (bytes_eq name l.label.name) (bytes_eq name k.label.name) (ap (λ (x : Label). bytes_eq name x.name) n.0) (event_near c name ls ks n.3)
+  where
+    by_test : (a b : Bool) → a ≡ b → NearEvents c (event_on name ls) (event_on name ks) →
+        NearEvents c (level_if a l (event_on name ls)) (level_if b k (event_on name ks))
+    by_test true true e h = (n.0, n.2)
+    by_test false false e h = h
+    by_test true false e h = absurd (true≢false e)
+    by_test false true e h = absurd (false≢true e)
+
 -- near stacks have the same innermost label
-pub home_near : (c : ℕ) (st su : Stack) → Near c st su → home_of st ≡ home_of su
+pub home_near : (c : ℕ) (st su : Levels) → NearLevels c st su → home_of st ≡ home_of su
 home_near c [] [] n = refl
 home_near c [] (k ∷ ks) n = absurd n
 home_near c (l ∷ ls) [] n = absurd n

@@ -6,7 +6,7 @@ use Rattle.std.specs.List.{IsDistinct, AllByRecursion}
 use Rattle.std.specs.Str.{bytes_eq}
 use Rattle.exc_groups.specs.Exceptions.{Label}
 use Rattle.job_meaning.specs.Log.{same_label}
-use Rattle.job_meaning.specs.Walk.{Stack}
+use Rattle.job_meaning.specs.Walk.{Levels, Stack}
 
 -- a name is in a list
 abbrev pub Among : List ℕ → List (List ℕ) → Type 0
@@ -102,10 +102,14 @@ after_other a b path i j l lt h k =
     let e = after_one path i j h.beyond k.beyond (sym h.extends ∙ k.extends) in
     absurd (omega arith)
 
--- a label is on a stack
+-- a label is that of one of some levels
+abbrev pub OnLevels : Label → Levels → Type 0
+OnLevels l [] = ⊥
+OnLevels l (k ∷ ks) = (l ≡ k.label) ⊎ OnLevels l ks
+
+-- a label is on a stack: that of a scope or nursery, or that of an event
 abbrev pub OnStack : Label → Stack → Type 0
-OnStack l [] = ⊥
-OnStack l (k ∷ ks) = (l ≡ k.label) ⊎ OnStack l ks
+OnStack l st = OnLevels l st.scopes ⊎ OnLevels l st.events
 
 -- no name is that of a level of the stack
 pub record Fresh (st : Stack) (names : List (List ℕ)) : Type 0 where

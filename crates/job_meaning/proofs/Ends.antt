@@ -1,10 +1,10 @@
 -- By when a walk ends: a step instance ends at most as many moments beyond the reach of its start as `span` says.
-use Rattle.std.proofs.Common.{◌≡◌, ℕ, zero, suc, ◌+◌, ◌-◌, ◌*◌, ◌/◌, ◌≤◌, min, max, Bool, true, false, Option, Some, None, List, [], ◌∷◌, ◌++◌, length, drop as dropped, length-drop, refl, arith, nat_le, if◌then◌else◌}
+use Rattle.std.proofs.Common.{◌≡◌, ℕ, zero, suc, ◌+◌, ◌-◌, ◌*◌, ◌/◌, ◌≤◌, min, max, Bool, true, false, Option, Some, None, List, [], ◌∷◌, ◌++◌, length, drop as dropped, length-drop, refl, arith, nat_le, nat_lt, if◌then◌else◌}
 use Rattle.std.proofs.lemmas.Bool.Decides.{nat_tests}
 use Rattle.std.proofs.lemmas.List.{length-take}
 use Rattle.std.proofs.Math.Nat.{mul-le-mul_right}
 use Rattle.std.specs.Prelude.{slice_range}
-use Rattle.job_tree.specs.Tree.{Step, sleep, checkpoint, forever, pace, find, head, longest, need, raise, cancel, scope, nursery, start, repeat, attempt, Steps, stop, step, Handled, unhandled, except, Cleaned, uncleaned, finally}
+use Rattle.job_tree.specs.Tree.{Step, sleep, checkpoint, forever, pace, find, head, longest, need, raise, cancel, set_event, wait_for, scope, nursery, event, start, repeat, attempt, Steps, stop, step, Handled, unhandled, except, Cleaned, uncleaned, finally}
 use Rattle.job_tree.specs.InRange.{AreInRange, IsInRangeStep, IsInRangeHandler, IsInRangeCleanup}
 use Rattle.job_tree.specs.Formats.{most_steps}
 use Rattle.job_tree.specs.declared.format.Format.{Format}
@@ -15,12 +15,12 @@ use Rattle.buffer_parts.proofs.JoinLemmas.{length-lines_from}
 use Rattle.line_kernels.specs.Kernels.{count_in}
 use Rattle.exc_groups.specs.Exceptions.{Label, Exc, cancelled}
 use Rattle.exc_groups.specs.Split.{Wanted, keep, drop}
-use Rattle.cancel_scopes.specs.Sight.{Tick, sight}
+use Rattle.cancel_scopes.specs.Sight.{Tick, Level, sight}
 use Rattle.job_meaning.specs.Log.{Member, Result}
 use Rattle.job_meaning.specs.Moments.{Clock, by_ticks, by_rounds, clock_of, tick_of, a_round_after, wakes_at, gives_up_at, Now, only_at, far}
 use Rattle.job_meaning.specs.Meaning.{meaning, root_walk, root_here}
 use Rattle.job_meaning.specs.Laws.{EndsByTheLastTick}
-use Rattle.job_meaning.specs.Walk.{Stack, Mode, two_walks, Here, walk, walk_step, walk_handler, walk_cleanup, done_at, raised_at, now_of, in_sequence, and_then, then_if, wait_by_sight, sleep_result, pace_result, pace_ticks, lines_result, raise_result, need_result, cancel_result, Kind, from_of, block, with_sign, latest, nursery_result, child, each, passes, handler_result, handler_for, handler_if_any, cleanup_result}
+use Rattle.job_meaning.specs.Walk.{Stack, no_stack, Mode, two_walks, Here, walk, walk_step, walk_handler, walk_cleanup, done_at, raised_at, now_of, in_sequence, and_then, then_if, wait_by_sight, sleep_result, pace_result, wait_until, set_moment, wait_by, with_line_if, with_line, event_wait, pace_ticks, lines_result, raise_result, need_result, cancel_result, set_result, Kind, from_of, block, event_block, with_sign, latest, nursery_result, child, each, passes, handler_result, handler_for, handler_if_any, cleanup_result}
 
 -- By rounds, the start of tick `far`, beyond which no sleep lasts. By ticks, where each sleep lasts as long as it is, 0.
 abbrev pub base : Clock → ℕ
@@ -112,14 +112,52 @@ by_waited (Some from) least gives_up end b up le = by_now (nat_le from least) (n
 by_sleeping : (clock : Clock) (st : Stack) (n t b : ℕ) → n ≤ 1099511627776 → reach clock t + span clock ≤ b → EndsBy b (sleep_result clock st n t)
 unfolding sleep_result
 by_sleeping clock st n t b few le =
-    by_waited (sight st) (a_round_after clock t) (gives_up_at clock n t) (wakes_at clock n t) b
+    by_waited (sight st.scopes) (a_round_after clock t) (gives_up_at clock n t) (wakes_at clock n t) b
     (omega (arith, gives_up_by clock n t)) (omega (arith, wakes_by clock n t few))
 
 by_pacing : (clock : Clock) (st : Stack) (n t b : ℕ) → n ≤ 1099511627776 → reach clock t + span clock ≤ b → EndsBy b (pace_result clock st n t)
 unfolding pace_result
 by_pacing clock st n t b few le =
-    by_waited (sight st) (a_round_after clock t) (a_round_after clock t) (wakes_at clock n t) b
+    by_waited (sight st.scopes) (a_round_after clock t) (a_round_after clock t) (wakes_at clock n t) b
     (omega (arith, round_by clock t)) (omega (arith, wakes_by clock n t few))
+
+by_until : (a : Tick) (least end b : ℕ) → least ≤ b → end ≤ b → EndsBy b (wait_until a least end)
+by_until None least end b lo le = by_done b (only_at end) le
+by_until (Some from) least end b lo le = by_order (nat_lt from end) refl
+  where
+    by_order : (o : Bool) → nat_lt from end ≡ o →
+        EndsBy b (if o then raised_at cancelled (only_at (max least from)) else done_at (only_at end))
+    by_order true e = by_raised cancelled b (only_at (max least from)) (grind (arith, nat_tests))
+    by_order false e = by_done b (only_at end) le
+
+left_le : (x y : ℕ) → x - y ≤ x
+left_le x y = omega arith
+
+-- no wait for an event lasts longer than `forever`
+set_by : (clock : Clock) (set : Tick) (m : ℕ) → set_moment clock set m ≤ reach clock m + span clock
+set_by clock None m = wakes_by clock (far - tick_of clock m) m (left_le far (tick_of clock m))
+set_by clock (Some from) m = omega (arith, wakes_by clock (far - tick_of clock m) m (left_le far (tick_of clock m)))
+
+by_set : (clock : Clock) (st : Stack) (set t b : ℕ) → set ≤ b → reach clock t + span clock ≤ b → EndsBy b (wait_by clock st set t)
+by_set clock st set t b hi le = by_round (nat_le set (a_round_after clock t))
+  where
+    by_round : (o : Bool) → EndsBy b (if o then sleep_result clock st 0 t else wait_until (sight st.scopes) (a_round_after clock t) set)
+    by_round true = by_sleeping clock st 0 t b (omega arith) le
+    by_round false = by_until (sight st.scopes) (a_round_after clock t) set b (omega (arith, round_by clock t)) hi
+
+by_lined : (label : Label) (b : ℕ) (r : Result) → EndsBy b r → EndsBy b (with_line label r)
+by_lined label b r h = by_exc r.exc
+  where
+    by_exc : (o : Option Exc) → EndsBy b (with_line_if o label r)
+    by_exc None = record { end = h.end; members = h.members }
+    by_exc (Some e) = h
+
+by_awaiting : (clock : Clock) (st : Stack) (level : Option (Level Label)) (t : Now) (b : ℕ) → reach clock t.at + span clock ≤ b →
+    EndsBy b (event_wait clock st level t)
+unfolding event_wait
+by_awaiting clock st None t b le = by_done b t (omega arith)
+by_awaiting clock st (Some l) t b le =
+    by_lined l.label b _ (by_set clock st (set_moment clock l.from t.at) t.at b (omega (arith, set_by clock l.from t.at)) le)
 
 by_showing : (ls : List Span) (b : ℕ) (t : Now) → t.at ≤ b → EndsBy b (lines_result ls t)
 unfolding lines_result
@@ -138,12 +176,23 @@ by_cancelling : (clock : Clock) (label : Option Label) (b : ℕ) (t : Now) → t
 unfolding cancel_result
 by_cancelling clock label b t le = record { end = le; members = tt }
 
+by_setting : (clock : Clock) (label : Option Label) (b : ℕ) (t : Now) → t.at ≤ b → EndsBy b (set_result clock label t)
+unfolding set_result
+by_setting clock label b t le = record { end = le; members = tt }
+
 by_block : (clock : Clock) (m : Mode) (kind : Kind) (label : Label) (t : ℕ) (d : Tick) (shield : Bool) (st : Stack) (inside : Tick → Result) (b : ℕ) →
     ((from : Tick) → EndsBy b (inside from)) → EndsBy b (block clock m kind label t d shield st inside)
 unfolding block
 by_block clock m kind label t d shield st inside b h =
     let inner : EndsBy b (inside (from_of m label d inside)) = h (from_of m label d inside) in
     record { end = inner.end; members = tt }
+
+by_event : (m : Mode) (label : Label) (t : ℕ) (inside : Tick → Result) (b : ℕ) → ((from : Tick) → EndsBy b (inside from)) →
+    EndsBy b (event_block m label t inside)
+unfolding event_block
+by_event m label t inside b h =
+    let inner : EndsBy b (inside (from_of m label None inside)) = h (from_of m label None inside) in
+    record { end = inner.end; members = inner.members }
 
 pub by_signed : (b : ℕ) (st : Stack) (r : Result) → EndsBy b r → EndsBy b (with_sign st r)
 unfolding with_sign
@@ -219,9 +268,6 @@ pub paced_le : (count k : ℕ) → pace_ticks count k ≤ count + k
 paced_le count zero = omega arith
 paced_le count (suc k) = omega (arith, div_le (count + k) k)
 
-left_le : (x y : ℕ) → x - y ≤ x
-left_le x y = omega arith
-
 -- one copy is no longer than all
 copies_le : (k x : ℕ) → 1 ≤ k → x ≤ k * x
 copies_le k x le = omega (arith, mul-le-mul_right x le)
@@ -254,12 +300,17 @@ mutual
   ends_step m (need text name) here st t h small = by_needing _ name here _ t (omega arith)
   ends_step m (raise name) here st t h small = by_raising name here _ t (omega arith)
   ends_step m (cancel name) here st t h small = by_cancelling here.clock _ _ t (omega arith)
+  ends_step m (set_event name) here st t h small = by_setting here.clock _ _ t (omega arith)
+  ends_step m (wait_for name) here st t h small = by_awaiting here.clock st _ t _ (omega arith)
   ends_step m (scope name d shield fail body) here st t h small =
       by_block here.clock m _ _ t.at _ shield st _ _ (λ from. later (reach here.clock t.at + size_of body * span here.clock) _ _ (omega arith)
       (ends_by m body here _ t h.1 small))
   ends_step m (nursery name d shield body) here st t h small =
       by_block here.clock m _ _ t.at _ shield st _ _ (λ from. by_gathered here.clock (reach here.clock t.at + size_of body * span here.clock) _ _ _
       (omega arith) (by_signed _ _ _ (ends_by m body here _ t h.1 small)))
+  ends_step m (event name body) here st t h small =
+      by_event m _ t.at _ _ (λ from. later (reach here.clock t.at + size_of body * span here.clock) _ _ (omega arith)
+      (ends_by m body here _ t h small))
   ends_step m (start name None body) here st t h small =
       by_child _ _ (a_round_after here.clock t.at) _ t (omega arith)
       (by_signed _ st _ (later (reach here.clock (a_round_after here.clock t.at) + size_of body * span here.clock) _ _
@@ -304,7 +355,7 @@ pub ends_by_the_last_tick : EndsByTheLastTick
 unfolding meaning
 ends_by_the_last_tick job input in_range small =
     in_ticks_by (clock_of job.format) (size_of job.steps) (root_walk two_walks job input).end (at_most job.format in_range.size)
-    (ends_by two_walks job.steps (root_here job input) [] (only_at 0) in_range.numbers small).end
+    (ends_by two_walks job.steps (root_here job input) no_stack (only_at 0) in_range.numbers small).end
   where
     at_most : (format : Format) → size_of job.steps ≤ most_steps format → size_of job.steps ≤ 1000000
     at_most One le = omega (arith, le)

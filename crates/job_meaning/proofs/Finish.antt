@@ -2,7 +2,7 @@
 use Rattle.std.proofs.Common.{◌≡◌, ℕ, zero, suc, ◌+◌, Bool, Option, Some, None, List, [], ◌∷◌, ◌++◌, refl, ap, sym, ◌∙◌, append_assoc, ◌<◌, arith}
 use Rattle.std.proofs.lemmas.List.{append-nil}
 use Rattle.job_tree.specs.declared.deadline.Deadline.{Deadline}
-use Rattle.job_tree.specs.Tree.{Step, scope, nursery, start, repeat, attempt, Steps, stop, step, Handled, unhandled, except, Cleaned, uncleaned, finally}
+use Rattle.job_tree.specs.Tree.{Step, scope, nursery, event, start, repeat, attempt, Steps, stop, step, Handled, unhandled, except, Cleaned, uncleaned, finally}
 use Rattle.buffer_parts.specs.Cuts.{cut_of}
 use Rattle.exc_groups.specs.Exceptions.{Label, Exc}
 use Rattle.exc_groups.specs.Split.{Wanted, named, keep, drop}
@@ -10,8 +10,8 @@ use Rattle.cancel_scopes.specs.Sight.{Level}
 use Rattle.job_meaning.proofs.Clips.{followed_nil}
 use Rattle.job_meaning.specs.Log.{Log, nil, entry, sign, entered, task, followed_by, Member, Result, Table}
 use Rattle.job_meaning.specs.Moments.{Clock, due, a_round_after, Now, only_at}
-use Rattle.job_meaning.specs.Walk.{now_of, in_pass, passes, Stack, Mode, by_table, Here, walk, walk_step, walk_handler, walk_cleanup, done_at, in_sequence, and_then, then_if, block, stack_inside, Kind, with_sign, nursery_result, child, handler_result, handler_for, handler_if_any, cleanup_result, with_outcome, handler_exc, outcome_after, sign_if, a_scope, a_nursery, label_here, label_over, each, here_in}
-use Rattle.job_meaning.specs.Rest.{Event, noted, signs, enters, starts, fill, consecutive, starts_over, ChildOutcomes, told_members, Frame, steps_left, in_scope, in_nursery, in_repeat, in_try, in_handler, in_cleanup, inside, block_left, with_children, wait_result, finish, rest_comes_to, rest_at_start}
+use Rattle.job_meaning.specs.Walk.{now_of, in_pass, passes, Levels, Stack, Mode, by_table, Here, walk, walk_step, walk_handler, walk_cleanup, done_at, in_sequence, and_then, then_if, block, event_block, stack_inside, stack_in_event, Kind, with_sign, nursery_result, child, handler_result, handler_for, handler_if_any, cleanup_result, with_outcome, handler_exc, outcome_after, sign_if, a_scope, a_nursery, label_here, label_over, each, here_in}
+use Rattle.job_meaning.specs.Rest.{Event, noted, signs, enters, starts, fill, consecutive, starts_over, ChildOutcomes, told_members, Frame, steps_left, in_scope, in_event, in_nursery, in_repeat, in_try, in_handler, in_cleanup, inside, block_left, left_if, without_scope, without_event, with_children, wait_result, finish, rest_comes_to, rest_at_start}
 
 -- three logs one after another are the same, whichever two are joined first
 pub followed_assoc : (a b c : Log) → followed_by (followed_by a b) c ≡ followed_by a (followed_by b c)
@@ -40,9 +40,15 @@ after_signed : (a : Log) (st : Stack) (r : Result) → with_sign st (after a r) 
 unfolding with_sign
 after_signed a st r = ap (λ (x : Log). record r { own = []; log = x }) (followed_assoc a r.log _)
 
-after_block_left : (a : Log) (clock : Clock) (kind : Kind) (l : Level Label) (outer : Stack) (r : Result) →
+after_block_left : (a : Log) (clock : Clock) (kind : Kind) (l : Level Label) (outer : Levels) (r : Result) →
     block_left clock kind l outer (after a r) ≡ after a (block_left clock kind l outer r)
 after_block_left a clock kind l outer r = ap (λ (x : Log). record (block_left clock kind l outer r) { log = x }) (followed_assoc a r.log _)
+
+after_left_if : (a : Log) (clock : Clock) (kind : Kind) (ls : Levels) (go others : Level Label → Result) (r : Result) →
+    ((l : Level Label) → others l ≡ after a (go l)) → left_if clock kind ls others (after a r) ≡ after a (left_if clock kind ls go r)
+after_left_if a clock kind [] go others r h = refl
+after_left_if a clock kind (l ∷ outer) go others r h =
+    ap (λ (x : Result). block_left clock kind l outer x) (h l) ∙ after_block_left a clock kind l outer (go l)
 
 after_handled : (a : Log) (wanted : Wanted) (r : Result) (go : Now → Result) → handler_result wanted (after a r) go ≡ after a (handler_result wanted r go)
 unfolding handler_result
@@ -80,16 +86,18 @@ finish_after [] a m told here st r = after_signed a st r
 finish_after (steps_left ss ∷ fs) a m told here st r =
     ap (λ (x : Result). finish m told fs here st x) (after_and_then a r (λ u. walk m ss (inside fs here) st u))
     ∙ finish_after fs a m told here st (and_then r (λ u. walk m ss (inside fs here) st u))
-finish_after (in_scope fail ∷ fs) a m told here [] r = finish_after fs a m told here [] r
-finish_after (in_scope fail ∷ fs) a m told here (l ∷ outer) r =
-    ap (λ (x : Result). finish m told fs here outer x) (after_block_left a here.clock (a_scope fail) l outer r) ∙ finish_after fs a m told here outer _
-finish_after (in_nursery children ∷ fs) a m told here [] r = finish_after fs a m told here [] r
-finish_after (in_nursery children ∷ fs) a m told here (l ∷ outer) r =
-    ap (λ (x : Result). finish m told fs here outer (block_left here.clock a_nursery l outer
-    (nursery_result here.clock l.label (with_children (told_members told children) x)))) (after_signed a (l ∷ outer) r)
-    ∙ (ap (λ (x : Result). finish m told fs here outer x) (after_block_left a here.clock a_nursery l outer
-    (nursery_result here.clock l.label (with_children (told_members told children) (with_sign (l ∷ outer) r))))
-    ∙ finish_after fs a m told here outer _)
+finish_after (in_scope fail ∷ fs) a m told here st r =
+    ap (λ (x : Result). finish m told fs here (without_scope st) x)
+    (after_left_if a here.clock (a_scope fail) st.scopes (λ l. r) (λ l. after a r) r (λ l. refl))
+    ∙ finish_after fs a m told here (without_scope st) _
+finish_after (in_event ∷ fs) a m told here st r = finish_after fs a m told here (without_event st) r
+finish_after (in_nursery children ∷ fs) a m told here st r =
+    ap (λ (x : Result). finish m told fs here (without_scope st) x)
+    (after_left_if a here.clock a_nursery st.scopes
+    (λ l. nursery_result here.clock l.label (with_children (told_members told children) (with_sign st r)))
+    (λ l. nursery_result here.clock l.label (with_children (told_members told children) (with_sign st (after a r)))) r
+    (λ l. ap (λ (x : Result). nursery_result here.clock l.label (with_children (told_members told children) x)) (after_signed a st r)))
+    ∙ finish_after fs a m told here (without_scope st) _
 finish_after (in_repeat pass left body ∷ fs) a m told here st r =
     ap (λ (x : Result). finish m told fs here st x)
     (after_and_then a r (λ u. passes (suc pass) left (λ i v. walk m body (in_pass i (inside fs here)) st v) u))
@@ -143,6 +151,18 @@ finish_scope fs table told name d shield fail body ss here st t =
     finish_after (steps_left body ∷ in_scope fail ∷ steps_left ss ∷ fs) (entered (label_here name (inside fs here)) t.at (due here.clock d t.at) nil)
     (by_table table) told here
     (stack_inside (label_here name (inside fs here)) shield (table (label_here name (inside fs here))) st) (done_at t)
+
+-- an event is entered
+pub finish_event : (fs : List Frame) (table : Table) (told : ChildOutcomes) (name : List ℕ) (body ss : Steps) (here : Here) (st : Stack) (t : Now) →
+    finish (by_table table) told (steps_left (step (event name body) ss) ∷ fs) here st (done_at t)
+    ≡ after (entered (label_here name (inside fs here)) t.at None nil)
+    (finish (by_table table) told (steps_left body ∷ in_event ∷ steps_left ss ∷ fs) here
+    (stack_in_event (label_here name (inside fs here)) (table (label_here name (inside fs here))) st) (done_at t))
+unfolding finish and_then walk event_block
+finish_event fs table told name body ss here st t =
+    finish_after (steps_left body ∷ in_event ∷ steps_left ss ∷ fs) (entered (label_here name (inside fs here)) t.at None nil)
+    (by_table table) told here
+    (stack_in_event (label_here name (inside fs here)) (table (label_here name (inside fs here))) st) (done_at t)
 
 -- a nursery is entered
 pub finish_nursery : (fs : List Frame) (table : Table) (told : ChildOutcomes) (name : List ℕ) (d : Deadline) (shield : Bool) (body ss : Steps)
@@ -255,29 +275,42 @@ pub finish_cleaned : (fs : List Frame) (m : Mode) (told : ChildOutcomes) (outcom
 unfolding finish
 finish_cleaned fs m told outcome here st r = refl
 
+-- a stack with a scope or nursery more, and with an event more
+abbrev pub scope_over : Level Label → Stack → Stack
+scope_over l outer = record outer { scopes = l ∷ outer.scopes }
+
+abbrev pub event_over : Level Label → Stack → Stack
+event_over l outer = record outer { events = l ∷ outer.events }
+
 -- a scope is left
 pub finish_leave : (fs : List Frame) (m : Mode) (told : ChildOutcomes) (fail : Bool) (here : Here) (l : Level Label) (outer : Stack)
     (r : Result) →
-    finish m told (in_scope fail ∷ fs) here (l ∷ outer) r ≡ finish m told fs here outer (block_left here.clock (a_scope fail) l outer r)
+    finish m told (in_scope fail ∷ fs) here (scope_over l outer) r ≡ finish m told fs here outer (block_left here.clock (a_scope fail) l outer.scopes r)
 unfolding finish
 finish_leave fs m told fail here l outer r = refl
+
+-- an event is left
+pub finish_leave_event : (fs : List Frame) (m : Mode) (told : ChildOutcomes) (here : Here) (l : Level Label) (outer : Stack) (r : Result) →
+    finish m told (in_event ∷ fs) here (event_over l outer) r ≡ finish m told fs here outer r
+unfolding finish
+finish_leave_event fs m told here l outer r = refl
 
 -- the body of a nursery has ended, and the wait begins: with the sign of a body that failed before it
 pub finish_wait : (fs : List Frame) (m : Mode) (told : ChildOutcomes) (children : List ℕ) (here : Here) (l : Level Label) (outer : Stack) (t : Now)
     (e : Option Exc) →
-    finish m told (in_nursery children ∷ fs) here (l ∷ outer) (record { end = t.at; own = t.own; exc = e; members = []; log = nil })
-    ≡ after (sign_if e (Some l.label) t.at) (finish m told fs here outer (wait_result here.clock (told_members told children) t.at e l outer))
+    finish m told (in_nursery children ∷ fs) here (scope_over l outer) (record { end = t.at; own = t.own; exc = e; members = []; log = nil })
+    ≡ after (sign_if e (Some l.label) t.at) (finish m told fs here outer (wait_result here.clock (told_members told children) t.at e (l ∷ outer.scopes) t))
 unfolding finish with_sign nursery_result
 finish_wait fs m told children here l outer t e =
-    ap (λ (ms : List Member). finish m told fs here outer (block_left here.clock a_nursery l outer
+    ap (λ (ms : List Member). finish m told fs here outer (block_left here.clock a_nursery l outer.scopes
     (nursery_result here.clock l.label (record { end = t.at; own = []; exc = e; members = ms; log = sign_if e (Some l.label) t.at }))))
     (append-nil (told_members told children))
-    ∙ (ap (λ (x : Log). finish m told fs here outer (block_left here.clock a_nursery l outer
+    ∙ (ap (λ (x : Log). finish m told fs here outer (block_left here.clock a_nursery l outer.scopes
     (nursery_result here.clock l.label (record { end = t.at; own = []; exc = e; members = told_members told children; log = x }))))
     (sym (followed_nil (sign_if e (Some l.label) t.at)))
-    ∙ (ap (λ (x : Result). finish m told fs here outer x) (after_block_left (sign_if e (Some l.label) t.at) here.clock a_nursery l outer
+    ∙ (ap (λ (x : Result). finish m told fs here outer x) (after_block_left (sign_if e (Some l.label) t.at) here.clock a_nursery l outer.scopes
     (nursery_result here.clock l.label (record { end = t.at; own = []; exc = e; members = told_members told children; log = nil })))
-    ∙ finish_after fs (sign_if e (Some l.label) t.at) m told here outer (wait_result here.clock (told_members told children) t.at e l outer)))
+    ∙ finish_after fs (sign_if e (Some l.label) t.at) m told here outer (wait_result here.clock (told_members told children) t.at e (l ∷ outer.scopes) t)))
 
 told_append : (told : ChildOutcomes) (is js : List ℕ) → told_members told (is ++ js) ≡ told_members told is ++ told_members told js
 told_append told [] js = refl
@@ -286,11 +319,11 @@ told_append told (i ∷ is) js = ap (λ (ms : List Member). record { end = (told
 -- children of a nursery count by number as they did by their results
 pub finish_children : (fs : List Frame) (m : Mode) (told : ChildOutcomes) (children more : List ℕ) (here : Here) (l : Level Label) (outer : Stack)
     (r : Result) →
-    finish m told (in_nursery (children ++ more) ∷ fs) here (l ∷ outer) r
-    ≡ finish m told (in_nursery children ∷ fs) here (l ∷ outer) (record r { members = told_members told more ++ r.members })
+    finish m told (in_nursery (children ++ more) ∷ fs) here (scope_over l outer) r
+    ≡ finish m told (in_nursery children ∷ fs) here (scope_over l outer) (record r { members = told_members told more ++ r.members })
 unfolding finish with_sign
 finish_children fs m told children more here l outer r =
-    ap (λ (ms : List Member). finish m told fs here outer (block_left here.clock a_nursery l outer
+    ap (λ (ms : List Member). finish m told fs here outer (block_left here.clock a_nursery l outer.scopes
     (nursery_result here.clock l.label (record {
       end = r.end;
       own = [];
@@ -309,24 +342,24 @@ just_started told more a t = record { end = t.at; own = t.own; exc = None; membe
 -- after children were started, the body's steps continue with these among the nursery's, after the log so far
 pub finish_started : (fs : List Frame) (m : Mode) (told : ChildOutcomes) (ss : Steps) (children more : List ℕ) (here : Here) (l : Level Label)
     (outer : Stack) (t : Now) (a : Log) →
-    finish m told (steps_left ss ∷ in_nursery children ∷ fs) here (l ∷ outer) (just_started told more a t)
-    ≡ after a (finish m told (steps_left ss ∷ in_nursery (children ++ more) ∷ fs) here (l ∷ outer) (done_at t))
+    finish m told (steps_left ss ∷ in_nursery children ∷ fs) here (scope_over l outer) (just_started told more a t)
+    ≡ after a (finish m told (steps_left ss ∷ in_nursery (children ++ more) ∷ fs) here (scope_over l outer) (done_at t))
 unfolding finish and_then
 finish_started fs m told ss children more here l outer t a =
-    sym (finish_children fs m told children more here l outer (after a (walk m ss (inside fs here) (l ∷ outer) t)))
-    ∙ finish_after (in_nursery (children ++ more) ∷ fs) a m told here (l ∷ outer) (walk m ss (inside fs here) (l ∷ outer) t)
+    sym (finish_children fs m told children more here l outer (after a (walk m ss (inside fs here) (scope_over l outer) t)))
+    ∙ finish_after (in_nursery (children ++ more) ∷ fs) a m told here (scope_over l outer) (walk m ss (inside fs here) (scope_over l outer) t)
 
 -- a child is started
 pub finish_start : (fs : List Frame) (m : Mode) (told : ChildOutcomes) (i : ℕ) (name : List ℕ) (body ss : Steps) (children : List ℕ) (here : Here)
     (l : Level Label) (outer : Stack) (t : Now) →
-    told i ≡ with_sign (l ∷ outer) (walk m body (here_in (label_here name (inside fs here)) here.part here) (l ∷ outer) (only_at (a_round_after here.clock t.at))) →
-    finish m told (steps_left (step (start name None body) ss) ∷ in_nursery children ∷ fs) here (l ∷ outer) (done_at t)
+    told i ≡ with_sign (scope_over l outer) (walk m body (here_in (label_here name (inside fs here)) here.part here) (scope_over l outer) (only_at (a_round_after here.clock t.at))) →
+    finish m told (steps_left (step (start name None body) ss) ∷ in_nursery children ∷ fs) here (scope_over l outer) (done_at t)
     ≡ after (fill told (starts i (label_here name (inside fs here)) (a_round_after here.clock t.at) ∷ []))
-    (finish m told (steps_left ss ∷ in_nursery (children ++ i ∷ []) ∷ fs) here (l ∷ outer) (done_at t))
+    (finish m told (steps_left ss ∷ in_nursery (children ++ i ∷ []) ∷ fs) here (scope_over l outer) (done_at t))
 unfolding walk child
 finish_start fs m told i name body ss children here l outer t e =
-    finish_step (in_nursery children ∷ fs) m told (start name None body) ss here (l ∷ outer) t
-    ∙ (ap (λ (r : Result). finish m told (steps_left ss ∷ in_nursery children ∷ fs) here (l ∷ outer)
+    finish_step (in_nursery children ∷ fs) m told (start name None body) ss here (scope_over l outer) t
+    ∙ (ap (λ (r : Result). finish m told (steps_left ss ∷ in_nursery children ∷ fs) here (scope_over l outer)
     (child (label_here name (inside fs here)) (a_round_after here.clock t.at) r t)) (sym e)
     ∙ finish_started fs m told ss children (i ∷ []) here l outer t
     (fill told (starts i (label_here name (inside fs here)) (a_round_after here.clock t.at) ∷ [])))
@@ -341,7 +374,7 @@ fill_append told (starts i l t ∷ es) others =
     ap (λ (x : Log). task l t (told i).end (told i).exc (told i).log x) (fill_append told es others)
 
 -- the children of a `start .. over`, by their numbers
-each_started : (told : ChildOutcomes) (name : List ℕ) (here : Here) (begins : ℕ) (t : Now) (first k : ℕ) (go : ℕ → Result) →
+pub each_started : (told : ChildOutcomes) (name : List ℕ) (here : Here) (begins : ℕ) (t : Now) (first k : ℕ) (go : ℕ → Result) →
     ((i : ℕ) → i < k → told (first + i) ≡ go i) →
     each k (λ i. child (label_over name here i) begins (go i) t) t ≡ just_started told (consecutive first k)
     (fill told (starts_over name here begins first k)) t
@@ -365,15 +398,15 @@ each_started told name here begins t first (suc k) go h =
 -- the children of a `start .. over` are started
 pub finish_start_over : (fs : List Frame) (m : Mode) (told : ChildOutcomes) (first k : ℕ) (name : List ℕ) (body ss : Steps) (children : List ℕ)
     (here : Here) (l : Level Label) (outer : Stack) (t : Now) →
-    ((i : ℕ) → i < k → told (first + i) ≡ with_sign (l ∷ outer) (walk m body
-    (here_in (label_over name (inside fs here) i) (cut_of here.input here.part k i) here) (l ∷ outer) (only_at (a_round_after here.clock t.at)))) →
-    finish m told (steps_left (step (start name (Some k) body) ss) ∷ in_nursery children ∷ fs) here (l ∷ outer) (done_at t)
+    ((i : ℕ) → i < k → told (first + i) ≡ with_sign (scope_over l outer) (walk m body
+    (here_in (label_over name (inside fs here) i) (cut_of here.input here.part k i) here) (scope_over l outer) (only_at (a_round_after here.clock t.at)))) →
+    finish m told (steps_left (step (start name (Some k) body) ss) ∷ in_nursery children ∷ fs) here (scope_over l outer) (done_at t)
     ≡ after (fill told (starts_over name (inside fs here) (a_round_after here.clock t.at) first k))
-    (finish m told (steps_left ss ∷ in_nursery (children ++ consecutive first k) ∷ fs) here (l ∷ outer) (done_at t))
+    (finish m told (steps_left ss ∷ in_nursery (children ++ consecutive first k) ∷ fs) here (scope_over l outer) (done_at t))
 unfolding walk
 finish_start_over fs m told first k name body ss children here l outer t h =
-    finish_step (in_nursery children ∷ fs) m told (start name (Some k) body) ss here (l ∷ outer) t
-    ∙ (ap (λ (r : Result). finish m told (steps_left ss ∷ in_nursery children ∷ fs) here (l ∷ outer) r)
-    (each_started told name (inside fs here) (a_round_after here.clock t.at) t first k (λ i. with_sign (l ∷ outer)
-    (walk m body (here_in (label_over name (inside fs here) i) (cut_of here.input here.part k i) here) (l ∷ outer) (only_at (a_round_after here.clock t.at)))) h)
+    finish_step (in_nursery children ∷ fs) m told (start name (Some k) body) ss here (scope_over l outer) t
+    ∙ (ap (λ (r : Result). finish m told (steps_left ss ∷ in_nursery children ∷ fs) here (scope_over l outer) r)
+    (each_started told name (inside fs here) (a_round_after here.clock t.at) t first k (λ i. with_sign (scope_over l outer)
+    (walk m body (here_in (label_over name (inside fs here) i) (cut_of here.input here.part k i) here) (scope_over l outer) (only_at (a_round_after here.clock t.at)))) h)
     ∙ finish_started fs m told ss children (consecutive first k) here l outer t (fill told (starts_over name (inside fs here) (a_round_after here.clock t.at) first k)))

@@ -1,15 +1,15 @@
 -- A walk ends no earlier than it starts, and all that it notes has a tick from its start on.
-use Rattle.std.proofs.Common.{◌≡◌, ℕ, zero, suc, ◌≤◌, max, Bool, true, false, Option, Some, None, List, [], ◌∷◌, refl, sym, subst, arith, nat_le, if◌then◌else◌}
+use Rattle.std.proofs.Common.{◌≡◌, ℕ, zero, suc, ◌≤◌, max, Bool, true, false, Option, Some, None, List, [], ◌∷◌, refl, sym, subst, arith, nat_le, nat_lt, if◌then◌else◌}
 use Rattle.std.proofs.lemmas.Bool.Decides.{nat_tests}
-use Rattle.job_tree.specs.Tree.{Step, sleep, checkpoint, forever, pace, find, head, longest, need, raise, cancel, scope, nursery, start, repeat, attempt, Steps, stop, step, Handled, unhandled, except, Cleaned, uncleaned, finally}
+use Rattle.job_tree.specs.Tree.{Step, sleep, checkpoint, forever, pace, find, head, longest, need, raise, cancel, set_event, wait_for, scope, nursery, event, start, repeat, attempt, Steps, stop, step, Handled, unhandled, except, Cleaned, uncleaned, finally}
 use Rattle.buffer_parts.specs.Lines.{Span}
 use Rattle.exc_groups.specs.Exceptions.{Label, Exc, cancelled}
 use Rattle.exc_groups.specs.Split.{Wanted, keep, drop}
-use Rattle.cancel_scopes.specs.Sight.{Tick, sight}
+use Rattle.cancel_scopes.specs.Sight.{Tick, Level, sight}
 use Rattle.job_meaning.specs.Log.{Log, nil, entry, sign, entered, task, followed_by, Member, Result}
 use Rattle.job_meaning.specs.Moments.{Clock, a_round_after, wakes_at, gives_up_at, Now, only_at}
 use Rattle.job_meaning.proofs.MomentLemmas.{round_after, wakes_after, gives_up_after}
-use Rattle.job_meaning.specs.Walk.{Stack, Mode, Here, walk, walk_step, walk_handler, walk_cleanup, done_at, raised_at, now_of, in_sequence, and_then, then_if, wait_by_sight, sleep_result, pace_result, log_of_lines, lines_result, raise_result, need_result, cancel_result, Kind, from_of, block, with_sign, sign_if, home_of, latest, nursery_result, child, each, passes, handler_result, handler_for, handler_if_any, cleanup_result}
+use Rattle.job_meaning.specs.Walk.{Stack, Mode, Here, walk, walk_step, walk_handler, walk_cleanup, done_at, raised_at, now_of, in_sequence, and_then, then_if, wait_by_sight, sleep_result, pace_result, wait_until, set_moment, wait_by, with_line_if, with_line, event_wait, log_of_lines, lines_result, raise_result, need_result, cancel_result, set_result, Kind, from_of, block, event_block, with_sign, sign_if, home_of, latest, nursery_result, child, each, passes, handler_result, handler_for, handler_if_any, cleanup_result}
 
 -- all that is in a log is at tick t or later
 abbrev pub Timed : ℕ → Log → Type 0
@@ -94,12 +94,45 @@ late_waited (Some from) least gives_up end t lo mid hi = by_now (nat_le from lea
 pub late_sleeping : (clock : Clock) (st : Stack) (n t : ℕ) → Late t (sleep_result clock st n t)
 unfolding sleep_result
 late_sleeping clock st n t =
-    late_waited (sight st) (a_round_after clock t) (gives_up_at clock n t) (wakes_at clock n t) t (round_after clock t) (gives_up_after clock n t) (wakes_after clock n t)
+    late_waited (sight st.scopes) (a_round_after clock t) (gives_up_at clock n t) (wakes_at clock n t) t (round_after clock t) (gives_up_after clock n t) (wakes_after clock n t)
 
 pub late_pacing : (clock : Clock) (st : Stack) (n t : ℕ) → Late t (pace_result clock st n t)
 unfolding pace_result
 late_pacing clock st n t =
-    late_waited (sight st) (a_round_after clock t) (a_round_after clock t) (wakes_at clock n t) t (round_after clock t) (omega arith) (wakes_after clock n t)
+    late_waited (sight st.scopes) (a_round_after clock t) (a_round_after clock t) (wakes_at clock n t) t (round_after clock t) (omega arith) (wakes_after clock n t)
+
+-- so is a wait that ends in a later moment, or with a cancellation
+pub late_until : (a : Tick) (least end t : ℕ) → t ≤ least → t ≤ end → Late t (wait_until a least end)
+late_until None least end t lo hi = late_done t (only_at end) hi
+late_until (Some from) least end t lo hi = by_order (nat_lt from end)
+  where
+    by_order : (b : Bool) → Late t (if b then raised_at cancelled (only_at (max least from)) else done_at (only_at end))
+    by_order true = late_raised cancelled t (only_at (max least from)) (omega arith)
+    by_order false = late_done t (only_at end) hi
+
+-- a wait for what is set in a moment is late
+pub late_set : (clock : Clock) (st : Stack) (set t : ℕ) → Late t (wait_by clock st set t)
+late_set clock st set t = by_round (nat_le set (a_round_after clock t)) refl
+  where
+    by_round : (b : Bool) → nat_le set (a_round_after clock t) ≡ b →
+        Late t (if b then sleep_result clock st 0 t else wait_until (sight st.scopes) (a_round_after clock t) set)
+    by_round true e = late_sleeping clock st 0 t
+    by_round false e =
+        late_until (sight st.scopes) (a_round_after clock t) set t (round_after clock t) (grind (arith, nat_tests, round_after clock t))
+
+-- a line that is noted at the end is late
+pub late_lined : (t : ℕ) (label : Label) (r : Result) → Late t r → Late t (with_line label r)
+late_lined t label r h = by_exc r.exc
+  where
+    by_exc : (o : Option Exc) → Late t (with_line_if o label r)
+    by_exc None = record { ends = h.ends; timed = (h.ends, tt) }
+    by_exc (Some e) = h
+
+-- a wait for an event is late
+pub late_awaiting : (clock : Clock) (st : Stack) (level : Option (Level Label)) (t : Now) → Late t.at (event_wait clock st level t)
+unfolding event_wait
+late_awaiting clock st None t = late_done t.at t (omega arith)
+late_awaiting clock st (Some l) t = late_lined t.at l.label _ (late_set clock st (set_moment clock l.from t.at) t.at)
 
 -- what is noted of lines in a tick has no earlier tick
 pub timed_lines : (ls : List Span) (t : ℕ) → Timed t (log_of_lines t ls)
@@ -128,6 +161,12 @@ unfolding cancel_result
 late_cancelling clock None t = record { ends = omega arith; timed = tt }
 late_cancelling clock (Some l) t = record { ends = omega arith; timed = (omega arith, tt) }
 
+-- so is a `set`
+pub late_setting : (clock : Clock) (label : Option Label) (t : Now) → Late t.at (set_result clock label t)
+unfolding set_result
+late_setting clock None t = record { ends = omega arith; timed = tt }
+late_setting clock (Some l) t = record { ends = omega arith; timed = (omega arith, tt) }
+
 -- a scope or nursery is late where its inside is, whatever its from
 pub late_block : (clock : Clock) (m : Mode) (kind : Kind) (label : Label) (t : ℕ) (d : Tick) (shield : Bool) (st : Stack) (inside : Tick → Result) →
     ((from : Tick) → Late t (inside from)) → Late t (block clock m kind label t d shield st inside)
@@ -143,11 +182,19 @@ late_block clock m kind label t d shield st inside h =
       );
     }
 
+-- so is an event
+pub late_event : (m : Mode) (label : Label) (t : ℕ) (inside : Tick → Result) → ((from : Tick) → Late t (inside from)) →
+    Late t (event_block m label t inside)
+unfolding event_block
+late_event m label t inside h =
+    let inner : Late t (inside (from_of m label None inside)) = h (from_of m label None inside) in
+    record { ends = inner.ends; timed = (omega arith, inner.timed) }
+
 -- a late member is late with its sign too
 pub late_signed : (t : ℕ) (st : Stack) (r : Result) → Late t r → Late t (with_sign st r)
 unfolding with_sign
 late_signed t st r h =
-    record { ends = h.ends; timed = timed_followed t r.log (sign_if r.exc (home_of st) r.end) h.timed (timed_sign r.exc (home_of st)) }
+    record { ends = h.ends; timed = timed_followed t r.log (sign_if r.exc (home_of st.scopes) r.end) h.timed (timed_sign r.exc (home_of st.scopes)) }
   where
     le : t ≤ r.end
     le = h.ends
@@ -243,10 +290,13 @@ mutual
   late_step m (need text name) here st t = late_needing _ name here t
   late_step m (raise name) here st t = late_raising name here t
   late_step m (cancel name) here st t = late_cancelling here.clock _ t
+  late_step m (set_event name) here st t = late_setting here.clock _ t
+  late_step m (wait_for name) here st t = late_awaiting here.clock st _ t
   late_step m (scope name d shield fail body) here st t =
       late_block here.clock m _ _ t.at _ shield st _ (λ from. late m body here _ t)
   late_step m (nursery name d shield body) here st t =
       late_block here.clock m _ _ t.at _ shield st _ (λ from. late_gathered here.clock t.at _ _ (late_signed t.at _ _ (late m body here _ t)))
+  late_step m (event name body) here st t = late_event m _ t.at _ (λ from. late m body here _ t)
   late_step m (start name None body) here st t =
       late_child _ (a_round_after here.clock t.at) _ t (round_after here.clock t.at) (late_signed _ st _ (late m body _ st (only_at (a_round_after here.clock t.at))))
   late_step m (start name (Some k) body) here st t =

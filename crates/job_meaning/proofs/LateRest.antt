@@ -3,20 +3,25 @@ use Rattle.std.proofs.Common.{ℕ, suc, ◌≤◌, Option, List, [], ◌∷◌, 
 use Rattle.exc_groups.specs.Exceptions.{Label, Exc}
 use Rattle.cancel_scopes.specs.Sight.{Level, catches}
 use Rattle.job_meaning.specs.Log.{entry, nil, Member, Result}
-use Rattle.job_meaning.specs.Moments.{Clock, a_round_after}
+use Rattle.job_meaning.specs.Moments.{Clock, a_round_after, Now}
 use Rattle.job_meaning.proofs.MomentLemmas.{round_after}
-use Rattle.job_meaning.specs.Walk.{Stack, Mode, Here, walk, in_pass, from_for, stack_for, Kind, a_scope, a_nursery, left_as, left_with, latest, nursery_result, with_sign, with_outcome, handler_exc, outcome_after}
-use Rattle.job_meaning.specs.Rest.{ChildOutcomes, told_members, Frame, steps_left, in_scope, in_nursery, in_repeat, in_try, in_handler, in_cleanup, inside, block_left, with_children, wait_result, finish}
+use Rattle.job_meaning.specs.Walk.{Levels, Stack, Mode, Here, walk, in_pass, from_for, stack_for, Kind, a_scope, a_nursery, left_as, left_with, latest, nursery_result, with_sign, with_outcome, handler_exc, outcome_after}
+use Rattle.job_meaning.specs.Rest.{ChildOutcomes, told_members, Frame, steps_left, in_scope, in_event, in_nursery, in_repeat, in_try, in_handler, in_cleanup, inside, block_left, left_if, without_scope, without_event, with_children, wait_result, finish}
 use Rattle.job_meaning.proofs.Late.{Late, late, late_and_then, late_passes, late_handler, late_cleanup, late_signed, late_gathered, timed_followed}
 
 -- a block that is left ends with what was in it
-pub late_left : (t : ℕ) (clock : Clock) (kind : Kind) (l : Level Label) (outer : Stack) (r : Result) → Late t r → Late t (block_left clock kind l outer r)
+pub late_left : (t : ℕ) (clock : Clock) (kind : Kind) (l : Level Label) (outer : Levels) (r : Result) → Late t r → Late t (block_left clock kind l outer r)
 late_left t clock kind l outer r h =
     record {
       ends = h.ends;
       timed = timed_followed t r.log (entry r.end (left_as kind l.label (left_with (catches (from_for r.own r.end l.label l.from) l.shield (stack_for r.own r.end outer) r.end) r.exc).caught) nil)
           h.timed (h.ends, tt);
     }
+
+late_left_if : (t : ℕ) (clock : Clock) (kind : Kind) (ls : Levels) (go : Level Label → Result) (r : Result) → ((l : Level Label) → Late t (go l)) →
+    Late t r → Late t (left_if clock kind ls go r)
+late_left_if t clock kind [] go r k h = h
+late_left_if t clock kind (l ∷ outer) go r k h = late_left t clock kind l outer (go l) (k l)
 
 late_with_outcome : (t : ℕ) (o : Option Exc) (r : Result) → Late t r → Late t (with_outcome o r)
 late_with_outcome t o r h = record { ends = h.ends; timed = h.timed }
@@ -28,16 +33,16 @@ unfolding finish nursery_result
 late_finish [] t m told here st r h = late_signed t st r h
 late_finish (steps_left ss ∷ fs) t m told here st r h =
     late_finish fs t m told here st _ (late_and_then t r (λ u. walk m ss (inside fs here) st u) h (λ u. late m ss (inside fs here) st u))
-late_finish (in_scope fail ∷ fs) t m told here [] r h = late_finish fs t m told here [] r h
-late_finish (in_scope fail ∷ fs) t m told here (l ∷ outer) r h =
-    late_finish fs t m told here outer _ (late_left t here.clock (a_scope fail) l outer r h)
-late_finish (in_nursery children ∷ fs) t m told here [] r h = late_finish fs t m told here [] r h
-late_finish (in_nursery children ∷ fs) t m told here (l ∷ outer) r h =
-    late_finish fs t m told here outer _
-    (late_left t here.clock a_nursery l outer _ (late_gathered here.clock t l.label (with_children (told_members told children) (with_sign (l ∷ outer) r))
-    (late_children (late_signed t (l ∷ outer) r h))))
+late_finish (in_scope fail ∷ fs) t m told here st r h =
+    late_finish fs t m told here (without_scope st) _ (late_left_if t here.clock (a_scope fail) st.scopes (λ l. r) r (λ l. h) h)
+late_finish (in_event ∷ fs) t m told here st r h = late_finish fs t m told here (without_event st) r h
+late_finish (in_nursery children ∷ fs) t m told here st r h =
+    late_finish fs t m told here (without_scope st) _
+    (late_left_if t here.clock a_nursery st.scopes _ r
+    (λ l. late_gathered here.clock t l.label (with_children (told_members told children) (with_sign st r)) (late_children (late_signed t st r h)))
+    h)
   where
-    late_children : Late t (with_sign (l ∷ outer) r) → Late t (with_children (told_members told children) (with_sign (l ∷ outer) r))
+    late_children : Late t (with_sign st r) → Late t (with_children (told_members told children) (with_sign st r))
     late_children k = record { ends = k.ends; timed = k.timed }
 late_finish (in_repeat pass left body ∷ fs) t m told here st r h =
     late_finish fs t m told here st _ (late_and_then t r _ h
@@ -50,10 +55,10 @@ late_finish (in_cleanup outcome ∷ fs) t m told here st r h =
     late_finish fs t m told here st _ (late_with_outcome t (outcome_after outcome r.exc) r h)
 
 -- a task that waits for children that end at moment t or later is as late
-pub late_waited : (clock : Clock) (t : ℕ) (ms : List Member) (u : ℕ) (exc : Option Exc) (l : Level Label) (outer : Stack) → t ≤ latest u ms →
-    Late t (wait_result clock ms u exc l outer)
+pub late_waited : (clock : Clock) (t : ℕ) (ms : List Member) (u : ℕ) (exc : Option Exc) (l : Level Label) (outer : Levels) (now : Now) → t ≤ latest u ms →
+    Late t (wait_result clock ms u exc (l ∷ outer) now)
 unfolding nursery_result
-late_waited clock t ms u exc l outer h =
+late_waited clock t ms u exc l outer now h =
     let left : latest u ms ≤ a_round_after clock (latest u ms) = round_after clock (latest u ms) in
     late_left t clock a_nursery l outer (nursery_result clock l.label (record { end = u; own = []; exc = exc; members = ms; log = nil }))
     (record { ends = omega arith; timed = tt })

@@ -1,16 +1,16 @@
--- Where names are given once, no label of a scope, nursery or task is given twice. It holds in both modes.
-use Rattle.std.proofs.Common.{◌≡◌, ℕ, zero, suc, ◌+◌, ◌<◌, ◌≤◌, Bool, true, false, Option, Some, None, List, [], ◌∷◌, ◌++◌, refl, subst, ◌⊎◌, inl, inr, arith, nat_le, if◌then◌else◌}
+-- Where names are given once, no label of a scope, nursery, event or task is given twice. It holds in both modes.
+use Rattle.std.proofs.Common.{◌≡◌, ℕ, zero, suc, ◌+◌, ◌<◌, ◌≤◌, Bool, true, false, Option, Some, None, List, [], ◌∷◌, ◌++◌, refl, subst, ◌⊎◌, inl, inr, arith, max, nat_le, nat_lt, if◌then◌else◌}
 use Rattle.std.proofs.lemmas.Bool.{cases_lt}
-use Rattle.job_tree.specs.Tree.{Step, sleep, checkpoint, forever, pace, find, head, longest, need, raise, cancel, scope, nursery, start, repeat, attempt, Steps, stop, step, Handled, unhandled, except, Cleaned, uncleaned, finally, Tree}
+use Rattle.job_tree.specs.Tree.{Step, sleep, checkpoint, forever, pace, find, head, longest, need, raise, cancel, set_event, wait_for, scope, nursery, event, start, repeat, attempt, Steps, stop, step, Handled, unhandled, except, Cleaned, uncleaned, finally, Tree}
 use Rattle.job_tree.specs.Names.{names_of, names_in, handled_names, cleaned_names, GivesNamesOnce}
 use Rattle.buffer_parts.specs.Lines.{Span}
 use Rattle.buffer_parts.specs.Cuts.{cut_of}
 use Rattle.exc_groups.specs.Exceptions.{Label, Exc, cancelled}
 use Rattle.exc_groups.specs.Split.{Wanted, keep, drop}
-use Rattle.cancel_scopes.specs.Sight.{Tick, sight}
+use Rattle.cancel_scopes.specs.Sight.{Tick, Level, sight}
 use Rattle.job_meaning.specs.Log.{Log, nil, entry, sign, entered, task, followed_by, Result, same_label, times_entered, times_given}
 use Rattle.job_meaning.specs.Moments.{Clock, a_round_after, Now, only_at}
-use Rattle.job_meaning.specs.Walk.{Stack, Mode, Here, walk, walk_step, walk_handler, walk_cleanup, done_at, raised_at, now_of, in_sequence, and_then, then_if, wait_by_sight, sleep_result, pace_result, log_of_lines, lines_result, raise_result, need_result, sign_of, cancel_result, Kind, from_of, block, exit_with_from, stack_inside, with_sign, sign_if, home_of, nursery_result, child, each, passes, handler_result, handler_for, handler_if_any, cleanup_result, label_here, label_over, here_in, in_pass}
+use Rattle.job_meaning.specs.Walk.{Stack, no_stack, Mode, Here, walk, walk_step, walk_handler, walk_cleanup, done_at, raised_at, now_of, in_sequence, and_then, then_if, wait_by_sight, sleep_result, pace_result, wait_until, set_moment, wait_by, with_line_if, with_line, event_wait, log_of_lines, lines_result, raise_result, need_result, sign_of, cancel_result, set_result, Kind, from_of, block, event_block, stack_in_event, exit_with_from, stack_inside, with_sign, sign_if, home_of, nursery_result, child, each, passes, handler_result, handler_for, handler_if_any, cleanup_result, label_here, label_over, here_in, in_pass}
 use Rattle.job_meaning.specs.Meaning.{root_walk, root_here, root_label, root_log}
 use Rattle.job_meaning.proofs.Distinct.{Distinct, distinct_left, distinct_right, distinct_apart, distinct_by_bytes, same_label_equal, Belongs, after_other}
 use Rattle.job_meaning.proofs.Touched.{Gives, gives_followed}
@@ -82,11 +82,38 @@ unique_waited (Some from) least gives_up end = by_now (nat_le from least) (nat_l
 
 unique_sleeping : (clock : Clock) (st : Stack) (n t : ℕ) → Unique (sleep_result clock st n t)
 unfolding sleep_result
-unique_sleeping clock st n t = unique_waited (sight st) _ _ _
+unique_sleeping clock st n t = unique_waited (sight st.scopes) _ _ _
 
 unique_pacing : (clock : Clock) (st : Stack) (n t : ℕ) → Unique (pace_result clock st n t)
 unfolding pace_result
-unique_pacing clock st n t = unique_waited (sight st) _ _ _
+unique_pacing clock st n t = unique_waited (sight st.scopes) _ _ _
+
+unique_until : (a : Tick) (least end : ℕ) → Unique (wait_until a least end)
+unique_until None least end = unique_done (only_at end)
+unique_until (Some from) least end = by_order (nat_lt from end)
+  where
+    by_order : (b : Bool) → Unique (if b then raised_at cancelled (only_at (max least from)) else done_at (only_at end))
+    by_order true = record { once = tt }
+    by_order false = record { once = tt }
+
+unique_set : (clock : Clock) (st : Stack) (set t : ℕ) → Unique (wait_by clock st set t)
+unique_set clock st set t = by_round (nat_le set (a_round_after clock t))
+  where
+    by_round : (b : Bool) → Unique (if b then sleep_result clock st 0 t else wait_until (sight st.scopes) (a_round_after clock t) set)
+    by_round true = unique_sleeping clock st 0 t
+    by_round false = unique_until (sight st.scopes) (a_round_after clock t) set
+
+unique_lined : (label : Label) (r : Result) → Unique r → Unique (with_line label r)
+unique_lined label r h = by_exc r.exc
+  where
+    by_exc : (o : Option Exc) → Unique (with_line_if o label r)
+    by_exc None = record { once = tt }
+    by_exc (Some e) = h
+
+unique_awaiting : (clock : Clock) (st : Stack) (level : Option (Level Label)) (t : Now) → Unique (event_wait clock st level t)
+unfolding event_wait
+unique_awaiting clock st None t = unique_done t
+unique_awaiting clock st (Some l) t = unique_lined l.label _ (unique_set clock st (set_moment clock l.from t.at) t.at)
 
 once_lines : (ls : List Span) (t : ℕ) → GivesOnce (log_of_lines t ls)
 once_lines [] t = tt
@@ -113,6 +140,10 @@ unique_cancelling : (clock : Clock) (o : Option Label) (t : Now) → Unique (can
 unfolding cancel_result
 unique_cancelling clock o t = record { once = once_sign o t.at }
 
+unique_setting : (clock : Clock) (o : Option Label) (t : Now) → Unique (set_result clock o t)
+unfolding set_result
+unique_setting clock o t = record { once = once_sign o t.at }
+
 unique_block : (clock : Clock) (m : Mode) (kind : Kind) (label : Label) (t : ℕ) (d : Tick) (shield : Bool) (st : Stack) (inside : Tick → Result) →
     ((f : Tick) → Unique (inside f)) → ((f : Tick) → Gives label (inside f).log → ⊥) → Unique (block clock m kind label t d shield st inside)
 unfolding block
@@ -131,16 +162,22 @@ unique_block clock m kind label t d shield st inside h own = at_from (from_of m 
         not_there (inl i) = own f i
         not_there (inr i) = i
 
+unique_event : (m : Mode) (label : Label) (t : ℕ) (inside : Tick → Result) → ((f : Tick) → Unique (inside f)) →
+    ((f : Tick) → Gives label (inside f).log → ⊥) → Unique (event_block m label t inside)
+unfolding event_block
+unique_event m label t inside h own =
+    record { once = (own (from_of m label None inside), (h (from_of m label None inside)).once) }
+
 unique_signed : (st : Stack) (r : Result) → Unique r → Unique (with_sign st r)
 unfolding with_sign
 unique_signed st r h =
     record {
-      once = once_followed r.log (sign_if r.exc (home_of st) r.end) h.once (once_home r.exc) (λ l i j. gives_home st r.exc r.end l j);
+      once = once_followed r.log (sign_if r.exc (home_of st.scopes) r.end) h.once (once_home r.exc) (λ l i j. gives_home st r.exc r.end l j);
     }
   where
-    once_home : (o : Option Exc) → GivesOnce (sign_if o (home_of st) r.end)
+    once_home : (o : Option Exc) → GivesOnce (sign_if o (home_of st.scopes) r.end)
     once_home None = tt
-    once_home (Some e) = once_sign (home_of st) r.end
+    once_home (Some e) = once_sign (home_of st.scopes) r.end
 
 unique_gathered : (clock : Clock) (label : Label) (r : Result) → Unique r → Unique (nursery_result clock label r)
 unfolding nursery_result
@@ -254,6 +291,8 @@ mutual
   unique_step m (need text name) here st t distinct = unique_needing _ name here t
   unique_step m (raise name) here st t distinct = unique_raising name here t
   unique_step m (cancel name) here st t distinct = unique_cancelling here.clock _ t
+  unique_step m (set_event name) here st t distinct = unique_setting here.clock _ t
+  unique_step m (wait_for name) here st t distinct = unique_awaiting here.clock st _ t
   unique_step m (scope name d shield fail body) here st t distinct =
       unique_block here.clock m _ (label_here name here) t.at _ shield st _
       (λ f. unique m body here _ t distinct.1)
@@ -265,6 +304,10 @@ mutual
       ((tidy_gathered here.clock (stack_inside (label_here name here) shield f st) (Belongs (names_of body) here.path) (label_here name here) _
       (tidy_signed (stack_inside (label_here name here) shield f st) _ _ (tidy m body here (stack_inside (label_here name here) shield f st) t))).gives
       _ i).named)
+  unique_step m (event name body) here st t distinct =
+      unique_event m (label_here name here) t.at _
+      (λ f. unique m body here _ t distinct.1)
+      (λ f i. distinct.0 ((tidy m body here (stack_in_event (label_here name here) f st) t).gives _ i).named)
   unique_step m (start name None body) here st t distinct =
       unique_child _ (a_round_after here.clock t.at) _ t
       (λ i. distinct.0 ((tidy_signed st _ _ (tidy m body (here_in (label_here name here) here.part here) st (only_at (a_round_after here.clock t.at)))).gives _ i).named)
@@ -386,14 +429,14 @@ entered_given l (sign m t rest) = entered_given l rest
 entered_given l (entered m t d rest) = let h = entered_given l rest in omega arith
 entered_given l (task m s u e own rest) = let h = entered_given l own in let k = entered_given l rest in omega arith
 
--- so no label of a scope or nursery is entered twice either
+-- so no label of a scope, nursery or event is entered twice either
 pub enters_once : (l : Label) (a : Log) → GivesOnce a → times_entered l a ≤ 1
 enters_once l a h = let i = entered_given l a in let j = times_once l a h in omega arith
 
 -- no label is given twice in a walk of a job whose names are given once
 pub job_gives_once : (m : Mode) (job : Tree) (input : List ℕ) → GivesNamesOnce job → GivesOnce (root_walk m job input).log
 job_gives_once m job input once =
-    (unique m job.steps (root_here job input) [] (only_at 0) (distinct_by_bytes (job.name ∷ names_of job.steps) once).1).once
+    (unique m job.steps (root_here job input) no_stack (only_at 0) (distinct_by_bytes (job.name ∷ names_of job.steps) once).1).once
 
 -- nor with the root, whose label is the job's name
 pub labels_once : (m : Mode) (job : Tree) (input : List ℕ) → GivesNamesOnce job → (l : Label) →
@@ -404,5 +447,5 @@ labels_once m job input once l = times_once l (root_log job (root_walk m job inp
     distinct = distinct_by_bytes (job.name ∷ names_of job.steps) once
 
     none : Gives (root_label job.name) (root_walk m job input).log ⊎ ⊥ → ⊥
-    none (inl i) = distinct.0 ((tidy m job.steps (root_here job input) [] (only_at 0)).gives (root_label job.name) i).named
+    none (inl i) = distinct.0 ((tidy m job.steps (root_here job input) no_stack (only_at 0)).gives (root_label job.name) i).named
     none (inr j) = j

@@ -1,15 +1,15 @@
 -- A walk by ticks whose exception holds a `Cancelled` ends in a tick at which its stack is seen.
-use Rattle.std.proofs.Common.{◌≡◌, ℕ, zero, suc, ◌+◌, ◌≤◌, max, Bool, true, false, ◌||◌, ◌&&◌, not, Option, Some, None, List, [], ◌∷◌, ◌++◌, refl, sym, ap, ◌∙◌, IsTrue, ◌⊎◌, inl, inr, arith, nat_le, if◌then◌else◌}
+use Rattle.std.proofs.Common.{◌≡◌, ℕ, zero, suc, ◌≤◌, max, Bool, true, false, ◌||◌, ◌&&◌, not, Option, Some, None, List, [], ◌∷◌, ◌++◌, refl, sym, ap, ◌∙◌, IsTrue, ◌⊎◌, inl, inr, arith, nat_le, nat_lt, if◌then◌else◌}
 use Rattle.std.proofs.lemmas.Bool.{false≢true, or_cases}
 use Rattle.std.proofs.lemmas.Bool.Decides.{nat_tests}
-use Rattle.job_tree.specs.Tree.{Step, sleep, checkpoint, forever, pace, find, head, longest, need, raise, cancel, scope, nursery, start, repeat, attempt, Steps, stop, step, Handled, unhandled, except, Cleaned, uncleaned, finally}
+use Rattle.job_tree.specs.Tree.{Step, sleep, checkpoint, forever, pace, find, head, longest, need, raise, cancel, set_event, wait_for, scope, nursery, event, start, repeat, attempt, Steps, stop, step, Handled, unhandled, except, Cleaned, uncleaned, finally}
 use Rattle.buffer_parts.specs.Lines.{Span}
 use Rattle.exc_groups.specs.Exceptions.{Label, Exc, cancelled, hold_cancelled, parts_of, holds_cancelled, by_nursery}
 use Rattle.exc_groups.specs.Split.{Wanted, keep, drop}
-use Rattle.cancel_scopes.specs.Sight.{Tick, sight, seen, is_reached, catches}
+use Rattle.cancel_scopes.specs.Sight.{Tick, Level, sight, seen, is_reached, catches}
 use Rattle.job_meaning.specs.Log.{Member, Result}
 use Rattle.job_meaning.specs.Moments.{Clock, by_ticks, a_round_after, wakes_at, gives_up_at, tick_of, Now, only_at}
-use Rattle.job_meaning.specs.Walk.{Stack, Mode, Here, walk, walk_step, walk_handler, walk_cleanup, done_at, raised_at, now_of, in_sequence, and_then, then_if, wait_by_sight, sleep_result, pace_result, lines_result, raise_result, need_result, with_own, cancel_result, from_for, stack_for, Kind, from_of, block, stack_inside, left_with, exc_after, with_sign, latest, with_exc, excs_of, nursery_result, child, each, passes, handler_result, handler_for, handler_if_any, handler_exc, cleanup_result, outcome_after}
+use Rattle.job_meaning.specs.Walk.{Levels, Stack, no_stack, Mode, Here, walk, walk_step, walk_handler, walk_cleanup, done_at, raised_at, now_of, in_sequence, and_then, then_if, wait_by_sight, sleep_result, pace_result, wait_until, set_moment, wait_by, with_line_if, with_line, event_wait, lines_result, raise_result, need_result, with_own, cancel_result, set_result, from_for, stack_for, Kind, from_of, block, event_block, stack_inside, stack_in_event, left_with, exc_after, with_sign, latest, with_exc, excs_of, nursery_result, child, each, passes, handler_result, handler_for, handler_if_any, handler_exc, cleanup_result, outcome_after}
 use Rattle.job_meaning.specs.Meaning.{root_walk, root_here}
 use Rattle.job_meaning.specs.Laws.{some_cancelled, CancelledIsSeen, NoneReachesTheRoot}
 use Rattle.job_meaning.proofs.Ticks.{seen_cons, stays_seen}
@@ -18,7 +18,7 @@ use Rattle.job_meaning.proofs.Late.{Late, late, latest_ends}
 use Rattle.job_meaning.proofs.Leaves.{group_holds, with_exc_holds, pruned_holds, left_holds}
 
 -- each member that ended with a `Cancelled` did so in a moment at which its stack is seen
-abbrev pub MembersSeen : Stack → List Member → Type 0
+abbrev pub MembersSeen : Levels → List Member → Type 0
 MembersSeen st [] = Unit {0}
 MembersSeen st (m ∷ ms) = (IsTrue (some_cancelled m.exc) → IsTrue (seen st m.end)) × MembersSeen st ms
 
@@ -26,17 +26,17 @@ MembersSeen st (m ∷ ms) = (IsTrue (some_cancelled m.exc) → IsTrue (seen st m
 -- kept apart.
 pub record Rooted (st : Stack) (r : Result) : Type 0 where
   pub own : r.own ≡ []
-  pub exc : IsTrue (some_cancelled r.exc) → IsTrue (seen st r.end)
-  pub members : MembersSeen st r.members
+  pub exc : IsTrue (some_cancelled r.exc) → IsTrue (seen st.scopes r.end)
+  pub members : MembersSeen st.scopes r.members
 
 -- two lists of members whose `Cancelled` was seen are one such list together
-pub members_append : (st : Stack) (ms ns : List Member) → MembersSeen st ms → MembersSeen st ns → MembersSeen st (ms ++ ns)
+pub members_append : (st : Levels) (ms ns : List Member) → MembersSeen st ms → MembersSeen st ns → MembersSeen st (ms ++ ns)
 members_append st [] ns h k = k
 members_append st (m ∷ ms) ns h k = (h.0, members_append st ms ns h.1 k)
 
 -- one rooted result after another is rooted
 pub root_joined : (st : Stack) (r q : Result) → Rooted st r → Rooted st q → Rooted st (in_sequence r q)
-root_joined st r q h k = record { own = k.own; exc = k.exc; members = members_append st r.members q.members h.members k.members }
+root_joined st r q h k = record { own = k.own; exc = k.exc; members = members_append st.scopes r.members q.members h.members k.members }
 
 -- a rooted walk that continues with rooted ones is rooted as a whole
 pub root_and_then : (st : Stack) (r : Result) (go : Now → Result) → Rooted st r → ((u : Now) → u.own ≡ [] → Rooted st (go u)) →
@@ -53,17 +53,17 @@ pub root_done : (st : Stack) (t : Now) → t.own ≡ [] → Rooted st (done_at t
 root_done st t none = record { own = none; exc = λ h. absurd (false≢true h); members = tt }
 
 -- a wait is cancelled in a moment at which that is seen
-pub root_waited : (st : Stack) (least gives_up end : ℕ) → least ≤ gives_up → Rooted st (wait_by_sight (sight st) least gives_up end)
-root_waited st least gives_up end le = by_sight (sight st) (λ u h. h)
+pub root_waited : (st : Stack) (least gives_up end : ℕ) → least ≤ gives_up → Rooted st (wait_by_sight (sight st.scopes) least gives_up end)
+root_waited st least gives_up end le = by_sight (sight st.scopes) (λ u h. h)
   where
-    by_sight : (a : Tick) → ((u : ℕ) → IsTrue (is_reached a u) → IsTrue (seen st u)) → Rooted st (wait_by_sight a least gives_up end)
+    by_sight : (a : Tick) → ((u : ℕ) → IsTrue (is_reached a u) → IsTrue (seen st.scopes u)) → Rooted st (wait_by_sight a least gives_up end)
     by_sight None sees = root_done st (only_at end) refl
     by_sight (Some from) sees = by_now (nat_le from least) (nat_le from end) (λ h. sees gives_up (grind (arith, nat_tests, le, h)))
       where
-        at_from : IsTrue (seen st from)
+        at_from : IsTrue (seen st.scopes from)
         at_from = sees from (grind (arith, nat_tests))
 
-        by_now : (now due : Bool) → (IsTrue now → IsTrue (seen st gives_up)) →
+        by_now : (now due : Bool) → (IsTrue now → IsTrue (seen st.scopes gives_up)) →
             Rooted st (if now then raised_at cancelled (only_at gives_up) else (if due then raised_at cancelled (only_at from) else
             done_at (only_at end)))
         by_now true due h = record { own = refl; exc = h; members = tt }
@@ -80,6 +80,41 @@ root_sleeping clock st n t =
 pub root_pacing : (clock : Clock) (st : Stack) (n t : ℕ) → Rooted st (pace_result clock st n t)
 unfolding pace_result
 root_pacing clock st n t = root_waited st (a_round_after clock t) (a_round_after clock t) (wakes_at clock n t) (omega arith)
+
+-- a wait that ends in a later moment, or with a cancellation that is seen then
+root_until : (st : Stack) (least end : ℕ) → Rooted st (wait_until (sight st.scopes) least end)
+root_until st least end = by_sight (sight st.scopes) (λ u h. h)
+  where
+    by_sight : (a : Tick) → ((u : ℕ) → IsTrue (is_reached a u) → IsTrue (seen st.scopes u)) → Rooted st (wait_until a least end)
+    by_sight None sees = root_done st (only_at end) refl
+    by_sight (Some from) sees = by_order (nat_lt from end)
+      where
+        at_end : IsTrue (seen st.scopes (max least from))
+        at_end = sees (max least from) (grind (arith, nat_tests))
+
+        by_order : (b : Bool) → Rooted st (if b then raised_at cancelled (only_at (max least from)) else done_at (only_at end))
+        by_order true = record { own = refl; exc = λ k. at_end; members = tt }
+        by_order false = root_done st (only_at end) refl
+
+root_set : (clock : Clock) (st : Stack) (set t : ℕ) → Rooted st (wait_by clock st set t)
+root_set clock st set t = by_round (nat_le set (a_round_after clock t))
+  where
+    by_round : (b : Bool) → Rooted st (if b then sleep_result clock st 0 t else wait_until (sight st.scopes) (a_round_after clock t) set)
+    by_round true = root_sleeping clock st 0 t
+    by_round false = root_until st (a_round_after clock t) set
+
+root_lined : (st : Stack) (label : Label) (r : Result) → Rooted st r → Rooted st (with_line label r)
+root_lined st label r h = by_exc r.exc h.exc
+  where
+    by_exc : (o : Option Exc) → (IsTrue (some_cancelled r.exc) → IsTrue (seen st.scopes r.end)) → Rooted st (with_line_if o label r)
+    by_exc None e = record { own = h.own; exc = e; members = h.members }
+    by_exc (Some x) e = h
+
+-- a wait for an event is rooted
+pub root_awaiting : (clock : Clock) (st : Stack) (level : Option (Level Label)) (t : Now) → t.own ≡ [] → Rooted st (event_wait clock st level t)
+unfolding event_wait
+root_awaiting clock st None t none = root_done st t none
+root_awaiting clock st (Some l) t none = root_lined st l.label _ (root_set clock st (set_moment clock l.from t.at) t.at)
 
 -- lines that are shown are rooted
 pub root_showing : (st : Stack) (ls : List Span) (t : Now) → t.own ≡ [] → Rooted st (lines_result ls t)
@@ -105,23 +140,30 @@ unfolding cancel_result
 root_cancelling clock st label t ticks none =
     record { own = ap (λ (c : Clock). with_own c label t.own) ticks ∙ none; exc = λ h. absurd (false≢true h); members = tt }
 
+-- so is a `set`
+pub root_setting : (clock : Clock) (st : Stack) (label : Option Label) (t : Now) → clock ≡ by_ticks → t.own ≡ [] →
+    Rooted st (set_result clock label t)
+unfolding set_result
+root_setting clock st label t ticks none =
+    record { own = ap (λ (c : Clock). with_own c label t.own) ticks ∙ none; exc = λ h. absurd (false≢true h); members = tt }
+
 -- a task that has cancelled nothing sees its stack as it is
-stack_for_none : (t : ℕ) (st : Stack) → stack_for [] t st ≡ st
+stack_for_none : (t : ℕ) (st : Levels) → stack_for [] t st ≡ st
 stack_for_none t [] = refl
-stack_for_none t (l ∷ ls) = ap (λ (rest : Stack). l ∷ rest) (stack_for_none t ls)
+stack_for_none t (l ∷ ls) = ap (λ (rest : Levels). l ∷ rest) (stack_for_none t ls)
 
 -- so its blocks catch by their stacks
-caught_without_own : (own : List Label) (label : Label) (from : Tick) (shield : Bool) (st : Stack) (t : ℕ) → own ≡ [] →
+caught_without_own : (own : List Label) (label : Label) (from : Tick) (shield : Bool) (st : Levels) (t : ℕ) → own ≡ [] →
     catches from shield st t ≡ catches (from_for own t label from) shield (stack_for own t st) t
 caught_without_own own label from shield st t none =
     sym (ap (λ (o : List Label). catches (from_for o t label from) shield (stack_for o t st) t) none
-    ∙ ap (λ (su : Stack). catches from shield su t) (stack_for_none t st))
+    ∙ ap (λ (su : Levels). catches from shield su t) (stack_for_none t st))
 
 -- where a block sees a cancellation and does not catch, its outside sees it
 pub seen_outside : (label : Label) (shield : Bool) (from : Tick) (st : Stack) (t : ℕ) →
-    catches from shield st t ≡ false → IsTrue (seen (stack_inside label shield from st) t) → IsTrue (seen st t)
+    catches from shield st.scopes t ≡ false → IsTrue (seen (stack_inside label shield from st).scopes t) → IsTrue (seen st.scopes t)
 seen_outside label shield from st t c h =
-    outside (is_reached from t) shield (seen st t) c (sym (seen_cons (record { label = label; shield = shield; from = from }) st t) ∙ h)
+    outside (is_reached from t) shield (seen st.scopes t) c (sym (seen_cons (record { label = label; shield = shield; from = from }) st.scopes t) ∙ h)
   where
     outside : (a s x : Bool) → (a && (s || not x)) ≡ false → IsTrue (a || (not s && x)) → IsTrue x
     outside a s x e k = grind arith
@@ -137,14 +179,22 @@ root_block clock m kind label t d shield st inside h =
     leaves : (from : Tick) →
         let r = inside from in
         IsTrue (some_cancelled (exc_after kind label (tick_of clock r.end)
-        (left_with (catches (from_for r.own r.end label from) shield (stack_for r.own r.end st) r.end) r.exc))) →
-        IsTrue (seen st r.end)
+        (left_with (catches (from_for r.own r.end label from) shield (stack_for r.own r.end st.scopes) r.end) r.exc))) →
+        IsTrue (seen st.scopes r.end)
     leaves from k =
         let r = inside from in
         let both = left_holds kind label (tick_of clock r.end)
-        (catches (from_for r.own r.end label from) shield (stack_for r.own r.end st) r.end) r.exc k in
+        (catches (from_for r.own r.end label from) shield (stack_for r.own r.end st.scopes) r.end) r.exc k in
         seen_outside label shield from st r.end
-        (caught_without_own r.own label from shield st r.end (h from).own ∙ both.0) ((h from).exc both.1)
+        (caught_without_own r.own label from shield st.scopes r.end (h from).own ∙ both.0) ((h from).exc both.1)
+
+-- an event is rooted where its inside is: it is never cancelled
+pub root_event : (m : Mode) (label : Label) (t : ℕ) (st : Stack) (inside : Tick → Result) →
+    ((from : Tick) → Rooted (stack_in_event label from st) (inside from)) → Rooted st (event_block m label t inside)
+unfolding event_block
+root_event m label t st inside h =
+    let inner = h (from_of m label None inside) in
+    record { own = inner.own; exc = inner.exc; members = inner.members }
 
 -- a rooted member is rooted with its sign too
 pub root_signed : (st : Stack) (r : Result) → Rooted st r → Rooted st (with_sign st r)
@@ -152,7 +202,7 @@ unfolding with_sign
 root_signed st r h = record { own = refl; exc = h.exc; members = h.members }
 
 -- a member's `Cancelled` is still seen when the last member ends
-pub members_hold : (st : Stack) (t : ℕ) (ms : List Member) → MembersSeen st ms → IsTrue (hold_cancelled (parts_of (excs_of ms))) →
+pub members_hold : (st : Levels) (t : ℕ) (ms : List Member) → MembersSeen st ms → IsTrue (hold_cancelled (parts_of (excs_of ms))) →
     IsTrue (seen st (latest t ms))
 members_hold st t [] h k = absurd (false≢true k)
 members_hold st t (m ∷ ms) h k =
@@ -180,13 +230,13 @@ root_gathered clock st label r h =
       members = tt;
     }
   where
-    by_then : IsTrue (seen st (latest r.end r.members)) → IsTrue (seen st (a_round_after clock (latest r.end r.members)))
-    by_then = stays_seen st (latest r.end r.members) _ (round_after clock (latest r.end r.members))
+    by_then : IsTrue (seen st.scopes (latest r.end r.members)) → IsTrue (seen st.scopes (a_round_after clock (latest r.end r.members)))
+    by_then = stays_seen st.scopes (latest r.end r.members) _ (round_after clock (latest r.end r.members))
 
     either_one : IsTrue (some_cancelled r.exc) ⊎ IsTrue (hold_cancelled (parts_of (excs_of r.members))) →
-        IsTrue (seen st (a_round_after clock (latest r.end r.members)))
-    either_one (inl body) = by_then (stays_seen st r.end (latest r.end r.members) (latest_ends r.end r.members) (h.exc body))
-    either_one (inr rest) = by_then (members_hold st r.end r.members h.members rest)
+        IsTrue (seen st.scopes (a_round_after clock (latest r.end r.members)))
+    either_one (inl body) = by_then (stays_seen st.scopes r.end (latest r.end r.members) (latest_ends r.end r.members) (h.exc body))
+    either_one (inr rest) = by_then (members_hold st.scopes r.end r.members h.members rest)
 
 -- what a rooted started task leaves in its starter's walk is rooted
 pub root_child : (st : Stack) (label : Label) (begins : ℕ) (r : Result) (t : Now) → t.own ≡ [] → Rooted st r →
@@ -212,12 +262,12 @@ pub root_handled : (st : Stack) (wanted : Wanted) (r : Result) (go : Now → Res
 unfolding handler_result
 root_handled st wanted r go h k later = by_exc r.exc h.exc
   where
-    still : IsTrue (seen st r.end) → IsTrue (seen st (go (now_of r)).end)
-    still s = stays_seen st r.end (go (now_of r)).end (later (now_of r)).ends s
+    still : IsTrue (seen st.scopes r.end) → IsTrue (seen st.scopes (go (now_of r)).end)
+    still s = stays_seen st.scopes r.end (go (now_of r)).end (later (now_of r)).ends s
 
-    outcome : (o rest : Option Exc) → (IsTrue (some_cancelled o) → IsTrue (seen st (go (now_of r)).end)) →
-        (IsTrue (some_cancelled rest) → IsTrue (seen st r.end)) → IsTrue (some_cancelled (handler_exc o rest)) →
-        IsTrue (seen st (go (now_of r)).end)
+    outcome : (o rest : Option Exc) → (IsTrue (some_cancelled o) → IsTrue (seen st.scopes (go (now_of r)).end)) →
+        (IsTrue (some_cancelled rest) → IsTrue (seen st.scopes r.end)) → IsTrue (some_cancelled (handler_exc o rest)) →
+        IsTrue (seen st.scopes (go (now_of r)).end)
     outcome None rest own old e = still (old e)
     outcome (Some x) None own old e = own e
     outcome (Some x) (Some y) own old e = by_part (or_cases (holds_cancelled x) (holds_cancelled y || false) e)
@@ -226,21 +276,21 @@ root_handled st wanted r go h k later = by_exc r.exc h.exc
         or_nothing true i = i
         or_nothing false i = i
 
-        by_part : IsTrue (holds_cancelled x) ⊎ IsTrue (holds_cancelled y || false) → IsTrue (seen st (go (now_of r)).end)
+        by_part : IsTrue (holds_cancelled x) ⊎ IsTrue (holds_cancelled y || false) → IsTrue (seen st.scopes (go (now_of r)).end)
         by_part (inl a) = own a
         by_part (inr b) = still (old (or_nothing (holds_cancelled y) b))
 
-    by_match : (o rest : Option Exc) → (IsTrue (some_cancelled rest) → IsTrue (seen st r.end)) → Rooted st (handler_if_any o rest r go)
+    by_match : (o rest : Option Exc) → (IsTrue (some_cancelled rest) → IsTrue (seen st.scopes r.end)) → Rooted st (handler_if_any o rest r go)
     by_match None rest old = h
     by_match (Some e) rest old =
         record {
           own = (k (now_of r) h.own).own;
           exc = outcome (go (now_of r)).exc rest (k (now_of r) h.own).exc old;
           members =
-              members_append st r.members (go (now_of r)).members h.members (k (now_of r) h.own).members;
+              members_append st.scopes r.members (go (now_of r)).members h.members (k (now_of r) h.own).members;
         }
 
-    by_exc : (o : Option Exc) → (IsTrue (some_cancelled o) → IsTrue (seen st r.end)) → Rooted st (handler_for o wanted r go)
+    by_exc : (o : Option Exc) → (IsTrue (some_cancelled o) → IsTrue (seen st.scopes r.end)) → Rooted st (handler_for o wanted r go)
     by_exc None old = h
     by_exc (Some e) old = by_match (keep wanted e) (drop wanted e) (λ i. old (pruned_holds e _ i))
 
@@ -253,12 +303,12 @@ root_cleaned st r go h k later =
       own = (k (now_of r) h.own).own;
       exc = outcome (go (now_of r)).exc (k (now_of r) h.own).exc;
       members =
-          members_append st r.members (go (now_of r)).members h.members (k (now_of r) h.own).members;
+          members_append st.scopes r.members (go (now_of r)).members h.members (k (now_of r) h.own).members;
     }
   where
-    outcome : (o : Option Exc) → (IsTrue (some_cancelled o) → IsTrue (seen st (go (now_of r)).end)) →
-        IsTrue (some_cancelled (outcome_after r.exc o)) → IsTrue (seen st (go (now_of r)).end)
-    outcome None own e = stays_seen st r.end (go (now_of r)).end (later (now_of r)).ends (h.exc e)
+    outcome : (o : Option Exc) → (IsTrue (some_cancelled o) → IsTrue (seen st.scopes (go (now_of r)).end)) →
+        IsTrue (some_cancelled (outcome_after r.exc o)) → IsTrue (seen st.scopes (go (now_of r)).end)
+    outcome None own e = stays_seen st.scopes r.end (go (now_of r)).end (later (now_of r)).ends (h.exc e)
     outcome (Some x) own e = own e
 
 mutual
@@ -283,11 +333,15 @@ mutual
   root_step m (need text name) here st t ticks none = root_needing st _ name here t none
   root_step m (raise name) here st t ticks none = root_raising st name here t none
   root_step m (cancel name) here st t ticks none = root_cancelling here.clock st _ t ticks none
+  root_step m (set_event name) here st t ticks none = root_setting here.clock st _ t ticks none
+  root_step m (wait_for name) here st t ticks none = root_awaiting here.clock st _ t none
   root_step m (scope name d shield fail body) here st t ticks none =
       root_block here.clock m _ _ t.at _ shield st _ (λ from. root m body here _ t ticks none)
   root_step m (nursery name d shield body) here st t ticks none =
       root_block here.clock m _ _ t.at _ shield st _
       (λ from. root_gathered here.clock _ _ _ (root_signed _ _ (root m body here _ t ticks none)))
+  root_step m (event name body) here st t ticks none =
+      root_event m _ t.at st _ (λ from. root m body here _ t ticks none)
   root_step m (start name None body) here st t ticks none =
       root_child st _ _ _ t none (root_signed st _ (root m body _ st (only_at (a_round_after here.clock t.at)) ticks refl))
   root_step m (start name (Some k) body) here st t ticks none =
@@ -319,7 +373,7 @@ cancelled_is_seen mode steps here stack t ticks = (root mode steps here stack (o
 -- so no `Cancelled` comes out of a job that goes by ticks
 pub none_reaches_the_root : NoneReachesTheRoot
 none_reaches_the_root mode job input ticks =
-    by_cases (some_cancelled (root_walk mode job input).exc) (root mode job.steps (root_here job input) [] (only_at 0) ticks refl).exc
+    by_cases (some_cancelled (root_walk mode job input).exc) (root mode job.steps (root_here job input) no_stack (only_at 0) ticks refl).exc
   where
     by_cases : (b : Bool) → (IsTrue b → IsTrue false) → b ≡ false
     by_cases true h = absurd (false≢true (h refl))

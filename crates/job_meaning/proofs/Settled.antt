@@ -1,6 +1,6 @@
 -- Following a table is the meaning of a job where the table is that of the meaning, and where it is settled.
 use Rattle.std.proofs.Common.{◌≡◌, ℕ, zero, suc, ◌<◌, ◌≤◌, Bool, true, false, Option, Some, None, List, [], ◌∷◌, ◌++◌, refl, ap, sym, ◌∙◌, subst, ◌⊎◌, inl, inr, arith}
-use Rattle.job_tree.specs.Tree.{Tree, Step, sleep, checkpoint, forever, pace, find, head, longest, need, raise, cancel, scope, nursery, start, repeat, attempt, Steps, stop, step, Handled, unhandled, except, Cleaned, uncleaned, finally}
+use Rattle.job_tree.specs.Tree.{Tree, Step, sleep, checkpoint, forever, pace, find, head, longest, need, raise, cancel, set_event, wait_for, scope, nursery, event, start, repeat, attempt, Steps, stop, step, Handled, unhandled, except, Cleaned, uncleaned, finally}
 use Rattle.job_tree.specs.Names.{names_of, names_in, handled_names, cleaned_names}
 use Rattle.buffer_parts.specs.Cuts.{cut_of}
 use Rattle.exc_groups.specs.Exceptions.{Label, Exc}
@@ -8,15 +8,15 @@ use Rattle.exc_groups.specs.Split.{Wanted, keep, drop}
 use Rattle.cancel_scopes.specs.Sight.{Tick, catches}
 use Rattle.job_meaning.specs.Log.{Log, nil, entry, followed_by, Result, least_sign, deadline_of, deadline_if, either, same_label, from_by, Table, table_of, entered_from}
 use Rattle.job_meaning.specs.Moments.{Clock, a_round_after, Now, only_at}
-use Rattle.job_meaning.specs.Walk.{Stack, Mode, two_walks, by_table, Here, walk, walk_step, walk_handler, walk_cleanup, now_of, from_for, stack_for, in_sequence, and_then, then_if, Kind, block, exit_with_from, left_as, left_with, stack_inside, with_sign, sign_if, home_of, nursery_result, child, each, passes, handler_result, handler_for, handler_if_any, handler_after, cleanup_result, cleanup_after, label_here, label_over, here_in, in_pass}
+use Rattle.job_meaning.specs.Walk.{Levels, Stack, no_stack, Mode, two_walks, by_table, Here, walk, walk_step, walk_handler, walk_cleanup, now_of, from_for, stack_for, in_sequence, and_then, then_if, Kind, block, event_block, event_result, exit_with_from, left_as, left_with, stack_inside, stack_in_event, with_sign, sign_if, home_of, nursery_result, child, each, passes, handler_result, handler_for, handler_if_any, handler_after, cleanup_result, cleanup_after, label_here, label_over, here_in, in_pass}
 use Rattle.job_meaning.specs.Meaning.{meaning, meaning_table, root_walk, root_here}
 use Rattle.job_meaning.specs.Follow.{follow, IsSettled}
-use Rattle.job_meaning.specs.Before.{upto, log_before, Near}
+use Rattle.job_meaning.specs.Before.{upto, log_before, NearLevels, Near}
 use Rattle.job_meaning.specs.Laws.{FollowingIsMeaning, TableIsSettled, FollowingSettledIsMeaning, OneTableIsSettled}
 use Rattle.job_meaning.proofs.Late.{Late, late, late_signed, late_gathered}
 use Rattle.job_meaning.proofs.Clips.{least_near}
-use Rattle.job_meaning.proofs.Causality.{agree, agree_logs, agree_signed, agree_gathered, near_within}
-use Rattle.job_meaning.proofs.Distinct.{Among, among_left, among_right, Distinct, distinct_left, distinct_right, distinct_apart, distinct_by_bytes, same_label_itself, same_label_equal, Belongs, after_other, OnStack, Fresh, fresh_in}
+use Rattle.job_meaning.proofs.Causality.{agree, agree_logs, agree_signed, agree_gathered, near_within, near_in_event}
+use Rattle.job_meaning.proofs.Distinct.{Among, among_left, among_right, Distinct, distinct_left, distinct_right, distinct_apart, distinct_by_bytes, same_label_itself, same_label_equal, Belongs, after_other, OnLevels, OnStack, Fresh, fresh_in}
 use Rattle.job_meaning.proofs.Touched.{Gives, least_followed, deadline_followed, deadline_entered, either_nothing, earlier_never}
 use Rattle.job_meaning.proofs.Tidy.{Tidy, tidy, tidy_step, tidy_handler, tidy_in, tidy_each, tidy_passes, tidy_signed, tidy_gathered, tidy_over, signs_home, gives_home}
 use Rattle.job_meaning.proofs.Fits.{Fits, fits_own, fits_first, fits_second, Apart, apart_tidy, same_first_sign}
@@ -51,7 +51,7 @@ module _ (table : Table) (clock : Clock) (kind : Kind) (label : Label) (t : ℕ)
   -- the log of a block after the entering of its label
   abbrev inner_log : Tick → Log
   inner_log f = followed_by (inside f).log (entry (inside f).end
-      (left_as kind label (left_with (catches (from_for (inside f).own (inside f).end label f) shield (stack_for (inside f).own (inside f).end st) (inside f).end) (inside f).exc).caught) nil)
+      (left_as kind label (left_with (catches (from_for (inside f).own (inside f).end label f) shield (stack_for (inside f).own (inside f).end st.scopes) (inside f).end) (inside f).exc).caught) nil)
 
   -- the deadline and signs in a block's log are those inside, but for its own deadline
   block_signs : (f : Tick) (l : Label) → least_sign l (exit_with_from clock kind label t d shield st f (inside f)).log ≡ least_sign l (inside f).log
@@ -112,25 +112,85 @@ module _ (table : Table) (clock : Clock) (kind : Kind) (label : Label) (t : ℕ)
       ap (λ (f : Tick). exit_with_from clock kind label t d shield st f (inside' f)) found
       ∙ ap (λ (r : Result). exit_with_from clock kind label t d shield st from r) inner
 
--- A block has the same result in two modes, if the table fits it in the first and its inside has the same result.
-abbrev SameBlocks : Table → Mode → Mode → Type 0
-SameBlocks table m other =
-    (clock : Clock) (kind : Kind) (label : Label) (t : ℕ) (d : Tick) (shield : Bool) (st : Stack) (inside inside' : Tick → Result) →
-    ((f : Tick) → Gives label (inside f).log → ⊥) → Inside t inside → Inside t inside' →
-    ((f : Tick) → Fits table (inside f).log → inside' f ≡ inside f) → Fits table (block clock m kind label t d shield st inside).log →
-    block clock other kind label t d shield st inside' ≡ block clock m kind label t d shield st inside
+-- The same of an event, whose log has only its label more.
+module _ (table : Table) (label : Label) (t : ℕ) (inside inside' : Tick → Result) (own : (f : Tick) → Gives label (inside f).log → ⊥) where
+  fits_in_event : (f : Tick) → Fits table (event_result label t (inside f)).log → Fits table (inside f).log
+  fits_in_event f h = record { each_label = each_one }
+    where
+      each_one : (l : Label) (x : Tick) → deadline_of l (inside f).log ≡ Some x → table l ≡ from_by x (least_sign l (inside f).log)
+      each_one l x e = h.each_label l x (found (same_label l label) refl)
+        where
+          found : (b : Bool) → same_label l label ≡ b → either (deadline_if b None) (deadline_of l (inside f).log) ≡ Some x
+          found true i = absurd (own f (subst (λ (m : Label). Gives m (inside f).log) (same_label_equal l label i)
+              (deadline_entered l (inside f).log x e)))
+          found false i = e
+
+  fits_event : (f : Tick) → Fits table (event_result label t (inside f)).log → table label ≡ from_by None (least_sign label (inside f).log)
+  fits_event f h =
+      h.each_label label None (ap (λ (b : Bool). either (deadline_if b None) (deadline_of label (inside f).log)) (same_label_itself label))
+
+  event_by_table : Inside t inside → ((f : Tick) → Fits table (inside f).log → inside' f ≡ inside f) →
+      Fits table (event_block two_walks label t inside).log →
+      event_block (by_table table) label t inside' ≡ event_block two_walks label t inside
+  unfolding event_block
+  event_by_table i same h =
+      let first : Tick = least_sign label (inside None).log in
+      let from : Tick = from_by None first in
+      let again : least_sign label (inside from).log ≡ first =
+      same_first_sign None first (least_sign label (inside from).log)
+      (λ c e. least_near c t label (inside None).log (inside from).log (i.later None).timed (i.later from).timed (i.causal c None from e)) in
+      let told : table label ≡ from = fits_event from h ∙ ap (λ (s : Tick). from_by None s) again in
+      ap (λ (f : Tick). event_result label t (inside' f)) told
+      ∙ ap (λ (r : Result). event_result label t r) (same from (fits_in_event from h))
+
+  event_by_walks : Inside t inside' → ((f : Tick) → Fits table (inside f).log → inside' f ≡ inside f) →
+      Fits table (event_block (by_table table) label t inside).log →
+      event_block two_walks label t inside' ≡ event_block (by_table table) label t inside
+  unfolding event_block
+  event_by_walks i same h =
+      let from : Tick = table label in
+      let inner : inside' from ≡ inside from = same from (fits_in_event from h) in
+      let first : Tick = least_sign label (inside' from).log in
+      let told : from ≡ from_by None first =
+      fits_event from h ∙ ap (λ (r : Result). from_by None (least_sign label r.log)) (sym inner) in
+      let again : least_sign label (inside' None).log ≡ first =
+      same_first_sign None first (least_sign label (inside' None).log)
+      (λ c e. least_near c t label (inside' from).log (inside' None).log (i.later from).timed (i.later None).timed
+      (i.causal c from None (ap (λ (x : Tick). upto c x) told ∙ sym e))) in
+      let found : from_by None (least_sign label (inside' None).log) ≡ from = ap (λ (s : Tick). from_by None s) again ∙ sym told in
+      ap (λ (f : Tick). event_result label t (inside' f)) found
+      ∙ ap (λ (r : Result). event_result label t r) inner
+
+-- A block or an event has the same result in two modes, if the table fits it in the first and its inside has the same result.
+record SameBlocks (table : Table) (m other : Mode) : Type 0 where
+  blocks :
+      (clock : Clock) (kind : Kind) (label : Label) (t : ℕ) (d : Tick) (shield : Bool) (st : Stack) (inside inside' : Tick → Result) →
+      ((f : Tick) → Gives label (inside f).log → ⊥) → Inside t inside → Inside t inside' →
+      ((f : Tick) → Fits table (inside f).log → inside' f ≡ inside f) → Fits table (block clock m kind label t d shield st inside).log →
+      block clock other kind label t d shield st inside' ≡ block clock m kind label t d shield st inside
+  events :
+      (label : Label) (t : ℕ) (inside inside' : Tick → Result) →
+      ((f : Tick) → Gives label (inside f).log → ⊥) → Inside t inside → Inside t inside' →
+      ((f : Tick) → Fits table (inside f).log → inside' f ≡ inside f) → Fits table (event_block m label t inside).log →
+      event_block other label t inside' ≡ event_block m label t inside
 
 same_by_table : (table : Table) → SameBlocks table two_walks (by_table table)
-same_by_table table clock kind label t d shield st inside inside' own i j same h =
-    block_by_table table clock kind label t d shield st inside inside' own i same h
+same_by_table table =
+    record {
+      blocks = λ clock kind label t d shield st inside inside' own i j same h. block_by_table table clock kind label t d shield st inside inside' own i same h;
+      events = λ label t inside inside' own i j same h. event_by_table table label t inside inside' own i same h;
+    }
 
 same_by_walks : (table : Table) → SameBlocks table (by_table table) two_walks
-same_by_walks table clock kind label t d shield st inside inside' own i j same h =
-    block_by_walks table clock kind label t d shield st inside inside' own j same h
+same_by_walks table =
+    record {
+      blocks = λ clock kind label t d shield st inside inside' own i j same h. block_by_walks table clock kind label t d shield st inside inside' own j same h;
+      events = λ label t inside inside' own i j same h. event_by_walks table label t inside inside' own j same h;
+    }
 
 -- a sign for the home of a stack is for no label that a walk on it enters
 home_apart : (st : Stack) (P : Label → Type 0) (r : Result) → Tidy st P r → ((l : Label) → OnStack l st → P l → ⊥) →
-    Apart r.log (sign_if r.exc (home_of st) r.end)
+    Apart r.log (sign_if r.exc (home_of st.scopes) r.end)
 home_apart st P r h fresh =
     record {
       unsigned_after = λ l e s. fresh l (signs_home st r.exc r.end l s) (h.gives l e);
@@ -142,7 +202,7 @@ settled_signed : (table : Table) (st : Stack) (P : Label → Type 0) (r q : Resu
     (Fits table r.log → q ≡ r) → Fits table (with_sign st r).log → with_sign st q ≡ with_sign st r
 unfolding with_sign
 settled_signed table st P r q h fresh same f =
-    ap (λ (x : Result). with_sign st x) (same (fits_first table r.log (sign_if r.exc (home_of st) r.end) (home_apart st P r h fresh) f))
+    ap (λ (x : Result). with_sign st x) (same (fits_first table r.log (sign_if r.exc (home_of st.scopes) r.end) (home_apart st P r h fresh) f))
 
 settled_gathered : (table : Table) (clock : Clock) (label : Label) (r q : Result) → (Fits table r.log → q ≡ r) → Fits table (nursery_result clock label r).log →
     nursery_result clock label q ≡ nursery_result clock label r
@@ -268,30 +328,59 @@ fresh_within : (name : List ℕ) (names : List (List ℕ)) (here : Here) (shield
     Fresh st (name ∷ names) → Fresh (stack_inside (label_here name here) shield f st) names
 fresh_within name names here shield f st distinct fresh = record { none = none }
   where
-    none : (l : Label) → (l ≡ label_here name here) ⊎ OnStack l st → Among l.name names → ⊥
-    none l (inl e) i = distinct.0 (subst (λ (x : Label). Among x.name names) e i)
-    none l (inr o) i = fresh.none l o (inr i)
+    none : (l : Label) → ((l ≡ label_here name here) ⊎ OnLevels l st.scopes) ⊎ OnLevels l st.events → Among l.name names → ⊥
+    none l (inl (inl e)) i = distinct.0 (subst (λ (x : Label). Among x.name names) e i)
+    none l (inl (inr o)) i = fresh.none l (inl o) (inr i)
+    none l (inr o) i = fresh.none l (inr o) (inr i)
+
+fresh_in_event : (name : List ℕ) (names : List (List ℕ)) (here : Here) (f : Tick) (st : Stack) → Distinct (name ∷ names) →
+    Fresh st (name ∷ names) → Fresh (stack_in_event (label_here name here) f st) names
+fresh_in_event name names here f st distinct fresh = record { none = none }
+  where
+    none : (l : Label) → OnLevels l st.scopes ⊎ ((l ≡ label_here name here) ⊎ OnLevels l st.events) → Among l.name names → ⊥
+    none l (inl o) i = fresh.none l (inl o) (inr i)
+    none l (inr (inl e)) i = distinct.0 (subst (λ (x : Label). Among x.name names) e i)
+    none l (inr (inr o)) i = fresh.none l (inr o) (inr i)
+
+-- no name is on the stack of the root
+fresh_root : (names : List (List ℕ)) → Fresh no_stack names
+fresh_root names = record { none = none }
+  where
+    none : (l : Label) → ⊥ ⊎ ⊥ → Among l.name names → ⊥
+    none l (inl o) i = o
+    none l (inr o) i = o
 
 -- a block's own label is not entered inside it
 not_inside : (name : List ℕ) (names : List (List ℕ)) (here : Here) (path : List ℕ) → Distinct (name ∷ names) →
     Belongs names path (label_here name here) → ⊥
 not_inside name names here path distinct b = distinct.0 b.named
 
+levels_same : (c : ℕ) (ls : Levels) → NearLevels c ls ls
+levels_same c [] = tt
+levels_same c (l ∷ ls) = (refl, refl, refl, levels_same c ls)
+
 near_same : (c : ℕ) (st : Stack) → Near c st st
-near_same c [] = tt
-near_same c (l ∷ ls) = (refl, refl, refl, near_same c ls)
+near_same c st = (levels_same c st.scopes, levels_same c st.events)
 
 -- the inside of a nursery, walked on the stack within it
 abbrev nursery_inside : Mode → Steps → Label → Here → Stack → Now → Result
 nursery_inside m body label here inner t = nursery_result here.clock label (with_sign inner (walk m body here inner t))
 
--- the inside of a scope, and of a nursery, by any mode
+-- the inside of a scope, of an event, and of a nursery, by any mode
 scope_is_inside : (m : Mode) (body : Steps) (label : Label) (here : Here) (shield : Bool) (st : Stack) (t : Now) →
     Inside t.at (λ f. walk m body here (stack_inside label shield f st) t)
 scope_is_inside m body label here shield st t =
     record {
       later = λ f. late m body here (stack_inside label shield f st) t;
       causal = λ c f g e. agree_logs (agree c m body here _ _ t (near_within c label shield f g st st e (near_same c st)));
+    }
+
+event_is_inside : (m : Mode) (body : Steps) (label : Label) (here : Here) (st : Stack) (t : Now) →
+    Inside t.at (λ f. walk m body here (stack_in_event label f st) t)
+event_is_inside m body label here st t =
+    record {
+      later = λ f. late m body here (stack_in_event label f st) t;
+      causal = λ c f g e. agree_logs (agree c m body here _ _ t (near_in_event c label f g st st e (near_same c st)));
     }
 
 tidy_nursery : (m : Mode) (body : Steps) (label : Label) (here : Here) (inner : Stack) (t : Now) →
@@ -321,13 +410,13 @@ mutual
   -- a walk in one mode is that in another, if a table fits the first and blocks have the same results
   settled : (table : Table) (m other : Mode) → SameBlocks table m other → (b : Steps) (here : Here) (st : Stack) (t : Now) → Distinct (names_of b) → Fresh st (names_of b) →
       Fits table (walk m b here st t).log → walk other b here st t ≡ walk m b here st t
-  settled table m other blocks stop here st t distinct fresh f = refl
-  settled table m other blocks (step s ss) here st t distinct fresh f =
+  settled table m other same stop here st t distinct fresh f = refl
+  settled table m other same (step s ss) here st t distinct fresh f =
       settled_and_then table (walk_step m s here st t) (walk_step other s here st t)
       (λ u. walk m ss here st u) (λ u. walk other ss here st u)
-      (λ g. settled_step table m other blocks s here st t (distinct_left (names_in s) (names_of ss) distinct)
+      (λ g. settled_step table m other same s here st t (distinct_left (names_in s) (names_of ss) distinct)
       (fresh_left st (names_in s) (names_of ss) fresh) g)
-      (λ u g. settled table m other blocks ss here st u (distinct_right (names_in s) (names_of ss) distinct)
+      (λ u g. settled table m other same ss here st u (distinct_right (names_in s) (names_of ss) distinct)
       (fresh_right st (names_in s) (names_of ss) fresh) g)
       (λ u. side_by_side st (names_in s) (names_of ss) here.path (walk_step m s here st t) (walk m ss here st u) distinct
       fresh (tidy_step m s here st t) (tidy m ss here st u))
@@ -335,25 +424,27 @@ mutual
 
   settled_step : (table : Table) (m other : Mode) → SameBlocks table m other → (s : Step) (here : Here) (st : Stack) (t : Now) → Distinct (names_in s) → Fresh st (names_in s) →
       Fits table (walk_step m s here st t).log → walk_step other s here st t ≡ walk_step m s here st t
-  settled_step table m other blocks (sleep n) here st t distinct fresh f = refl
-  settled_step table m other blocks checkpoint here st t distinct fresh f = refl
-  settled_step table m other blocks forever here st t distinct fresh f = refl
-  settled_step table m other blocks (pace k) here st t distinct fresh f = refl
-  settled_step table m other blocks (find text) here st t distinct fresh f = refl
-  settled_step table m other blocks (head n) here st t distinct fresh f = refl
-  settled_step table m other blocks longest here st t distinct fresh f = refl
-  settled_step table m other blocks (need text name) here st t distinct fresh f = refl
-  settled_step table m other blocks (raise name) here st t distinct fresh f = refl
-  settled_step table m other blocks (cancel name) here st t distinct fresh f = refl
-  settled_step table m other blocks (scope name d shield fail body) here st t distinct fresh f =
-      blocks here.clock _ (label_here name here) t.at _ shield st _ _
+  settled_step table m other same (sleep n) here st t distinct fresh f = refl
+  settled_step table m other same checkpoint here st t distinct fresh f = refl
+  settled_step table m other same forever here st t distinct fresh f = refl
+  settled_step table m other same (pace k) here st t distinct fresh f = refl
+  settled_step table m other same (find text) here st t distinct fresh f = refl
+  settled_step table m other same (head n) here st t distinct fresh f = refl
+  settled_step table m other same longest here st t distinct fresh f = refl
+  settled_step table m other same (need text name) here st t distinct fresh f = refl
+  settled_step table m other same (raise name) here st t distinct fresh f = refl
+  settled_step table m other same (cancel name) here st t distinct fresh f = refl
+  settled_step table m other same (set_event name) here st t distinct fresh f = refl
+  settled_step table m other same (wait_for name) here st t distinct fresh f = refl
+  settled_step table m other same (scope name d shield fail body) here st t distinct fresh f =
+      same.blocks here.clock _ (label_here name here) t.at _ shield st _ _
       (λ g e. not_inside name (names_of body) here here.path distinct ((tidy m body here _ t).gives _ e))
       (scope_is_inside m body (label_here name here) here shield st t)
       (scope_is_inside other body (label_here name here) here shield st t)
-      (λ g h. settled table m other blocks body here _ t distinct.1 (fresh_within name (names_of body) here shield g st distinct fresh) h)
+      (λ g h. settled table m other same body here _ t distinct.1 (fresh_within name (names_of body) here shield g st distinct fresh) h)
       f
-  settled_step table m other blocks (nursery name d shield body) here st t distinct fresh f =
-      blocks here.clock _ (label_here name here) t.at _ shield st _ _
+  settled_step table m other same (nursery name d shield body) here st t distinct fresh f =
+      same.blocks here.clock _ (label_here name here) t.at _ shield st _ _
       (λ g e. not_inside name (names_of body) here here.path distinct
       ((tidy_nursery m body (label_here name here) here (stack_inside (label_here name here) shield g st) t).gives _ e))
       (nursery_is_inside m body (label_here name here) here shield st t)
@@ -362,40 +453,47 @@ mutual
       (settled_signed table (stack_inside (label_here name here) shield g st) (Belongs (names_of body) here.path) _ _
       (tidy m body here (stack_inside (label_here name here) shield g st) t)
       (λ l o b. (fresh_within name (names_of body) here shield g st distinct fresh).none l o b.named)
-      (λ i. settled table m other blocks body here (stack_inside (label_here name here) shield g st) t distinct.1
+      (λ i. settled table m other same body here (stack_inside (label_here name here) shield g st) t distinct.1
       (fresh_within name (names_of body) here shield g st distinct fresh) i))
       h)
       f
-  settled_step table m other blocks (start name None body) here st t distinct fresh f =
+  settled_step table m other same (event name body) here st t distinct fresh f =
+      same.events (label_here name here) t.at _ _
+      (λ g e. not_inside name (names_of body) here here.path distinct ((tidy m body here _ t).gives _ e))
+      (event_is_inside m body (label_here name here) here st t)
+      (event_is_inside other body (label_here name here) here st t)
+      (λ g h. settled table m other same body here _ t distinct.1 (fresh_in_event name (names_of body) here g st distinct fresh) h)
+      f
+  settled_step table m other same (start name None body) here st t distinct fresh f =
       settled_child table (label_here name here) (a_round_after here.clock t.at) _ _ t
       (settled_signed table st (Belongs (names_of body) here.path) _ _ (tidy m body _ st (only_at (a_round_after here.clock t.at)))
       (λ l o b. fresh.none l o (inr b.named))
-      (λ g. settled table m other blocks body _ st (only_at (a_round_after here.clock t.at)) distinct.1 (fresh_in st (names_of body) (name ∷ names_of body) (λ n i. inr i) fresh) g))
+      (λ g. settled table m other same body _ st (only_at (a_round_after here.clock t.at)) distinct.1 (fresh_in st (names_of body) (name ∷ names_of body) (λ n i. inr i) fresh) g))
       f
-  settled_step table m other blocks (start name (Some k) body) here st t distinct fresh f =
+  settled_step table m other same (start name (Some k) body) here st t distinct fresh f =
       settled_each table st (name ∷ names_of body) here.path k _ _ t fresh
       (λ i. tidy_over m name body here (cut_of here.input here.part k i) i st t)
       (λ i g. settled_child table (label_over name here i) (a_round_after here.clock t.at) _ _ t
       (settled_signed table st (Belongs (names_of body) (here.path ++ i ∷ [])) _ _
       (tidy m body (here_in (label_over name here i) (cut_of here.input here.part k i) here) st (only_at (a_round_after here.clock t.at)))
       (λ l o b. fresh.none l o (inr b.named))
-      (λ h. settled table m other blocks body (here_in (label_over name here i) (cut_of here.input here.part k i) here) st (only_at (a_round_after here.clock t.at)) distinct.1
+      (λ h. settled table m other same body (here_in (label_over name here i) (cut_of here.input here.part k i) here) st (only_at (a_round_after here.clock t.at)) distinct.1
       (fresh_in st (names_of body) (name ∷ names_of body) (λ n j. inr j) fresh) h))
       g)
       f
-  settled_step table m other blocks (repeat count body) here st t distinct fresh f =
+  settled_step table m other same (repeat count body) here st t distinct fresh f =
       settled_passes table st (names_of body) here.path count 0 _ _ t fresh (λ i u. tidy m body (in_pass i here) st u)
-      (λ i u g. settled table m other blocks body (in_pass i here) st u distinct fresh g) f
-  settled_step table m other blocks (attempt body handler cleanup) here st t distinct fresh f =
+      (λ i u g. settled table m other same body (in_pass i here) st u distinct fresh g) f
+  settled_step table m other same (attempt body handler cleanup) here st t distinct fresh f =
       let names : List (List ℕ) = names_of body ++ handled_names handler in
       let first : Result = walk m body here st t in
       let second : Result = walk_handler m handler here st first in
       let tidy_first : Tidy st (Belongs (names_of body) here.path) first = tidy m body here st t in
-      let cleanup_same = settled_cleanup table m other blocks cleanup here st second names
+      let cleanup_same = settled_cleanup table m other same cleanup here st second names
       (tidy_handler m handler here st first (names_of body) tidy_first) distinct fresh f in
-      let handler_same = settled_handler table m other blocks handler here st first (names_of body) tidy_first
+      let handler_same = settled_handler table m other same handler here st first (names_of body) tidy_first
       (distinct_left names (cleaned_names cleanup) distinct) (fresh_left st names (cleaned_names cleanup) fresh) cleanup_same.0 in
-      let body_same = settled table m other blocks body here st t
+      let body_same = settled table m other same body here st t
       (distinct_left (names_of body) (handled_names handler) (distinct_left names (cleaned_names cleanup) distinct))
       (fresh_left st (names_of body) (handled_names handler) (fresh_left st names (cleaned_names cleanup) fresh)) handler_same.0 in
       ap (λ (r : Result). walk_cleanup other cleanup here st (walk_handler other handler here st r)) body_same
@@ -406,12 +504,12 @@ mutual
       Tidy st (Belongs names here.path) r →
       Distinct (names ++ handled_names x) → Fresh st (names ++ handled_names x) → Fits table (walk_handler m x here st r).log →
       Fits table r.log × (walk_handler other x here st r ≡ walk_handler m x here st r)
-  settled_handler table m other blocks unhandled here st r names h distinct fresh f = (f, refl)
-  settled_handler table m other blocks (except name body) here st r names h distinct fresh f =
+  settled_handler table m other same unhandled here st r names h distinct fresh f = (f, refl)
+  settled_handler table m other same (except name body) here st r names h distinct fresh f =
       settled_handled table _ r (λ u. walk m body here st u) (λ u. walk other body here st u)
       (λ u. side_by_side st names (names_of body) here.path r (walk m body here st u) distinct fresh h
       (tidy m body here st u))
-      (λ u g. settled table m other blocks body here st u (distinct_right names (names_of body) distinct) (fresh_right st names (names_of body) fresh) g)
+      (λ u g. settled table m other same body here st u (distinct_right names (names_of body) distinct) (fresh_right st names (names_of body) fresh) g)
       f
 
   -- a cleanup after what is the same
@@ -419,12 +517,12 @@ mutual
       Tidy st (Belongs names here.path) r →
       Distinct (names ++ cleaned_names x) → Fresh st (names ++ cleaned_names x) → Fits table (walk_cleanup m x here st r).log →
       Fits table r.log × (walk_cleanup other x here st r ≡ walk_cleanup m x here st r)
-  settled_cleanup table m other blocks uncleaned here st r names h distinct fresh f = (f, refl)
-  settled_cleanup table m other blocks (finally body) here st r names h distinct fresh f =
+  settled_cleanup table m other same uncleaned here st r names h distinct fresh f = (f, refl)
+  settled_cleanup table m other same (finally body) here st r names h distinct fresh f =
       settled_cleaned table r (λ u. walk m body here st u) (λ u. walk other body here st u)
       (λ u. side_by_side st names (names_of body) here.path r (walk m body here st u) distinct fresh h
       (tidy m body here st u))
-      (λ u g. settled table m other blocks body here st u (distinct_right names (names_of body) distinct) (fresh_right st names (names_of body) fresh) g)
+      (λ u g. settled table m other same body here st u (distinct_right names (names_of body) distinct) (fresh_right st names (names_of body) fresh) g)
       f
 
 -- where names are given once, following the table of the meaning is the meaning
@@ -432,9 +530,9 @@ pub following_is_meaning : FollowingIsMeaning
 unfolding follow meaning
 following_is_meaning job input once =
     settled (meaning_table job input) two_walks (by_table (meaning_table job input)) (same_by_table (meaning_table job input))
-    job.steps (root_here job input) [] (only_at 0)
+    job.steps (root_here job input) no_stack (only_at 0)
     (distinct_by_bytes (job.name ∷ names_of job.steps) once).1
-    (record { none = λ l o i. o })
+    (fresh_root (names_of job.steps))
     (fits_own (root_walk two_walks job input).log)
 
 -- so the table of the meaning is settled
@@ -452,9 +550,9 @@ fits_settled table job input h =
 pub settled_is_meaning : FollowingSettledIsMeaning
 unfolding follow meaning
 settled_is_meaning table job input once h =
-    sym (settled table (by_table table) two_walks (same_by_walks table) job.steps (root_here job input) [] (only_at 0)
+    sym (settled table (by_table table) two_walks (same_by_walks table) job.steps (root_here job input) no_stack (only_at 0)
     (distinct_by_bytes (job.name ∷ names_of job.steps) once).1
-    (record { none = λ l o i. o })
+    (fresh_root (names_of job.steps))
     (fits_settled table job input h))
 
 -- so there is one settled table

@@ -3,7 +3,7 @@ use Rattle.std.proofs.Common.{◌≡◌, ℕ, ◌≤◌, Bool, true, false, ◌|
 use Rattle.std.proofs.lemmas.Bool.Decides.{nat_tests}
 use Rattle.exc_groups.specs.Exceptions.{Label}
 use Rattle.cancel_scopes.specs.Sight.{Tick, earlier, is_reached, Level, sight, seen}
-use Rattle.job_meaning.specs.Walk.{Stack}
+use Rattle.job_meaning.specs.Walk.{Levels}
 use Rattle.job_meaning.specs.Laws.{AtMost, StaysSeen, LoweringShows}
 
 -- the earlier of two has come where one of them has
@@ -28,7 +28,7 @@ reached_at_most (Some x) None t le h = absurd le
 reached_at_most (Some x) (Some y) t le h = grind (arith, nat_tests)
 
 -- what a stack sees, by its innermost level
-pub seen_cons : (l : Level Label) (ls : Stack) (t : ℕ) → seen (l ∷ ls) t ≡ (is_reached l.from t || (not l.shield && seen ls t))
+pub seen_cons : (l : Level Label) (ls : Levels) (t : ℕ) → seen (l ∷ ls) t ≡ (is_reached l.from t || (not l.shield && seen ls t))
 seen_cons l ls t = by_shield l.shield
   where
     or_false : (b : Bool) → b ≡ (b || false)

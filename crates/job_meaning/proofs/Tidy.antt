@@ -1,18 +1,18 @@
 -- A walk enters only labels of its own block, and signs only labels that it entered or that are on its stack. It
 -- holds in both modes.
-use Rattle.std.proofs.Common.{◌≡◌, ℕ, zero, suc, ◌+◌, ◌<◌, ◌≤◌, Bool, true, false, Option, Some, None, List, [], ◌∷◌, ◌++◌, refl, sym, subst, ◌⊎◌, inl, inr, arith, nat_le, if◌then◌else◌}
+use Rattle.std.proofs.Common.{◌≡◌, ℕ, zero, suc, ◌<◌, ◌≤◌, Bool, true, false, Option, Some, None, List, [], ◌∷◌, ◌++◌, refl, sym, subst, ◌⊎◌, inl, inr, arith, max, nat_le, nat_lt, if◌then◌else◌}
 use Rattle.std.proofs.lemmas.List.{append-nil}
 use Rattle.std.specs.Str.{bytes_eq}
-use Rattle.job_tree.specs.Tree.{Step, sleep, checkpoint, forever, pace, find, head, longest, need, raise, cancel, scope, nursery, start, repeat, attempt, Steps, stop, step, Handled, unhandled, except, Cleaned, uncleaned, finally}
+use Rattle.job_tree.specs.Tree.{Step, sleep, checkpoint, forever, pace, find, head, longest, need, raise, cancel, set_event, wait_for, scope, nursery, event, start, repeat, attempt, Steps, stop, step, Handled, unhandled, except, Cleaned, uncleaned, finally}
 use Rattle.job_tree.specs.Names.{names_of, names_in, handled_names, cleaned_names}
 use Rattle.buffer_parts.specs.Lines.{Range, Span}
 use Rattle.exc_groups.specs.Exceptions.{Label, Exc, cancelled}
 use Rattle.exc_groups.specs.Split.{Wanted, keep, drop}
-use Rattle.cancel_scopes.specs.Sight.{Tick, sight, catches}
+use Rattle.cancel_scopes.specs.Sight.{Tick, Level, sight, catches}
 use Rattle.job_meaning.specs.Log.{Log, nil, entry, followed_by, Result}
 use Rattle.job_meaning.specs.Moments.{Clock, a_round_after, Now, only_at}
-use Rattle.job_meaning.specs.Walk.{Stack, Mode, Here, walk, walk_step, walk_handler, walk_cleanup, done_at, raised_at, now_of, in_sequence, and_then, then_if, wait_by_sight, sleep_result, pace_result, log_of_lines, lines_result, raise_result, need_result, from_for, stack_for, label_on, label_if, sign_of, cancel_result, Kind, from_of, block, exit_with_from, left_as, left_with, stack_inside, with_sign, sign_if, home_of, nursery_result, child, each, passes, handler_result, handler_for, handler_if_any, cleanup_result, label_here, label_over, here_in, in_pass}
-use Rattle.job_meaning.proofs.Distinct.{among_left, among_right, Belongs, belongs_in, belongs_after, OnStack}
+use Rattle.job_meaning.specs.Walk.{Levels, Stack, Mode, Here, walk, walk_step, walk_handler, walk_cleanup, done_at, raised_at, now_of, in_sequence, and_then, then_if, wait_by_sight, sleep_result, pace_result, wait_until, set_moment, wait_by, with_line_if, with_line, event_wait, log_of_lines, lines_result, raise_result, need_result, from_for, stack_for, label_on, label_if, sign_of, cancel_result, set_result, Kind, from_of, block, event_block, event_result, stack_in_event, exit_with_from, left_as, left_with, stack_inside, with_sign, sign_if, home_of, nursery_result, child, each, passes, handler_result, handler_for, handler_if_any, cleanup_result, label_here, label_over, here_in, in_pass}
+use Rattle.job_meaning.proofs.Distinct.{among_left, among_right, Belongs, belongs_in, belongs_after, OnLevels, OnStack}
 use Rattle.job_meaning.proofs.Touched.{Gives, Signs, gives_followed, gives_first, gives_second, signs_followed}
 
 -- a walk on a stack gives only labels that belong to it, and signs only those and labels of the stack
@@ -91,12 +91,41 @@ tidy_waited st P (Some from) least gives_up end = by_now (nat_le from least) (na
 -- a sleep is tidy
 pub tidy_sleeping : (clock : Clock) (st : Stack) (P : Label → Type 0) (n t : ℕ) → Tidy st P (sleep_result clock st n t)
 unfolding sleep_result
-tidy_sleeping clock st P n t = tidy_waited st P (sight st) _ _ _
+tidy_sleeping clock st P n t = tidy_waited st P (sight st.scopes) _ _ _
 
 -- and so is a `pace`
 pub tidy_pacing : (clock : Clock) (st : Stack) (P : Label → Type 0) (n t : ℕ) → Tidy st P (pace_result clock st n t)
 unfolding pace_result
-tidy_pacing clock st P n t = tidy_waited st P (sight st) _ _ _
+tidy_pacing clock st P n t = tidy_waited st P (sight st.scopes) _ _ _
+
+tidy_until : (st : Stack) (P : Label → Type 0) (a : Tick) (least end : ℕ) → Tidy st P (wait_until a least end)
+tidy_until st P None least end = tidy_done st P (only_at end)
+tidy_until st P (Some from) least end = by_order (nat_lt from end)
+  where
+    by_order : (b : Bool) → Tidy st P (if b then raised_at cancelled (only_at (max least from)) else done_at (only_at end))
+    by_order true = tidy_raised st P cancelled (only_at (max least from))
+    by_order false = tidy_done st P (only_at end)
+
+tidy_set : (clock : Clock) (st : Stack) (P : Label → Type 0) (set t : ℕ) → Tidy st P (wait_by clock st set t)
+tidy_set clock st P set t = by_round (nat_le set (a_round_after clock t))
+  where
+    by_round : (b : Bool) → Tidy st P (if b then sleep_result clock st 0 t else wait_until (sight st.scopes) (a_round_after clock t) set)
+    by_round true = tidy_sleeping clock st P 0 t
+    by_round false = tidy_until st P (sight st.scopes) (a_round_after clock t) set
+
+tidy_lined : (st : Stack) (P : Label → Type 0) (label : Label) (r : Result) → Tidy st P r → Tidy st P (with_line label r)
+tidy_lined st P label r h = by_exc r.exc
+  where
+    by_exc : (o : Option Exc) → Tidy st P (with_line_if o label r)
+    by_exc None = record { gives = λ l e. absurd e; signs = λ l e. absurd e }
+    by_exc (Some e) = h
+
+-- a wait for an event is tidy
+pub tidy_awaiting : (clock : Clock) (st : Stack) (P : Label → Type 0) (level : Option (Level Label)) (t : Now) →
+    Tidy st P (event_wait clock st level t)
+unfolding event_wait
+tidy_awaiting clock st P None t = tidy_done st P t
+tidy_awaiting clock st P (Some l) t = tidy_lined st P l.label _ (tidy_set clock st P (set_moment clock l.from t.at) t.at)
 
 no_enters_lines : (l : Label) (t : ℕ) (ls : List Span) → Gives l (log_of_lines t ls) → ⊥
 no_enters_lines l t [] h = h
@@ -124,42 +153,53 @@ unfolding need_result
 tidy_needing st P (Some l) name here t = tidy_showing st P (l ∷ []) t
 tidy_needing st P None name here t = tidy_raising st P name here t
 
--- a label that was found on a stack is on it
-abbrev OnStackIf : Option Label → Stack → Type 0
-OnStackIf None st = Unit {0}
-OnStackIf (Some l) st = OnStack l st
+-- a label that was found among some levels is that of one of them
+abbrev OnLevelsIf : Option Label → Levels → Type 0
+OnLevelsIf None ls = Unit {0}
+OnLevelsIf (Some l) ls = OnLevels l ls
 
-found_on : (name : List ℕ) (st : Stack) → OnStackIf (label_on name st) st
+found_on : (name : List ℕ) (ls : Levels) → OnLevelsIf (label_on name ls) ls
 found_on name [] = tt
 found_on name (k ∷ ks) = by_test (bytes_eq name k.label.name) (label_on name ks) (found_on name ks)
   where
-    by_test : (b : Bool) (o : Option Label) → OnStackIf o ks → OnStackIf (label_if b k.label o) (k ∷ ks)
+    by_test : (b : Bool) (o : Option Label) → OnLevelsIf o ks → OnLevelsIf (label_if b k.label o) (k ∷ ks)
     by_test true o h = inl refl
     by_test false None h = tt
     by_test false (Some l) h = inr h
 
--- the innermost label of a stack is on it, if there is one
-pub home_on : (st : Stack) → OnStackIf (home_of st) st
+-- the innermost label is one of them, if there is one
+pub home_on : (ls : Levels) → OnLevelsIf (home_of ls) ls
 home_on [] = tt
 home_on (k ∷ ks) = inl refl
 
 -- a sign for such a label, and nothing else
-pub sign_on : (st : Stack) (o : Option Label) (t : ℕ) → OnStackIf o st → (l : Label) → Signs l (sign_of o t) → OnStack l st
-sign_on st None t h l s = absurd s
-sign_on st (Some m) t h l (inl e) = subst (λ (x : Label). OnStack x st) (sym e) h
-sign_on st (Some m) t h l (inr s) = absurd s
+pub sign_on : (ls : Levels) (o : Option Label) (t : ℕ) → OnLevelsIf o ls → (l : Label) → Signs l (sign_of o t) → OnLevels l ls
+sign_on ls None t h l s = absurd s
+sign_on ls (Some m) t h l (inl e) = subst (λ (x : Label). OnLevels x ls) (sym e) h
+sign_on ls (Some m) t h l (inr s) = absurd s
 
 no_enters_sign : (o : Option Label) (t : ℕ) (l : Label) → Gives l (sign_of o t) → ⊥
 no_enters_sign None t l h = h
 no_enters_sign (Some m) t l h = h
 
 -- a `cancel` of a name is tidy
-pub tidy_cancelling : (clock : Clock) (st : Stack) (P : Label → Type 0) (name : List ℕ) (t : Now) → Tidy st P (cancel_result clock (label_on name st) t)
+pub tidy_cancelling : (clock : Clock) (st : Stack) (P : Label → Type 0) (name : List ℕ) (t : Now) →
+    Tidy st P (cancel_result clock (label_on name st.scopes) t)
 unfolding cancel_result
 tidy_cancelling clock st P name t =
     record {
-      gives = λ l e. absurd (no_enters_sign (label_on name st) t.at l e);
-      signs = λ l e. inl (sign_on st (label_on name st) t.at (found_on name st) l e);
+      gives = λ l e. absurd (no_enters_sign (label_on name st.scopes) t.at l e);
+      signs = λ l e. inl (inl (sign_on st.scopes (label_on name st.scopes) t.at (found_on name st.scopes) l e));
+    }
+
+-- a `set` of a name is tidy
+pub tidy_setting : (clock : Clock) (st : Stack) (P : Label → Type 0) (name : List ℕ) (t : Now) →
+    Tidy st P (set_result clock (label_on name st.events) t)
+unfolding set_result
+tidy_setting clock st P name t =
+    record {
+      gives = λ l e. absurd (no_enters_sign (label_on name st.events) t.at l e);
+      signs = λ l e. inl (inr (sign_on st.events (label_on name st.events) t.at (found_on name st.events) l e));
     }
 
 -- a scope or nursery with a label of its own is tidy, where its inside is tidy on the stack within it
@@ -173,7 +213,7 @@ tidy_block clock m kind label t d shield st P inside p h = at_from (from_of m la
     at_from f = record { gives = own; signs = λ l e. seen_to l (signs_followed l (inside f).log _ e) }
       where
         end_log : Log
-        end_log = entry (inside f).end (left_as kind label (left_with (catches (from_for (inside f).own (inside f).end label f) shield (stack_for (inside f).own (inside f).end st) (inside f).end) (inside f).exc).caught) nil
+        end_log = entry (inside f).end (left_as kind label (left_with (catches (from_for (inside f).own (inside f).end label f) shield (stack_for (inside f).own (inside f).end st.scopes) (inside f).end) (inside f).exc).caught) nil
 
         after : (l : Label) → Gives l (inside f).log ⊎ ⊥ → P l
         after l (inl e) = (h f).gives l e
@@ -183,45 +223,66 @@ tidy_block clock m kind label t d shield st P inside p h = at_from (from_of m la
         own l (inl e) = subst P (sym e) p
         own l (inr e) = after l (gives_followed l (inside f).log end_log e)
 
-        by_place : (l : Label) → ((l ≡ label) ⊎ OnStack l st) ⊎ Gives l (inside f).log → OnStack l st
+        by_place : (l : Label) → (((l ≡ label) ⊎ OnLevels l st.scopes) ⊎ OnLevels l st.events) ⊎ Gives l (inside f).log → OnStack l st
             ⊎ ((l ≡ label) ⊎ Gives l (followed_by (inside f).log end_log))
-        by_place l (inl (inl e)) = inr (inl e)
-        by_place l (inl (inr o)) = inl o
+        by_place l (inl (inl (inl e))) = inr (inl e)
+        by_place l (inl (inl (inr o))) = inl (inl o)
+        by_place l (inl (inr o)) = inl (inr o)
         by_place l (inr e) = inr (inr (gives_first l (inside f).log end_log e))
 
         seen_to : (l : Label) → Signs l (inside f).log ⊎ ⊥ → OnStack l st ⊎ ((l ≡ label) ⊎ Gives l (followed_by (inside f).log end_log))
         seen_to l (inl e) = by_place l ((h f).signs l e)
         seen_to l (inr e) = absurd e
 
+-- so is an event with a label of its own
+pub tidy_event : (m : Mode) (label : Label) (t : ℕ) (st : Stack) (P : Label → Type 0) (inside : Tick → Result) →
+    P label → ((f : Tick) → Tidy (stack_in_event label f st) P (inside f)) → Tidy st P (event_block m label t inside)
+unfolding event_block
+tidy_event m label t st P inside p h = at_from (from_of m label None inside)
+  where
+    at_from : (f : Tick) → Tidy st P (event_result label t (inside f))
+    at_from f = record { gives = own; signs = λ l e. by_place l ((h f).signs l e) }
+      where
+        own : (l : Label) → (l ≡ label) ⊎ Gives l (inside f).log → P l
+        own l (inl e) = subst P (sym e) p
+        own l (inr e) = (h f).gives l e
+
+        by_place : (l : Label) → (OnLevels l st.scopes ⊎ ((l ≡ label) ⊎ OnLevels l st.events)) ⊎ Gives l (inside f).log →
+            OnStack l st ⊎ ((l ≡ label) ⊎ Gives l (inside f).log)
+        by_place l (inl (inl o)) = inl (inl o)
+        by_place l (inl (inr (inl e))) = inr (inl e)
+        by_place l (inl (inr (inr o))) = inl (inr o)
+        by_place l (inr e) = inr (inr e)
+
 -- a member signs its home
-pub signs_home : (st : Stack) (o : Option Exc) (t : ℕ) (l : Label) → Signs l (sign_if o (home_of st) t) → OnStack l st
+pub signs_home : (st : Stack) (o : Option Exc) (t : ℕ) (l : Label) → Signs l (sign_if o (home_of st.scopes) t) → OnStack l st
 signs_home st None t l s = absurd s
-signs_home st (Some e) t l s = sign_on st (home_of st) t (home_on st) l s
+signs_home st (Some e) t l s = inl (sign_on st.scopes (home_of st.scopes) t (home_on st.scopes) l s)
 
 -- and gives no label with that sign
-pub gives_home : (st : Stack) (o : Option Exc) (t : ℕ) (l : Label) → Gives l (sign_if o (home_of st) t) → ⊥
+pub gives_home : (st : Stack) (o : Option Exc) (t : ℕ) (l : Label) → Gives l (sign_if o (home_of st.scopes) t) → ⊥
 gives_home st None t l s = s
-gives_home st (Some e) t l s = no_enters_sign (home_of st) t l s
+gives_home st (Some e) t l s = no_enters_sign (home_of st.scopes) t l s
 
 -- a tidy member is tidy with its sign too
 pub tidy_signed : (st : Stack) (P : Label → Type 0) (r : Result) → Tidy st P r → Tidy st P (with_sign st r)
 unfolding with_sign
 tidy_signed st P r h =
     record {
-      gives = λ l e. own l (gives_followed l r.log (sign_if r.exc (home_of st) r.end) e);
-      signs = λ l e. seen_to l (signs_followed l r.log (sign_if r.exc (home_of st) r.end) e);
+      gives = λ l e. own l (gives_followed l r.log (sign_if r.exc (home_of st.scopes) r.end) e);
+      signs = λ l e. seen_to l (signs_followed l r.log (sign_if r.exc (home_of st.scopes) r.end) e);
     }
   where
-    own : (l : Label) → Gives l r.log ⊎ Gives l (sign_if r.exc (home_of st) r.end) → P l
+    own : (l : Label) → Gives l r.log ⊎ Gives l (sign_if r.exc (home_of st.scopes) r.end) → P l
     own l (inl e) = h.gives l e
     own l (inr e) = absurd (gives_home st r.exc r.end l e)
 
-    first : (l : Label) → OnStack l st ⊎ Gives l r.log → OnStack l st ⊎ Gives l (followed_by r.log (sign_if r.exc (home_of st) r.end))
+    first : (l : Label) → OnStack l st ⊎ Gives l r.log → OnStack l st ⊎ Gives l (followed_by r.log (sign_if r.exc (home_of st.scopes) r.end))
     first l (inl o) = inl o
     first l (inr e) = inr (gives_first l r.log _ e)
 
-    seen_to : (l : Label) → Signs l r.log ⊎ Signs l (sign_if r.exc (home_of st) r.end) → OnStack l st
-        ⊎ Gives l (followed_by r.log (sign_if r.exc (home_of st) r.end))
+    seen_to : (l : Label) → Signs l r.log ⊎ Signs l (sign_if r.exc (home_of st.scopes) r.end) → OnStack l st
+        ⊎ Gives l (followed_by r.log (sign_if r.exc (home_of st.scopes) r.end))
     seen_to l (inl e) = first l (h.signs l e)
     seen_to l (inr e) = inl (signs_home st r.exc r.end l e)
 
@@ -338,12 +399,17 @@ mutual
   tidy_step m (need text name) here st t = tidy_needing st _ _ name here t
   tidy_step m (raise name) here st t = tidy_raising st _ name here t
   tidy_step m (cancel name) here st t = tidy_cancelling here.clock st _ name t
+  tidy_step m (set_event name) here st t = tidy_setting here.clock st _ name t
+  tidy_step m (wait_for name) here st t = tidy_awaiting here.clock st _ _ t
   tidy_step m (scope name d shield fail body) here st t =
       tidy_block here.clock m _ _ t.at _ shield st _ _ (belongs_here name (names_of body) here)
       (λ f. tidy_in _ _ _ _ (in_body name (names_of body) here.path) (tidy m body here _ t))
   tidy_step m (nursery name d shield body) here st t =
       tidy_block here.clock m _ _ t.at _ shield st _ _ (belongs_here name (names_of body) here)
       (λ f. tidy_in _ _ _ _ (in_body name (names_of body) here.path) (tidy_gathered here.clock _ _ _ _ (tidy_signed _ _ _ (tidy m body here _ t))))
+  tidy_step m (event name body) here st t =
+      tidy_event m _ t.at st _ _ (belongs_here name (names_of body) here)
+      (λ f. tidy_in _ _ _ _ (in_body name (names_of body) here.path) (tidy m body here _ t))
   tidy_step m (start name None body) here st t =
       tidy_child st _ _ (a_round_after here.clock t.at) _ t (belongs_here name (names_of body) here)
       (tidy_in st _ _ _ (in_body name (names_of body) here.path) (tidy_signed st _ _ (tidy m body _ st (only_at (a_round_after here.clock t.at)))))

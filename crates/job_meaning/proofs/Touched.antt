@@ -6,7 +6,7 @@ use Rattle.cancel_scopes.specs.Sight.{Tick, earlier}
 use Rattle.job_meaning.specs.Log.{Log, nil, entry, sign, entered, task, followed_by, least_sign, tick_if, deadline_of, deadline_if, either, same_label}
 use Rattle.job_meaning.proofs.Distinct.{same_label_equal}
 
--- the label is given in the log: to a scope or nursery that is entered, or to a task that is started
+-- the label is given in the log: to a scope, nursery or event that is entered, or to a task that is started
 abbrev pub Gives : Label → Log → Type 0
 Gives l nil = ⊥
 Gives l (entry t e rest) = Gives l rest

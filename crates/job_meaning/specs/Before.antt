@@ -3,19 +3,22 @@ use Rattle.std.specs.Prelude.{◌≡◌, ℕ, ◌<◌, ◌≤◌, Bool, true, fa
 use Rattle.exc_groups.specs.Exceptions.{Label, Exc}
 use Rattle.cancel_scopes.specs.Sight.{Tick}
 use Rattle.job_meaning.specs.Log.{Entry, Log, nil, entry, sign, entered, task, Member, Result}
-use Rattle.job_meaning.specs.Walk.{Stack}
+use Rattle.job_meaning.specs.Walk.{Levels, Stack}
 
 -- the lesser of a tick and c, where never is later than every tick
 abbrev pub upto : ℕ → Tick → ℕ
 upto c None = c
 upto c (Some t) = min c t
 
--- two stacks agree, except where both froms are at least c
+-- two stacks agree, except where both froms are at least c: scopes and events
+abbrev pub NearLevels : ℕ → Levels → Levels → Type 0
+NearLevels c [] [] = Unit {0}
+NearLevels c (l ∷ ls) (k ∷ ks) = (l.label ≡ k.label) × (l.shield ≡ k.shield) × (upto c l.from ≡ upto c k.from) × NearLevels c ls ks
+NearLevels c [] (k ∷ ks) = ⊥
+NearLevels c (l ∷ ls) [] = ⊥
+
 abbrev pub Near : ℕ → Stack → Stack → Type 0
-Near c [] [] = Unit {0}
-Near c (l ∷ ls) (k ∷ ks) = (l.label ≡ k.label) × (l.shield ≡ k.shield) × (upto c l.from ≡ upto c k.from) × Near c ls ks
-Near c [] (k ∷ ks) = ⊥
-Near c (l ∷ ls) [] = ⊥
+Near c st other = NearLevels c st.scopes other.scopes × NearLevels c st.events other.events
 
 -- an exception is known where its task has ended
 abbrev pub exc_if : Bool → Option Exc → Option Exc

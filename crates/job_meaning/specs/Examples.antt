@@ -2,10 +2,10 @@
 use Rattle.std.specs.Prelude.{ℕ, true, false, Option, None, Some, List, [], ◌∷◌, codes}
 use Rattle.job_tree.specs.declared.deadline.Deadline.TheVariants.{Never, After, At}
 use Rattle.job_tree.specs.declared.format.Format.TheVariants.{Two}
-use Rattle.job_tree.specs.Tree.{Step, scope, nursery, start, attempt, Steps, stop, step, unhandled, except, uncleaned, finally, Tree}
+use Rattle.job_tree.specs.Tree.{Step, scope, nursery, event, start, repeat, attempt, Steps, stop, step, unhandled, except, uncleaned, finally, Tree}
 use Rattle.exc_groups.specs.Exceptions.{Label, by_nursery, by_handler, Exc, raised, group, parts_of}
-use Rattle.job_meaning.specs.Log.{line, scope_left, nursery_left}
-use Rattle.job_meaning.specs.Walk.{walk, and_then, sleep_result, pace_result, lines_result, raise_result, need_result, cancel_result, block, with_sign, nursery_result, child, handler_result, cleanup_result}
+use Rattle.job_meaning.specs.Log.{line, waited, scope_left, nursery_left}
+use Rattle.job_meaning.specs.Walk.{walk, and_then, sleep_result, pace_result, lines_result, raise_result, need_result, cancel_result, set_result, event_wait, block, event_block, with_sign, nursery_result, child, handler_result, cleanup_result}
 use Rattle.job_meaning.specs.Meaning.{Noted, Record, meaning, meaning_records, meaning_end, meaning_table}
 use Rattle.job_meaning.specs.Follow.{follow}
 
@@ -44,6 +44,14 @@ timed_shield name n ss = scope name (After n) true false (block_of ss)
 -- nursery NAME { .. }
 abbrev pub nursery_of : List ℕ → List Step → Step
 nursery_of name ss = nursery name Never false (block_of ss)
+
+-- event NAME { .. }
+abbrev pub event_of : List ℕ → List Step → Step
+event_of name ss = event name (block_of ss)
+
+-- repeat N { .. }
+abbrev pub repeat_of : ℕ → List Step → Step
+repeat_of count ss = repeat count (block_of ss)
 
 -- start NAME { .. }
 abbrev pub start_of : List ℕ → List Step → Step
@@ -95,6 +103,10 @@ nursery_caught name tick = record { tick = tick; entry = nursery_left (label_nam
 abbrev pub nursery_passed : List ℕ → ℕ → Noted
 nursery_passed name tick = record { tick = tick; entry = nursery_left (label_named name) false }
 
+-- an event for which a task waited, and one of a pass or of a copy
+abbrev pub waited_for : List ℕ → ℕ → Noted
+waited_for name tick = record { tick = tick; entry = waited (label_named name) }
+
 -- the record of a task: its start, its end, its exception and its entries
 abbrev pub record_of : Label → ℕ → ℕ → Option Exc → List Noted → Record
 record_of label from to exc entries = record { label = label; start = from; end = to; exc = exc; entries = entries }
@@ -106,15 +118,15 @@ main_ran from to exc entries = record_of (label_named (codes "main")) from to ex
 -- the records of the steps of a job over an input; an example that names it computes with the whole
 -- meaning
 unfoldable pub run_of : List Step → List ℕ → List Record
-unfolding meaning walk and_then sleep_result pace_result lines_result raise_result need_result cancel_result block with_sign nursery_result child handler_result cleanup_result
+unfolding meaning walk and_then sleep_result pace_result lines_result raise_result need_result cancel_result set_result event_wait block event_block with_sign nursery_result child handler_result cleanup_result
 run_of ss input = meaning_records (job_of ss) input
 
 -- the tick at which they end
 unfoldable pub end_of : List Step → List ℕ → ℕ
-unfolding meaning walk and_then sleep_result pace_result lines_result raise_result need_result cancel_result block with_sign nursery_result child handler_result cleanup_result
+unfolding meaning walk and_then sleep_result pace_result lines_result raise_result need_result cancel_result set_result event_wait block event_block with_sign nursery_result child handler_result cleanup_result
 end_of ss input = meaning_end (job_of ss) input
 
 -- the tick at which the walk that follows the table of their meaning ends
 unfoldable pub followed_end_of : List Step → List ℕ → ℕ
-unfolding follow meaning walk and_then sleep_result pace_result lines_result raise_result need_result cancel_result block with_sign nursery_result child handler_result cleanup_result
+unfolding follow meaning walk and_then sleep_result pace_result lines_result raise_result need_result cancel_result set_result event_wait block event_block with_sign nursery_result child handler_result cleanup_result
 followed_end_of ss input = (follow (meaning_table (job_of ss) input) (job_of ss) input).end

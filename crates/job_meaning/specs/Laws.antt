@@ -8,7 +8,7 @@ use Rattle.job_tree.specs.InRange.{IsInRange}
 use Rattle.exc_groups.specs.Exceptions.{Label, Exc, holds_cancelled}
 use Rattle.cancel_scopes.specs.Sight.{Tick, seen}
 use Rattle.job_meaning.specs.Moments.{by_ticks, clock_of, Now, only_at}
-use Rattle.job_meaning.specs.Walk.{Stack, Mode, Here, walk}
+use Rattle.job_meaning.specs.Walk.{Levels, Stack, Mode, Here, walk}
 use Rattle.job_meaning.specs.Log.{Table, times_given}
 use Rattle.job_meaning.specs.Meaning.{root_walk, root_log, meaning, meaning_table, meaning_records, meaning_end, meaning_froms}
 use Rattle.job_meaning.specs.Follow.{follow, IsSettled}
@@ -22,7 +22,7 @@ AtMost None (Some u) = ⊥
 AtMost (Some t) (Some u) = t ≤ u
 
 -- two stacks have the same labels and shields, and each from of the second is at most that of the first
-abbrev pub Lowered : Stack → Stack → Type 0
+abbrev pub Lowered : Levels → Levels → Type 0
 Lowered [] [] = Unit {0}
 Lowered (l ∷ ls) (k ∷ ks) = (l.label ≡ k.label) × (l.shield ≡ k.shield) × AtMost k.from l.from × Lowered ls ks
 Lowered [] (k ∷ ks) = ⊥
@@ -30,11 +30,11 @@ Lowered (l ∷ ls) [] = ⊥
 
 -- what is seen at a tick is seen at every later one
 abbrev pub StaysSeen : Type 0
-StaysSeen = (stack : Stack) (t u : ℕ) → t ≤ u → IsTrue (seen stack t) → IsTrue (seen stack u)
+StaysSeen = (stack : Levels) (t u : ℕ) → t ≤ u → IsTrue (seen stack t) → IsTrue (seen stack u)
 
 -- lowering a from hides nothing
 abbrev pub LoweringShows : Type 0
-LoweringShows = (stack lowered : Stack) (t : ℕ) → Lowered stack lowered → IsTrue (seen stack t) → IsTrue (seen lowered t)
+LoweringShows = (stack lowered : Levels) (t : ℕ) → Lowered stack lowered → IsTrue (seen stack t) → IsTrue (seen lowered t)
 
 -- whether an outcome holds a `Cancelled`
 abbrev pub some_cancelled : Option Exc → Bool
@@ -51,7 +51,7 @@ abbrev pub CancelledIsSeen : Type 0
 CancelledIsSeen =
     (mode : Mode) (steps : Steps) (here : Here) (stack : Stack) (t : ℕ) → here.clock ≡ by_ticks →
     let r = walk mode steps here stack (only_at t) in
-    IsTrue (some_cancelled r.exc) → IsTrue (seen stack r.end)
+    IsTrue (some_cancelled r.exc) → IsTrue (seen stack.scopes r.end)
 
 -- So no `Cancelled` leaves a job of format 1 or 2, which go by ticks.
 abbrev pub NoneReachesTheRoot : Type 0

@@ -6,6 +6,7 @@ pub mod Shown
 pub mod Follow
 pub mod Examples
 pub mod ExamplesRounds
+pub mod ExamplesEvents
 pub mod ExamplesScopes
 pub mod ExamplesNurseries
 pub mod ExamplesLines

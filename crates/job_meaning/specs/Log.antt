@@ -5,14 +5,16 @@ use Rattle.exc_groups.specs.Exceptions.{Label, Exc}
 pub use Rattle.exc_groups.specs.Labels.{same_label}
 use Rattle.cancel_scopes.specs.Sight.{Tick, earlier, next}
 
--- what a task notes: a line that it borrowed, and the scopes and nurseries that it left, with whether they caught
+-- what a task notes: a line that it borrowed, the scopes and nurseries that it left, with whether they caught, and the events
+-- for which it waited until they were set
 pub data Entry : Type 0 where
   line : (at : Span) → Entry
+  waited : (label : Label) → Entry
   scope_left : (label : Label) → (caught : Bool) → Entry
   nursery_left : (label : Label) → (caught : Bool) → Entry
 
 -- What a task did, in order; the log of a started task is inside its starter's, at the point where it was started. An
--- entry has its tick. A sign means that a scope or nursery was cancelled in a tick. A label is entered in a tick, with
+-- entry has its tick. A sign means that a scope or nursery was cancelled in a tick, or an event set. A label is entered in a tick, with
 -- its deadline. A task has its start, its end and how it ended, and its own log.
 pub data Log : Type 0 where
   nil : Log

@@ -5,7 +5,7 @@ use Rattle.exc_groups.specs.Exceptions.{Label, Exc}
 use Rattle.cancel_scopes.specs.Sight.{Tick}
 use Rattle.job_meaning.specs.Log.{Entry, Log, nil, entry, sign, entered, task, Result, Table, table_of}
 use Rattle.job_meaning.specs.Moments.{Clock, clock_of, tick_of, only_at}
-use Rattle.job_meaning.specs.Walk.{Mode, two_walks, Here, walk}
+use Rattle.job_meaning.specs.Walk.{Mode, two_walks, Here, no_stack, walk}
 
 -- an entry with its tick
 pub record Noted : Type 0 where
@@ -66,7 +66,7 @@ root_here job input =
 
 -- the walk of a job from moment 0, enclosed by no scope
 abbrev pub root_walk : Mode → Tree → List ℕ → Result
-root_walk mode job input = walk mode job.steps (root_here job input) [] (only_at 0)
+root_walk mode job input = walk mode job.steps (root_here job input) no_stack (only_at 0)
 
 -- a root's result as a log: the root task alone
 abbrev pub root_log : Tree → Result → Log

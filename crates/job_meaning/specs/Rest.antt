@@ -6,7 +6,7 @@ use Rattle.exc_groups.specs.Exceptions.{Label, Exc, cancelled}
 use Rattle.cancel_scopes.specs.Sight.{Tick, Level, catches}
 use Rattle.job_meaning.specs.Log.{Entry, Log, nil, entry, sign, entered, task, followed_by, Member, Result}
 use Rattle.job_meaning.specs.Moments.{Clock, tick_of, Now, only_at}
-use Rattle.job_meaning.specs.Walk.{label_over, in_pass, passes, Stack, Mode, Here, walk, walk_handler, walk_cleanup, done_at, raised_at, and_then, sleep_result, pace_result, from_for, stack_for, Kind, a_scope, a_nursery, left_as, Left, left_with, exc_after, with_sign, nursery_result, handler_exc, outcome_after, with_outcome}
+use Rattle.job_meaning.specs.Walk.{label_over, in_pass, passes, Levels, Stack, Mode, Here, walk, walk_handler, walk_cleanup, done_at, raised_at, and_then, sleep_result, pace_result, event_wait, event_on, from_for, stack_for, Kind, a_scope, a_nursery, left_as, Left, left_with, exc_after, with_sign, nursery_result, handler_exc, outcome_after, with_outcome}
 use Rattle.job_meaning.specs.Asking.{Kernel, answer_of, Purpose, shows, needs, paces, answer_result}
 
 -- What a task did so far, in order. The children that it started are numbered 0, 1, .. within it, and their results are
@@ -51,6 +51,8 @@ pub data Frame : Type 0 where
   steps_left : (steps : Steps) → Frame
   -- a scope
   in_scope : (fail : Bool) → Frame
+  -- an event
+  in_event : Frame
   -- the body of a nursery, with the children started so far
   in_nursery : (children : List ℕ) → Frame
   -- a pass of a `repeat`, with its number, how many come after it, and its block
@@ -68,6 +70,7 @@ abbrev pub path_in : List Frame → List ℕ → List ℕ
 path_in [] path = path
 path_in (steps_left ss ∷ fs) path = path_in fs path
 path_in (in_scope fail ∷ fs) path = path_in fs path
+path_in (in_event ∷ fs) path = path_in fs path
 path_in (in_nursery children ∷ fs) path = path_in fs path
 path_in (in_repeat pass left body ∷ fs) path = path_in fs path ++ pass ∷ []
 path_in (in_try handler cleanup ∷ fs) path = path_in fs path
@@ -86,6 +89,8 @@ pub data Stopped : Type 0 where
   asking : (kernel : Kernel) → (purpose : Purpose) → Stopped
   -- it sleeps this number of ticks from this moment on, by `pace` or not
   asleep : (paced : Bool) → (ticks since : ℕ) → Stopped
+  -- it waits for the event of this name that encloses it, from this moment on
+  waiting_for : (event : List ℕ) → (since : ℕ) → Stopped
   -- it was cancelled in this moment at a checkpoint, which raises a round later
   giving_up : (since : ℕ) → Stopped
   -- it waits for these children of a nursery, its innermost one, whose body ended in this tick with this exception or none
@@ -109,10 +114,26 @@ leaving_log clock kind label left r =
       log = followed_by r.log (entry r.end (left_as kind label left.caught) nil);
     }
 
-abbrev pub block_left : Clock → Kind → Level Label → Stack → Result → Result
+abbrev pub block_left : Clock → Kind → Level Label → Levels → Result → Result
 block_left clock kind level outer r =
     leaving_log clock kind level.label
     (left_with (catches (from_for r.own r.end level.label level.from) level.shield (stack_for r.own r.end outer) r.end) r.exc) r
+
+-- the innermost scope or nursery is left, if there is one, after what it results in
+abbrev pub left_if : Clock → Kind → Levels → (Level Label → Result) → Result → Result
+left_if clock kind [] inside r = r
+left_if clock kind (l ∷ outer) inside r = block_left clock kind l outer (inside l)
+
+abbrev pub outer_levels : Levels → Levels
+outer_levels [] = []
+outer_levels (l ∷ outer) = outer
+
+-- the stack outside the innermost scope or nursery, and outside the innermost event
+abbrev pub without_scope : Stack → Stack
+without_scope st = record st { scopes = outer_levels st.scopes }
+
+abbrev pub without_event : Stack → Stack
+without_event st = record st { events = outer_levels st.events }
 
 -- a nursery's body with the children that were started before
 abbrev pub with_children : List Member → Result → Result
@@ -123,12 +144,13 @@ with_children ms r = record r { members = ms ++ r.members }
 unfoldable pub finish : Mode → ChildOutcomes → List Frame → Here → Stack → Result → Result
 finish m told [] here st r = with_sign st r
 finish m told (steps_left ss ∷ fs) here st r = finish m told fs here st (and_then r (λ u. walk m ss (inside fs here) st u))
-finish m told (in_scope fail ∷ fs) here [] r = finish m told fs here [] r
-finish m told (in_scope fail ∷ fs) here (l ∷ outer) r = finish m told fs here outer (block_left here.clock (a_scope fail) l outer r)
-finish m told (in_nursery children ∷ fs) here [] r = finish m told fs here [] r
-finish m told (in_nursery children ∷ fs) here (l ∷ outer) r =
-    finish m told fs here outer
-    (block_left here.clock a_nursery l outer (nursery_result here.clock l.label (with_children (told_members told children) (with_sign (l ∷ outer) r))))
+finish m told (in_scope fail ∷ fs) here st r =
+    finish m told fs here (without_scope st) (left_if here.clock (a_scope fail) st.scopes (λ l. r) r)
+finish m told (in_event ∷ fs) here st r = finish m told fs here (without_event st) r
+finish m told (in_nursery children ∷ fs) here st r =
+    finish m told fs here (without_scope st)
+    (left_if here.clock a_nursery st.scopes
+    (λ l. nursery_result here.clock l.label (with_children (told_members told children) (with_sign st r))) r)
 finish m told (in_repeat pass left body ∷ fs) here st r =
     finish m told fs here st (and_then r (λ u. passes (suc pass) left (λ i v. walk m body (in_pass i (inside fs here)) st v) u))
 finish m told (in_try handler cleanup ∷ fs) here st r =
@@ -139,9 +161,10 @@ finish m told (in_cleanup outcome ∷ fs) here st r =
     finish m told fs here st (with_outcome (outcome_after outcome r.exc) r)
 
 -- a nursery whose body ended in tick u with this exception or none, after its children have ended too
-abbrev pub wait_result : Clock → List Member → ℕ → Option Exc → Level Label → Stack → Result
-wait_result clock ms u exc l outer =
-    block_left clock a_nursery l outer (nursery_result clock l.label (record { end = u; own = []; exc = exc; members = ms; log = nil }))
+abbrev pub wait_result : Clock → List Member → ℕ → Option Exc → Levels → Now → Result
+wait_result clock ms u exc scopes now =
+    left_if clock a_nursery scopes
+    (λ l. nursery_result clock l.label (record { end = u; own = []; exc = exc; members = ms; log = nil })) (done_at now)
 
 -- What the rest of a task that stopped in tick t results in, on its stack. An answer comes in the same tick, a sleep ends
 -- when it is due or cancelled, a wait ends with the last child; and a task that ended has nothing left.
@@ -152,9 +175,10 @@ finished_from m told (asking kernel purpose) fs here st now =
 finished_from m told (asleep false n since) fs here st now = finish m told fs here st (sleep_result here.clock st n since)
 finished_from m told (asleep true n since) fs here st now = finish m told fs here st (pace_result here.clock st n since)
 finished_from m told (giving_up since) fs here st now = finish m told fs here st (raised_at cancelled (only_at (suc since)))
-finished_from m told (awaiting children u exc) fs here [] now = finish m told fs here [] (done_at now)
-finished_from m told (awaiting children u exc) fs here (l ∷ outer) now =
-    finish m told fs here outer (wait_result here.clock (told_members told children) u exc l outer)
+finished_from m told (waiting_for event since) fs here st now =
+    finish m told fs here st (event_wait here.clock st (event_on event st.events) (only_at since))
+finished_from m told (awaiting children u exc) fs here st now =
+    finish m told fs here (without_scope st) (wait_result here.clock (told_members told children) u exc st.scopes now)
 finished_from m told (at_end u e) fs here st now = record { end = u; own = []; exc = e; members = []; log = nil }
 
 -- what the rest of a task results in, on its stack
@@ -176,6 +200,7 @@ rest_at_start steps = record { stopped = to_begin; frames = steps_left steps ∷
 abbrev pub frame_weight : Frame → ℕ
 frame_weight (steps_left ss) = 2 * size_of ss
 frame_weight (in_scope fail) = 0
+frame_weight in_event = 0
 frame_weight (in_nursery children) = 1
 frame_weight (in_repeat pass left body) = 2 * (left * (1 + size_of body))
 frame_weight (in_try handler cleanup) = 2 * (handled_size handler + cleaned_size cleanup)
@@ -202,6 +227,7 @@ abbrev pub stop_weight : Stopped → ℕ
 stop_weight to_begin = 1
 stop_weight (asking kernel purpose) = asking_weight purpose
 stop_weight (asleep paced n since) = sleep_weight paced n
+stop_weight (waiting_for event since) = 2
 stop_weight (giving_up since) = 1
 stop_weight (awaiting children ended exc) = 1
 stop_weight (at_end u e) = 0

@@ -3,19 +3,21 @@ use Rattle.std.specs.Prelude.{ℕ, Bool, Option, Some, None, List, map}
 use Rattle.job_tree.specs.Tree.{Tree}
 use Rattle.buffer_parts.specs.Lines.{text_of}
 use Rattle.exc_groups.specs.Exceptions.{Label, Exc, cancelled, raised, too_slow, group}
-use Rattle.job_meaning.specs.Log.{Entry, line, scope_left, nursery_left}
+use Rattle.job_meaning.specs.Log.{Entry, line, waited, scope_left, nursery_left}
 use Rattle.job_meaning.specs.Meaning.{Noted, Record, meaning_records}
 
--- an entry: a line with its place and its bytes, or a scope or nursery that was left, with the tick
+-- an entry: a line with its place and its bytes, or a scope or nursery that was left, or an event for which it waited, with the tick
 pub data Shown : Type 0 where
   line_shown : (at : ℕ) → (text : List ℕ) → Shown
   scope_shown : (label : Label) → (tick : ℕ) → (caught : Bool) → Shown
   nursery_shown : (label : Label) → (tick : ℕ) → (caught : Bool) → Shown
+  wait_shown : (label : Label) → (tick : ℕ) → Shown
 
 abbrev pub shown_at : List ℕ → ℕ → Entry → Shown
 shown_at input t (line l) = line_shown l.at (text_of input l)
 shown_at input t (scope_left label caught) = scope_shown label t caught
 shown_at input t (nursery_left label caught) = nursery_shown label t caught
+shown_at input t (waited label) = wait_shown label t
 
 -- an entry as it is shown: each line is the slice of the input at its place
 abbrev pub as_shown : List ℕ → Noted → Shown

@@ -1,19 +1,28 @@
 -- The walk of a job's steps. It recurses over the tree: it has no queue, no turns and no other task.
-use Rattle.std.specs.Prelude.{ℕ, zero, suc, ◌+◌, ◌-◌, ◌/◌, Bool, true, false, ◌&&◌, ◌||◌, Option, Some, None, List, [], ◌∷◌, ◌++◌, nat_le, max, if◌then◌else◌}
+use Rattle.std.specs.Prelude.{ℕ, zero, suc, ◌+◌, ◌-◌, ◌/◌, Bool, true, false, ◌&&◌, ◌||◌, Option, Some, None, List, [], ◌∷◌, ◌++◌, nat_le, nat_lt, min, max, if◌then◌else◌}
 use Rattle.std.specs.Str.{bytes_eq}
-use Rattle.job_tree.specs.Tree.{Step, sleep, checkpoint, forever, pace, find, head, longest, need, raise, cancel, scope, nursery, start, repeat, attempt, Steps, stop, step, Handled, unhandled, except, Cleaned, uncleaned, finally}
+use Rattle.job_tree.specs.Tree.{Step, sleep, checkpoint, forever, pace, find, head, longest, need, raise, cancel, set_event, wait_for, scope, nursery, event, start, repeat, attempt, Steps, stop, step, Handled, unhandled, except, Cleaned, uncleaned, finally}
 use Rattle.buffer_parts.specs.Lines.{Range, Span}
 use Rattle.buffer_parts.specs.Cuts.{cut_of}
 use Rattle.line_kernels.specs.Kernels.{found_in, head_of, longest_in, needed_in, count_in}
 use Rattle.exc_groups.specs.Exceptions.{Label, by_nursery, by_handler, Exc, cancelled, raised, too_slow, group, no_parts, part, parts_of, group_of, holds_cancelled}
 use Rattle.exc_groups.specs.Split.{Wanted, named, is_cancelled, keep, drop}
 use Rattle.cancel_scopes.specs.Sight.{Tick, Level, earlier, sight, catches}
-use Rattle.job_meaning.specs.Log.{Entry, line, scope_left, nursery_left, Log, nil, entry, sign, entered, task, followed_by, Member, Result, same_label, least_sign, from_by, Table}
+use Rattle.job_meaning.specs.Log.{Entry, line, waited, scope_left, nursery_left, Log, nil, entry, sign, entered, task, followed_by, Member, Result, same_label, least_sign, from_by, Table}
 use Rattle.job_meaning.specs.Moments.{Clock, by_ticks, by_rounds, tick_of, a_round_after, wakes_at, gives_up_at, due, far, Now, only_at}
 
--- the scopes and nurseries that enclose a task, innermost first
-abbrev pub Stack : Type 0
-Stack = List (Level Label)
+abbrev pub Levels : Type 0
+Levels = List (Level Label)
+
+-- What encloses a task, innermost first: scopes and nurseries, each with the moment from which it is cancelled, and events, each
+-- with the moment from which it is set.
+pub record Stack : Type 0 where
+  pub scopes : Levels
+  pub events : Levels
+
+-- nothing encloses the root of a job
+abbrev pub no_stack : Stack
+no_stack = record { scopes = []; events = [] }
 
 -- How a block's from is found. The meaning walks it twice: first for its earliest sign, then with the from that
 -- follows. A table contains each from.
@@ -29,7 +38,7 @@ pub record Here : Type 0 where
   pub task : Label
   pub path : List ℕ
 
--- the label of a scope, nursery or task that is entered here
+-- the label of a scope, nursery, event or task that is entered here
 abbrev pub label_here : List ℕ → Here → Label
 label_here name here = record { name = name; indices = here.path }
 
@@ -68,11 +77,45 @@ wait_by_sight (Some from) least gives_up end =
 
 -- a sleep of n ticks from moment m
 unfoldable pub sleep_result : Clock → Stack → ℕ → ℕ → Result
-sleep_result clock stack n m = wait_by_sight (sight stack) (a_round_after clock m) (gives_up_at clock n m) (wakes_at clock n m)
+sleep_result clock stack n m = wait_by_sight (sight stack.scopes) (a_round_after clock m) (gives_up_at clock n m) (wakes_at clock n m)
 
 -- the same for `pace`, which takes one round where its count is 0
 unfoldable pub pace_result : Clock → Stack → ℕ → ℕ → Result
-pace_result clock stack n m = wait_by_sight (sight stack) (a_round_after clock m) (a_round_after clock m) (wakes_at clock n m)
+pace_result clock stack n m = wait_by_sight (sight stack.scopes) (a_round_after clock m) (a_round_after clock m) (wakes_at clock n m)
+
+-- A wait that ends in a moment. A cancellation that is seen earlier ends it with `Cancelled`, but not before the next round: where
+-- an event is set and its waiter cancelled in one round, it was set.
+abbrev pub wait_until : Tick → (least end : ℕ) → Result
+wait_until None least end = done_at (only_at end)
+wait_until (Some from) least end = if nat_lt from end then raised_at cancelled (only_at (max least from)) else done_at (only_at end)
+
+-- the moment in which a wait for an event ends that is set from this moment on; no wait lasts longer than `forever`
+abbrev pub set_moment : Clock → Tick → ℕ → ℕ
+set_moment clock None m = wakes_at clock (far - tick_of clock m) m
+set_moment clock (Some from) m = min from (wakes_at clock (far - tick_of clock m) m)
+
+-- a wait for an event that is set by the next round is a checkpoint
+abbrev pub wait_by : Clock → Stack → (set m : ℕ) → Result
+wait_by clock stack set m =
+    if nat_le set (a_round_after clock m) then sleep_result clock stack 0 m
+    else wait_until (sight stack.scopes) (a_round_after clock m) set
+
+-- a wait that ends well is noted
+abbrev pub with_line_if : Option Exc → Label → Result → Result
+with_line_if None label r = record r { log = entry r.end (waited label) nil }
+with_line_if (Some e) label r = r
+
+abbrev pub with_line : Label → Result → Result
+with_line label r = with_line_if r.exc label r
+
+-- where no event of the name encloses the task, nothing happens
+abbrev pub wait_on : Clock → Stack → Option (Level Label) → Now → Result
+wait_on clock stack None now = done_at now
+wait_on clock stack (Some l) now = with_line l.label (wait_by clock stack (set_moment clock l.from now.at) now.at)
+
+-- a wait for an event from a moment on
+unfoldable pub event_wait : Clock → Stack → Option (Level Label) → Now → Result
+event_wait clock stack level now = wait_on clock stack level now
 
 -- how long `pace` sleeps: the count divided by the lines of a tick, rounded up
 abbrev pub pace_ticks : ℕ → ℕ → ℕ
@@ -105,9 +148,18 @@ label_if true l o = Some l
 label_if false l o = o
 
 -- the label of the scope or nursery of this name that encloses the task
-abbrev pub label_on : List ℕ → Stack → Option Label
+abbrev pub label_on : List ℕ → Levels → Option Label
 label_on name [] = None
 label_on name (l ∷ ls) = label_if (bytes_eq name l.label.name) l.label (label_on name ls)
+
+abbrev pub level_if : Bool → Level Label → Option (Level Label) → Option (Level Label)
+level_if true l o = Some l
+level_if false l o = o
+
+-- the event of this name that encloses the task
+abbrev pub event_on : List ℕ → Levels → Option (Level Label)
+event_on name [] = None
+event_on name (l ∷ ls) = level_if (bytes_eq name l.label.name) l (event_on name ls)
 
 abbrev pub sign_of : Option Label → ℕ → Log
 sign_of None t = nil
@@ -122,6 +174,12 @@ with_own by_rounds (Some l) own = l ∷ own
 -- `cancel` takes no tick and is no checkpoint
 unfoldable pub cancel_result : Clock → Option Label → Now → Result
 cancel_result clock label now =
+    record { end = now.at; own = with_own clock label now.own; exc = None; members = []; log = sign_of label now.at }
+
+-- `set` takes no tick and is no checkpoint. Its sign is kept with what the task has cancelled, as that of a `cancel`: no scope has the
+-- label of an event.
+unfoldable pub set_result : Clock → Option Label → Now → Result
+set_result clock label now =
     record { end = now.at; own = with_own clock label now.own; exc = None; members = []; log = sign_of label now.at }
 
 -- the exception that remains after a block is left, and whether a `Cancelled` was caught
@@ -181,14 +239,14 @@ abbrev pub from_for : List Label → ℕ → Label → Tick → Tick
 from_for own m label from = if is_among label own then earlier from (Some m) else from
 
 -- a stack as the task sees it that has cancelled some labels in this moment
-abbrev pub stack_for : List Label → ℕ → Stack → Stack
+abbrev pub stack_for : List Label → ℕ → Levels → Levels
 stack_for own m [] = []
 stack_for own m (l ∷ ls) = record { label = l.label; shield = l.shield; from = from_for own m l.label l.from } ∷ stack_for own m ls
 
 abbrev pub exit_with_from : Clock → Kind → Label → ℕ → Tick → Bool → Stack → Tick → Result → Result
 exit_with_from clock kind label m deadline shield stack from r =
     exit_result clock kind label m deadline
-    (left_with (catches (from_for r.own r.end label from) shield (stack_for r.own r.end stack) r.end) r.exc) r
+    (left_with (catches (from_for r.own r.end label from) shield (stack_for r.own r.end stack.scopes) r.end) r.exc) r
 
 -- A scope or a nursery that is entered in moment m: its inside is walked with the block's from.
 unfoldable pub block : Clock → Mode → Kind → Label → ℕ → Tick → Bool → Stack → (Tick → Result) → Result
@@ -198,9 +256,21 @@ block clock mode kind label m deadline shield stack inside =
 
 -- the stack inside a block
 abbrev pub stack_inside : Label → Bool → Tick → Stack → Stack
-stack_inside label shield from stack = record { label = label; shield = shield; from = from } ∷ stack
+stack_inside label shield from stack = record stack { scopes = record { label = label; shield = shield; from = from } ∷ stack.scopes }
 
-abbrev pub home_of : Stack → Option Label
+-- the stack inside an event
+abbrev pub stack_in_event : Label → Tick → Stack → Stack
+stack_in_event label from stack = record stack { events = record { label = label; shield = false; from = from } ∷ stack.events }
+
+-- an event that was entered in moment m has no end of its own: it is entered, and leaves no line
+abbrev pub event_result : Label → ℕ → Result → Result
+event_result label m r = record r { log = entered label m None r.log }
+
+-- An event that is entered in moment m: its inside is walked with the moment from which it is set.
+unfoldable pub event_block : Mode → Label → ℕ → (Tick → Result) → Result
+event_block mode label m inside = event_result label m (inside (from_of mode label None inside))
+
+abbrev pub home_of : Levels → Option Label
 home_of [] = None
 home_of (l ∷ ls) = Some l.label
 
@@ -211,7 +281,7 @@ sign_if (Some e) label t = sign_of label t
 -- A member that ends with any exception cancels its nursery, at the end of its own log. It is at its end, so what it has cancelled
 -- in this moment does not count any more.
 unfoldable pub with_sign : Stack → Result → Result
-with_sign stack r = record r { own = []; log = followed_by r.log (sign_if r.exc (home_of stack) r.end) }
+with_sign stack r = record r { own = []; log = followed_by r.log (sign_if r.exc (home_of stack.scopes) r.end) }
 
 -- the later of an end and those of members
 abbrev pub latest : ℕ → List Member → ℕ
@@ -326,7 +396,9 @@ unfoldable mutual
   walk_step m longest here st now = lines_result (longest_in here.input here.part) now
   walk_step m (need text name) here st now = need_result (needed_in here.input text here.part) name here now
   walk_step m (raise name) here st now = raise_result name here now
-  walk_step m (cancel name) here st now = cancel_result here.clock (label_on name st) now
+  walk_step m (cancel name) here st now = cancel_result here.clock (label_on name st.scopes) now
+  walk_step m (set_event name) here st now = set_result here.clock (label_on name st.events) now
+  walk_step m (wait_for name) here st now = event_wait here.clock st (event_on name st.events) now
   walk_step m (scope name deadline shield fail body) here st now =
       block here.clock m (a_scope fail) (label_here name here) now.at (due here.clock deadline now.at) shield st
       (λ from. walk m body here (stack_inside (label_here name here) shield from st) now)
@@ -334,6 +406,9 @@ unfoldable mutual
       block here.clock m a_nursery (label_here name here) now.at (due here.clock deadline now.at) shield st
       (λ from. let inner = stack_inside (label_here name here) shield from st in
       nursery_result here.clock (label_here name here) (with_sign inner (walk m body here inner now)))
+  walk_step m (event name body) here st now =
+      event_block m (label_here name here) now.at
+      (λ from. walk m body here (stack_in_event (label_here name here) from st) now)
   walk_step m (start name None body) here st now =
       let begins = a_round_after here.clock now.at in
       child (label_here name here) begins (with_sign st (walk m body (here_in (label_here name here) here.part here) st (only_at begins))) now

@@ -50,7 +50,7 @@ pub fn law_settled_table()
     ensures one { OneTableIsSettled }
 {}
 
-/// Each label of a run is given once: to one scope, one nursery or one task, including the root. This holds for the meaning and
+/// Each label of a run is given once: to one scope, one nursery, one event or one task, including the root. This holds for the meaning and
 /// for following any table, if each name is given once.
 pub fn law_labels()
     ensures { LabelsAreGivenOnce }

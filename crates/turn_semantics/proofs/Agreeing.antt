@@ -1,63 +1,105 @@
 -- What a table and the froms of the world show alike, where they agree.
-use Rattle.std.proofs.Common.{◌≡◌, ℕ, suc, ◌+◌, Bool, true, false, ◌&&◌, ◌||◌, not, Option, Some, None, List, [], ◌∷◌, refl, ap, sym, ◌∙◌, arith, if◌then◌else◌}
+use Rattle.std.proofs.Common.{◌≡◌, ℕ, suc, ◌+◌, Bool, true, false, ◌&&◌, not, Option, Some, None, List, [], ◌∷◌, refl, ap, sym, ◌∙◌, arith}
 use Rattle.std.specs.Str.{bytes_eq}
 use Rattle.exc_groups.specs.Exceptions.{Label, cancelled}
-use Rattle.cancel_scopes.specs.Sight.{Tick, earlier, is_reached, sight, seen, catches}
+use Rattle.cancel_scopes.specs.Sight.{Tick, Level, is_reached, sight, seen, catches}
 use Rattle.job_meaning.specs.Log.{Result, Table, same_label}
 use Rattle.job_meaning.specs.Moments.{Clock, by_ticks, only_at}
-use Rattle.job_meaning.specs.Walk.{Stack, is_among, from_for, stack_for, wait_by_sight, sleep_result, pace_result, raised_at, done_at, label_on, label_if}
+use Rattle.job_meaning.specs.Walk.{Levels, Stack, from_for, stack_for, wait_by_sight, sleep_result, pace_result, raised_at, done_at, label_on, label_if, event_on, level_if, home_of}
 use Rattle.job_meaning.specs.Before.{upto, Near}
-use Rattle.job_meaning.proofs.Clips.{upto_most, upto_earlier, upto_earlier_same, reached_near, seen_near}
+use Rattle.job_meaning.proofs.Clips.{upto_most, upto_earlier, seen_near}
+use Rattle.job_meaning.proofs.Causality.{from_for_near, stack_for_near, catches_near}
 use Rattle.job_meaning.proofs.Distinct.{same_label_equal, same_label_itself}
-use Rattle.turn_semantics.specs.Midway.{Place, stack_at}
-use Rattle.turn_semantics.specs.Steps.{label_among, froms_after_sign, from_lowered_if, froms_after_entry, from_entered_if}
+use Rattle.turn_semantics.specs.Midway.{Place, label_among, level_on, stack_at}
+use Rattle.turn_semantics.specs.Steps.{home_among, froms_after_sign, from_lowered_if, froms_after_entry, from_entered_if}
 use Rattle.turn_semantics.specs.Turned.{AgreesOn}
+
+-- a level more on near stacks
+near_level : (b : Bool) (c : ℕ) (label : Label) (shield : Bool) (f g : Tick) (st su : Stack) → upto c f ≡ upto c g → Near c st su →
+    Near c (level_on b (record { label = label; shield = shield; from = f }) st) (level_on b (record { label = label; shield = shield; from = g }) su)
+near_level true c label shield f g st su e n = (n.0, (refl, refl, e, n.1))
+near_level false c label shield f g st su e n = ((refl, refl, e, n.0), n.1)
 
 -- the stacks are near each other as far as the present moment
 pub near_stacks : (t : ℕ) (table froms : Table) (ps : List Place) → AgreesOn t table froms ps →
     Near (suc t) (stack_at table ps) (stack_at froms ps)
-near_stacks t table froms [] a = tt
-near_stacks t table froms (p ∷ ps) a = (refl, refl, a.0, near_stacks t table froms ps a.1)
+near_stacks t table froms [] a = (tt, tt)
+near_stacks t table froms (p ∷ ps) a =
+    near_level p.is_event (suc t) p.label p.shield (table p.label) (froms p.label) (stack_at table ps) (stack_at froms ps) a.0
+    (near_stacks t table froms ps a.1)
 
 -- so the same is seen now
 pub seen_alike : (t : ℕ) (table froms : Table) (ps : List Place) → AgreesOn t table froms ps →
-    seen (stack_at table ps) t ≡ seen (stack_at froms ps) t
-seen_alike t table froms ps a = seen_near (suc t) (stack_at table ps) (stack_at froms ps) t (near_stacks t table froms ps a) (omega arith)
-
--- a from is near another one for a task that has cancelled some labels, too
-from_for_near : (c : ℕ) (own : List Label) (t : ℕ) (l : Label) (f g : Tick) → upto c f ≡ upto c g →
-    upto c (from_for own t l f) ≡ upto c (from_for own t l g)
-from_for_near c own t l f g e = by_own (is_among l own)
-  where
-    by_own : (b : Bool) → upto c (if b then earlier f (Some t) else f) ≡ upto c (if b then earlier g (Some t) else g)
-    by_own true = upto_earlier_same c f (Some t) g (Some t) e refl
-    by_own false = e
-
--- and so is a stack
-stack_for_near : (c : ℕ) (own : List Label) (t : ℕ) (table froms : Table) (ps : List Place) → Near c (stack_at table ps) (stack_at froms ps) →
-    Near c (stack_for own t (stack_at table ps)) (stack_for own t (stack_at froms ps))
-stack_for_near c own t table froms [] n = tt
-stack_for_near c own t table froms (p ∷ ps) n =
-    (refl, refl, from_for_near c own t p.label (table p.label) (froms p.label) n.2, stack_for_near c own t table froms ps n.3)
+    seen (stack_at table ps).scopes t ≡ seen (stack_at froms ps).scopes t
+seen_alike t table froms ps a =
+    seen_near (suc t) (stack_at table ps).scopes (stack_at froms ps).scopes t (near_stacks t table froms ps a).0 (omega arith)
 
 -- and the innermost enclosing scope or nursery catches in the same way, for a task that has cancelled some labels
 pub catches_alike : (own : List Label) (t : ℕ) (table froms : Table) (p : Place) (ps : List Place) → AgreesOn t table froms (p ∷ ps) →
-    catches (from_for own t p.label (table p.label)) p.shield (stack_for own t (stack_at table ps)) t
-    ≡ catches (from_for own t p.label (froms p.label)) p.shield (stack_for own t (stack_at froms ps)) t
+    catches (from_for own t p.label (table p.label)) p.shield (stack_for own t (stack_at table ps).scopes) t
+    ≡ catches (from_for own t p.label (froms p.label)) p.shield (stack_for own t (stack_at froms ps).scopes) t
 catches_alike own t table froms p ps a =
-    both (reached_near (suc t) (from_for own t p.label (table p.label)) (from_for own t p.label (froms p.label)) t
-    (from_for_near (suc t) own t p.label (table p.label) (froms p.label) a.0) (omega arith))
-    (seen_near (suc t) (stack_for own t (stack_at table ps)) (stack_for own t (stack_at froms ps)) t
-    (stack_for_near (suc t) own t table froms ps (near_stacks t table froms ps a.1)) (omega arith))
-  where
-    both : {a b x y : Bool} → a ≡ b → x ≡ y → (a && (p.shield || not x)) ≡ (b && (p.shield || not y))
-    both e f = cc
+    catches_near (suc t) (from_for own t p.label (table p.label)) (from_for own t p.label (froms p.label)) p.shield
+    (stack_for own t (stack_at table ps).scopes) (stack_for own t (stack_at froms ps).scopes) t t
+    (from_for_near (suc t) own t p.label p.label (table p.label) (froms p.label) refl a.0)
+    (stack_for_near (suc t) own t (stack_at table ps).scopes (stack_at froms ps).scopes (near_stacks t table froms ps a.1).0) (omega arith) refl
 
--- the label of a name is the same on the stack as among the enclosing scopes and nurseries
-pub label_at_places : (table : Table) (name : List ℕ) (ps : List Place) → label_on name (stack_at table ps) ≡ label_among name ps
-label_at_places table name [] = refl
-label_at_places table name (p ∷ ps) =
-    ap (λ (o : Option Label). label_if (bytes_eq name p.label.name) p.label o) (label_at_places table name ps)
+-- ---- names on a stack
+
+-- the label of a name is the same among the scopes of a stack as among the enclosing scopes and nurseries
+pub scope_at_places : (table : Table) (name : List ℕ) (ps : List Place) →
+    label_on name (stack_at table ps).scopes ≡ label_among false name ps
+scope_at_places table name [] = refl
+scope_at_places table name (p ∷ ps) = by_kind p.is_event (scope_at_places table name ps)
+  where
+    by_kind : (b : Bool) → label_on name (stack_at table ps).scopes ≡ label_among false name ps →
+        label_on name (level_on b (record { label = p.label; shield = p.shield; from = table p.label }) (stack_at table ps)).scopes
+        ≡ label_if (not b && bytes_eq name p.label.name) p.label (label_among false name ps)
+    by_kind true e = e
+    by_kind false e = ap (λ (o : Option Label). label_if (bytes_eq name p.label.name) p.label o) e
+
+-- and among its events as among the enclosing events
+pub event_at_places : (table : Table) (name : List ℕ) (ps : List Place) →
+    label_on name (stack_at table ps).events ≡ label_among true name ps
+event_at_places table name [] = refl
+event_at_places table name (p ∷ ps) = by_kind p.is_event (event_at_places table name ps)
+  where
+    by_kind : (b : Bool) → label_on name (stack_at table ps).events ≡ label_among true name ps →
+        label_on name (level_on b (record { label = p.label; shield = p.shield; from = table p.label }) (stack_at table ps)).events
+        ≡ label_if (b && bytes_eq name p.label.name) p.label (label_among true name ps)
+    by_kind true e = ap (λ (o : Option Label). label_if (bytes_eq name p.label.name) p.label o) e
+    by_kind false e = e
+
+-- the innermost scope or nursery of a stack is the innermost enclosing one
+pub home_at_places : (table : Table) (ps : List Place) → home_of (stack_at table ps).scopes ≡ home_among ps
+home_at_places table [] = refl
+home_at_places table (p ∷ ps) = by_kind p.is_event (home_at_places table ps)
+  where
+    by_kind : (b : Bool) → home_of (stack_at table ps).scopes ≡ home_among ps →
+        home_of (level_on b (record { label = p.label; shield = p.shield; from = table p.label }) (stack_at table ps)).scopes
+        ≡ label_if (not b) p.label (home_among ps)
+    by_kind true e = e
+    by_kind false e = refl
+
+-- the label of an event, if there is one
+abbrev pub label_of : Option (Level Label) → Option Label
+label_of None = None
+label_of (Some l) = Some l.label
+
+-- the event of a name has the label of that name
+event_label : (name : List ℕ) (ls : Levels) → label_of (event_on name ls) ≡ label_on name ls
+event_label name [] = refl
+event_label name (l ∷ ls) = by_test (bytes_eq name l.label.name) (event_label name ls)
+  where
+    by_test : (b : Bool) → label_of (event_on name ls) ≡ label_on name ls →
+        label_of (level_if b l (event_on name ls)) ≡ label_if b l.label (label_on name ls)
+    by_test true e = refl
+    by_test false e = e
+
+-- so no event of a name is on the stack where none encloses the task, and one is where one does
+pub event_found : (table : Table) (name : List ℕ) (ps : List Place) →
+    label_of (event_on name (stack_at table ps).events) ≡ label_among true name ps
+event_found table name ps = event_label name (stack_at table ps).events ∙ event_at_places table name ps
 
 -- ---- sleeps
 
@@ -83,16 +125,16 @@ waits_none a t e = by_sight a e
     by_sight (Some from) e = rw same (rw e refl)
 
 -- where moments are ticks, a sleep where a cancellation is seen, by `pace` or not
-pub sleep_seen : (paced : Bool) (st : Stack) (n t : ℕ) → seen st t ≡ true → slept paced by_ticks st n t ≡ raised_at cancelled (only_at t)
+pub sleep_seen : (paced : Bool) (st : Stack) (n t : ℕ) → seen st.scopes t ≡ true → slept paced by_ticks st n t ≡ raised_at cancelled (only_at t)
 unfolding sleep_result pace_result
-sleep_seen false st n t e = waits_seen (sight st) n t e
-sleep_seen true st n t e = waits_seen (sight st) n t e
+sleep_seen false st n t e = waits_seen (sight st.scopes) n t e
+sleep_seen true st n t e = waits_seen (sight st.scopes) n t e
 
 -- and a sleep of no tick where none is seen
-pub sleep_none : (paced : Bool) (st : Stack) (t : ℕ) → seen st t ≡ false → slept paced by_ticks st 0 t ≡ done_at (only_at t)
+pub sleep_none : (paced : Bool) (st : Stack) (t : ℕ) → seen st.scopes t ≡ false → slept paced by_ticks st 0 t ≡ done_at (only_at t)
 unfolding sleep_result pace_result
-sleep_none false st t e = waits_none (sight st) t e
-sleep_none true st t e = waits_none (sight st) t e
+sleep_none false st t e = waits_none (sight st.scopes) t e
+sleep_none true st t e = waits_none (sight st.scopes) t e
 
 -- ---- how the froms change
 

@@ -25,13 +25,13 @@ module _ (now : Now) (here : Here) (froms : Table) (ps : List Place) (count : �
   with_frames fs exc = record { frames = fs; places = ps; exc = exc; count = count }
 
   -- a sleep, by the clock and by whether a cancellation is seen
-  falls_by : (n : ℕ) (fs : List Frame) (clock : Clock) (b : Bool) → here.clock ≡ clock → seen (stack_at froms ps) now.at ≡ b →
+  falls_by : (n : ℕ) (fs : List Frame) (clock : Clock) (b : Bool) → here.clock ≡ clock → seen (stack_at froms ps).scopes now.at ≡ b →
       sleeps here.clock froms false n now.at fs ps ≡ falls_asleep clock b false n now.at fs ps
   falls_by n fs clock b c e = λ i. falls_asleep (c i) (e i) false n now.at fs ps
 
   -- a sleep where a cancellation is seen, where moments are ticks
   pub sleep_raises : (n : ℕ) (ss : Steps) (fs : List Frame) → here.clock ≡ by_ticks → Placed (steps_left (step (sleep n) ss) ∷ fs) ps →
-      seen (stack_at froms ps) now.at ≡ true →
+      seen (stack_at froms ps).scopes now.at ≡ true →
       Goes now here froms (with_frames (steps_left (step (sleep n) ss) ∷ fs) None) (onward (steps_left ss ∷ fs) ps (Some cancelled))
   unfolding step_of
   sleep_raises n ss fs c p e =
@@ -40,7 +40,7 @@ module _ (now : Now) (here : Here) (froms : Table) (ps : List Place) (count : �
 
   -- a sleep of no tick, with none seen
   pub sleep_passes : (ss : Steps) (fs : List Frame) → here.clock ≡ by_ticks → Placed (steps_left (step (sleep 0) ss) ∷ fs) ps →
-      seen (stack_at froms ps) now.at ≡ false →
+      seen (stack_at froms ps).scopes now.at ≡ false →
       Goes now here froms (with_frames (steps_left (step (sleep 0) ss) ∷ fs) None) (onward (steps_left ss ∷ fs) ps None)
   unfolding step_of
   sleep_passes ss fs c p e =
@@ -49,7 +49,7 @@ module _ (now : Now) (here : Here) (froms : Table) (ps : List Place) (count : �
 
   -- a sleep that stops the task
   pub sleep_stops : (n : ℕ) (ss : Steps) (fs : List Frame) → here.clock ≡ by_ticks → Placed (steps_left (step (sleep (suc n)) ss) ∷ fs) ps →
-      seen (stack_at froms ps) now.at ≡ false →
+      seen (stack_at froms ps).scopes now.at ≡ false →
       Goes now here froms (with_frames (steps_left (step (sleep (suc n)) ss) ∷ fs) None)
       (blocks_on (asleep false (suc n) now.at) (steps_left ss ∷ fs) ps)
   unfolding step_of
@@ -66,7 +66,7 @@ module _ (now : Now) (here : Here) (froms : Table) (ps : List Place) (count : �
   sleep_blocks n ss fs c p =
       goes_by now here froms (with_frames (steps_left (step (sleep n) ss) ∷ fs) None)
       (blocks_on (asleep false n now.at) (steps_left ss ∷ fs) ps)
-      (falls_by n (steps_left ss ∷ fs) by_rounds (seen (stack_at froms ps) now.at) c refl) p
+      (falls_by n (steps_left ss ∷ fs) by_rounds (seen (stack_at froms ps).scopes now.at) c refl) p
 
   -- a handler whose name some leaf has
   pub handler_runs : (name : List ℕ) (body : Steps) (cleanup : Cleaned) (fs : List Frame) (e x : Exc) →

@@ -1,7 +1,7 @@
 -- What each step of a turn makes, begins and leaves, case by case.
-use Rattle.std.proofs.Common.{◌≡◌, inl, inr, ℕ, zero, suc, ◌+◌, ◌-◌, ◌*◌, ◌≤◌, Bool, true, false, Option, Some, None, List, [], ◌∷◌, ◌++◌, length, refl, ap, sym, ◌∙◌, subst, arith}
+use Rattle.std.proofs.Common.{◌≡◌, inl, inr, ℕ, zero, suc, ◌+◌, ◌-◌, ◌*◌, ◌≤◌, Bool, true, false, not, ◌&&◌, Option, Some, None, List, [], ◌∷◌, ◌++◌, length, refl, ap, sym, ◌∙◌, subst, arith}
 use Rattle.std.specs.Str.{bytes_eq}
-use Rattle.job_tree.specs.Tree.{Step, sleep, checkpoint, forever, pace, find, head, longest, need, raise, cancel, scope, nursery, start, repeat, attempt, Steps, stop, step, Handled, unhandled, except, Cleaned, uncleaned, finally}
+use Rattle.job_tree.specs.Tree.{Step, sleep, checkpoint, forever, pace, find, head, longest, need, raise, cancel, set_event, wait_for, scope, nursery, event, start, repeat, attempt, Steps, stop, step, Handled, unhandled, except, Cleaned, uncleaned, finally}
 use Rattle.job_tree.specs.Names.{size_of}
 use Rattle.job_tree.specs.Starting.{StartsIn, StartsAt, HandlerStarts, CleanupStarts}
 use Rattle.buffer_parts.specs.Cuts.{cut_of}
@@ -11,12 +11,12 @@ use Rattle.cancel_scopes.specs.Sight.{Tick, seen}
 use Rattle.job_meaning.specs.Log.{Table}
 use Rattle.job_meaning.specs.Moments.{Clock, by_ticks, by_rounds, tick_of, a_round_after, due, Now, far}
 use Rattle.job_meaning.specs.Walk.{Here, here_in, label_here, label_over, label_if, Kind, a_scope}
-use Rattle.job_meaning.specs.Rest.{Event, starts, starts_over, sleep_weight, consecutive, Frame, steps_left, in_scope, in_nursery, in_repeat, in_try, in_handler, in_cleanup, inside, asking, asleep, frames_weight}
+use Rattle.job_meaning.specs.Rest.{Event, starts, starts_over, sleep_weight, consecutive, Frame, steps_left, in_scope, in_event, in_nursery, in_repeat, in_try, in_handler, in_cleanup, inside, asking, asleep, frames_weight}
 use Rattle.job_meaning.specs.Asking.{Kernel, Purpose, Suits, shows, needs, paces}
 use Rattle.job_meaning.specs.Asking as ask
-use Rattle.turn_semantics.specs.Midway.{Place, stack_at, Midway, Begun, Move}
-use Rattle.turn_semantics.specs.Steps.{froms_after, onward, blocks_on, falls_asleep, sleeps, label_among, signs_to, signs_home, with_started, begun_one, begun_over, enters_block, step_on, step_steps, leaves, handler_if, step_try, step_frames, step_of, begins_passes, step_pass}
-use Rattle.turn_semantics.specs.Placed.{in_body, Placed, PlacedAfter, home_places, home_after}
+use Rattle.turn_semantics.specs.Midway.{Place, is_of_kind, label_among, stack_at, Midway, Begun, Move}
+use Rattle.turn_semantics.specs.Steps.{froms_after, onward, blocks_on, makes, falls_asleep, sleeps, signs_to, waits_on, home_among, signs_home, with_started, begun_one, begun_over, enters_block, enters_event, step_on, step_steps, leaves, handler_if, step_try, step_frames, step_of, begins_passes, step_pass}
+use Rattle.turn_semantics.specs.Placed.{in_body, Placed, IsSome, PlacedAfter, home_places, home_after}
 use Rattle.turn_semantics.specs.Turned.{Known, labels_of, AllKnown, known_after, MadeAt, Starts, BegunIn, AllBy, FallsAsleep, StopsAt, weight_of_stop, weight_of_begun}
 use Rattle.turn_semantics.proofs.Events.{all_own, all_grow, known_stays, begun_append, clocks_append, made_append, starts_append, weight_append}
 use Rattle.std.proofs.Math.Nat.{suc-mul}
@@ -34,35 +34,39 @@ pub record Case (clock : Clock) (t : ℕ) (froms : Table) (weight_before : ℕ) 
   pub stops : StopsAt clock t (froms_after froms o.made) o.stopped o.places
   pub weight : weight_of_stop o.stopped + frames_weight o.frames + weight_of_begun o.begun ≤ weight_before
 
--- a label that is found among enclosing scopes and nurseries belongs to one of them
-found_known : (clock : Clock) (name : List ℕ) (ps : List Place) (t : ℕ) → MadeAt clock t (labels_of ps) (signs_to (label_among name ps) t)
-found_known clock name ps t = by_label (label_among name ps) (found ps)
-  where
-    Found : Option Label → List Label → Type 0
-    Found None ls = Unit {0}
-    Found (Some l) ls = Known l ls
+-- a label that is found, if one is, is known
+abbrev Found : Option Label → List Label → Type 0
+Found None ls = Unit {0}
+Found (Some l) ls = Known l ls
 
-    further : (o : Option Label) (m : Label) (ls : List Label) → Found o ls → Found o (m ∷ ls)
-    further None m ls k = tt
-    further (Some l) m ls k = inr k
+found_further : (o : Option Label) (m : Label) (ls : List Label) → Found o ls → Found o (m ∷ ls)
+found_further None m ls k = tt
+found_further (Some l) m ls k = inr k
 
-    first : (b : Bool) (m : Label) (o : Option Label) (ls : List Label) → Found o ls → Found (label_if b m o) (m ∷ ls)
-    first true m o ls k = inl refl
-    first false m o ls k = further o m ls k
+found_first : (b : Bool) (m : Label) (o : Option Label) (ls : List Label) → Found o ls → Found (label_if b m o) (m ∷ ls)
+found_first true m o ls k = inl refl
+found_first false m o ls k = found_further o m ls k
 
-    found : (ps : List Place) → Found (label_among name ps) (labels_of ps)
-    found [] = tt
-    found (p ∷ ps) = first (bytes_eq name p.label.name) p.label (label_among name ps) (labels_of ps) (found ps)
+-- one that is found by its name among the enclosing scopes, nurseries and events belongs to one of them
+found_among : (events : Bool) (name : List ℕ) (ps : List Place) → Found (label_among events name ps) (labels_of ps)
+found_among events name [] = tt
+found_among events name (p ∷ ps) =
+    found_first (is_of_kind events p && bytes_eq name p.label.name) p.label (label_among events name ps) (labels_of ps) (found_among events name ps)
 
-    by_label : (o : Option Label) → Found o (labels_of ps) → MadeAt clock t (labels_of ps) (signs_to o t)
-    by_label None k = tt
-    by_label (Some l) k = (refl, k, tt)
+-- so is the innermost enclosing scope or nursery
+found_home : (ps : List Place) → Found (home_among ps) (labels_of ps)
+found_home [] = tt
+found_home (p ∷ ps) = found_first (not p.is_event) p.label (home_among ps) (labels_of ps) (found_home ps)
 
--- the innermost enclosing scope or nursery is known
+-- a sign for a label that was found is for a known one
+signed_known : (clock : Clock) (ps : List Place) (t : ℕ) (o : Option Label) → Found o (labels_of ps) → MadeAt clock t (labels_of ps) (signs_to o t)
+signed_known clock ps t None k = tt
+signed_known clock ps t (Some l) k = (refl, k, tt)
+
+-- so the sign of a task or body that failed is for a known one
 home_known : (clock : Clock) (e : Option Exc) (ps : List Place) (t : ℕ) → MadeAt clock t (labels_of ps) (signs_home e ps t)
 home_known clock None ps t = tt
-home_known clock (Some e) [] t = tt
-home_known clock (Some e) (p ∷ ps) t = (refl, inl refl, tt)
+home_known clock (Some e) ps t = signed_known clock ps t (home_among ps) (found_home ps)
 
 -- signs begin no child, and enter nothing
 signs_start : (o : Option Label) (t n : ℕ) → Starts n (signs_to o t) []
@@ -71,8 +75,7 @@ signs_start (Some l) t n = tt
 
 home_start : (e : Option Exc) (ps : List Place) (t n : ℕ) → Starts n (signs_home e ps t) []
 home_start None ps t n = tt
-home_start (Some e) [] t n = tt
-home_start (Some e) (p ∷ ps) t n = tt
+home_start (Some e) ps t n = signs_start (home_among ps) t n
 
 still_known : (ps : List Place) (es : List Event) → AllKnown ps (known_after (labels_of ps) es)
 still_known ps es = all_grow (labels_of ps) (known_after (labels_of ps) es) (λ l k. known_stays l es (labels_of ps) k) ps (all_own ps)
@@ -107,9 +110,9 @@ sleep_weighs true (suc n) = omega arith
 pub sleep_case : (clock : Clock) (t : ℕ) (froms : Table) (paced : Bool) (n w : ℕ) (home : List Place) (fs : List Frame) (ps : List Place)
     (count : ℕ) → Placed fs ps →
     home_places fs ps ≡ home → sleep_weight paced 0 + frames_weight fs ≤ w → Case clock t froms w home ps count (sleeps clock froms paced n t fs ps)
-sleep_case clock t froms paced n w home fs ps count p h le = by_clock clock (seen (stack_at froms ps) t) refl n
+sleep_case clock t froms paced n w home fs ps count p h le = by_clock clock (seen (stack_at froms ps).scopes t) refl n
   where
-    falls : (clock : Clock) (n : ℕ) → FallsAsleep clock n (seen (stack_at froms ps) t) →
+    falls : (clock : Clock) (n : ℕ) → FallsAsleep clock n (seen (stack_at froms ps).scopes t) →
         Case clock t froms w home ps count (blocks_on (asleep paced n t) fs ps)
     falls clock n f =
         record {
@@ -124,7 +127,7 @@ sleep_case clock t froms paced n w home fs ps count p h le = by_clock clock (see
           weight = let i = sleep_weighs paced n in omega arith;
         }
 
-    by_clock : (clock : Clock) (b : Bool) → seen (stack_at froms ps) t ≡ b → (n : ℕ) →
+    by_clock : (clock : Clock) (b : Bool) → seen (stack_at froms ps).scopes t ≡ b → (n : ℕ) →
         Case clock t froms w home ps count (falls_asleep clock b paced n t fs ps)
     by_clock by_ticks true e n = onward_case by_ticks t froms w home fs ps (Some cancelled) count p h (omega arith)
     by_clock by_ticks false e zero = onward_case by_ticks t froms w home fs ps None count p h (omega arith)
@@ -153,13 +156,71 @@ asks_case clock t froms kernel purpose w home fs ps count suits p h le =
 -- the case of a step that enters a scope or nursery
 enter_case : (clock : Clock) (t : ℕ) (froms : Table) (label : Label) (shield : Bool) (deadline : Tick) (body : Steps) (exit : Frame) (w : ℕ)
     (home : List Place) (fs : List Frame) (ps : List Place) (count : ℕ) →
-    Placed (steps_left body ∷ exit ∷ fs) (record { label = label; shield = shield } ∷ ps) →
-    home_places (steps_left body ∷ exit ∷ fs) (record { label = label; shield = shield } ∷ ps) ≡ home →
+    Placed (steps_left body ∷ exit ∷ fs) (record { label = label; shield = shield; is_event = false } ∷ ps) →
+    home_places (steps_left body ∷ exit ∷ fs) (record { label = label; shield = shield; is_event = false } ∷ ps) ≡ home →
     frames_weight (steps_left body ∷ exit ∷ fs) ≤ w →
     Case clock t froms w home ps count (enters_block label shield deadline t body exit fs ps)
 enter_case clock t froms label shield deadline body exit w home fs ps count p h le =
     record {
       placed = p;
+      at_home = h;
+      made_now = (refl, tt);
+      places = (inl refl, all_grow (labels_of ps) (label ∷ labels_of ps) (λ l k. inr k) ps (all_own ps));
+      starts_made = tt;
+      begun_in = tt;
+      clocks = tt;
+      stops = tt;
+      weight = omega arith;
+    }
+
+-- the case of a step that signs for what it found: a `cancel` or a `set`
+signs_case : (clock : Clock) (t : ℕ) (froms : Table) (o : Option Label) (w : ℕ) (home : List Place) (fs : List Frame) (ps : List Place) (count : ℕ) →
+    Found o (labels_of ps) → Placed fs ps → home_places fs ps ≡ home → frames_weight fs ≤ w →
+    Case clock t froms w home ps count (makes (signs_to o t) fs ps)
+signs_case clock t froms o w home fs ps count k p h le =
+    record {
+      placed = p;
+      at_home = h;
+      made_now = signed_known clock ps t o k;
+      places = still_known ps (signs_to o t);
+      starts_made = signs_start o t count;
+      begun_in = tt;
+      clocks = tt;
+      stops = tt;
+      weight = omega arith;
+    }
+
+-- the case of a step that waits for an event
+waits_case : (clock : Clock) (t : ℕ) (froms : Table) (name : List ℕ) (w : ℕ) (home : List Place) (fs : List Frame) (ps : List Place) (count : ℕ) →
+    Placed fs ps → home_places fs ps ≡ home → 2 + frames_weight fs ≤ w →
+    Case clock t froms w home ps count (waits_on (label_among true name ps) name t fs ps)
+waits_case clock t froms name w home fs ps count p h le = by_label (label_among true name ps) refl
+  where
+    found : (o : Option Label) → label_among true name ps ≡ o → IsSome o → IsSome (label_among true name ps)
+    found o e s = subst (λ (x : Option Label). IsSome x) (sym e) s
+
+    by_label : (o : Option Label) → label_among true name ps ≡ o → Case clock t froms w home ps count (waits_on o name t fs ps)
+    by_label None e = onward_case clock t froms w home fs ps None count p h (omega arith)
+    by_label (Some l) e =
+        record {
+          placed = (found (Some l) e tt, p);
+          at_home = h;
+          made_now = tt;
+          places = all_own ps;
+          starts_made = tt;
+          begun_in = tt;
+          clocks = tt;
+          stops = refl;
+          weight = omega arith;
+        }
+
+-- the case of a step that enters an event
+event_case : (clock : Clock) (t : ℕ) (froms : Table) (label : Label) (body : Steps) (w : ℕ) (home : List Place) (fs : List Frame) (ps : List Place)
+    (count : ℕ) → StartsIn false body → Placed fs ps → home_places fs ps ≡ home → frames_weight (steps_left body ∷ in_event ∷ fs) ≤ w →
+    Case clock t froms w home ps count (enters_event label t body fs ps)
+event_case clock t froms label body w home fs ps count b p h le =
+    record {
+      placed = (b, (refl, p));
       at_home = h;
       made_now = (refl, tt);
       places = (inl refl, all_grow (labels_of ps) (label ∷ labels_of ps) (λ l k. inr k) ps (all_own ps));
@@ -187,37 +248,59 @@ leaves_case clock now froms kind w home fs p ps exc count q h le =
       weight = omega arith;
     }
 
+-- an event that is left
+event_left_case : (clock : Clock) (t : ℕ) (froms : Table) (fs : List Frame) (p : Place) (ps : List Place) (exc : Option Exc) (count : ℕ) → Placed fs ps →
+    Case clock t froms (frames_weight (in_event ∷ fs)) (home_places fs ps) (p ∷ ps) count (onward fs ps exc)
+event_left_case clock t froms fs p ps exc count q =
+    record {
+      placed = q;
+      at_home = refl;
+      made_now = tt;
+      places = all_grow (labels_of ps) (p.label ∷ labels_of ps) (λ l k. inr k) ps (all_own ps);
+      starts_made = tt;
+      begun_in = tt;
+      clocks = tt;
+      stops = tt;
+      weight = omega arith;
+    }
+
 -- ---- starts
+
+-- steps are directly in a nursery's body as before when it has more children
+body_started : (more : List ℕ) (fs : List Frame) → in_body (with_started more fs) ≡ in_body fs
+body_started more [] = refl
+body_started more (in_nursery children ∷ fs) = refl
+body_started more (steps_left ss ∷ fs) = body_started more fs
+body_started more (in_scope fail ∷ fs) = refl
+body_started more (in_event ∷ fs) = refl
+body_started more (in_repeat pass left again ∷ fs) = body_started more fs
+body_started more (in_try handler cleanup ∷ fs) = refl
+body_started more (in_handler rest cleanup ∷ fs) = refl
+body_started more (in_cleanup outcome ∷ fs) = refl
 
 -- a nursery's frame with more children
 placed_started : (more : List ℕ) (fs : List Frame) (ps : List Place) → Placed fs ps → Placed (with_started more fs) ps
 placed_started more [] ps p = p
 placed_started more (in_nursery children ∷ fs) [] p = absurd p
 placed_started more (in_nursery children ∷ fs) (q ∷ ps) p = p
-placed_started more (steps_left ss ∷ fs) ps p = p
+placed_started more (steps_left ss ∷ fs) ps p =
+    (subst (λ (x : Bool). StartsIn x ss) (sym (body_started more fs)) p.0, placed_started more fs ps p.1)
 placed_started more (in_scope fail ∷ fs) ps p = p
-placed_started more (in_repeat pass left again ∷ fs) ps p = p
+placed_started more (in_event ∷ fs) ps p = p
+placed_started more (in_repeat pass left again ∷ fs) ps p =
+    (subst (λ (x : Bool). StartsIn x again) (sym (body_started more fs)) p.0, placed_started more fs ps p.1)
 placed_started more (in_try handler cleanup ∷ fs) ps p = p
 placed_started more (in_handler rest cleanup ∷ fs) ps p = p
 placed_started more (in_cleanup outcome ∷ fs) ps p = p
-
-body_started : (more : List ℕ) (fs : List Frame) → in_body (with_started more fs) ≡ in_body fs
-body_started more [] = refl
-body_started more (in_nursery children ∷ fs) = refl
-body_started more (steps_left ss ∷ fs) = refl
-body_started more (in_scope fail ∷ fs) = refl
-body_started more (in_repeat pass left again ∷ fs) = refl
-body_started more (in_try handler cleanup ∷ fs) = refl
-body_started more (in_handler rest cleanup ∷ fs) = refl
-body_started more (in_cleanup outcome ∷ fs) = refl
 
 home_started : (more : List ℕ) (fs : List Frame) (ps : List Place) → home_places (with_started more fs) ps ≡ home_places fs ps
 home_started more [] ps = refl
 home_started more (in_nursery children ∷ fs) [] = refl
 home_started more (in_nursery children ∷ fs) (p ∷ ps) = refl
-home_started more (steps_left ss ∷ fs) ps = refl
+home_started more (steps_left ss ∷ fs) ps = home_started more fs ps
 home_started more (in_scope fail ∷ fs) ps = refl
-home_started more (in_repeat pass left again ∷ fs) ps = refl
+home_started more (in_event ∷ fs) ps = refl
+home_started more (in_repeat pass left again ∷ fs) ps = home_started more fs ps
 home_started more (in_try handler cleanup ∷ fs) ps = refl
 home_started more (in_handler rest cleanup ∷ fs) ps = refl
 home_started more (in_cleanup outcome ∷ fs) ps = refl
@@ -225,9 +308,10 @@ home_started more (in_cleanup outcome ∷ fs) ps = refl
 weight_started : (more : List ℕ) (fs : List Frame) → frames_weight (with_started more fs) ≡ frames_weight fs
 weight_started more [] = refl
 weight_started more (in_nursery children ∷ fs) = refl
-weight_started more (steps_left ss ∷ fs) = refl
+weight_started more (steps_left ss ∷ fs) = let e = weight_started more fs in omega arith
 weight_started more (in_scope fail ∷ fs) = refl
-weight_started more (in_repeat pass left again ∷ fs) = refl
+weight_started more (in_event ∷ fs) = refl
+weight_started more (in_repeat pass left again ∷ fs) = let e = weight_started more fs in omega arith
 weight_started more (in_try handler cleanup ∷ fs) = refl
 weight_started more (in_handler rest cleanup ∷ fs) = refl
 weight_started more (in_cleanup outcome ∷ fs) = refl
@@ -330,7 +414,7 @@ start_case now froms here name (Some k) body ss fs ps count i b p =
 
 -- the first pass of a `repeat`
 passes_case : (clock : Clock) (t : ℕ) (froms : Table) (n : ℕ) (body : Steps) (w : ℕ) (home : List Place) (fs : List Frame) (ps : List Place) (count : ℕ) →
-    StartsIn false body → Placed fs ps → home_places fs ps ≡ home → 2 * (n * (1 + size_of body)) + frames_weight fs ≤ w →
+    StartsIn (in_body fs) body → Placed fs ps → home_places fs ps ≡ home → 2 * (n * (1 + size_of body)) + frames_weight fs ≤ w →
     Case clock t froms w home ps count (begins_passes n body fs ps)
 passes_case clock t froms zero body w home fs ps count b p h le = onward_case clock t froms _ _ fs ps None count p h (omega arith)
 passes_case clock t froms (suc k) body w home fs ps count b p h le =
@@ -339,7 +423,7 @@ passes_case clock t froms (suc k) body w home fs ps count b p h le =
 
 -- a pass has ended
 pass_case : (clock : Clock) (t : ℕ) (froms : Table) (pass left : ℕ) (body : Steps) (fs : List Frame) (ps : List Place) (exc : Option Exc) (count : ℕ) →
-    StartsIn false body → Placed fs ps →
+    StartsIn (in_body fs) body → Placed fs ps →
     Case clock t froms (frames_weight (in_repeat pass left body ∷ fs)) (home_places fs ps) ps count (step_pass pass left body fs ps exc)
 pass_case clock t froms pass left body fs ps (Some e) count b p = onward_case clock t froms _ _ fs ps (Some e) count p refl (omega arith)
 pass_case clock t froms pass zero body fs ps None count b p = onward_case clock t froms _ _ fs ps None count p refl (omega arith)
@@ -368,23 +452,19 @@ step_case now froms here (need text name) ss fs ps count a b p =
     asks_case here.clock now.at froms (ask.need text) (needs name) _ _ (steps_left ss ∷ fs) ps count tt (b, p) refl (omega arith)
 step_case now froms here (raise name) ss fs ps count a b p = onward_case here.clock now.at froms _ _ (steps_left ss ∷ fs) ps _ count (b, p) refl (omega arith)
 step_case now froms here (cancel name) ss fs ps count a b p =
-    record {
-      placed = (b, p);
-      at_home = refl;
-      made_now = found_known here.clock name ps now.at;
-      places = still_known ps (signs_to (label_among name ps) now.at);
-      starts_made = signs_start (label_among name ps) now.at count;
-      begun_in = tt;
-      clocks = tt;
-      stops = tt;
-      weight = omega arith;
-    }
+    signs_case here.clock now.at froms (label_among false name ps) _ _ (steps_left ss ∷ fs) ps count (found_among false name ps) (b, p) refl (omega arith)
+step_case now froms here (set_event name) ss fs ps count a b p =
+    signs_case here.clock now.at froms (label_among true name ps) _ _ (steps_left ss ∷ fs) ps count (found_among true name ps) (b, p) refl (omega arith)
+step_case now froms here (wait_for name) ss fs ps count a b p =
+    waits_case here.clock now.at froms name _ _ (steps_left ss ∷ fs) ps count (b, p) refl (omega arith)
 step_case now froms here (scope name d shield fail body) ss fs ps count a b p =
-    enter_case here.clock now.at froms (label_here name here) shield (due here.clock d now.at) body (in_scope fail) _ _ (steps_left ss ∷ fs) ps count (a, (b, p)) refl
+    enter_case here.clock now.at froms (label_here name here) shield (due here.clock d now.at) body (in_scope fail) _ _ (steps_left ss ∷ fs) ps count (a, (refl, (b, p))) refl
     (omega arith)
 step_case now froms here (nursery name d shield body) ss fs ps count a b p =
-    enter_case here.clock now.at froms (label_here name here) shield (due here.clock d now.at) body (in_nursery []) _ _ (steps_left ss ∷ fs) ps count (a, (b, p)) refl
+    enter_case here.clock now.at froms (label_here name here) shield (due here.clock d now.at) body (in_nursery []) _ _ (steps_left ss ∷ fs) ps count (a, (refl, (b, p))) refl
     (omega arith)
+step_case now froms here (event name body) ss fs ps count a b p =
+    event_case here.clock now.at froms (label_here name here) body _ _ (steps_left ss ∷ fs) ps count a (b, p) refl (omega arith)
 step_case now froms here (start name over body) ss fs ps count a b p = start_case now froms here name over body ss fs ps count a.1 b p
 step_case now froms here (repeat n body) ss fs ps count a b p =
     passes_case here.clock now.at froms n body _ _ (steps_left ss ∷ fs) ps count a (b, p) refl (omega arith)
@@ -433,7 +513,9 @@ frames_case now froms here [] ps exc count p =
 frames_case now froms here (steps_left ss ∷ fs) ps exc count p = steps_case now froms here ss fs ps exc count p.0 p.1
 frames_case now froms here (in_scope fail ∷ fs) [] exc count p = absurd p
 frames_case now froms here (in_scope fail ∷ fs) (q ∷ ps) exc count p =
-    leaves_case here.clock now froms (a_scope fail) _ _ fs q ps exc count p refl (omega arith)
+    leaves_case here.clock now froms (a_scope fail) _ _ fs q ps exc count p.1 refl (omega arith)
+frames_case now froms here (in_event ∷ fs) [] exc count p = absurd p
+frames_case now froms here (in_event ∷ fs) (q ∷ ps) exc count p = event_left_case here.clock now.at froms fs q ps exc count p.1
 frames_case now froms here (in_nursery children ∷ fs) [] exc count p = absurd p
 frames_case now froms here (in_nursery children ∷ fs) (q ∷ ps) exc count p =
     record {

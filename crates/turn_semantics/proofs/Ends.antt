@@ -1,17 +1,17 @@
 -- Every turn comes to a stop.
 use Rattle.std.proofs.Common.{◌≡◌, ℕ, zero, suc, ◌+◌, ◌-◌, ◌<◌, ◌≤◌, Bool, true, false, Option, Some, None, List, [], ◌∷◌, length, refl, sym, subst, arith, ◌*◌}
-use Rattle.job_tree.specs.Tree.{Step, sleep, checkpoint, forever, pace, find, head, longest, need, raise, cancel, scope, nursery, start, repeat, attempt, Steps, stop, step, Handled, unhandled, except, Cleaned, uncleaned, finally}
-use Rattle.exc_groups.specs.Exceptions.{Exc}
+use Rattle.job_tree.specs.Tree.{Step, sleep, checkpoint, forever, pace, find, head, longest, need, raise, cancel, set_event, wait_for, scope, nursery, event, start, repeat, attempt, Steps, stop, step, Handled, unhandled, except, Cleaned, uncleaned, finally}
+use Rattle.exc_groups.specs.Exceptions.{Label, Exc}
 use Rattle.exc_groups.specs.Split.{named, keep, drop}
 use Rattle.cancel_scopes.specs.Sight.{seen}
 use Rattle.job_meaning.specs.Log.{Table}
 use Rattle.job_meaning.specs.Moments.{Clock, by_ticks, by_rounds, tick_of, Now, far}
 use Rattle.job_meaning.specs.Walk.{Here}
-use Rattle.job_meaning.specs.Rest.{Frame, steps_left, in_scope, in_nursery, in_repeat, in_try, in_handler, in_cleanup, inside, consecutive, Stopped}
-use Rattle.turn_semantics.specs.Midway.{Place, stack_at, Midway, Move, after_move, then_move, now_after}
-use Rattle.turn_semantics.specs.Steps.{sleeps, falls_asleep, with_started, handler_if, step_try, step_on, step_steps, step_frames, step_of, froms_after, turn_of, begins_passes, step_pass}
+use Rattle.job_meaning.specs.Rest.{Frame, steps_left, in_scope, in_event, in_nursery, in_repeat, in_try, in_handler, in_cleanup, inside, consecutive, Stopped}
+use Rattle.turn_semantics.specs.Midway.{Place, label_among, stack_at, Midway, Move, after_move, then_move, now_after}
+use Rattle.turn_semantics.specs.Steps.{sleeps, falls_asleep, waits_on, with_started, handler_if, step_try, step_on, step_steps, step_frames, step_of, froms_after, turn_of, begins_passes, step_pass}
 use Rattle.turn_semantics.specs.Wakes.{Wake, wake_of, turn_from}
-use Rattle.turn_semantics.specs.Turned.{IsSome}
+use Rattle.turn_semantics.specs.Placed.{IsSome}
 use Rattle.turn_semantics.specs.Bound.{turn_length, frames_length}
 use Rattle.std.proofs.Math.Nat.{suc-mul}
 
@@ -31,9 +31,10 @@ steps_positive (step s ss) = let h = steps_positive ss in omega arith
 length_started : (more : List ℕ) (fs : List Frame) → frames_length (with_started more fs) ≡ frames_length fs
 length_started more [] = refl
 length_started more (in_nursery children ∷ fs) = refl
-length_started more (steps_left ss ∷ fs) = refl
+length_started more (steps_left ss ∷ fs) = let e = length_started more fs in omega arith
 length_started more (in_scope fail ∷ fs) = refl
-length_started more (in_repeat pass left again ∷ fs) = refl
+length_started more (in_event ∷ fs) = refl
+length_started more (in_repeat pass left again ∷ fs) = let e = length_started more fs in omega arith
 length_started more (in_try handler cleanup ∷ fs) = refl
 length_started more (in_handler rest cleanup ∷ fs) = refl
 length_started more (in_cleanup outcome ∷ fs) = refl
@@ -41,13 +42,18 @@ length_started more (in_cleanup outcome ∷ fs) = refl
 module _ (now : Now) (froms : Table) (here : Here) where
   shrinks_sleeps : (clock : Clock) (n t before : ℕ) (fs : List Frame) (ps : List Place) → frames_length fs < before →
       MoveShrinks before (sleeps clock froms false n t fs ps)
-  shrinks_sleeps clock n t before fs ps lt = by_clock clock (seen (stack_at froms ps) t) n
+  shrinks_sleeps clock n t before fs ps lt = by_clock clock (seen (stack_at froms ps).scopes t) n
     where
       by_clock : (clock : Clock) (b : Bool) (n : ℕ) → MoveShrinks before (falls_asleep clock b false n t fs ps)
       by_clock by_ticks true n = lt
       by_clock by_ticks false zero = lt
       by_clock by_ticks false (suc n) = tt
       by_clock by_rounds b n = tt
+
+  shrinks_waits : (o : Option Label) (name : List ℕ) (t before : ℕ) (fs : List Frame) (ps : List Place) → frames_length fs < before →
+      MoveShrinks before (waits_on o name t fs ps)
+  shrinks_waits None name t before fs ps lt = lt
+  shrinks_waits (Some l) name t before fs ps lt = tt
 
   shrinks_passes : (n before : ℕ) (body : Steps) (fs : List Frame) (ps : List Place) →
       n * (1 + turn_length body) + frames_length fs < before → MoveShrinks before (begins_passes n body fs ps)
@@ -72,8 +78,11 @@ module _ (now : Now) (froms : Table) (here : Here) where
   shrinks_step at (need text name) ss fs ps count = tt
   shrinks_step at (raise name) ss fs ps count = omega arith
   shrinks_step at (cancel name) ss fs ps count = omega arith
+  shrinks_step at (set_event name) ss fs ps count = omega arith
+  shrinks_step at (wait_for name) ss fs ps count = shrinks_waits (label_among true name ps) name now.at _ (steps_left ss ∷ fs) ps (omega arith)
   shrinks_step at (scope name d shield fail body) ss fs ps count = omega arith
   shrinks_step at (nursery name d shield body) ss fs ps count = omega arith
+  shrinks_step at (event name body) ss fs ps count = omega arith
   shrinks_step at (start name None body) ss fs ps count = let e = length_started (count ∷ []) fs in omega arith
   shrinks_step at (start name (Some k) body) ss fs ps count = let e = length_started (consecutive count k) fs in omega arith
   shrinks_step at (repeat n body) ss fs ps count = shrinks_passes n _ body (steps_left ss ∷ fs) ps (omega arith)
@@ -103,6 +112,8 @@ module _ (now : Now) (froms : Table) (here : Here) where
   shrinks_frames (steps_left ss ∷ fs) ps exc count = shrinks_steps ss fs ps exc count
   shrinks_frames (in_scope fail ∷ fs) [] exc count = omega arith
   shrinks_frames (in_scope fail ∷ fs) (p ∷ ps) exc count = omega arith
+  shrinks_frames (in_event ∷ fs) [] exc count = omega arith
+  shrinks_frames (in_event ∷ fs) (p ∷ ps) exc count = omega arith
   shrinks_frames (in_nursery children ∷ fs) [] exc count = omega arith
   shrinks_frames (in_nursery children ∷ fs) (p ∷ ps) exc count = tt
   shrinks_frames (in_repeat pass left body ∷ fs) ps exc count = shrinks_pass pass left body fs ps exc

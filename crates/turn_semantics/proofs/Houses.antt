@@ -1,18 +1,18 @@
 -- Each child that a task begins belongs to a nursery of the task, which keeps it until it is settled.
 use Rattle.std.proofs.Common.{◌≡◌, ◌⊎◌, inl, inr, ℕ, zero, suc, ◌+◌, ◌-◌, ◌<◌, Bool, true, false, IsTrue, Option, Some, None, List, [], ◌∷◌, ◌++◌, refl, ap, arith}
-use Rattle.job_tree.specs.Tree.{Step, sleep, checkpoint, forever, pace, find, head, longest, need, raise, cancel, scope, nursery, start, repeat, attempt, Steps, stop, step, Handled, unhandled, except, Cleaned, uncleaned, finally}
+use Rattle.job_tree.specs.Tree.{Step, sleep, checkpoint, forever, pace, find, head, longest, need, raise, cancel, set_event, wait_for, scope, nursery, event, start, repeat, attempt, Steps, stop, step, Handled, unhandled, except, Cleaned, uncleaned, finally}
 use Rattle.job_tree.specs.Starting.{StartsIn, StartsAt}
-use Rattle.exc_groups.specs.Exceptions.{Exc}
+use Rattle.exc_groups.specs.Exceptions.{Label, Exc}
 use Rattle.exc_groups.specs.Split.{named, keep, drop}
-use Rattle.cancel_scopes.specs.Sight.{seen}
+use Rattle.cancel_scopes.specs.Sight.{Level, seen}
 use Rattle.job_meaning.specs.Log.{Table}
 use Rattle.job_meaning.specs.Moments.{Clock, by_ticks, by_rounds, tick_of, Now, far}
-use Rattle.job_meaning.specs.Walk.{Here, pace_ticks}
-use Rattle.job_meaning.specs.Rest.{consecutive, Frame, steps_left, in_scope, in_nursery, in_repeat, in_try, in_handler, in_cleanup, inside, Stopped, to_begin, asking, asleep, giving_up, awaiting, at_end}
+use Rattle.job_meaning.specs.Walk.{Here, event_on, pace_ticks}
+use Rattle.job_meaning.specs.Rest.{consecutive, Frame, steps_left, in_scope, in_event, in_nursery, in_repeat, in_try, in_handler, in_cleanup, inside, Stopped, to_begin, asking, asleep, waiting_for, giving_up, awaiting, at_end}
 use Rattle.job_meaning.specs.Asking.{Answer, lines, missing, counted, Purpose, shows, needs, paces}
-use Rattle.turn_semantics.specs.Midway.{Place, stack_at, Midway, Begun, Move}
-use Rattle.turn_semantics.specs.Steps.{sleeps, falls_asleep, with_started, begun_over, handler_if, step_try, step_on, step_steps, step_frames, step_of, begins_passes, step_pass}
-use Rattle.turn_semantics.specs.Wakes.{Wake, begins, sees, gives_up, is_due, has_answer, settles, goes_on_with, with_answer, leaves_settled, sees_from, wake_of, CanWake, from_start, from_asking, from_sleep, from_due, from_giving_up, from_wait}
+use Rattle.turn_semantics.specs.Midway.{Place, label_among, stack_at, Midway, Begun, Move}
+use Rattle.turn_semantics.specs.Steps.{sleeps, falls_asleep, waits_on, with_started, begun_over, handler_if, step_try, step_on, step_steps, step_frames, step_of, begins_passes, step_pass}
+use Rattle.turn_semantics.specs.Wakes.{Wake, begins, sees, gives_up, is_due, has_answer, settles, goes_on_with, with_answer, leaves_settled, ends_at, is_checkpoint, gives_up_if, notes_wait, sees_from, is_due_from, wake_of, CanWake, from_start, from_asking, from_sleep, from_due, from_seen_waiting, from_set, from_giving_up, from_wait}
 use Rattle.turn_semantics.specs.Placed.{in_body, Placed, outer_places, IsAmong, HasChild, HasChildAfter, AllHoused}
 use Rattle.turn_semantics.proofs.Keeps.{last_or_before}
 
@@ -60,7 +60,7 @@ module _ (now : Now) (froms : Table) (here : Here) (i : ℕ) (home : List Place)
   Stays o = HasChildAfter i home o.stopped o.frames o.places
 
   stays_sleeps : (clock : Clock) (paced : Bool) (n t : ℕ) (fs : List Frame) (ps : List Place) → HasChild i home fs ps → Stays (sleeps clock froms paced n t fs ps)
-  stays_sleeps clock paced n t fs ps h = by_clock clock (seen (stack_at froms ps) t) n
+  stays_sleeps clock paced n t fs ps h = by_clock clock (seen (stack_at froms ps).scopes t) n
     where
       by_clock : (clock : Clock) (b : Bool) (n : ℕ) → Stays (falls_asleep clock b paced n t fs ps)
       by_clock by_ticks true n = inr h
@@ -73,12 +73,18 @@ module _ (now : Now) (froms : Table) (here : Here) (i : ℕ) (home : List Place)
   stays_started more (in_nursery children ∷ fs) [] h = h
   stays_started more (in_nursery children ∷ fs) (p ∷ ps) (inl e) = inl (among_left i children more e.0, e.1)
   stays_started more (in_nursery children ∷ fs) (p ∷ ps) (inr h) = inr h
-  stays_started more (steps_left ss ∷ fs) ps h = h
+  stays_started more (steps_left ss ∷ fs) ps h = stays_started more fs ps h
   stays_started more (in_scope fail ∷ fs) ps h = h
-  stays_started more (in_repeat pass left again ∷ fs) ps h = h
+  stays_started more (in_event ∷ fs) ps h = h
+  stays_started more (in_repeat pass left again ∷ fs) ps h = stays_started more fs ps h
   stays_started more (in_try handler cleanup ∷ fs) ps h = h
   stays_started more (in_handler rest cleanup ∷ fs) ps h = h
   stays_started more (in_cleanup outcome ∷ fs) ps h = h
+
+  stays_waits : (o : Option Label) (name : List ℕ) (t : ℕ) (fs : List Frame) (ps : List Place) → HasChild i home fs ps →
+      Stays (waits_on o name t fs ps)
+  stays_waits None name t fs ps h = inr h
+  stays_waits (Some l) name t fs ps h = inr h
 
   stays_passes : (m : ℕ) (body : Steps) (fs : List Frame) (ps : List Place) → HasChild i home fs ps → Stays (begins_passes m body fs ps)
   stays_passes zero body fs ps h = inr h
@@ -102,8 +108,11 @@ module _ (now : Now) (froms : Table) (here : Here) (i : ℕ) (home : List Place)
   stays_step at (need text name) ss fs ps n h = inr h
   stays_step at (raise name) ss fs ps n h = inr h
   stays_step at (cancel name) ss fs ps n h = inr h
+  stays_step at (set_event name) ss fs ps n h = inr h
+  stays_step at (wait_for name) ss fs ps n h = stays_waits (label_among true name ps) name now.at (steps_left ss ∷ fs) ps h
   stays_step at (scope name d shield fail body) ss fs ps n h = inr h
   stays_step at (nursery name d shield body) ss fs ps n h = inr (inr h)
+  stays_step at (event name body) ss fs ps n h = inr h
   stays_step at (start name None body) ss fs ps n h = inr (stays_started (n ∷ []) fs ps h)
   stays_step at (start name (Some c) body) ss fs ps n h = inr (stays_started (consecutive n c) fs ps h)
   stays_step at (repeat m body) ss fs ps n h = stays_passes m body (steps_left ss ∷ fs) ps h
@@ -132,6 +141,8 @@ module _ (now : Now) (froms : Table) (here : Here) (i : ℕ) (home : List Place)
   stays_frames (steps_left ss ∷ fs) ps exc n p h = stays_steps ss fs ps exc n h
   stays_frames (in_scope fail ∷ fs) [] exc n p h = absurd p
   stays_frames (in_scope fail ∷ fs) (q ∷ ps) exc n p h = inr h
+  stays_frames (in_event ∷ fs) [] exc n p h = absurd p
+  stays_frames (in_event ∷ fs) (q ∷ ps) exc n p h = inr h
   stays_frames (in_nursery children ∷ fs) [] exc n p h = absurd p
   stays_frames (in_nursery children ∷ fs) (q ∷ ps) exc n p (inl e) = inl e
   stays_frames (in_nursery children ∷ fs) (q ∷ ps) exc n p (inr h) = inr h
@@ -155,6 +166,14 @@ module _ (now : Now) (froms : Table) (here : Here) (i : ℕ) (home : List Place)
   stays_answered (counted m) shows fs ps h = inr h
   stays_answered (counted m) (needs name) fs ps h = inr h
 
+  stays_giving : (b : Bool) (t : ℕ) (fs : List Frame) (ps : List Place) → HasChild i home fs ps → Stays (gives_up_if b t fs ps)
+  stays_giving true t fs ps h = inr h
+  stays_giving false t fs ps h = inr h
+
+  stays_noted : (o : Option (Level Label)) (t : ℕ) (fs : List Frame) (ps : List Place) → HasChild i home fs ps → Stays (notes_wait o t fs ps)
+  stays_noted None t fs ps h = inr h
+  stays_noted (Some l) t fs ps h = inr h
+
   -- a wake
   pub wake_stays : {w : Wake} {s : Stopped} → CanWake w s → (fs : List Frame) (ps : List Place) →
       HasChild i home fs (outer_places (Some s) ps) →
@@ -164,6 +183,9 @@ module _ (now : Now) (froms : Table) (here : Here) (i : ℕ) (home : List Place)
   wake_stays (from_sleep {paced = false} {n = zero} {since}) fs ps h = inr h
   wake_stays (from_sleep {paced = false} {n = suc n} {since}) fs ps h = inr h
   wake_stays (from_sleep {paced = true} {n} {since}) fs ps h = inr h
+  wake_stays (from_seen_waiting {event = name} {since}) fs ps h =
+      stays_giving (is_checkpoint here.clock (ends_at here.clock froms name since ps) since) now.at fs ps h
+  wake_stays (from_set {event = name} {since}) fs ps h = stays_noted (event_on name (stack_at froms ps).events) now.at fs ps h
   wake_stays from_giving_up fs ps h = inr h
   wake_stays from_due fs ps h = inr h
   wake_stays from_wait fs [] h = inr h
@@ -181,13 +203,27 @@ over_housed name here of body ps first fs (suc k) h =
     below : (i : ℕ) → i < k → i < suc k
     below i lt = omega arith
 
+-- a child that is started in a nursery's body, perhaps in passes there, is one of that nursery
+started_housed : (i : ℕ) (more : List ℕ) (fs : List Frame) (ps : List Place) → IsTrue (in_body fs) → Placed fs ps → IsAmong i more →
+    HasChild i ps (with_started more fs) ps
+started_housed i more (in_nursery children ∷ fs) (p ∷ ps) b w a = inl (among_right i children more a, refl)
+started_housed i more (in_nursery children ∷ fs) [] b w a = absurd w
+started_housed i more (steps_left ss ∷ fs) ps b w a = started_housed i more fs ps b w.1 a
+started_housed i more (in_repeat pass left again ∷ fs) ps b w a = started_housed i more fs ps b w.1 a
+started_housed i more [] ps b w a = absurd (cc)
+started_housed i more (in_scope fail ∷ fs) ps b w a = absurd (cc)
+started_housed i more (in_event ∷ fs) ps b w a = absurd (cc)
+started_housed i more (in_try handler cleanup ∷ fs) ps b w a = absurd (cc)
+started_housed i more (in_handler rest cleanup ∷ fs) ps b w a = absurd (cc)
+started_housed i more (in_cleanup outcome ∷ fs) ps b w a = absurd (cc)
+
 module _ (now : Now) (froms : Table) (here : Here) where
   -- each child that a move begins is housed after it
   abbrev pub Housed : Move → Type 0
   Housed o = AllHoused o.begun o.stopped o.frames o.places
 
   housed_sleeps : (clock : Clock) (paced : Bool) (n t : ℕ) (fs : List Frame) (ps : List Place) → Housed (sleeps clock froms paced n t fs ps)
-  housed_sleeps clock paced n t fs ps = by_clock clock (seen (stack_at froms ps) t) n
+  housed_sleeps clock paced n t fs ps = by_clock clock (seen (stack_at froms ps).scopes t) n
     where
       by_clock : (clock : Clock) (b : Bool) (n : ℕ) → Housed (falls_asleep clock b paced n t fs ps)
       by_clock by_ticks true n = tt
@@ -198,19 +234,14 @@ module _ (now : Now) (froms : Table) (here : Here) where
   housed_start : (at : Here) (name : List ℕ) (over : Option ℕ) (body ss : Steps) (fs : List Frame) (ps : List Place) (n : ℕ) →
       IsTrue (in_body fs) → Placed fs ps →
       Housed (step_on froms now at (start name over body) ss fs ps n)
-  housed_start at name None body ss (in_nursery children ∷ fs) (p ∷ ps) n b w =
-      (inr (inl (among_right n children (n ∷ []) (inl refl), refl)), tt)
-  housed_start at name (Some k) body ss (in_nursery children ∷ fs) (p ∷ ps) n b w =
-      over_housed name at k body (p ∷ ps) n (steps_left ss ∷ in_nursery (children ++ consecutive n k) ∷ fs) k
-      (λ i lt. inl (among_right (n + i) children (consecutive n k) (numbered_has n i k lt), refl))
-  housed_start at name over body ss (in_nursery children ∷ fs) [] n b w = absurd w
-  housed_start at name over body ss [] ps n b w = absurd (cc)
-  housed_start at name over body ss (steps_left more ∷ fs) ps n b w = absurd (cc)
-  housed_start at name over body ss (in_scope fail ∷ fs) ps n b w = absurd (cc)
-  housed_start at name over body ss (in_repeat pass left again ∷ fs) ps n b w = absurd (cc)
-  housed_start at name over body ss (in_try handler cleanup ∷ fs) ps n b w = absurd (cc)
-  housed_start at name over body ss (in_handler rest cleanup ∷ fs) ps n b w = absurd (cc)
-  housed_start at name over body ss (in_cleanup outcome ∷ fs) ps n b w = absurd (cc)
+  housed_start at name None body ss fs ps n b w = (inr (started_housed n (n ∷ []) fs ps b w (inl refl)), tt)
+  housed_start at name (Some k) body ss fs ps n b w =
+      over_housed name at k body ps n (steps_left ss ∷ with_started (consecutive n k) fs) k
+      (λ i lt. started_housed (n + i) (consecutive n k) fs ps b w (numbered_has n i k lt))
+
+  housed_waits : (o : Option Label) (name : List ℕ) (t : ℕ) (fs : List Frame) (ps : List Place) → Housed (waits_on o name t fs ps)
+  housed_waits None name t fs ps = tt
+  housed_waits (Some l) name t fs ps = tt
 
   housed_passes : (m : ℕ) (body : Steps) (fs : List Frame) (ps : List Place) → Housed (begins_passes m body fs ps)
   housed_passes zero body fs ps = tt
@@ -234,8 +265,11 @@ module _ (now : Now) (froms : Table) (here : Here) where
   housed_step at (need text name) ss fs ps n b p = tt
   housed_step at (raise name) ss fs ps n b p = tt
   housed_step at (cancel name) ss fs ps n b p = tt
+  housed_step at (set_event name) ss fs ps n b p = tt
+  housed_step at (wait_for name) ss fs ps n b p = housed_waits (label_among true name ps) name now.at (steps_left ss ∷ fs) ps
   housed_step at (scope name d shield fail body) ss fs ps n b p = tt
   housed_step at (nursery name d shield body) ss fs ps n b p = tt
+  housed_step at (event name body) ss fs ps n b p = tt
   housed_step at (start name over body) ss fs ps n b p = housed_start at name over body ss fs ps n b.0 p
   housed_step at (repeat m body) ss fs ps n b p = housed_passes m body (steps_left ss ∷ fs) ps
   housed_step at (attempt body handler cleanup) ss fs ps n b p = tt
@@ -263,6 +297,8 @@ module _ (now : Now) (froms : Table) (here : Here) where
   housed_frames (steps_left ss ∷ fs) ps exc n p = housed_steps ss fs ps exc n p.0 p.1
   housed_frames (in_scope fail ∷ fs) [] exc n p = tt
   housed_frames (in_scope fail ∷ fs) (q ∷ ps) exc n p = tt
+  housed_frames (in_event ∷ fs) [] exc n p = tt
+  housed_frames (in_event ∷ fs) (q ∷ ps) exc n p = tt
   housed_frames (in_nursery children ∷ fs) [] exc n p = tt
   housed_frames (in_nursery children ∷ fs) (q ∷ ps) exc n p = tt
   housed_frames (in_repeat pass left body ∷ fs) ps exc n p = housed_pass pass left body fs ps exc
@@ -289,6 +325,7 @@ module _ (now : Now) (froms : Table) (here : Here) where
   housed_with a (asking kernel purpose) fs ps = housed_answered a purpose fs ps
   housed_with a to_begin fs ps = tt
   housed_with a (asleep paced m since) fs ps = tt
+  housed_with a (waiting_for name since) fs ps = tt
   housed_with a (giving_up since) fs ps = tt
   housed_with a (awaiting children ended exc) fs ps = tt
   housed_with a (at_end u e) fs ps = tt
@@ -297,21 +334,40 @@ module _ (now : Now) (froms : Table) (here : Here) where
   housed_settled exc fs [] = tt
   housed_settled exc fs (p ∷ ps) = tt
 
-  housed_seen : (t : ℕ) (s : Stopped) (fs : List Frame) (ps : List Place) → Housed (sees_from t s fs ps)
+  housed_giving : (b : Bool) (t : ℕ) (fs : List Frame) (ps : List Place) → Housed (gives_up_if b t fs ps)
+  housed_giving true t fs ps = tt
+  housed_giving false t fs ps = tt
+
+  housed_noted : (o : Option (Level Label)) (t : ℕ) (fs : List Frame) (ps : List Place) → Housed (notes_wait o t fs ps)
+  housed_noted None t fs ps = tt
+  housed_noted (Some l) t fs ps = tt
+
+  housed_seen : (t : ℕ) (s : Stopped) (fs : List Frame) (ps : List Place) → Housed (sees_from here.clock froms t s fs ps)
   housed_seen t (asleep false zero since) fs ps = tt
   housed_seen t (asleep false (suc n) since) fs ps = tt
   housed_seen t (asleep true n since) fs ps = tt
   housed_seen t to_begin fs ps = tt
   housed_seen t (asking kernel purpose) fs ps = tt
+  housed_seen t (waiting_for name since) fs ps =
+      housed_giving (is_checkpoint here.clock (ends_at here.clock froms name since ps) since) t fs ps
   housed_seen t (giving_up since) fs ps = tt
   housed_seen t (awaiting children ended exc) fs ps = tt
   housed_seen t (at_end u e) fs ps = tt
+
+  housed_due : (t : ℕ) (s : Stopped) (fs : List Frame) (ps : List Place) → Housed (is_due_from froms t s fs ps)
+  housed_due t (waiting_for name since) fs ps = housed_noted (event_on name (stack_at froms ps).events) t fs ps
+  housed_due t to_begin fs ps = tt
+  housed_due t (asking kernel purpose) fs ps = tt
+  housed_due t (asleep paced n since) fs ps = tt
+  housed_due t (giving_up since) fs ps = tt
+  housed_due t (awaiting children ended exc) fs ps = tt
+  housed_due t (at_end u e) fs ps = tt
 
   -- a wake begins none
   pub wake_housed : (w : Wake) (s : Stopped) (fs : List Frame) (ps : List Place) → Housed (wake_of froms now here w s fs ps)
   wake_housed begins s fs ps = tt
   wake_housed sees s fs ps = housed_seen now.at s fs ps
   wake_housed gives_up s fs ps = tt
-  wake_housed is_due s fs ps = tt
+  wake_housed is_due s fs ps = housed_due now.at s fs ps
   wake_housed (has_answer a) s fs ps = housed_with a s fs ps
   wake_housed (settles exc) s fs ps = housed_settled exc fs ps

@@ -1,26 +1,26 @@
 -- Each step of a turn leaves the result of the task unchanged.
-use Rattle.std.proofs.Common.{◌≡◌, ℕ, zero, suc, ◌+◌, ◌-◌, ◌<◌, Bool, true, false, IsTrue, ◌⊎◌, inl, inr, Option, Some, None, List, [], ◌∷◌, ◌++◌, refl, ap, sym, ◌∙◌, subst, nat_lt, arith}
+use Rattle.std.proofs.Common.{◌≡◌, ℕ, zero, suc, ◌+◌, ◌-◌, ◌<◌, Bool, true, false, IsTrue, ◌⊎◌, inl, inr, Option, Some, None, List, [], ◌∷◌, ◌++◌, refl, ap, sym, ◌∙◌, subst, append_assoc, nat_lt, arith}
 use Rattle.std.proofs.lemmas.Bool.Decides.{nat_tests}
-use Rattle.job_tree.specs.Tree.{Step, sleep, checkpoint, forever, pace, find, head, longest, need, raise, cancel, scope, nursery, start, repeat, attempt, Steps, stop, step, Handled, unhandled, except, Cleaned, uncleaned, finally}
+use Rattle.job_tree.specs.Tree.{Step, sleep, checkpoint, forever, pace, find, head, longest, need, raise, cancel, set_event, wait_for, scope, nursery, event, start, repeat, attempt, Steps, stop, step, Handled, unhandled, except, Cleaned, uncleaned, finally}
 use Rattle.job_tree.specs.Starting.{StartsIn, StartsAt}
 use Rattle.buffer_parts.specs.Lines.{Span}
 use Rattle.buffer_parts.specs.Cuts.{cut_of}
 use Rattle.line_kernels.specs.Kernels.{needed_in}
 use Rattle.exc_groups.specs.Exceptions.{Label, Exc, cancelled}
 use Rattle.exc_groups.specs.Split.{named, keep, drop}
-use Rattle.cancel_scopes.specs.Sight.{seen}
-use Rattle.job_meaning.specs.Log.{Log, Result, Table}
+use Rattle.cancel_scopes.specs.Sight.{Level, seen}
+use Rattle.job_meaning.specs.Log.{Log, Member, Result, Table}
 use Rattle.job_meaning.specs.Moments.{Clock, by_ticks, by_rounds, tick_of, a_round_after, Now, only_at, far}
-use Rattle.job_meaning.specs.Walk.{by_table, Here, walk, walk_step, cancel_result, sign_of, sign_if, home_of, with_sign, here_in, label_here, label_over, Kind, a_scope, left_with, done_at, need_result, raise_result, raised_at, with_own}
-use Rattle.job_meaning.specs.Rest.{Event, starts, starts_over, consecutive, fill, ChildOutcomes, told_members, Frame, steps_left, in_scope, in_nursery, in_repeat, in_try, in_handler, in_cleanup, inside, leaving_log, block_left, wait_result, finish}
+use Rattle.job_meaning.specs.Walk.{Mode, by_table, Here, walk, walk_step, and_then, then_if, in_sequence, now_of, in_pass, passes, child, label_on, event_on, event_wait, cancel_result, set_result, sign_of, sign_if, home_of, with_sign, here_in, label_here, label_over, Kind, a_scope, left_with, done_at, need_result, raise_result, raised_at, with_own}
+use Rattle.job_meaning.specs.Rest.{Event, starts, starts_over, consecutive, fill, ChildOutcomes, told_members, Frame, steps_left, in_scope, in_event, in_nursery, in_repeat, in_try, in_handler, in_cleanup, path_in, inside, with_children, leaving_log, block_left, wait_result, finish}
 use Rattle.job_meaning.specs.Asking.{one_line, needs, answer_result}
 use Rattle.job_meaning.proofs.Clips.{followed_nil}
-use Rattle.job_meaning.proofs.Finish.{after, finish_after, finish_begin, finish_stop, finish_step, finish_raised, finish_scope, finish_nursery, finish_try, finish_handler, finish_unhandled, finish_no_handler, finish_uncleaned, finish_cleanup, finish_handled, finish_cleaned, finish_leave, finish_wait, finish_start, finish_start_over, finish_no_pass, finish_first_pass, finish_next_pass, finish_last_pass, finish_raised_pass}
-use Rattle.turn_semantics.specs.Midway.{Place, stack_at, Midway, Begun, Move, own_after, OwnFits, now_after, so_far, after_events, going_to, left_after, left_of, none_told, begun_comes_to}
-use Rattle.turn_semantics.specs.Steps.{makes, falls_asleep, sleeps, label_among, signs_to, signs_home, begun_one, begun_over, step_on, step_steps, leaves, handler_if, step_try, step_frames, step_of, begins_passes, step_pass}
+use Rattle.job_meaning.proofs.Finish.{after, finish_after, finish_begin, finish_stop, finish_step, finish_raised, finish_scope, finish_event, finish_leave_event, finish_nursery, finish_children, just_started, each_started, finish_try, finish_handler, finish_unhandled, finish_no_handler, finish_uncleaned, finish_cleanup, finish_handled, finish_cleaned, finish_leave, finish_wait, finish_no_pass, finish_first_pass, finish_next_pass, finish_last_pass, finish_raised_pass}
+use Rattle.turn_semantics.specs.Midway.{Place, label_among, stack_at, Midway, Begun, Move, own_after, OwnFits, now_after, so_far, after_events, going_to, left_after, left_of, none_told, begun_comes_to}
+use Rattle.turn_semantics.specs.Steps.{onward, makes, falls_asleep, sleeps, signs_to, waits_on, home_among, signs_home, with_started, begun_one, begun_over, step_on, step_steps, leaves, handler_if, step_try, step_frames, step_of, begins_passes, step_pass}
 use Rattle.turn_semantics.specs.Placed.{in_body, Placed}
 use Rattle.turn_semantics.specs.Turned.{AgreesOn, AllTold}
-use Rattle.turn_semantics.proofs.Agreeing.{seen_alike, catches_alike, label_at_places, slept, sleep_seen, sleep_none}
+use Rattle.turn_semantics.proofs.Agreeing.{seen_alike, catches_alike, scope_at_places, event_at_places, home_at_places, label_of, event_found, slept, sleep_seen, sleep_none}
 use Rattle.turn_semantics.proofs.Events.{own_append}
 
 -- ---- the log of what a step makes
@@ -30,10 +30,10 @@ fill_signs_to told None t = refl
 fill_signs_to told (Some l) t = refl
 
 fill_home : (told : ChildOutcomes) (table : Table) (e : Option Exc) (ps : List Place) (t : ℕ) →
-    fill told (signs_home e ps t) ≡ sign_if e (home_of (stack_at table ps)) t
+    fill told (signs_home e ps t) ≡ sign_if e (home_of (stack_at table ps).scopes) t
 fill_home told table None ps t = refl
-fill_home told table (Some e) [] t = refl
-fill_home told table (Some e) (p ∷ ps) t = refl
+fill_home told table (Some e) ps t =
+    fill_signs_to told (home_among ps) t ∙ ap (λ (o : Option Label). sign_of o t) (sym (home_at_places table ps))
 
 -- what a task has cancelled in this moment after a `cancel`
 own_signed : (clock : Clock) (own : List Label) (o : Option Label) (t : ℕ) → with_own clock o own ≡ own_after clock own (signs_to o t)
@@ -73,6 +73,72 @@ last_or_before i k lt = by_order (nat_lt i k) refl
     by_order true e = inr (grind (arith, nat_tests))
     by_order false e = inl (grind (arith, nat_tests))
 
+-- ---- children that were started
+
+-- the results of children come first, whatever follows
+children_and_then : (ms : List Member) (r : Result) (go : Now → Result) → and_then (with_children ms r) go ≡ with_children ms (and_then r go)
+unfolding and_then
+children_and_then ms r go = by_exc r.exc
+  where
+    by_exc : (o : Option Exc) → then_if o (with_children ms r) go ≡ with_children ms (then_if o r go)
+    by_exc None =
+        ap (λ (x : List Member). record (in_sequence r (go (now_of r))) { members = x }) (append_assoc ms r.members (go (now_of r)).members)
+    by_exc (Some e) = refl
+
+-- a task is where it was when its nursery has more children
+path_started : (more : List ℕ) (fs : List Frame) (path : List ℕ) → path_in (with_started more fs) path ≡ path_in fs path
+path_started more [] path = refl
+path_started more (in_nursery children ∷ fs) path = refl
+path_started more (steps_left ss ∷ fs) path = path_started more fs path
+path_started more (in_scope fail ∷ fs) path = refl
+path_started more (in_event ∷ fs) path = refl
+path_started more (in_repeat pass left again ∷ fs) path = ap (λ (x : List ℕ). x ++ pass ∷ []) (path_started more fs path)
+path_started more (in_try handler cleanup ∷ fs) path = refl
+path_started more (in_handler rest cleanup ∷ fs) path = refl
+path_started more (in_cleanup outcome ∷ fs) path = refl
+
+inside_started : (more : List ℕ) (fs : List Frame) (here : Here) → inside (with_started more fs) here ≡ inside fs here
+inside_started more fs here = ap (λ (x : List ℕ). record here { path = x }) (path_started more fs here.path)
+
+-- a place, with what is known of its kind
+pub of_kind : (p : Place) (b : Bool) → p.is_event ≡ b → p ≡ record { label = p.label; shield = p.shield; is_event = b }
+of_kind p b e = ap as_kind e
+  where
+    as_kind : Bool → Place
+    as_kind x = record { label = p.label; shield = p.shield; is_event = x }
+
+-- children that were started in a nursery's body, perhaps in passes there, are among those of the nursery
+finish_with : (fs : List Frame) (m : Mode) (told : ChildOutcomes) (more : List ℕ) (here : Here) (table : Table) (ps : List Place) (r : Result) →
+    IsTrue (in_body fs) → Placed fs ps →
+    finish m told fs here (stack_at table ps) (with_children (told_members told more) r)
+    ≡ finish m told (with_started more fs) here (stack_at table ps) r
+unfolding finish
+finish_with (in_nursery children ∷ fs) m told more here table (p ∷ ps) r b w =
+    subst (λ (q : Place). finish m told (in_nursery children ∷ fs) here (stack_at table (q ∷ ps)) (with_children (told_members told more) r)
+    ≡ finish m told (in_nursery (children ++ more) ∷ fs) here (stack_at table (q ∷ ps)) r) (sym (of_kind p false w.0))
+    (sym (finish_children fs m told children more here (record { label = p.label; shield = p.shield; from = table p.label }) (stack_at table ps) r))
+finish_with (steps_left ss ∷ fs) m told more here table ps r b w =
+    ap (λ (x : Result). finish m told fs here (stack_at table ps) x)
+    (children_and_then (told_members told more) r (λ u. walk m ss (inside fs here) (stack_at table ps) u))
+    ∙ (finish_with fs m told more here table ps (and_then r (λ u. walk m ss (inside fs here) (stack_at table ps) u)) b w.1
+    ∙ ap (λ (at : Here). finish m told (with_started more fs) here (stack_at table ps) (and_then r (λ u. walk m ss at (stack_at table ps) u)))
+    (sym (inside_started more fs here)))
+finish_with (in_repeat pass left again ∷ fs) m told more here table ps r b w =
+    ap (λ (x : Result). finish m told fs here (stack_at table ps) x)
+    (children_and_then (told_members told more) r (λ u. passes (suc pass) left (λ i v. walk m again (in_pass i (inside fs here)) (stack_at table ps) v) u))
+    ∙ (finish_with fs m told more here table ps
+    (and_then r (λ u. passes (suc pass) left (λ i v. walk m again (in_pass i (inside fs here)) (stack_at table ps) v) u)) b w.1
+    ∙ ap (λ (at : Here). finish m told (with_started more fs) here (stack_at table ps)
+    (and_then r (λ u. passes (suc pass) left (λ i v. walk m again (in_pass i at) (stack_at table ps) v) u)))
+    (sym (inside_started more fs here)))
+finish_with (in_nursery children ∷ fs) m told more here table [] r b w = absurd w
+finish_with [] m told more here table ps r b w = absurd (cc)
+finish_with (in_scope fail ∷ fs) m told more here table ps r b w = absurd (cc)
+finish_with (in_event ∷ fs) m told more here table ps r b w = absurd (cc)
+finish_with (in_try handler cleanup ∷ fs) m told more here table ps r b w = absurd (cc)
+finish_with (in_handler rest cleanup ∷ fs) m told more here table ps r b w = absurd (cc)
+finish_with (in_cleanup outcome ∷ fs) m told more here table ps r b w = absurd (cc)
+
 -- in a world with these froms, and by a table that agrees with them
 module _ (table froms : Table) (told : ChildOutcomes) (now : Now) (here : Here) where
   -- the move leaves the result of the task unchanged
@@ -94,7 +160,7 @@ module _ (table froms : Table) (told : ChildOutcomes) (now : Now) (here : Here) 
       ≡ after_events told (sleeps here.clock froms paced n now.at fs ps).made
       (left_after table told here now (sleeps here.clock froms paced n now.at fs ps))
   keeps_sleeps paced n fs ps own a =
-      by_clock here.clock refl own (seen (stack_at froms ps) now.at) (seen_alike now.at table froms ps a) paced n
+      by_clock here.clock refl own (seen (stack_at froms ps).scopes now.at) (seen_alike now.at table froms ps a) paced n
     where
       at_own : List Label → Now
       at_own ls = record { at = now.at; own = ls }
@@ -102,7 +168,7 @@ module _ (table froms : Table) (told : ChildOutcomes) (now : Now) (here : Here) 
       nothing_own : now.own ≡ [] → only_at now.at ≡ now
       nothing_own e = ap at_own (sym e)
 
-      by_clock : (clock : Clock) → here.clock ≡ clock → OwnFits clock now.own → (b : Bool) → seen (stack_at table ps) now.at ≡ b →
+      by_clock : (clock : Clock) → here.clock ≡ clock → OwnFits clock now.own → (b : Bool) → seen (stack_at table ps).scopes now.at ≡ b →
           (paced : Bool) (n : ℕ) →
           finish (by_table table) told fs here (stack_at table ps) (slept paced here.clock (stack_at table ps) n now.at)
           ≡ after_events told (falls_asleep clock b paced n now.at fs ps).made
@@ -128,26 +194,61 @@ module _ (table froms : Table) (told : ChildOutcomes) (now : Now) (here : Here) 
   keeps_sleep s n ss fs ps e own a =
       first_step s ss fs ps (slept false here.clock (stack_at table ps) n now.at) e ∙ keeps_sleeps false n (steps_left ss ∷ fs) ps own a
 
-  -- a `cancel`
-  keeps_cancel : (name : List ℕ) (ss : Steps) (fs : List Frame) (ps : List Place) →
-      Keeps (steps_left (step (cancel name) ss) ∷ fs) ps None (makes (signs_to (label_among name ps) now.at) (steps_left ss ∷ fs) ps)
-  unfolding walk cancel_result
-  keeps_cancel name ss fs ps =
-      first_step (cancel name) ss fs ps (after (fill told made) (done_at (now_after here.clock now made)))
-      (both (ap (λ (o : Option Label). with_own here.clock o now.own) (label_at_places table name ps)
-      ∙ own_signed here.clock now.own (label_among name ps) now.at)
-      (ap (λ (o : Option Label). sign_of o now.at) (label_at_places table name ps) ∙ sym (fill_signs_to told (label_among name ps) now.at)
-      ∙ sym (followed_nil (fill told made))))
+  -- a step that signs for a label that it finds
+  keeps_sign : (s : Step) (found o : Option Label) (ss : Steps) (fs : List Frame) (ps : List Place) →
+      walk_step (by_table table) s (inside fs here) (stack_at table ps) now
+      ≡ record { end = now.at; own = with_own here.clock found now.own; exc = None; members = []; log = sign_of found now.at } →
+      found ≡ o → Keeps (steps_left (step s ss) ∷ fs) ps None (makes (signs_to o now.at) (steps_left ss ∷ fs) ps)
+  keeps_sign s found o ss fs ps w e =
+      first_step s ss fs ps (after (fill told made) (done_at (now_after here.clock now made)))
+      (w ∙ both (ap (λ (x : Option Label). with_own here.clock x now.own) e ∙ own_signed here.clock now.own o now.at)
+      (ap (λ (x : Option Label). sign_of x now.at) e ∙ sym (fill_signs_to told o now.at) ∙ sym (followed_nil (fill told made))))
       ∙ finish_after (steps_left ss ∷ fs) (fill told made) (by_table table) told here (stack_at table ps)
       (done_at (now_after here.clock now made))
     where
       made : List Event
-      made = signs_to (label_among name ps) now.at
+      made = signs_to o now.at
 
       both : {ls ms : List Label} {x y : Log} → ls ≡ ms → x ≡ y →
           ◌≡◌ {A = Result} (record { end = now.at; own = ls; exc = None; members = []; log = x })
           (record { end = now.at; own = ms; exc = None; members = []; log = y })
       both e f = cc
+
+  -- a `cancel`
+  keeps_cancel : (name : List ℕ) (ss : Steps) (fs : List Frame) (ps : List Place) →
+      Keeps (steps_left (step (cancel name) ss) ∷ fs) ps None (makes (signs_to (label_among false name ps) now.at) (steps_left ss ∷ fs) ps)
+  unfolding walk cancel_result
+  keeps_cancel name ss fs ps =
+      keeps_sign (cancel name) (label_on name (stack_at table ps).scopes) (label_among false name ps) ss fs ps refl (scope_at_places table name ps)
+
+  -- a `set`
+  keeps_set : (name : List ℕ) (ss : Steps) (fs : List Frame) (ps : List Place) →
+      Keeps (steps_left (step (set_event name) ss) ∷ fs) ps None (makes (signs_to (label_among true name ps) now.at) (steps_left ss ∷ fs) ps)
+  unfolding walk set_result
+  keeps_set name ss fs ps =
+      keeps_sign (set_event name) (label_on name (stack_at table ps).events) (label_among true name ps) ss fs ps refl (event_at_places table name ps)
+
+  -- a wait for an event begins, if there is one
+  wait_begins : (name : List ℕ) (fs : List Frame) (ps : List Place) (o : Option Label) (l : Option (Level Label)) →
+      event_on name (stack_at table ps).events ≡ l → label_of l ≡ o →
+      finish (by_table table) told fs here (stack_at table ps) (event_wait here.clock (stack_at table ps) (event_on name (stack_at table ps).events) now)
+      ≡ after_events told (waits_on o name now.at fs ps).made (left_after table told here now (waits_on o name now.at fs ps))
+  unfolding event_wait
+  wait_begins name fs ps None None e f =
+      ap (λ (x : Option (Level Label)). finish (by_table table) told fs here (stack_at table ps) (event_wait here.clock (stack_at table ps) x now)) e
+  wait_begins name fs ps (Some m) (Some l) e f =
+      ap (λ (x : Option (Level Label)). finish (by_table table) told fs here (stack_at table ps) (event_wait here.clock (stack_at table ps) x now)) e
+      ∙ sym (ap (λ (x : Option (Level Label)). finish (by_table table) told fs here (stack_at table ps)
+      (event_wait here.clock (stack_at table ps) x (only_at now.at))) e)
+  wait_begins name fs ps None (Some l) e f = absurd (cc)
+  wait_begins name fs ps (Some m) None e f = absurd (cc)
+
+  keeps_waits : (name : List ℕ) (ss : Steps) (fs : List Frame) (ps : List Place) →
+      Keeps (steps_left (step (wait_for name) ss) ∷ fs) ps None (waits_on (label_among true name ps) name now.at (steps_left ss ∷ fs) ps)
+  unfolding walk
+  keeps_waits name ss fs ps =
+      finish_step fs (by_table table) told (wait_for name) ss here (stack_at table ps) now
+      ∙ wait_begins name (steps_left ss ∷ fs) ps (label_among true name ps) (event_on name (stack_at table ps).events) refl (event_found table name ps)
 
   -- children of a `start .. over` are recorded by their numbers
   over_told : (at : Here) (name : List ℕ) (of : ℕ) (body : Steps) (ps : List Place) (first k : ℕ) →
@@ -176,36 +277,44 @@ module _ (table froms : Table) (told : ChildOutcomes) (now : Now) (here : Here) 
       by_last (inl e) more = subst Tells (sym e) ((told_second (a_round_after here.clock now.at) table told front (one ∷ []) h).0 ∙ begun_walk table (a_round_after here.clock now.at) one)
       by_last (inr l) more = more l
 
+  -- the steps after children that were started
+  goes_started : (ss : Steps) (fs : List Frame) (ps : List Place) (more : List ℕ) (a : Log) → IsTrue (in_body fs) → Placed fs ps →
+      finish (by_table table) told (steps_left ss ∷ fs) here (stack_at table ps) (just_started told more a now)
+      ≡ after a (finish (by_table table) told (steps_left ss ∷ with_started more fs) here (stack_at table ps) (done_at now))
+  unfolding finish and_then
+  goes_started ss fs ps more a b w =
+      finish_with fs (by_table table) told more here table ps (after a (walk (by_table table) ss (inside fs here) (stack_at table ps) now)) b w
+      ∙ (finish_after (with_started more fs) a (by_table table) told here (stack_at table ps)
+      (walk (by_table table) ss (inside fs here) (stack_at table ps) now)
+      ∙ ap (λ (at : Here). after a (finish (by_table table) told (with_started more fs) here (stack_at table ps)
+      (walk (by_table table) ss at (stack_at table ps) now))) (sym (inside_started more fs here)))
+
   -- a child, or several, are started
   keeps_start : (name : List ℕ) (over : Option ℕ) (body ss : Steps) (fs : List Frame) (ps : List Place) (count : ℕ) → IsTrue (in_body fs) →
       Placed fs ps →
       AllTold (a_round_after here.clock now.at) table told (step_on froms now (inside fs here) (start name over body) ss fs ps count).begun →
       Keeps (steps_left (step (start name over body) ss) ∷ fs) ps None
       (step_on froms now (inside fs here) (start name over body) ss fs ps count)
-  keeps_start name None body ss (in_nursery children ∷ fs) (p ∷ ps) count b w h =
-      finish_start fs (by_table table) told count name body ss children here
-      (record { label = p.label; shield = p.shield; from = table p.label })
-      (stack_at table ps) now
-      (h.0 ∙ begun_walk table (a_round_after here.clock now.at) (begun_one count (here_in (label_here name (inside fs here)) here.part here) body (p ∷ ps)))
-  keeps_start name (Some k) body ss (in_nursery children ∷ fs) (p ∷ ps) count b w h =
-      finish_start_over fs (by_table table) told count k name body ss children here
-      (record { label = p.label; shield = p.shield; from = table p.label }) (stack_at table ps) now
-      (over_told (inside fs here) name k body (p ∷ ps) count k h)
+  unfolding walk child
+  keeps_start name None body ss fs ps count b w h =
+      finish_step fs (by_table table) told (start name None body) ss here (stack_at table ps) now
+      ∙ (ap (λ (r : Result). finish (by_table table) told (steps_left ss ∷ fs) here (stack_at table ps)
+      (child (label_here name (inside fs here)) (a_round_after here.clock now.at) r now))
+      (sym (h.0 ∙ begun_walk table (a_round_after here.clock now.at) (begun_one count (here_in (label_here name (inside fs here)) here.part here) body ps)))
+      ∙ goes_started ss fs ps (count ∷ []) (fill told (starts count (label_here name (inside fs here)) (a_round_after here.clock now.at) ∷ [])) b w)
+  keeps_start name (Some k) body ss fs ps count b w h =
+      finish_step fs (by_table table) told (start name (Some k) body) ss here (stack_at table ps) now
+      ∙ (ap (λ (r : Result). finish (by_table table) told (steps_left ss ∷ fs) here (stack_at table ps) r)
+      (each_started told name (inside fs here) (a_round_after here.clock now.at) now count k (λ i. with_sign (stack_at table ps)
+      (walk (by_table table) body (here_in (label_over name (inside fs here) i) (cut_of here.input here.part k i) here) (stack_at table ps)
+      (only_at (a_round_after here.clock now.at)))) (over_told (inside fs here) name k body ps count k h))
+      ∙ (goes_started ss fs ps (consecutive count k) (fill told made) b w
       ∙ ap (λ (own : List Label). after (fill told made)
-      (finish (by_table table) told (steps_left ss ∷ in_nursery (children ++ consecutive count k) ∷ fs) here
-      (stack_at table (p ∷ ps)) (done_at (record { at = now.at; own = own }))))
-      (own_started here.clock now.own name (inside fs here) (a_round_after here.clock now.at) count k)
+      (finish (by_table table) told (steps_left ss ∷ with_started (consecutive count k) fs) here (stack_at table ps)
+      (done_at (record { at = now.at; own = own })))) (own_started here.clock now.own name (inside fs here) (a_round_after here.clock now.at) count k)))
     where
       made : List Event
       made = starts_over name (inside fs here) (a_round_after here.clock now.at) count k
-  keeps_start name over body ss (in_nursery children ∷ fs) [] count b w h = absurd w
-  keeps_start name over body ss [] ps count b w h = absurd (cc)
-  keeps_start name over body ss (steps_left more ∷ fs) ps count b w h = absurd (cc)
-  keeps_start name over body ss (in_scope fail ∷ fs) ps count b w h = absurd (cc)
-  keeps_start name over body ss (in_repeat pass left again ∷ fs) ps count b w h = absurd (cc)
-  keeps_start name over body ss (in_try handler cleanup ∷ fs) ps count b w h = absurd (cc)
-  keeps_start name over body ss (in_handler rest cleanup ∷ fs) ps count b w h = absurd (cc)
-  keeps_start name over body ss (in_cleanup outcome ∷ fs) ps count b w h = absurd (cc)
 
   -- `need` asks for a line
   keeps_need : (o : Option Span) (name : List ℕ) (ss : Steps) (fs : List Frame) (ps : List Place) →
@@ -248,10 +357,14 @@ module _ (table froms : Table) (told : ChildOutcomes) (now : Now) (here : Here) 
       ∙ keeps_need (needed_in here.input text here.part) name ss fs ps
   keeps_step (raise name) ss fs ps count own a b w h = finish_step fs (by_table table) told (raise name) ss here (stack_at table ps) now
   keeps_step (cancel name) ss fs ps count own a b w h = keeps_cancel name ss fs ps
+  keeps_step (set_event name) ss fs ps count own a b w h = keeps_set name ss fs ps
+  keeps_step (wait_for name) ss fs ps count own a b w h = keeps_waits name ss fs ps
   keeps_step (scope name d shield fail body) ss fs ps count own a b w h =
       finish_scope fs table told name d shield fail body ss here (stack_at table ps) now
   keeps_step (nursery name d shield body) ss fs ps count own a b w h =
       finish_nursery fs table told name d shield body ss here (stack_at table ps) now
+  keeps_step (event name body) ss fs ps count own a b w h =
+      finish_event fs table told name body ss here (stack_at table ps) now
   keeps_step (start name over body) ss fs ps count own a b w h = keeps_start name over body ss fs ps count b.0 w h
   keeps_step (repeat n body) ss fs ps count own a b w h = keeps_passes n body ss fs ps
   keeps_step (attempt body handler cleanup) ss fs ps count own a b w h =
@@ -269,7 +382,7 @@ module _ (table froms : Table) (told : ChildOutcomes) (now : Now) (here : Here) 
   -- a block is left, whatever made it end
   pub block_leaves : (kind : Kind) (fs : List Frame) (p : Place) (ps : List Place) (exc : Option Exc) → AgreesOn now.at table froms (p ∷ ps) →
       finish (by_table table) told fs here (stack_at table ps) (block_left here.clock kind
-      (record { label = p.label; shield = p.shield; from = table p.label }) (stack_at table ps) (so_far exc now))
+      (record { label = p.label; shield = p.shield; from = table p.label }) (stack_at table ps).scopes (so_far exc now))
       ≡ after_events told (leaves here.clock froms now kind fs p ps exc).made (left_after table told here now (leaves here.clock froms now kind fs p ps exc))
   block_leaves kind fs p ps exc a =
       ap (λ (b : Bool). finish (by_table table) told fs here (stack_at table ps)
@@ -298,19 +411,43 @@ module _ (table froms : Table) (told : ChildOutcomes) (now : Now) (here : Here) 
       ap (λ (x : Log). record (so_far exc now) { own = []; log = x }) (sym (fill_home told table exc ps now.at)
       ∙ sym (followed_nil (fill told (signs_home exc ps now.at))))
 
+  -- a scope has ended
+  keeps_leave : (fail : Bool) (fs : List Frame) (p : Place) (ps : List Place) (exc : Option Exc) → p.is_event ≡ false →
+      AgreesOn now.at table froms (p ∷ ps) → Keeps (in_scope fail ∷ fs) (p ∷ ps) exc (leaves here.clock froms now (a_scope fail) fs p ps exc)
+  keeps_leave fail fs p ps exc e a =
+      ap (λ (q : Place). going_to table told here now (in_scope fail ∷ fs) (q ∷ ps) exc) (of_kind p false e)
+      ∙ (finish_leave fs (by_table table) told fail here (record { label = p.label; shield = p.shield; from = table p.label })
+      (stack_at table ps) (so_far exc now)
+      ∙ block_leaves (a_scope fail) fs p ps exc a)
+
+  -- an event has ended
+  keeps_event_left : (fs : List Frame) (p : Place) (ps : List Place) (exc : Option Exc) → p.is_event ≡ true →
+      Keeps (in_event ∷ fs) (p ∷ ps) exc (onward fs ps exc)
+  keeps_event_left fs p ps exc e =
+      ap (λ (q : Place). going_to table told here now (in_event ∷ fs) (q ∷ ps) exc) (of_kind p true e)
+      ∙ finish_leave_event fs (by_table table) told here (record { label = p.label; shield = p.shield; from = table p.label })
+      (stack_at table ps) (so_far exc now)
+
   -- the body of a nursery has ended
-  keeps_wait : (children : List ℕ) (fs : List Frame) (p : Place) (ps : List Place) (exc : Option Exc) (count : ℕ) →
+  wait_starts : (children : List ℕ) (fs : List Frame) (label : Label) (shield : Bool) (ps : List Place) (exc : Option Exc) (count : ℕ) →
+      (p : Place) → p ≡ record { label = label; shield = shield; is_event = false } →
       Keeps (in_nursery children ∷ fs) (p ∷ ps) exc (step_frames froms now here (in_nursery children ∷ fs) (p ∷ ps) exc count)
-  keeps_wait children fs p ps exc count =
-      finish_wait fs (by_table table) told children here (record { label = p.label; shield = p.shield; from = table p.label })
+  wait_starts children fs label shield ps exc count p e =
+      subst (λ (q : Place). Keeps (in_nursery children ∷ fs) (q ∷ ps) exc (step_frames froms now here (in_nursery children ∷ fs) (q ∷ ps) exc count))
+      (sym e)
+      (finish_wait fs (by_table table) told children here (record { label = label; shield = shield; from = table label })
       (stack_at table ps) now exc
       ∙ ap
       (λ (x : Log).
       after x
       (finish (by_table table) told fs here (stack_at table ps)
-      (wait_result here.clock (told_members told children) now.at exc (record { label = p.label; shield = p.shield; from = table p.label })
-      (stack_at table ps))))
-      (sym (fill_home told table exc (p ∷ ps) now.at))
+      (wait_result here.clock (told_members told children) now.at exc
+      (record { label = label; shield = shield; from = table label } ∷ (stack_at table ps).scopes) now)))
+      (sym (fill_home told table exc (record { label = label; shield = shield; is_event = false } ∷ ps) now.at)))
+
+  keeps_wait : (children : List ℕ) (fs : List Frame) (p : Place) (ps : List Place) (exc : Option Exc) (count : ℕ) → p.is_event ≡ false →
+      Keeps (in_nursery children ∷ fs) (p ∷ ps) exc (step_frames froms now here (in_nursery children ∷ fs) (p ∷ ps) exc count)
+  keeps_wait children fs p ps exc count e = wait_starts children fs p.label p.shield ps exc count p (of_kind p false e)
 
   -- each kind of frame
   keeps_frames : (fs : List Frame) (ps : List Place) (exc : Option Exc) (count : ℕ) → OwnFits here.clock now.own → AgreesOn now.at table froms ps → Placed fs ps →
@@ -319,11 +456,11 @@ module _ (table froms : Table) (told : ChildOutcomes) (now : Now) (here : Here) 
   keeps_frames (steps_left ss ∷ fs) ps exc count own a w h = keeps_steps ss fs ps exc count own a w.0 w.1 h
   keeps_frames (in_scope fail ∷ fs) [] exc count own a w h = absurd w
   keeps_frames (in_scope fail ∷ fs) (p ∷ ps) exc count own a w h =
-      finish_leave fs (by_table table) told fail here (record { label = p.label; shield = p.shield; from = table p.label })
-      (stack_at table ps) (so_far exc now)
-      ∙ block_leaves (a_scope fail) fs p ps exc a
+      keeps_leave fail fs p ps exc w.0 a
+  keeps_frames (in_event ∷ fs) [] exc count own a w h = absurd w
+  keeps_frames (in_event ∷ fs) (p ∷ ps) exc count own a w h = keeps_event_left fs p ps exc w.0
   keeps_frames (in_nursery children ∷ fs) [] exc count own a w h = absurd w
-  keeps_frames (in_nursery children ∷ fs) (p ∷ ps) exc count own a w h = keeps_wait children fs p ps exc count
+  keeps_frames (in_nursery children ∷ fs) (p ∷ ps) exc count own a w h = keeps_wait children fs p ps exc count w.0
   keeps_frames (in_repeat pass left body ∷ fs) ps exc count own a w h = keeps_pass pass left body fs ps exc
   keeps_frames (in_try handler cleanup ∷ fs) ps exc count own a w h = keeps_try handler cleanup fs ps exc
   keeps_frames (in_handler rest cleanup ∷ fs) ps exc count own a w h =

@@ -1,17 +1,17 @@
 -- The children of a task's nurseries are numbered below its count.
 use Rattle.std.proofs.Common.{ℕ, zero, suc, ◌+◌, ◌-◌, ◌≤◌, Bool, true, false, Option, Some, None, List, [], ◌∷◌, ◌++◌, length, sym, subst, arith}
-use Rattle.job_tree.specs.Tree.{Step, sleep, checkpoint, forever, pace, find, head, longest, need, raise, cancel, scope, nursery, start, repeat, attempt, Steps, stop, step, Handled, unhandled, except, Cleaned, uncleaned, finally}
-use Rattle.exc_groups.specs.Exceptions.{Exc}
+use Rattle.job_tree.specs.Tree.{Step, sleep, checkpoint, forever, pace, find, head, longest, need, raise, cancel, set_event, wait_for, scope, nursery, event, start, repeat, attempt, Steps, stop, step, Handled, unhandled, except, Cleaned, uncleaned, finally}
+use Rattle.exc_groups.specs.Exceptions.{Label, Exc}
 use Rattle.exc_groups.specs.Split.{named, keep, drop}
-use Rattle.cancel_scopes.specs.Sight.{seen}
+use Rattle.cancel_scopes.specs.Sight.{Level, seen}
 use Rattle.job_meaning.specs.Log.{Table}
 use Rattle.job_meaning.specs.Moments.{Clock, by_ticks, by_rounds, tick_of, Now, far}
-use Rattle.job_meaning.specs.Walk.{Here, pace_ticks}
-use Rattle.job_meaning.specs.Rest.{consecutive, Frame, steps_left, in_scope, in_nursery, in_repeat, in_try, in_handler, in_cleanup, inside, Stopped, to_begin, asking, asleep, giving_up, awaiting, at_end}
+use Rattle.job_meaning.specs.Walk.{Here, event_on, pace_ticks}
+use Rattle.job_meaning.specs.Rest.{consecutive, Frame, steps_left, in_scope, in_event, in_nursery, in_repeat, in_try, in_handler, in_cleanup, inside, Stopped, to_begin, asking, asleep, waiting_for, giving_up, awaiting, at_end}
 use Rattle.job_meaning.specs.Asking.{Answer, lines, missing, counted, Purpose, shows, needs, paces}
-use Rattle.turn_semantics.specs.Midway.{Place, stack_at, Midway, Move}
-use Rattle.turn_semantics.specs.Steps.{sleeps, falls_asleep, with_started, handler_if, step_try, step_on, step_steps, step_frames, step_of, begins_passes, step_pass}
-use Rattle.turn_semantics.specs.Wakes.{Wake, begins, sees, gives_up, is_due, has_answer, settles, goes_on_with, with_answer, leaves_settled, sees_from, wake_of}
+use Rattle.turn_semantics.specs.Midway.{Place, label_among, stack_at, Midway, Move}
+use Rattle.turn_semantics.specs.Steps.{sleeps, falls_asleep, waits_on, with_started, handler_if, step_try, step_on, step_steps, step_frames, step_of, begins_passes, step_pass}
+use Rattle.turn_semantics.specs.Wakes.{Wake, begins, sees, gives_up, is_due, has_answer, settles, goes_on_with, with_answer, leaves_settled, ends_at, is_checkpoint, gives_up_if, notes_wait, sees_from, is_due_from, wake_of}
 use Rattle.turn_semantics.specs.Placed.{AllBelow, KidsBelow, KidsAfter}
 use Rattle.turn_semantics.proofs.Cases.{over_length}
 
@@ -24,6 +24,7 @@ pub kids_grow : (n m : ℕ) → n ≤ m → (fs : List Frame) → KidsBelow n fs
 kids_grow n m le [] k = tt
 kids_grow n m le (steps_left ss ∷ fs) k = kids_grow n m le fs k
 kids_grow n m le (in_scope fail ∷ fs) k = kids_grow n m le fs k
+kids_grow n m le (in_event ∷ fs) k = kids_grow n m le fs k
 kids_grow n m le (in_nursery children ∷ fs) k = (all_grow n m le children k.0, kids_grow n m le fs k.1)
 kids_grow n m le (in_repeat pass left again ∷ fs) k = kids_grow n m le fs k
 kids_grow n m le (in_try handler cleanup ∷ fs) k = kids_grow n m le fs k
@@ -50,9 +51,10 @@ kids_started : (n m : ℕ) → n ≤ m → (more : List ℕ) → AllBelow m more
 kids_started n m le more a [] k = tt
 kids_started n m le more a (in_nursery children ∷ fs) k =
     (all_append m children more (all_grow n m le children k.0) a, kids_grow n m le fs k.1)
-kids_started n m le more a (steps_left ss ∷ fs) k = kids_grow n m le fs k
+kids_started n m le more a (steps_left ss ∷ fs) k = kids_started n m le more a fs k
 kids_started n m le more a (in_scope fail ∷ fs) k = kids_grow n m le fs k
-kids_started n m le more a (in_repeat pass left again ∷ fs) k = kids_grow n m le fs k
+kids_started n m le more a (in_event ∷ fs) k = kids_grow n m le fs k
+kids_started n m le more a (in_repeat pass left again ∷ fs) k = kids_started n m le more a fs k
 kids_started n m le more a (in_try handler cleanup ∷ fs) k = kids_grow n m le fs k
 kids_started n m le more a (in_handler rest cleanup ∷ fs) k = kids_grow n m le fs k
 kids_started n m le more a (in_cleanup outcome ∷ fs) k = kids_grow n m le fs k
@@ -63,6 +65,7 @@ kids_left n None fs k = k
 kids_left n (Some to_begin) fs k = k
 kids_left n (Some (asking kernel purpose)) fs k = k
 kids_left n (Some (asleep paced m since)) fs k = k
+kids_left n (Some (waiting_for name since)) fs k = k
 kids_left n (Some (giving_up since)) fs k = k
 kids_left n (Some (awaiting children ended exc)) fs k = k.1
 kids_left n (Some (at_end u e)) fs k = k
@@ -74,13 +77,17 @@ module _ (now : Now) (froms : Table) (here : Here) (n : ℕ) where
 
   kids_sleeps : (clock : Clock) (paced : Bool) (ticks t : ℕ) (fs : List Frame) (ps : List Place) → KidsBelow n fs →
       Kept (sleeps clock froms paced ticks t fs ps)
-  kids_sleeps clock paced ticks t fs ps k = by_clock clock (seen (stack_at froms ps) t) ticks
+  kids_sleeps clock paced ticks t fs ps k = by_clock clock (seen (stack_at froms ps).scopes t) ticks
     where
       by_clock : (clock : Clock) (b : Bool) (ticks : ℕ) → Kept (falls_asleep clock b paced ticks t fs ps)
       by_clock by_ticks true ticks = same_kids n fs k
       by_clock by_ticks false zero = same_kids n fs k
       by_clock by_ticks false (suc ticks) = same_kids n fs k
       by_clock by_rounds b ticks = same_kids n fs k
+
+  kids_waits : (o : Option Label) (name : List ℕ) (t : ℕ) (fs : List Frame) (ps : List Place) → KidsBelow n fs → Kept (waits_on o name t fs ps)
+  kids_waits None name t fs ps k = same_kids n fs k
+  kids_waits (Some l) name t fs ps k = same_kids n fs k
 
   kids_passes : (m : ℕ) (body : Steps) (fs : List Frame) (ps : List Place) → KidsBelow n fs → Kept (begins_passes m body fs ps)
   kids_passes zero body fs ps k = same_kids n fs k
@@ -104,8 +111,11 @@ module _ (now : Now) (froms : Table) (here : Here) (n : ℕ) where
   kids_step at (need text name) ss fs ps k = same_kids n fs k
   kids_step at (raise name) ss fs ps k = same_kids n fs k
   kids_step at (cancel name) ss fs ps k = same_kids n fs k
+  kids_step at (set_event name) ss fs ps k = same_kids n fs k
+  kids_step at (wait_for name) ss fs ps k = kids_waits (label_among true name ps) name now.at (steps_left ss ∷ fs) ps k
   kids_step at (scope name d shield fail body) ss fs ps k = same_kids n fs k
   kids_step at (nursery name d shield body) ss fs ps k = (tt, same_kids n fs k)
+  kids_step at (event name body) ss fs ps k = same_kids n fs k
   kids_step at (start name None body) ss fs ps k = kids_started n (n + 1) (omega arith) (n ∷ []) (omega arith, tt) fs k
   kids_step at (start name (Some c) body) ss fs ps k =
       let e = over_length name at c body ps n c in
@@ -136,6 +146,8 @@ module _ (now : Now) (froms : Table) (here : Here) (n : ℕ) where
   kids_frames (steps_left ss ∷ fs) ps exc k = kids_steps ss fs ps exc k
   kids_frames (in_scope fail ∷ fs) [] exc k = same_kids n fs k
   kids_frames (in_scope fail ∷ fs) (p ∷ ps) exc k = same_kids n fs k
+  kids_frames (in_event ∷ fs) [] exc k = same_kids n fs k
+  kids_frames (in_event ∷ fs) (p ∷ ps) exc k = same_kids n fs k
   kids_frames (in_nursery children ∷ fs) [] exc k = same_kids n fs k.1
   kids_frames (in_nursery children ∷ fs) (p ∷ ps) exc k = same_kids n (in_nursery children ∷ fs) k
   kids_frames (in_repeat pass left body ∷ fs) ps exc k = kids_pass pass left body fs ps exc k
@@ -157,6 +169,7 @@ module _ (now : Now) (froms : Table) (here : Here) (n : ℕ) where
   kids_with a (asking kernel purpose) fs ps k = kids_answered a purpose fs ps k
   kids_with a to_begin fs ps k = same_kids n fs k
   kids_with a (asleep paced m since) fs ps k = same_kids n fs k
+  kids_with a (waiting_for name since) fs ps k = same_kids n fs k
   kids_with a (giving_up since) fs ps k = same_kids n fs k
   kids_with a (awaiting children ended exc) fs ps k = same_kids n fs k
   kids_with a (at_end u e) fs ps k = same_kids n fs k
@@ -165,21 +178,40 @@ module _ (now : Now) (froms : Table) (here : Here) (n : ℕ) where
   kids_settled exc fs [] k = same_kids n fs k
   kids_settled exc fs (p ∷ ps) k = same_kids n fs k
 
-  kids_seen : (t : ℕ) (s : Stopped) (fs : List Frame) (ps : List Place) → KidsBelow n fs → Kept (sees_from t s fs ps)
+  kids_giving : (b : Bool) (t : ℕ) (fs : List Frame) (ps : List Place) → KidsBelow n fs → Kept (gives_up_if b t fs ps)
+  kids_giving true t fs ps k = same_kids n fs k
+  kids_giving false t fs ps k = same_kids n fs k
+
+  kids_noted : (o : Option (Level Label)) (t : ℕ) (fs : List Frame) (ps : List Place) → KidsBelow n fs → Kept (notes_wait o t fs ps)
+  kids_noted None t fs ps k = same_kids n fs k
+  kids_noted (Some l) t fs ps k = same_kids n fs k
+
+  kids_seen : (t : ℕ) (s : Stopped) (fs : List Frame) (ps : List Place) → KidsBelow n fs → Kept (sees_from here.clock froms t s fs ps)
   kids_seen t (asleep false zero since) fs ps k = same_kids n fs k
   kids_seen t (asleep false (suc m) since) fs ps k = same_kids n fs k
   kids_seen t (asleep true m since) fs ps k = same_kids n fs k
   kids_seen t to_begin fs ps k = same_kids n fs k
   kids_seen t (asking kernel purpose) fs ps k = same_kids n fs k
+  kids_seen t (waiting_for name since) fs ps k =
+      kids_giving (is_checkpoint here.clock (ends_at here.clock froms name since ps) since) t fs ps k
   kids_seen t (giving_up since) fs ps k = same_kids n fs k
   kids_seen t (awaiting children ended exc) fs ps k = same_kids n fs k
   kids_seen t (at_end u e) fs ps k = same_kids n fs k
+
+  kids_due : (t : ℕ) (s : Stopped) (fs : List Frame) (ps : List Place) → KidsBelow n fs → Kept (is_due_from froms t s fs ps)
+  kids_due t (waiting_for name since) fs ps k = kids_noted (event_on name (stack_at froms ps).events) t fs ps k
+  kids_due t to_begin fs ps k = same_kids n fs k
+  kids_due t (asking kernel purpose) fs ps k = same_kids n fs k
+  kids_due t (asleep paced m since) fs ps k = same_kids n fs k
+  kids_due t (giving_up since) fs ps k = same_kids n fs k
+  kids_due t (awaiting children ended exc) fs ps k = same_kids n fs k
+  kids_due t (at_end u e) fs ps k = same_kids n fs k
 
   kids_woken : (w : Wake) (s : Stopped) (fs : List Frame) (ps : List Place) → KidsBelow n fs → Kept (wake_of froms now here w s fs ps)
   kids_woken begins s fs ps k = same_kids n fs k
   kids_woken sees s fs ps k = kids_seen now.at s fs ps k
   kids_woken gives_up s fs ps k = same_kids n fs k
-  kids_woken is_due s fs ps k = same_kids n fs k
+  kids_woken is_due s fs ps k = kids_due now.at s fs ps k
   kids_woken (has_answer a) s fs ps k = kids_with a s fs ps k
   kids_woken (settles exc) s fs ps k = kids_settled exc fs ps k
 

@@ -1,4 +1,5 @@
 pub mod Agreeing
+pub mod Waits
 pub mod Keeps
 pub mod Events
 pub mod Cases

@@ -1,20 +1,20 @@
 -- No scope is entered that has the name of an enclosing one: each step of a task keeps that.
 use Rattle.std.proofs.Common.{◌≡◌, inl, inr, ℕ, zero, suc, ◌+◌, Bool, true, false, Option, Some, None, List, [], ◌∷◌, ◌++◌, length, refl, subst}
-use Rattle.job_tree.specs.Tree.{Step, sleep, checkpoint, forever, pace, find, head, longest, need, raise, cancel, scope, nursery, start, repeat, attempt, Steps, stop, step, Handled, unhandled, except, Cleaned, uncleaned, finally, Tree}
+use Rattle.job_tree.specs.Tree.{Step, sleep, checkpoint, forever, pace, find, head, longest, need, raise, cancel, set_event, wait_for, scope, nursery, event, start, repeat, attempt, Steps, stop, step, Handled, unhandled, except, Cleaned, uncleaned, finally, Tree}
 use Rattle.job_tree.specs.Names.{names_of, names_in, handled_names, cleaned_names, GivesNamesOnce}
-use Rattle.exc_groups.specs.Exceptions.{Exc}
+use Rattle.exc_groups.specs.Exceptions.{Label, Exc}
 use Rattle.exc_groups.specs.Split.{named, keep, drop}
-use Rattle.cancel_scopes.specs.Sight.{seen}
+use Rattle.cancel_scopes.specs.Sight.{Level, seen}
 use Rattle.job_meaning.specs.Log.{Table}
 use Rattle.job_meaning.specs.Moments.{Clock, by_ticks, by_rounds, Now}
-use Rattle.job_meaning.specs.Walk.{Here}
-use Rattle.job_meaning.specs.Rest.{Frame, steps_left, in_scope, in_nursery, in_repeat, in_try, in_handler, in_cleanup, inside, Stopped, awaiting, Rest}
+use Rattle.job_meaning.specs.Walk.{Here, event_on}
+use Rattle.job_meaning.specs.Rest.{Frame, steps_left, in_scope, in_event, in_nursery, in_repeat, in_try, in_handler, in_cleanup, inside, Stopped, awaiting, Rest}
 use Rattle.job_meaning.specs.Asking.{Answer, lines, missing, counted, Purpose, shows, needs, paces}
 use Rattle.job_meaning.proofs.Distinct.{Among, among_left, among_right, Distinct, distinct_left, distinct_right, distinct_by_bytes}
-use Rattle.turn_semantics.specs.Midway.{Place, stack_at, Midway, Begun, Move, after_move, then_move, now_after}
-use Rattle.turn_semantics.specs.Wakes.{Wake, goes_on_with, leaves_settled, wake_of, turn_from, CanWake, from_start, from_sleep, from_due, from_asking, from_giving_up, from_wait}
+use Rattle.turn_semantics.specs.Midway.{Place, label_among, stack_at, Midway, Begun, Move, after_move, then_move, now_after}
+use Rattle.turn_semantics.specs.Wakes.{Wake, goes_on_with, leaves_settled, ends_at, is_checkpoint, gives_up_if, notes_wait, wake_of, turn_from, CanWake, from_start, from_sleep, from_due, from_seen_waiting, from_set, from_asking, from_giving_up, from_wait}
 use Rattle.turn_semantics.specs.Placed.{outer_places}
-use Rattle.turn_semantics.specs.Steps.{falls_asleep, sleeps, with_started, begun_over, step_on, step_steps, handler_if, step_try, step_frames, step_of, froms_after, turn_of, begins_passes, step_pass}
+use Rattle.turn_semantics.specs.Steps.{falls_asleep, sleeps, waits_on, with_started, begun_over, step_on, step_steps, handler_if, step_try, step_frames, step_of, froms_after, turn_of, begins_passes, step_pass}
 use Rattle.turn_semantics.specs.Names.{IsName, names_at, OwnNames, AreNew, IsNew, IsNewHandler, IsNewCleanup, NewIn, AllNew, StaysNew}
 
 -- ---- steps whose names are given once
@@ -49,9 +49,13 @@ mutual
   new_step (need text name) around d h = tt
   new_step (raise name) around d h = tt
   new_step (cancel name) around d h = tt
+  new_step (set_event name) around d h = tt
+  new_step (wait_for name) around d h = tt
   new_step (scope name deadline shield fail body) around d h =
       (h name (inl refl), new_steps body (name ∷ around) d.1 (more_around name (names_of body) around d.0 (λ n i. h n (inr i))))
   new_step (nursery name deadline shield body) around d h =
+      (h name (inl refl), new_steps body (name ∷ around) d.1 (more_around name (names_of body) around d.0 (λ n i. h n (inr i))))
+  new_step (event name body) around d h =
       (h name (inl refl), new_steps body (name ∷ around) d.1 (more_around name (names_of body) around d.0 (λ n i. h n (inr i))))
   new_step (start name over body) around d h = new_steps body around d.1 (λ n i. h n (inr i))
   new_step (repeat count body) around d h = new_steps body around d h
@@ -91,15 +95,16 @@ asleep_new by_rounds b paced n t fs ps h own = record { frames = h; own = own; b
 sleeps_new : (clock : Clock) (froms : Table) (paced : Bool) (n t : ℕ) (fs : List Frame) (ps : List Place) → NewIn fs ps →
     OwnNames (names_at ps) →
     StaysNew (sleeps clock froms paced n t fs ps)
-sleeps_new clock froms paced n t fs ps h own = asleep_new clock (seen (stack_at froms ps) t) paced n t fs ps h own
+sleeps_new clock froms paced n t fs ps h own = asleep_new clock (seen (stack_at froms ps).scopes t) paced n t fs ps h own
 
 started_new : (more : List ℕ) (fs : List Frame) (ps : List Place) → NewIn fs ps → NewIn (with_started more fs) ps
 started_new more [] ps h = h
-started_new more (steps_left ss ∷ fs) ps h = h
+started_new more (steps_left ss ∷ fs) ps h = (h.0, started_new more fs ps h.1)
 started_new more (in_scope fail ∷ fs) ps h = h
+started_new more (in_event ∷ fs) ps h = h
 started_new more (in_nursery children ∷ fs) [] h = h
 started_new more (in_nursery children ∷ fs) (p ∷ ps) h = h
-started_new more (in_repeat pass left again ∷ fs) ps h = h
+started_new more (in_repeat pass left again ∷ fs) ps h = (h.0, started_new more fs ps h.1)
 started_new more (in_try handler cleanup ∷ fs) ps h = h
 started_new more (in_handler rest cleanup ∷ fs) ps h = h
 started_new more (in_cleanup outcome ∷ fs) ps h = h
@@ -114,6 +119,11 @@ over_new : (name : List ℕ) (here : Here) (of : ℕ) (body : Steps) (ps : List 
 over_new name here of body ps first zero h own = tt
 over_new name here of body ps first (suc k) h own =
     all_new_append (begun_over name here of body ps first k) _ (over_new name here of body ps first k h own) (h, own, tt)
+
+waits_new : (o : Option Label) (name : List ℕ) (t : ℕ) (fs : List Frame) (ps : List Place) → NewIn fs ps → OwnNames (names_at ps) →
+    StaysNew (waits_on o name t fs ps)
+waits_new None name t fs ps h own = record { frames = h; own = own; begun = tt }
+waits_new (Some l) name t fs ps h own = record { frames = h; own = own; begun = tt }
 
 passes_new : (n : ℕ) (body : Steps) (fs : List Frame) (ps : List Place) → AreNew (names_at ps) body → NewIn fs ps →
     OwnNames (names_at ps) → StaysNew (begins_passes n body fs ps)
@@ -139,9 +149,14 @@ step_new froms now here longest ss fs ps count i a h own = record { frames = (a,
 step_new froms now here (need text name) ss fs ps count i a h own = record { frames = (a, h); own = own; begun = tt }
 step_new froms now here (raise name) ss fs ps count i a h own = record { frames = (a, h); own = own; begun = tt }
 step_new froms now here (cancel name) ss fs ps count i a h own = record { frames = (a, h); own = own; begun = tt }
+step_new froms now here (set_event name) ss fs ps count i a h own = record { frames = (a, h); own = own; begun = tt }
+step_new froms now here (wait_for name) ss fs ps count i a h own =
+    waits_new (label_among true name ps) name now.at (steps_left ss ∷ fs) ps (a, h) own
 step_new froms now here (scope name deadline shield fail body) ss fs ps count i a h own =
     record { frames = (i.1, (a, h)); own = (i.0, own); begun = tt }
 step_new froms now here (nursery name deadline shield body) ss fs ps count i a h own =
+    record { frames = (i.1, (a, h)); own = (i.0, own); begun = tt }
+step_new froms now here (event name body) ss fs ps count i a h own =
     record { frames = (i.1, (a, h)); own = (i.0, own); begun = tt }
 step_new froms now here (start name None body) ss fs ps count i a h own =
     record { frames = (a, started_new (count ∷ []) fs ps h); own = own; begun = (i, own, tt) }
@@ -180,6 +195,8 @@ frames_new froms now here [] ps exc count h own = record { frames = tt; own = ow
 frames_new froms now here (steps_left ss ∷ fs) ps exc count h own = steps_new froms now here ss fs ps exc count h.0 h.1 own
 frames_new froms now here (in_scope fail ∷ fs) [] exc count h own = record { frames = h; own = own; begun = tt }
 frames_new froms now here (in_scope fail ∷ fs) (p ∷ ps) exc count h own = record { frames = h; own = own.1; begun = tt }
+frames_new froms now here (in_event ∷ fs) [] exc count h own = record { frames = h; own = own; begun = tt }
+frames_new froms now here (in_event ∷ fs) (p ∷ ps) exc count h own = record { frames = h; own = own.1; begun = tt }
 frames_new froms now here (in_nursery children ∷ fs) [] exc count h own = record { frames = h; own = own; begun = tt }
 frames_new froms now here (in_nursery children ∷ fs) (p ∷ ps) exc count h own = record { frames = h; own = own; begun = tt }
 frames_new froms now here (in_repeat pass left body ∷ fs) ps exc count h own = pass_new pass left body fs ps exc h.0 h.1 own
@@ -213,6 +230,15 @@ settled_new : (clock : Clock) (froms : Table) (now : Now) (exc : Option Exc) (ch
 settled_new clock froms now exc children ended e fs [] h own = record { frames = h; own = own; begun = tt }
 settled_new clock froms now exc children ended e fs (p ∷ ps) h own = record { frames = h; own = own.1; begun = tt }
 
+gives_new : (b : Bool) (t : ℕ) (fs : List Frame) (ps : List Place) → NewIn fs ps → OwnNames (names_at ps) → StaysNew (gives_up_if b t fs ps)
+gives_new true t fs ps h own = record { frames = h; own = own; begun = tt }
+gives_new false t fs ps h own = record { frames = h; own = own; begun = tt }
+
+notes_new : (o : Option (Level Label)) (t : ℕ) (fs : List Frame) (ps : List Place) → NewIn fs ps → OwnNames (names_at ps) →
+    StaysNew (notes_wait o t fs ps)
+notes_new None t fs ps h own = record { frames = h; own = own; begun = tt }
+notes_new (Some l) t fs ps h own = record { frames = h; own = own; begun = tt }
+
 wake_new : (froms : Table) (now : Now) (here : Here) {w : Wake} {s : Stopped} → CanWake w s → (fs : List Frame) (ps : List Place) →
     NewIn fs (outer_places (Some s) ps) →
     OwnNames (names_at ps) → StaysNew (wake_of froms now here w s fs ps)
@@ -221,6 +247,9 @@ wake_new froms now here (from_asking {a} {kernel} {purpose}) fs ps h own = answe
 wake_new froms now here (from_sleep {paced = false} {n = zero} {since}) fs ps h own = record { frames = h; own = own; begun = tt }
 wake_new froms now here (from_sleep {paced = false} {n = suc n} {since}) fs ps h own = record { frames = h; own = own; begun = tt }
 wake_new froms now here (from_sleep {paced = true} {n} {since}) fs ps h own = record { frames = h; own = own; begun = tt }
+wake_new froms now here (from_seen_waiting {event = name} {since}) fs ps h own =
+    gives_new (is_checkpoint here.clock (ends_at here.clock froms name since ps) since) now.at fs ps h own
+wake_new froms now here (from_set {event = name} {since}) fs ps h own = notes_new (event_on name (stack_at froms ps).events) now.at fs ps h own
 wake_new froms now here (from_giving_up {since}) fs ps h own = record { frames = h; own = own; begun = tt }
 wake_new froms now here (from_due {paced} {n} {since}) fs ps h own = record { frames = h; own = own; begun = tt }
 wake_new froms now here (from_wait {exc} {children} {ended} {e}) fs ps h own = settled_new here.clock froms now exc children ended e fs ps h own

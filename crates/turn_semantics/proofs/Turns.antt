@@ -4,7 +4,7 @@ use Rattle.exc_groups.specs.Exceptions.{Label}
 use Rattle.job_meaning.specs.Log.{Log, nil, entry, sign, entered, task, followed_by, Result, Table}
 use Rattle.job_meaning.specs.Moments.{Clock, a_round_after, Now}
 use Rattle.job_meaning.specs.Walk.{Here}
-use Rattle.job_meaning.specs.Rest.{Event, ChildOutcomes, fill, Frame, Stopped, to_begin, asking, asleep, giving_up, awaiting, at_end, frames_weight}
+use Rattle.job_meaning.specs.Rest.{Event, ChildOutcomes, fill, Frame, Stopped, to_begin, asking, asleep, waiting_for, giving_up, awaiting, at_end, frames_weight}
 use Rattle.job_meaning.proofs.Finish.{followed_assoc, fill_append}
 use Rattle.turn_semantics.specs.Midway.{Place, Midway, Move, after_move, no_move, then_move, OwnFits, now_after, after_events, left_of, left_after, stop_comes_to}
 use Rattle.turn_semantics.specs.Steps.{froms_after, step_of, turn_of}
@@ -91,6 +91,7 @@ stops_append clock t froms made (Some to_begin) ps more h = h
 stops_append clock t froms made (Some (asking kernel purpose)) ps more h = h
 stops_append clock t froms made (Some (asleep paced n since)) ps more h =
     subst (λ (f : Table). StopsAt clock t f (Some (asleep paced n since)) ps) (sym (froms_append made more froms)) h
+stops_append clock t froms made (Some (waiting_for event since)) ps more h = h
 stops_append clock t froms made (Some (giving_up since)) ps more h = h
 stops_append clock t froms made (Some (awaiting children u e)) ps more h = h
 stops_append clock t froms made (Some (at_end u e)) ps more h = h

@@ -1,128 +1,28 @@
 -- A task that wakes has the same result as when it stopped, and so does its whole turn.
-use Rattle.std.proofs.Common.{◌≡◌, ◌⊎◌, inl, inr, ℕ, zero, suc, ◌+◌, ◌-◌, ◌<◌, ◌≤◌, nat_lt, Bool, true, false, Option, Some, None, List, [], ◌∷◌, length, refl, ap, sym, ◌∙◌, subst, nat_le, arith}
-use Rattle.std.proofs.lemmas.Bool.Decides.{nat_tests}
+use Rattle.std.proofs.Common.{◌≡◌, ℕ, zero, suc, ◌+◌, ◌-◌, ◌<◌, ◌≤◌, Bool, true, false, Option, Some, None, List, [], ◌∷◌, length, refl, ap, sym, ◌∙◌, subst, arith}
 use Rattle.buffer_parts.specs.Lines.{Span}
 use Rattle.exc_groups.specs.Exceptions.{Label, Exc, cancelled, by_nursery, parts_of, group_of}
-use Rattle.cancel_scopes.specs.Sight.{Tick, is_reached, sight, seen}
-use Rattle.job_meaning.specs.Log.{Log, nil, entry, followed_by, line, Result, Table}
-use Rattle.job_meaning.specs.Moments.{Clock, by_ticks, by_rounds, a_round_after, wakes_at, gives_up_at, Now, only_at}
-use Rattle.job_meaning.specs.Walk.{Stack, by_table, Here, wait_by_sight, sleep_result, pace_result, raise_result, raised_at, done_at, pace_ticks, log_of_lines, lines_result, a_nursery, nursery_result, with_exc, excs_of, latest}
-use Rattle.job_meaning.specs.Rest.{fill, ChildOutcomes, told_members, Frame, Stopped, asleep, awaiting, Rest, block_left, finish, finished_from, rest_comes_to, rest_weight, frames_weight, asking_weight, sleep_weight, stop_weight}
+use Rattle.cancel_scopes.specs.Sight.{Level, seen}
+use Rattle.job_meaning.specs.Log.{Log, nil, entry, followed_by, line, waited, Result, Table}
+use Rattle.job_meaning.specs.Moments.{Clock, a_round_after, wakes_at, Now, only_at}
+use Rattle.job_meaning.specs.Walk.{by_table, Here, event_on, raise_result, raised_at, done_at, pace_ticks, log_of_lines, lines_result, a_nursery, nursery_result, with_exc, excs_of, latest}
+use Rattle.job_meaning.specs.Rest.{fill, ChildOutcomes, told_members, Frame, Stopped, asleep, waiting_for, awaiting, Rest, block_left, finish, finished_from, rest_comes_to, rest_weight, frames_weight, asking_weight, sleep_weight, stop_weight}
 use Rattle.job_meaning.specs.Asking.{Answer, lines, missing, counted, answer_of, Purpose, shows, needs, paces, answer_result}
 use Rattle.job_meaning.proofs.Clips.{followed_nil}
-use Rattle.job_meaning.proofs.MomentLemmas.{wakes_after}
 use Rattle.job_meaning.proofs.Finish.{finish_after}
-use Rattle.turn_semantics.specs.Midway.{Place, stack_at, Midway, own_after, OwnFits, now_after, so_far, after_events, left_after}
+use Rattle.turn_semantics.specs.Midway.{Place, label_among, stack_at, Midway, own_after, OwnFits, now_after, so_far, after_events, left_after}
 use Rattle.turn_semantics.specs.Steps.{makes, froms_after, turn_of}
-use Rattle.turn_semantics.specs.Placed.{Placed, PlacedStop, home_places, home_after}
-use Rattle.turn_semantics.specs.Wakes.{Wake, lines_made, goes_on_with, leaves_settled, sees_from, wake_of, turn_from, SettlesAt, SeesAt, WakesBy, CanWake, from_start, from_asking, from_sleep, from_due, from_giving_up, from_wait}
+use Rattle.turn_semantics.specs.Placed.{Placed, IsSome, PlacedStop, home_places, home_after}
+use Rattle.turn_semantics.specs.Wakes.{Wake, lines_made, goes_on_with, leaves_settled, ends_at, is_checkpoint, gives_up_if, notes_wait, sees_from, is_due_from, wake_of, turn_from, SettlesAt, SeesAt, SeesWaiting, GoesOnWaiting, WakesBy, CanWake, from_start, from_asking, from_sleep, from_due, from_seen_waiting, from_set, from_giving_up, from_wait}
 use Rattle.turn_semantics.specs.Turned.{AgreesOn, labels_of, MadeAt, Starts, known_after, TurnsOver}
-use Rattle.turn_semantics.proofs.Agreeing.{slept}
-use Rattle.turn_semantics.proofs.Keeps.{keeps_sleeps, block_leaves}
+use Rattle.turn_semantics.proofs.Agreeing.{label_of, event_found, slept}
+use Rattle.turn_semantics.proofs.Waits.{slept_seen, paced_seen, checkpoint_seen, slept_due, raises_in, noted_wait, event_seen, event_goes_on, checkpoint_alike}
+use Rattle.turn_semantics.proofs.Keeps.{of_kind, keeps_sleeps, block_leaves}
 use Rattle.turn_semantics.proofs.Events.{none_fits, all_own, all_grow, known_stays}
 use Rattle.turn_semantics.proofs.Cases.{Case, onward_case, sleep_case, leaves_case}
 use Rattle.turn_semantics.proofs.Houses.{wake_housed, wake_stays}
 use Rattle.turn_semantics.proofs.Kids.{wake_kids}
 use Rattle.turn_semantics.proofs.Turns.{turned_on, turned_turn}
-
--- ---- sleeps
-
--- a wait ends when a cancellation is seen in its course, after its least moment
-waits_seen : (a : Tick) (least gives_up end t : ℕ) → a ≡ Some t → least < t → t ≤ end →
-    wait_by_sight a least gives_up end ≡ raised_at cancelled (only_at t)
-waits_seen a least gives_up end t e lt le = rw e (rw late (rw soon refl))
-  where
-    late : nat_le t least ≡ false
-    late = grind (arith, nat_tests)
-
-    soon : nat_le t end ≡ true
-    soon = grind (arith, nat_tests)
-
--- it gives up where one is seen by its least moment
-waits_gives_up : (a : Tick) (least gives_up end : ℕ) → is_reached a least ≡ true →
-    wait_by_sight a least gives_up end ≡ raised_at cancelled (only_at gives_up)
-waits_gives_up None least gives_up end e = absurd (cc)
-waits_gives_up (Some from) least gives_up end e = rw e refl
-
--- and it ends by itself where none is seen at its end
-waits_due : (a : Tick) (least gives_up end : ℕ) → least ≤ end → is_reached a end ≡ false →
-    wait_by_sight a least gives_up end ≡ done_at (only_at end)
-waits_due None least gives_up end le e = refl
-waits_due (Some from) least gives_up end le e = rw not_before (rw e refl)
-  where
-    not_before : nat_le from least ≡ false
-    not_before = grind (arith, nat_tests)
-
--- where moments are ticks, a sleeper that sees a cancellation raises then
-ticks_seen : (a : Tick) (n since t : ℕ) → since < t → t ≤ since + n → (a ≡ Some t) ⊎ ((since ≡ t) × (is_reached a t ≡ true)) →
-    wait_by_sight a since since (since + n) ≡ raised_at cancelled (only_at t)
-ticks_seen a n since t lt le (inl e) = waits_seen a since since (since + n) t e lt le
-ticks_seen a n since t lt le (inr e) = absurd (let i = e.0 in omega arith)
-
--- where there are rounds, it sees one in its first round, or later
-rounds_seen : (a : Tick) (since t : ℕ) → since < t → (a ≡ Some t) ⊎ ((since + 1 ≡ t) × (is_reached a t ≡ true)) →
-    ((since + 1 ≡ t) × (is_reached a (since + 1) ≡ true)) ⊎ ((a ≡ Some t) × (since + 1 < t))
-rounds_seen a since t lt (inr e) = inl (e.0, subst (λ (x : ℕ). is_reached a x ≡ true) (sym e.0) e.1)
-rounds_seen a since t lt (inl e) = by_order (nat_lt (since + 1) t) refl
-  where
-    reached : since + 1 ≡ t → is_reached a (since + 1) ≡ true
-    reached i = rw e (grind (arith, nat_tests))
-
-    by_order : (b : Bool) → nat_lt (since + 1) t ≡ b → ((since + 1 ≡ t) × (is_reached a (since + 1) ≡ true)) ⊎ ((a ≡ Some t) × (since + 1 < t))
-    by_order true i = inr (e, grind (arith, nat_tests))
-    by_order false i = let f : since + 1 ≡ t = grind (arith, nat_tests) in inl (f, reached f)
-
--- so it raises then, if it gives up in its first round
-rounds_raise : (a : Tick) (since t end : ℕ) → since < t → t ≤ end → (a ≡ Some t) ⊎ ((since + 1 ≡ t) × (is_reached a t ≡ true)) →
-    wait_by_sight a (since + 1) (since + 1) end ≡ raised_at cancelled (only_at t)
-rounds_raise a since t end lt le s = by_round (rounds_seen a since t lt s)
-  where
-    by_round : ((since + 1 ≡ t) × (is_reached a (since + 1) ≡ true)) ⊎ ((a ≡ Some t) × (since + 1 < t)) →
-        wait_by_sight a (since + 1) (since + 1) end ≡ raised_at cancelled (only_at t)
-    by_round (inl e) = waits_gives_up a (since + 1) (since + 1) end e.1 ∙ ap (λ (x : ℕ). raised_at cancelled (only_at x)) e.0
-    by_round (inr e) = waits_seen a (since + 1) (since + 1) end t e.0 e.1 le
-
--- and at a checkpoint a round later
-rounds_give_up : (a : Tick) (since t : ℕ) → since < t → t ≤ since + 1 → (a ≡ Some t) ⊎ ((since + 1 ≡ t) × (is_reached a t ≡ true)) →
-    wait_by_sight a (since + 1) (since + 2) (since + 1) ≡ raised_at cancelled (only_at (suc t))
-rounds_give_up a since t lt le s = by_round (rounds_seen a since t lt s)
-  where
-    by_round : ((since + 1 ≡ t) × (is_reached a (since + 1) ≡ true)) ⊎ ((a ≡ Some t) × (since + 1 < t)) →
-        wait_by_sight a (since + 1) (since + 2) (since + 1) ≡ raised_at cancelled (only_at (suc t))
-    by_round (inl e) =
-        let i = e.0 in
-        let f : since + 2 ≡ suc t = omega arith in
-        waits_gives_up a (since + 1) (since + 2) (since + 1) e.1 ∙ ap (λ (x : ℕ). raised_at cancelled (only_at x)) f
-    by_round (inr e) = absurd (let i = e.1 in omega arith)
-
--- a sleeper that sees a cancellation by the end of its sleep raises then, unless it is at a checkpoint
-pub slept_seen : (clock : Clock) (st : Stack) (n since t : ℕ) → since < t → t ≤ wakes_at clock (suc n) since → SeesAt clock since t st →
-    sleep_result clock st (suc n) since ≡ raised_at cancelled (only_at t)
-unfolding sleep_result
-slept_seen by_ticks st n since t lt le s = ticks_seen (sight st) (suc n) since t lt le s
-slept_seen by_rounds st n since t lt le s = rounds_raise (sight st) since t (wakes_at by_rounds (suc n) since) lt le s
-
-pub paced_seen : (clock : Clock) (st : Stack) (n since t : ℕ) → since < t → t ≤ wakes_at clock n since → SeesAt clock since t st →
-    pace_result clock st n since ≡ raised_at cancelled (only_at t)
-unfolding pace_result
-paced_seen by_ticks st n since t lt le s = ticks_seen (sight st) n since t lt le s
-paced_seen by_rounds st n since t lt le s = rounds_raise (sight st) since t (wakes_at by_rounds n since) lt le s
-
--- and at a checkpoint it raises a round later
-pub checkpoint_seen : (clock : Clock) (st : Stack) (since t : ℕ) → since < t → t ≤ wakes_at clock 0 since → SeesAt clock since t st →
-    sleep_result clock st 0 since ≡ raised_at cancelled (only_at (suc t))
-unfolding sleep_result
-checkpoint_seen by_ticks st since t lt le s = absurd (omega arith)
-checkpoint_seen by_rounds st since t lt le s = rounds_give_up (sight st) since t lt le s
-
--- another one continues at the end of its sleep
-pub slept_due : (paced : Bool) (clock : Clock) (st : Stack) (n since : ℕ) → seen st (wakes_at clock n since) ≡ false →
-    slept paced clock st n since ≡ done_at (only_at (wakes_at clock n since))
-unfolding sleep_result pace_result
-slept_due false clock st n since e =
-    waits_due (sight st) (a_round_after clock since) (gives_up_at clock n since) (wakes_at clock n since) (wakes_after clock n since) e
-slept_due true clock st n since e =
-    waits_due (sight st) (a_round_after clock since) (a_round_after clock since) (wakes_at clock n since) (wakes_after clock n since) e
 
 -- ---- lines
 
@@ -175,26 +75,27 @@ module _ (table froms : Table) (told : ChildOutcomes) (now : Now) (here : Here) 
 
   -- a nursery has settled
   wakes_settled : (exc : Option Exc) (children : List ℕ) (ended : ℕ) (e : Option Exc) (u : Now) (fs : List Frame) (ps : List Place) →
-      AgreesOn now.at table froms ps → SettlesAt here.clock now.at exc (told_members told children) ended e ps → now.own ≡ [] →
+      PlacedStop (awaiting children ended e) fs ps → AgreesOn now.at table froms ps → SettlesAt here.clock now.at exc (told_members told children) ended e ps → now.own ≡ [] →
       finished_from (by_table table) told (awaiting children ended e) fs here (stack_at table ps) u
       ≡ after_events told (leaves_settled here.clock froms now exc fs ps).made (left_after table told here now (leaves_settled here.clock froms now exc fs ps))
   unfolding nursery_result
-  wakes_settled exc children ended e u fs (p ∷ ps) g s own =
-      at_last (a_round_after here.clock (latest ended (told_members told children))) (group_of (by_nursery p.label)
+  wakes_settled exc children ended e u fs (p ∷ ps) w g s own =
+      ap (λ (q : Place). finished_from (by_table table) told (awaiting children ended e) fs here (stack_at table (q ∷ ps)) u) (of_kind p false w.0)
+      ∙ at_last (a_round_after here.clock (latest ended (told_members told children))) (group_of (by_nursery p.label)
       (parts_of (with_exc e (excs_of (told_members told children))))) s.0 s.1 (sym own)
       ∙ block_leaves table froms told now here a_nursery fs p ps exc g
     where
       left : Result → Result
       left r =
           finish (by_table table) told fs here (stack_at table ps)
-          (block_left here.clock a_nursery (record { label = p.label; shield = p.shield; from = table p.label }) (stack_at table ps) r)
+          (block_left here.clock a_nursery (record { label = p.label; shield = p.shield; from = table p.label }) (stack_at table ps).scopes r)
 
       ended_with : Option Exc → ℕ → List Label → Result
       ended_with x v ls = so_far x (record { at = v; own = ls })
 
       at_last : (v : ℕ) (x : Option Exc) → v ≡ now.at → x ≡ exc → [] ≡ now.own → left (ended_with x v []) ≡ left (ended_with exc now.at now.own)
       at_last v x e f g = λ i. left (ended_with (f i) (e i) (g i))
-  wakes_settled exc children ended e u fs [] g s own = absurd s
+  wakes_settled exc children ended e u fs [] w g s own = absurd s
 
   -- a moment in which a task has cancelled nothing
   nothing_own : (v : ℕ) → v ≡ now.at → now.own ≡ [] → only_at v ≡ now
@@ -208,8 +109,8 @@ module _ (table froms : Table) (told : ChildOutcomes) (now : Now) (here : Here) 
       now.at ≤ wakes_at here.clock n since →
       SeesAt here.clock since now.at (stack_at table ps) → now.own ≡ [] →
       finished_from (by_table table) told (asleep paced n since) fs here (stack_at table ps) u
-      ≡ after_events told (sees_from now.at (asleep paced n since) fs ps).made
-      (left_after table told here now (sees_from now.at (asleep paced n since) fs ps))
+      ≡ after_events told (sees_from here.clock froms now.at (asleep paced n since) fs ps).made
+      (left_after table told here now (sees_from here.clock froms now.at (asleep paced n since) fs ps))
   wakes_seen u false zero since fs ps lt le s own =
       ap (λ (r : Result). finish (by_table table) told fs here (stack_at table ps) r)
       (checkpoint_seen here.clock (stack_at table ps) since now.at lt le s)
@@ -222,12 +123,12 @@ module _ (table froms : Table) (told : ChildOutcomes) (now : Now) (here : Here) 
 
   -- a task whose sleep ends
   wakes_due : (u : Now) (paced : Bool) (n since : ℕ) (fs : List Frame) (ps : List Place) → wakes_at here.clock n since ≡ now.at →
-      seen (stack_at table ps) now.at ≡ false → now.own ≡ [] →
+      seen (stack_at table ps).scopes now.at ≡ false → now.own ≡ [] →
       finished_from (by_table table) told (asleep paced n since) fs here (stack_at table ps) u
       ≡ finish (by_table table) told fs here (stack_at table ps) (done_at now)
   wakes_due u paced n since fs ps e s own = by_pace paced
       (ap (λ (r : Result). finish (by_table table) told fs here (stack_at table ps) r)
-      (slept_due paced here.clock (stack_at table ps) n since (subst (λ (v : ℕ). seen (stack_at table ps) v ≡ false) (sym e) s)
+      (slept_due paced here.clock (stack_at table ps) n since (subst (λ (v : ℕ). seen (stack_at table ps).scopes v ≡ false) (sym e) s)
       ∙ ap (λ (v : Now). done_at v) (nothing_own (wakes_at here.clock n since) e own)))
     where
       by_pace : (paced : Bool) →
@@ -238,23 +139,68 @@ module _ (table froms : Table) (told : ChildOutcomes) (now : Now) (here : Here) 
       by_pace false h = h
       by_pace true h = h
 
+  -- a task that waits for an event and sees a cancellation
+  wakes_seen_waiting : (u : Now) (name : List ℕ) (since : ℕ) (fs : List Frame) (ps : List Place) → IsSome (label_among true name ps) →
+      AgreesOn now.at table froms ps →
+      SeesWaiting here.clock (ends_at here.clock table name since ps) since now.at (stack_at table ps) → now.own ≡ [] →
+      finished_from (by_table table) told (waiting_for name since) fs here (stack_at table ps) u
+      ≡ after_events told (sees_from here.clock froms now.at (waiting_for name since) fs ps).made
+      (left_after table told here now (sees_from here.clock froms now.at (waiting_for name since) fs ps))
+  wakes_seen_waiting u name since fs ps p g s own =
+      ap (λ (r : Result). finish (by_table table) told fs here (stack_at table ps) r)
+      (event_seen here.clock (stack_at table ps) (event_on name (stack_at table ps).events) since now.at
+      (subst (λ (o : Option Label). IsSome o) (sym (event_found table name ps)) p) s
+      ∙ ap (λ (b : Bool). raised_at cancelled (only_at (raises_in b now.at))) (checkpoint_alike here.clock now.at since table froms name ps s.0 g))
+      ∙ by_checkpoint (is_checkpoint here.clock (ends_at here.clock froms name since ps) since)
+    where
+      by_checkpoint : (b : Bool) →
+          finish (by_table table) told fs here (stack_at table ps) (raised_at cancelled (only_at (raises_in b now.at)))
+          ≡ after_events told (gives_up_if b now.at fs ps).made (left_after table told here now (gives_up_if b now.at fs ps))
+      by_checkpoint true = refl
+      by_checkpoint false =
+          ap (λ (v : Now). finish (by_table table) told fs here (stack_at table ps) (raised_at cancelled v)) (nothing_own now.at refl own)
+
+  -- a task whose wait for an event ends
+  wakes_set : (u : Now) (name : List ℕ) (since : ℕ) (fs : List Frame) (ps : List Place) → IsSome (label_among true name ps) →
+      GoesOnWaiting here.clock (ends_at here.clock table name since ps) since now.at (stack_at table ps) → now.own ≡ [] →
+      finished_from (by_table table) told (waiting_for name since) fs here (stack_at table ps) u
+      ≡ after_events told (is_due_from froms now.at (waiting_for name since) fs ps).made
+      (left_after table told here now (is_due_from froms now.at (waiting_for name since) fs ps))
+  wakes_set u name since fs ps p s own =
+      ap (λ (r : Result). finish (by_table table) told fs here (stack_at table ps) r)
+      (event_goes_on here.clock (stack_at table ps) (event_on name (stack_at table ps).events) since now.at
+      (subst (λ (o : Option Label). IsSome o) (sym (event_found table name ps)) p) s
+      ∙ ap (λ (o : Option Label). noted_wait o now.at) (event_found table name ps ∙ sym (event_found froms name ps)))
+      ∙ by_event (event_on name (stack_at froms ps).events)
+    where
+      by_event : (o : Option (Level Label)) →
+          finish (by_table table) told fs here (stack_at table ps) (noted_wait (label_of o) now.at)
+          ≡ after_events told (notes_wait o now.at fs ps).made (left_after table told here now (notes_wait o now.at fs ps))
+      by_event None = ap (λ (v : Now). finish (by_table table) told fs here (stack_at table ps) (done_at v)) (nothing_own now.at refl own)
+      by_event (Some l) =
+          finish_after fs (entry now.at (waited l.label) nil) (by_table table) told here (stack_at table ps) (done_at (only_at now.at))
+          ∙ ap (λ (v : Now). after_events told (notes_wait (Some l) now.at fs ps).made
+          (finish (by_table table) told fs here (stack_at table ps) (done_at v))) (nothing_own now.at refl own)
+
   -- each wake
-  pub wake_keeps : (u : Now) {w : Wake} {s : Stopped} → CanWake w s → (fs : List Frame) (ps : List Place) →
+  pub wake_keeps : (u : Now) {w : Wake} {s : Stopped} → CanWake w s → (fs : List Frame) (ps : List Place) → PlacedStop s fs ps →
       AgreesOn now.at table froms ps → WakesBy table told here u now w s ps →
       finished_from (by_table table) told s fs here (stack_at table ps) u
       ≡ after_events told (wake_of froms now here w s fs ps).made (left_after table told here now (wake_of froms now here w s fs ps))
-  wake_keeps u from_start fs ps g e = ap (λ (v : Now). finish (by_table table) told fs here (stack_at table ps) (done_at v)) e.0
-  wake_keeps u (from_asking {a} {kernel} {purpose}) fs ps g e =
+  wake_keeps u from_start fs ps p g e = ap (λ (v : Now). finish (by_table table) told fs here (stack_at table ps) (done_at v)) e.0
+  wake_keeps u (from_asking {a} {kernel} {purpose}) fs ps p g e =
       ap (λ (v : Now). finish (by_table table) told fs here (stack_at table ps)
       (answer_result (answer_of kernel here) purpose here (stack_at table ps) v)) e.0
       ∙ (ap (λ (b : Answer). finish (by_table table) told fs here (stack_at table ps) (answer_result b purpose here (stack_at table ps) now))
       (sym e.1)
       ∙ wakes_answer a purpose fs ps e.2 g)
-  wake_keeps u (from_sleep {paced} {n} {since}) fs ps g e = wakes_seen u paced n since fs ps e.0 e.1 e.2 e.3
-  wake_keeps u (from_due {paced} {n} {since}) fs ps g e = wakes_due u paced n since fs ps e.0 e.1 e.2
-  wake_keeps u (from_giving_up {since}) fs ps g e =
+  wake_keeps u (from_sleep {paced} {n} {since}) fs ps p g e = wakes_seen u paced n since fs ps e.0 e.1 e.2 e.3
+  wake_keeps u (from_due {paced} {n} {since}) fs ps p g e = wakes_due u paced n since fs ps e.0 e.1 e.2
+  wake_keeps u (from_seen_waiting {event = name} {since}) fs ps p g e = wakes_seen_waiting u name since fs ps p.0 g e.0 e.1
+  wake_keeps u (from_set {event = name} {since}) fs ps p g e = wakes_set u name since fs ps p.0 e.0 e.1
+  wake_keeps u (from_giving_up {since}) fs ps p g e =
       ap (λ (v : Now). finish (by_table table) told fs here (stack_at table ps) (raised_at cancelled v)) (nothing_own (suc since) e.0 e.1)
-  wake_keeps u (from_wait {exc} {children} {ended} {e}) fs ps g h = wakes_settled exc children ended e u fs ps g h.0 h.1
+  wake_keeps u (from_wait {exc} {children} {ended} {e}) fs ps p g h = wakes_settled exc children ended e u fs ps p g h.0 h.1
 
 -- ---- what a wake makes and leaves
 
@@ -305,16 +251,13 @@ settled_case : (clock : Clock) (now : Now) (froms : Table) (exc : Option Exc) (c
     (ps : List Place) (count w : ℕ) →
     PlacedStop (awaiting children ended x) fs ps → 1 + w ≡ 1 + frames_weight fs →
     Case clock now.at froms w (home_after (Some (awaiting children ended x)) fs ps) ps count (leaves_settled clock froms now exc fs ps)
-settled_case clock now froms exc children ended x fs (p ∷ ps) count w q e = leaves_case clock now froms a_nursery w _ fs p ps exc count q refl (omega arith)
+settled_case clock now froms exc children ended x fs (p ∷ ps) count w q e = leaves_case clock now froms a_nursery w _ fs p ps exc count q.1 refl (omega arith)
 settled_case clock now froms exc children ended x fs [] count w q e = absurd q
 
-wake_case : (now : Now) (froms : Table) (here : Here) {w : Wake} {s : Stopped} → CanWake w s →
-    (fs : List Frame) (ps : List Place) (count b : ℕ) →
-    PlacedStop s fs ps → 1 + b ≡ stop_weight s + frames_weight fs →
-    Case here.clock now.at froms b (home_after (Some s) fs ps) ps count (wake_of froms now here w s fs ps)
-wake_case now froms here from_start fs ps count b p e = onward_case here.clock now.at froms b _ fs ps _ count p refl (omega arith)
-wake_case now froms here (from_asking {a} {kernel} {purpose}) fs ps count b p e = answered_case now.at froms here a purpose fs ps count b p.1 e
-wake_case now froms here (from_sleep {paced = false} {n = zero} {since}) fs ps count b p e =
+-- a task that gives up, or raises
+giving_case : (clock : Clock) (t : ℕ) (froms : Table) (b : Bool) (w : ℕ) (fs : List Frame) (ps : List Place) (count : ℕ) → Placed fs ps →
+    1 + frames_weight fs ≤ w → Case clock t froms w (home_places fs ps) ps count (gives_up_if b t fs ps)
+giving_case clock t froms true w fs ps count p le =
     record {
       placed = p;
       at_home = refl;
@@ -326,10 +269,41 @@ wake_case now froms here (from_sleep {paced = false} {n = zero} {since}) fs ps c
       stops = refl;
       weight = omega arith;
     }
+giving_case clock t froms false w fs ps count p le = onward_case clock t froms w _ fs ps _ count p refl (omega arith)
+
+-- a wait that ended well
+noted_case : (clock : Clock) (t : ℕ) (froms : Table) (o : Option (Level Label)) (w : ℕ) (fs : List Frame) (ps : List Place) (count : ℕ) → Placed fs ps →
+    frames_weight fs ≤ w → Case clock t froms w (home_places fs ps) ps count (notes_wait o t fs ps)
+noted_case clock t froms None w fs ps count p le = onward_case clock t froms w _ fs ps _ count p refl le
+noted_case clock t froms (Some l) w fs ps count p le =
+    record {
+      placed = p;
+      at_home = refl;
+      made_now = (refl, tt);
+      places = all_own ps;
+      starts_made = tt;
+      begun_in = tt;
+      clocks = tt;
+      stops = tt;
+      weight = omega arith;
+    }
+
+wake_case : (now : Now) (froms : Table) (here : Here) {w : Wake} {s : Stopped} → CanWake w s →
+    (fs : List Frame) (ps : List Place) (count b : ℕ) →
+    PlacedStop s fs ps → 1 + b ≡ stop_weight s + frames_weight fs →
+    Case here.clock now.at froms b (home_after (Some s) fs ps) ps count (wake_of froms now here w s fs ps)
+wake_case now froms here from_start fs ps count b p e = onward_case here.clock now.at froms b _ fs ps _ count p refl (omega arith)
+wake_case now froms here (from_asking {a} {kernel} {purpose}) fs ps count b p e = answered_case now.at froms here a purpose fs ps count b p.1 e
+wake_case now froms here (from_sleep {paced = false} {n = zero} {since}) fs ps count b p e =
+    giving_case here.clock now.at froms true b fs ps count p (omega arith)
 wake_case now froms here (from_sleep {paced = false} {n = suc n} {since}) fs ps count b p e =
     onward_case here.clock now.at froms b _ fs ps _ count p refl (omega arith)
 wake_case now froms here (from_sleep {paced = true} {n} {since}) fs ps count b p e =
     onward_case here.clock now.at froms b _ fs ps _ count p refl (let h = sleep_some true n in omega arith)
+wake_case now froms here (from_seen_waiting {event = name} {since}) fs ps count b p e =
+    giving_case here.clock now.at froms (is_checkpoint here.clock (ends_at here.clock froms name since ps) since) b fs ps count p.1 (omega arith)
+wake_case now froms here (from_set {event = name} {since}) fs ps count b p e =
+    noted_case here.clock now.at froms (event_on name (stack_at froms ps).events) b fs ps count p.1 (omega arith)
 wake_case now froms here (from_giving_up {since}) fs ps count b p e = onward_case here.clock now.at froms b _ fs ps _ count p refl (omega arith)
 wake_case now froms here (from_due {paced} {n} {since}) fs ps count b p e =
     onward_case here.clock now.at froms b _ fs ps _ count p refl (let h = sleep_some paced n in omega arith)
@@ -342,6 +316,8 @@ wakes_weigh from_start fs = omega arith
 wakes_weigh (from_asking {a} {kernel} {purpose}) fs = let h = asking_weighs purpose in omega arith
 wakes_weigh (from_sleep {paced} {n} {since}) fs = let h = sleep_some paced n in omega arith
 wakes_weigh (from_due {paced} {n} {since}) fs = let h = sleep_some paced n in omega arith
+wakes_weigh (from_seen_waiting {event = name} {since}) fs = omega arith
+wakes_weigh (from_set {event = name} {since}) fs = omega arith
 wakes_weigh (from_giving_up {since}) fs = omega arith
 wakes_weigh (from_wait {exc} {children} {ended} {e}) fs = omega arith
 
@@ -352,6 +328,8 @@ wakes_fit table told here u now from_start ps e = e.1
 wakes_fit table told here u now from_asking ps e = e.2
 wakes_fit table told here u now from_sleep ps e = none_fits here.clock now.own e.3
 wakes_fit table told here u now from_due ps e = none_fits here.clock now.own e.2
+wakes_fit table told here u now from_seen_waiting ps e = none_fits here.clock now.own e.1
+wakes_fit table told here u now from_set ps e = none_fits here.clock now.own e.1
 wakes_fit table told here u now from_giving_up ps e = none_fits here.clock now.own e.1
 wakes_fit table told here u now from_wait ps e = none_fits here.clock now.own e.1
 
@@ -361,7 +339,7 @@ pub turned_wake : (u now : Now) (here : Here) (froms : Table) (w : Wake) (rest :
     TurnsOver u now here froms w rest ps count (wake_of froms now here w rest.stopped rest.frames ps)
 turned_wake u now here froms w rest ps count c p =
     record {
-      keeps = λ table told g a b h. wake_keeps table froms told now here u c rest.frames ps a g;
+      keeps = λ table told g a b h. wake_keeps table froms told now here u c rest.frames ps p a g;
       placed = all.placed;
       at_home = all.at_home;
       kids = wake_kids now froms here w rest.stopped rest.frames ps count;

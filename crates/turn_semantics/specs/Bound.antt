@@ -1,7 +1,7 @@
 -- How many steps a turn takes at most, by the frames that are left.
 use Rattle.std.specs.Prelude.{ℕ, ◌+◌, ◌*◌, List, [], ◌∷◌}
-use Rattle.job_tree.specs.Tree.{Step, sleep, checkpoint, forever, pace, find, head, longest, need, raise, cancel, scope, nursery, start, repeat, attempt, Steps, stop, step, Handled, unhandled, except, Cleaned, uncleaned, finally}
-use Rattle.job_meaning.specs.Rest.{Frame, steps_left, in_scope, in_nursery, in_repeat, in_try, in_handler, in_cleanup}
+use Rattle.job_tree.specs.Tree.{Step, sleep, checkpoint, forever, pace, find, head, longest, need, raise, cancel, set_event, wait_for, scope, nursery, event, start, repeat, attempt, Steps, stop, step, Handled, unhandled, except, Cleaned, uncleaned, finally}
+use Rattle.job_meaning.specs.Rest.{Frame, steps_left, in_scope, in_event, in_nursery, in_repeat, in_try, in_handler, in_cleanup}
 
 -- the maximum number of steps of a turn for the steps of a block, and for its end; children take
 -- their own turns
@@ -21,8 +21,11 @@ abbrev mutual
   step_length (need text name) = 1
   step_length (raise name) = 1
   step_length (cancel name) = 1
+  step_length (set_event name) = 1
+  step_length (wait_for name) = 1
   step_length (scope name deadline shield fail body) = 2 + turn_length body
   step_length (nursery name deadline shield body) = 2 + turn_length body
+  step_length (event name body) = 2 + turn_length body
   step_length (start name over body) = 1
   step_length (repeat count body) = 1 + count * (1 + turn_length body)
   step_length (attempt body handler cleanup) = 2 + turn_length body + (handler_length handler + cleanup_length cleanup)
@@ -38,6 +41,7 @@ abbrev mutual
 abbrev pub frame_length : Frame → ℕ
 frame_length (steps_left ss) = turn_length ss
 frame_length (in_scope fail) = 1
+frame_length in_event = 1
 frame_length (in_nursery children) = 1
 frame_length (in_repeat pass left body) = 1 + left * (1 + turn_length body)
 frame_length (in_try handler cleanup) = 1 + handler_length handler + cleanup_length cleanup

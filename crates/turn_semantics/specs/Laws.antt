@@ -10,9 +10,9 @@ use Rattle.job_meaning.specs.Walk.{by_table, Here}
 use Rattle.job_meaning.specs.Rest.{steps_left, Event, ChildOutcomes, fill, Stopped, Rest, rest_comes_to, task_comes_to}
 use Rattle.turn_semantics.specs.Midway.{Place, stack_at, Midway, Move, now_after}
 use Rattle.turn_semantics.specs.Steps.{froms_after, step_of}
-use Rattle.turn_semantics.specs.Placed.{Placed, PlacedStop, outer_places}
+use Rattle.turn_semantics.specs.Placed.{Placed, IsSome, PlacedStop, outer_places}
 use Rattle.turn_semantics.specs.Wakes.{Wake, wake_of, turn_from, WakesBy, CanWake}
-use Rattle.turn_semantics.specs.Turned.{AgreesOn, AgreesAhead, AllTold, Known, MadeAt, made_sign, EntersIn, EntersOnceWith, IsSome, Goes, TurnsOver}
+use Rattle.turn_semantics.specs.Turned.{AgreesOn, AgreesAhead, AllTold, Known, MadeAt, made_sign, EntersIn, EntersOnceWith, Goes, TurnsOver}
 use Rattle.turn_semantics.specs.Bound.{frames_length}
 use Rattle.turn_semantics.specs.Names.{names_at, OwnNames, NewIn, StaysNew}
 

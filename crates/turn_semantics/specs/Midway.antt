@@ -1,24 +1,42 @@
 -- A task in the middle of a turn, what a step of it does, and the task's result.
-use Rattle.std.specs.Prelude.{◌≡◌, ℕ, ◌+◌, Bool, Option, Some, None, List, [], ◌∷◌, ◌++◌, length}
+use Rattle.std.specs.Prelude.{◌≡◌, ℕ, ◌+◌, Bool, true, false, not, ◌&&◌, Option, Some, None, List, [], ◌∷◌, ◌++◌, length}
+use Rattle.std.specs.Str.{bytes_eq}
 use Rattle.job_tree.specs.Tree.{Steps}
 use Rattle.exc_groups.specs.Exceptions.{Label, Exc}
+use Rattle.cancel_scopes.specs.Sight.{Level}
 use Rattle.job_meaning.specs.Log.{nil, followed_by, Result, Table}
 use Rattle.job_meaning.specs.Moments.{Clock, by_ticks, by_rounds, Now, only_at}
-use Rattle.job_meaning.specs.Walk.{Stack, by_table, Here, done_at, with_own}
+use Rattle.job_meaning.specs.Walk.{Stack, no_stack, by_table, Here, label_if, done_at, with_own}
 use Rattle.job_meaning.specs.Rest.{Event, noted, signs, enters, starts, ChildOutcomes, fill, Frame, Stopped, finish, finished_from, rest_comes_to, rest_at_start}
 
--- a scope or nursery that encloses a task; its from is in the world's table
+-- a scope or nursery that encloses a task, or an event; its from is in the world's table
 pub record Place : Type 0 where
   pub label : Label
   pub shield : Bool
+  pub is_event : Bool
 
--- the stack of a task with these enclosing scopes and nurseries, with the froms of a table
+-- whether a place is an event, or whether it is none
+abbrev pub is_of_kind : (events : Bool) → Place → Bool
+is_of_kind true p = p.is_event
+is_of_kind false p = not p.is_event
+
+-- the label of the scope or nursery of this name that encloses the task, or of the event
+abbrev pub label_among : (events : Bool) → List ℕ → List Place → Option Label
+label_among events name [] = None
+label_among events name (p ∷ ps) = label_if (is_of_kind events p && bytes_eq name p.label.name) p.label (label_among events name ps)
+
+-- a level more of the scopes or of the events of a stack
+abbrev pub level_on : Bool → Level Label → Stack → Stack
+level_on true l st = record st { events = l ∷ st.events }
+level_on false l st = record st { scopes = l ∷ st.scopes }
+
+-- the stack of a task with these enclosing scopes, nurseries and events, with the froms of a table
 abbrev pub stack_at : Table → List Place → Stack
-stack_at froms [] = []
-stack_at froms (p ∷ ps) = record { label = p.label; shield = p.shield; from = froms p.label } ∷ stack_at froms ps
+stack_at froms [] = no_stack
+stack_at froms (p ∷ ps) = level_on p.is_event (record { label = p.label; shield = p.shield; from = froms p.label }) (stack_at froms ps)
 
--- A task in the middle of a turn: the frames that it has not finished and the scopes and nurseries that enclose it,
--- both innermost first, its exception so far, and how many children it started.
+-- A task in the middle of a turn: the frames that it has not finished and the scopes, nurseries and events that enclose
+-- it, both innermost first, its exception so far, and how many children it started.
 pub record Midway : Type 0 where
   pub frames : List Frame
   pub places : List Place

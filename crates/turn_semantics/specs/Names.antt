@@ -1,7 +1,7 @@
 -- Names of nested scopes and nurseries.
 use Rattle.std.specs.Prelude.{◌≡◌, ◌⊎◌, ℕ, List, [], ◌∷◌}
-use Rattle.job_tree.specs.Tree.{Step, sleep, checkpoint, forever, pace, find, head, longest, need, raise, cancel, scope, nursery, start, repeat, attempt, Steps, stop, step, Handled, unhandled, except, Cleaned, uncleaned, finally}
-use Rattle.job_meaning.specs.Rest.{Frame, steps_left, in_scope, in_nursery, in_repeat, in_try, in_handler, in_cleanup}
+use Rattle.job_tree.specs.Tree.{Step, sleep, checkpoint, forever, pace, find, head, longest, need, raise, cancel, set_event, wait_for, scope, nursery, event, start, repeat, attempt, Steps, stop, step, Handled, unhandled, except, Cleaned, uncleaned, finally}
+use Rattle.job_meaning.specs.Rest.{Frame, steps_left, in_scope, in_event, in_nursery, in_repeat, in_try, in_handler, in_cleanup}
 use Rattle.turn_semantics.specs.Midway.{Place, Begun, Move}
 use Rattle.turn_semantics.specs.Placed.{outer_places}
 
@@ -37,8 +37,11 @@ abbrev mutual
   IsNew around (need text name) = Unit {0}
   IsNew around (raise name) = Unit {0}
   IsNew around (cancel name) = Unit {0}
+  IsNew around (set_event name) = Unit {0}
+  IsNew around (wait_for name) = Unit {0}
   IsNew around (scope name deadline shield fail body) = (IsName name around → ⊥) × AreNew (name ∷ around) body
   IsNew around (nursery name deadline shield body) = (IsName name around → ⊥) × AreNew (name ∷ around) body
+  IsNew around (event name body) = (IsName name around → ⊥) × AreNew (name ∷ around) body
   IsNew around (start name over body) = AreNew around body
   IsNew around (repeat count body) = AreNew around body
   IsNew around (attempt body handler cleanup) = AreNew around body × IsNewHandler around handler × IsNewCleanup around cleanup
@@ -57,6 +60,8 @@ NewIn [] ps = Unit {0}
 NewIn (steps_left ss ∷ fs) ps = AreNew (names_at ps) ss × NewIn fs ps
 NewIn (in_scope fail ∷ fs) [] = NewIn fs []
 NewIn (in_scope fail ∷ fs) (p ∷ ps) = NewIn fs ps
+NewIn (in_event ∷ fs) [] = NewIn fs []
+NewIn (in_event ∷ fs) (p ∷ ps) = NewIn fs ps
 NewIn (in_nursery children ∷ fs) [] = NewIn fs []
 NewIn (in_nursery children ∷ fs) (p ∷ ps) = NewIn fs ps
 NewIn (in_repeat pass left body ∷ fs) ps = AreNew (names_at ps) body × NewIn fs ps

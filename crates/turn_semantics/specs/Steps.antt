@@ -1,7 +1,6 @@
 -- One step of a task in the middle of a turn, and a whole turn.
-use Rattle.std.specs.Prelude.{ℕ, zero, suc, ◌+◌, ◌-◌, Bool, true, false, Option, Some, None, List, [], ◌∷◌, ◌++◌}
-use Rattle.std.specs.Str.{bytes_eq}
-use Rattle.job_tree.specs.Tree.{Step, sleep, checkpoint, forever, pace, find, head, longest, need, raise, cancel, scope, nursery, start, repeat, attempt, Steps, stop, step, Handled, unhandled, except, Cleaned, uncleaned, finally}
+use Rattle.std.specs.Prelude.{ℕ, zero, suc, ◌+◌, ◌-◌, Bool, true, false, not, Option, Some, None, List, [], ◌∷◌, ◌++◌}
+use Rattle.job_tree.specs.Tree.{Step, sleep, checkpoint, forever, pace, find, head, longest, need, raise, cancel, set_event, wait_for, scope, nursery, event, start, repeat, attempt, Steps, stop, step, Handled, unhandled, except, Cleaned, uncleaned, finally}
 use Rattle.buffer_parts.specs.Cuts.{cut_of}
 use Rattle.exc_groups.specs.Exceptions.{Label, Exc, cancelled, raised}
 use Rattle.exc_groups.specs.Split.{named, keep, drop}
@@ -9,10 +8,10 @@ use Rattle.cancel_scopes.specs.Sight.{Tick, earlier, next, seen, catches}
 use Rattle.job_meaning.specs.Log.{Table, same_label}
 use Rattle.job_meaning.specs.Moments.{Clock, by_ticks, by_rounds, tick_of, a_round_after, due, Now, far}
 use Rattle.job_meaning.specs.Walk.{Here, from_for, stack_for, label_here, label_over, label_if, here_in, Kind, a_scope, left_as, left_with, exc_after, handler_exc, outcome_after}
-use Rattle.job_meaning.specs.Rest.{Event, noted, signs, enters, starts, starts_over, consecutive, Frame, steps_left, in_scope, in_nursery, in_repeat, in_try, in_handler, in_cleanup, inside, Stopped, asking, asleep, awaiting, at_end}
+use Rattle.job_meaning.specs.Rest.{Event, noted, signs, enters, starts, starts_over, consecutive, Frame, steps_left, in_scope, in_event, in_nursery, in_repeat, in_try, in_handler, in_cleanup, inside, Stopped, asking, asleep, waiting_for, awaiting, at_end}
 use Rattle.job_meaning.specs.Asking.{shows, needs, paces}
 use Rattle.job_meaning.specs.Asking as ask
-use Rattle.turn_semantics.specs.Midway.{Place, stack_at, Midway, Begun, Move, after_move, no_move, then_move, now_after}
+use Rattle.turn_semantics.specs.Midway.{Place, label_among, stack_at, Midway, Begun, Move, after_move, no_move, then_move, now_after}
 
 -- ---- the froms of the world
 
@@ -63,27 +62,33 @@ falls_asleep by_ticks false paced (suc n) t fs ps = blocks_on (asleep paced (suc
 falls_asleep by_rounds seen_now paced n t fs ps = blocks_on (asleep paced n t) fs ps
 
 abbrev pub sleeps : Clock → Table → (paced : Bool) → ℕ → ℕ → List Frame → List Place → Move
-sleeps clock froms paced n t fs ps = falls_asleep clock (seen (stack_at froms ps) t) paced n t fs ps
-
--- the label of the scope or nursery of this name that encloses the task
-abbrev pub label_among : List ℕ → List Place → Option Label
-label_among name [] = None
-label_among name (p ∷ ps) = label_if (bytes_eq name p.label.name) p.label (label_among name ps)
+sleeps clock froms paced n t fs ps = falls_asleep clock (seen (stack_at froms ps).scopes t) paced n t fs ps
 
 abbrev pub signs_to : Option Label → ℕ → List Event
 signs_to None t = []
 signs_to (Some l) t = signs l t ∷ []
 
+-- a task waits for an event of this name that encloses it
+abbrev pub waits_on : Option Label → List ℕ → ℕ → List Frame → List Place → Move
+waits_on None name t fs ps = onward fs ps None
+waits_on (Some l) name t fs ps = blocks_on (waiting_for name t) fs ps
+
+-- the innermost scope or nursery
+abbrev pub home_among : List Place → Option Label
+home_among [] = None
+home_among (p ∷ ps) = label_if (not p.is_event) p.label (home_among ps)
+
 -- a task or body that ends with an exception signs for the innermost enclosing nursery: a nursery's body for its own
 -- nursery, and a task, which has left all its own scopes and nurseries, for its home nursery
 abbrev pub signs_home : Option Exc → List Place → ℕ → List Event
 signs_home None ps t = []
-signs_home (Some e) [] t = []
-signs_home (Some e) (p ∷ ps) t = signs p.label t ∷ []
+signs_home (Some e) ps t = signs_to (home_among ps) t
 
--- children are started in the nursery whose body the task is in
+-- children are started in the nursery whose body the task is in, perhaps in a pass of a `repeat` there
 abbrev pub with_started : List ℕ → List Frame → List Frame
 with_started more (in_nursery children ∷ fs) = in_nursery (children ++ more) ∷ fs
+with_started more (in_repeat pass left body ∷ fs) = in_repeat pass left body ∷ with_started more fs
+with_started more (steps_left ss ∷ fs) = steps_left ss ∷ with_started more fs
 with_started more fs = fs
 
 -- a child with this number, on its part
@@ -100,7 +105,12 @@ begun_over name here of body ps first (suc k) =
 -- a scope or nursery is entered: its body comes first, then its exit
 abbrev pub enters_block : Label → Bool → Tick → ℕ → Steps → Frame → List Frame → List Place → Move
 enters_block label shield deadline t body exit fs ps =
-    makes (enters label t deadline ∷ []) (steps_left body ∷ exit ∷ fs) (record { label = label; shield = shield } ∷ ps)
+    makes (enters label t deadline ∷ []) (steps_left body ∷ exit ∷ fs) (record { label = label; shield = shield; is_event = false } ∷ ps)
+
+-- an event is entered: its body comes first
+abbrev pub enters_event : Label → ℕ → Steps → List Frame → List Place → Move
+enters_event label t body fs ps =
+    makes (enters label t None ∷ []) (steps_left body ∷ in_event ∷ fs) (record { label = label; shield = false; is_event = true } ∷ ps)
 
 -- the first pass of a `repeat`, if it has one, before what comes after it
 abbrev pub begins_passes : ℕ → Steps → List Frame → List Place → Move
@@ -119,11 +129,15 @@ step_on froms now here (head n) ss fs ps count = blocks_on (asking (ask.head n) 
 step_on froms now here longest ss fs ps count = blocks_on (asking ask.longest shows) (steps_left ss ∷ fs) ps
 step_on froms now here (need text name) ss fs ps count = blocks_on (asking (ask.need text) (needs name)) (steps_left ss ∷ fs) ps
 step_on froms now here (raise name) ss fs ps count = onward (steps_left ss ∷ fs) ps (Some (raised name here.task (tick_of here.clock now.at)))
-step_on froms now here (cancel name) ss fs ps count = makes (signs_to (label_among name ps) now.at) (steps_left ss ∷ fs) ps
+step_on froms now here (cancel name) ss fs ps count = makes (signs_to (label_among false name ps) now.at) (steps_left ss ∷ fs) ps
+step_on froms now here (set_event name) ss fs ps count = makes (signs_to (label_among true name ps) now.at) (steps_left ss ∷ fs) ps
+step_on froms now here (wait_for name) ss fs ps count = waits_on (label_among true name ps) name now.at (steps_left ss ∷ fs) ps
 step_on froms now here (scope name deadline shield fail body) ss fs ps count =
     enters_block (label_here name here) shield (due here.clock deadline now.at) now.at body (in_scope fail) (steps_left ss ∷ fs) ps
 step_on froms now here (nursery name deadline shield body) ss fs ps count =
     enters_block (label_here name here) shield (due here.clock deadline now.at) now.at body (in_nursery []) (steps_left ss ∷ fs) ps
+step_on froms now here (event name body) ss fs ps count =
+    enters_event (label_here name here) now.at body (steps_left ss ∷ fs) ps
 step_on froms now here (start name None body) ss fs ps count =
     record {
       frames = steps_left ss ∷ with_started (count ∷ []) fs;
@@ -155,7 +169,7 @@ step_steps froms now here (step s ss) fs ps None count = step_on froms now (insi
 -- a scope or nursery is left: it catches or not, and notes that
 abbrev pub leaves : Clock → Table → Now → Kind → List Frame → Place → List Place → Option Exc → Move
 leaves clock froms now kind fs p ps exc =
-    let left = left_with (catches (from_for now.own now.at p.label (froms p.label)) p.shield (stack_for now.own now.at (stack_at froms ps)) now.at) exc in
+    let left = left_with (catches (from_for now.own now.at p.label (froms p.label)) p.shield (stack_for now.own now.at (stack_at froms ps).scopes) now.at) exc in
     record {
       frames = fs;
       places = ps;
@@ -193,6 +207,8 @@ step_frames froms now here [] ps exc count = ends_as (at_end now.at exc) exc now
 step_frames froms now here (steps_left ss ∷ fs) ps exc count = step_steps froms now here ss fs ps exc count
 step_frames froms now here (in_scope fail ∷ fs) [] exc count = onward fs [] exc
 step_frames froms now here (in_scope fail ∷ fs) (p ∷ ps) exc count = leaves here.clock froms now (a_scope fail) fs p ps exc
+step_frames froms now here (in_event ∷ fs) [] exc count = onward fs [] exc
+step_frames froms now here (in_event ∷ fs) (p ∷ ps) exc count = onward fs ps exc
 step_frames froms now here (in_nursery children ∷ fs) [] exc count = onward fs [] exc
 step_frames froms now here (in_nursery children ∷ fs) (p ∷ ps) exc count = ends_as (awaiting children now.at exc) exc now.at fs (p ∷ ps)
 step_frames froms now here (in_repeat pass left body ∷ fs) ps exc count = step_pass pass left body fs ps exc

@@ -7,7 +7,7 @@ use Rattle.job_meaning.specs.Moments.{Clock, by_ticks, by_rounds, a_round_after,
 use Rattle.job_meaning.specs.Walk.{by_table, Here}
 use Rattle.job_meaning.specs.Before.{upto}
 use Rattle.job_tree.specs.Starting.{StartsIn}
-use Rattle.job_meaning.specs.Rest.{Event, noted, signs, enters, starts, ChildOutcomes, fill, Frame, Stopped, to_begin, asking, asleep, giving_up, awaiting, at_end, Rest, rest_comes_to, rest_at_start, rest_weight, frames_weight, stop_weight}
+use Rattle.job_meaning.specs.Rest.{Event, noted, signs, enters, starts, ChildOutcomes, fill, Frame, Stopped, to_begin, asking, asleep, waiting_for, giving_up, awaiting, at_end, Rest, rest_comes_to, rest_at_start, rest_weight, frames_weight, stop_weight}
 use Rattle.turn_semantics.specs.Midway.{Place, stack_at, Midway, Begun, Move, OwnFits, after_events, left_of, left_after, begun_comes_to}
 use Rattle.turn_semantics.specs.Placed.{PlacedAfter, outer_places, home_after, KidsAfter, HasChild, HasChildAfter, AllHoused}
 use Rattle.turn_semantics.specs.Wakes.{Wake, WakesBy}
@@ -118,10 +118,6 @@ EntersOnceWith l d (starts i m t ∷ es) = EntersOnceWith l d es
 
 -- ---- how it stopped
 
-abbrev pub IsSome : {A : Type 0} → Option A → Type 0
-IsSome None = ⊥
-IsSome (Some x) = Unit {0}
-
 -- where moments are ticks, a task falls asleep only for a tick or more, and only if it sees no cancellation
 abbrev pub FallsAsleep : Clock → ℕ → (seen_now : Bool) → Type 0
 FallsAsleep by_ticks n seen_now = (0 < n) × (seen_now ≡ false)
@@ -133,7 +129,8 @@ abbrev pub StopsAt : Clock → ℕ → Table → Option Stopped → List Place �
 StopsAt clock t froms None ps = Unit {0}
 StopsAt clock t froms (Some to_begin) ps = ⊥
 StopsAt clock t froms (Some (asking kernel purpose)) ps = Unit {0}
-StopsAt clock t froms (Some (asleep paced n since)) ps = (since ≡ t) × FallsAsleep clock n (seen (stack_at froms ps) t)
+StopsAt clock t froms (Some (asleep paced n since)) ps = (since ≡ t) × FallsAsleep clock n (seen (stack_at froms ps).scopes t)
+StopsAt clock t froms (Some (waiting_for event since)) ps = since ≡ t
 StopsAt clock t froms (Some (giving_up since)) ps = since ≡ t
 StopsAt clock t froms (Some (awaiting children ended e)) ps = ended ≡ t
 StopsAt clock t froms (Some (at_end u e)) ps = u ≡ t

@@ -1,13 +1,13 @@
 -- How a task that stopped continues: what wakes it, what it does first, and when it wakes so according to a table.
-use Rattle.std.specs.Prelude.{◌≡◌, ◌⊎◌, ℕ, zero, suc, ◌+◌, ◌<◌, ◌≤◌, Bool, true, false, Option, Some, None, List, [], ◌∷◌, length}
+use Rattle.std.specs.Prelude.{◌≡◌, ◌⊎◌, ℕ, zero, suc, ◌+◌, ◌<◌, ◌≤◌, Bool, true, false, Option, Some, None, List, [], ◌∷◌, length, nat_le}
 use Rattle.buffer_parts.specs.Lines.{Span}
-use Rattle.exc_groups.specs.Exceptions.{Exc, cancelled, raised, by_nursery, parts_of, group_of}
-use Rattle.cancel_scopes.specs.Sight.{sight, seen}
-use Rattle.job_meaning.specs.Log.{Member, Table, line}
-use Rattle.job_meaning.specs.Moments.{Clock, a_round_after, wakes_at, tick_of, Now}
-use Rattle.job_meaning.specs.Walk.{Stack, Here, a_nursery, pace_ticks, with_exc, excs_of, latest}
+use Rattle.exc_groups.specs.Exceptions.{Label, Exc, cancelled, raised, by_nursery, parts_of, group_of}
+use Rattle.cancel_scopes.specs.Sight.{Tick, Level, sight, seen}
+use Rattle.job_meaning.specs.Log.{Member, Table, line, waited}
+use Rattle.job_meaning.specs.Moments.{Clock, by_ticks, by_rounds, a_round_after, wakes_at, tick_of, Now}
+use Rattle.job_meaning.specs.Walk.{Stack, Here, event_on, set_moment, a_nursery, pace_ticks, with_exc, excs_of, latest}
 use Rattle.job_meaning.specs.Asking.{Kernel, Answer, lines, missing, counted, answer_of, Purpose, shows, needs, paces}
-use Rattle.job_meaning.specs.Rest.{Event, noted, ChildOutcomes, told_members, Frame, Stopped, to_begin, asking, asleep, giving_up, awaiting, at_end}
+use Rattle.job_meaning.specs.Rest.{Event, noted, ChildOutcomes, told_members, Frame, Stopped, to_begin, asking, asleep, waiting_for, giving_up, awaiting, at_end}
 use Rattle.turn_semantics.specs.Midway.{Place, stack_at, Move, then_move, OwnFits, now_after}
 use Rattle.turn_semantics.specs.Steps.{onward, blocks_on, makes, sleeps, leaves, froms_after, turn_of}
 
@@ -41,6 +41,7 @@ abbrev pub with_answer : Table → ℕ → Here → Answer → Stopped → List 
 with_answer froms t here a (asking kernel purpose) fs ps = goes_on_with froms t here a purpose fs ps
 with_answer froms t here a to_begin fs ps = onward fs ps None
 with_answer froms t here a (asleep paced n since) fs ps = onward fs ps None
+with_answer froms t here a (waiting_for event since) fs ps = onward fs ps None
 with_answer froms t here a (giving_up since) fs ps = onward fs ps None
 with_answer froms t here a (awaiting children ended exc) fs ps = onward fs ps None
 with_answer froms t here a (at_end u e) fs ps = onward fs ps None
@@ -50,23 +51,54 @@ abbrev pub leaves_settled : Clock → Table → Now → Option Exc → List Fram
 leaves_settled clock froms now exc fs [] = onward fs [] exc
 leaves_settled clock froms now exc fs (p ∷ ps) = leaves clock froms now a_nursery fs p ps exc
 
+-- the moment in which a wait for an event ends
+abbrev pub set_at : Clock → Option (Level Label) → ℕ → ℕ
+set_at clock None since = since
+set_at clock (Some l) since = set_moment clock l.from since
+
+-- the moment in which a wait for the event of this name ends, by the froms of a table
+abbrev pub ends_at : Clock → Table → List ℕ → ℕ → List Place → ℕ
+ends_at clock froms name since ps = set_at clock (event_on name (stack_at froms ps).events) since
+
+-- where there are rounds, a wait for an event that is set by the next round is a checkpoint
+abbrev pub is_checkpoint : Clock → (set since : ℕ) → Bool
+is_checkpoint by_ticks set since = false
+is_checkpoint by_rounds set since = nat_le set (suc since)
+
+-- A task at a checkpoint raises a round later.
+abbrev pub gives_up_if : Bool → ℕ → List Frame → List Place → Move
+gives_up_if true t fs ps = blocks_on (giving_up t) fs ps
+gives_up_if false t fs ps = onward fs ps (Some cancelled)
+
+-- a wait that ends well is noted with the event's label
+abbrev pub notes_wait : Option (Level Label) → ℕ → List Frame → List Place → Move
+notes_wait None t fs ps = onward fs ps None
+notes_wait (Some l) t fs ps = makes (noted t (waited l.label) ∷ []) fs ps
+
 -- A task that sees a cancellation raises, but for one at a checkpoint, which raises a round later.
-abbrev pub sees_from : ℕ → Stopped → List Frame → List Place → Move
-sees_from t (asleep false zero since) fs ps = blocks_on (giving_up t) fs ps
-sees_from t (asleep false (suc n) since) fs ps = onward fs ps (Some cancelled)
-sees_from t (asleep true n since) fs ps = onward fs ps (Some cancelled)
-sees_from t to_begin fs ps = onward fs ps (Some cancelled)
-sees_from t (asking kernel purpose) fs ps = onward fs ps (Some cancelled)
-sees_from t (giving_up since) fs ps = onward fs ps (Some cancelled)
-sees_from t (awaiting children ended exc) fs ps = onward fs ps (Some cancelled)
-sees_from t (at_end u e) fs ps = onward fs ps (Some cancelled)
+abbrev pub sees_from : Clock → Table → ℕ → Stopped → List Frame → List Place → Move
+sees_from clock froms t (asleep false zero since) fs ps = blocks_on (giving_up t) fs ps
+sees_from clock froms t (asleep false (suc n) since) fs ps = onward fs ps (Some cancelled)
+sees_from clock froms t (asleep true n since) fs ps = onward fs ps (Some cancelled)
+sees_from clock froms t to_begin fs ps = onward fs ps (Some cancelled)
+sees_from clock froms t (asking kernel purpose) fs ps = onward fs ps (Some cancelled)
+sees_from clock froms t (waiting_for event since) fs ps =
+    gives_up_if (is_checkpoint clock (ends_at clock froms event since ps) since) t fs ps
+sees_from clock froms t (giving_up since) fs ps = onward fs ps (Some cancelled)
+sees_from clock froms t (awaiting children ended exc) fs ps = onward fs ps (Some cancelled)
+sees_from clock froms t (at_end u e) fs ps = onward fs ps (Some cancelled)
+
+-- a task whose wait is over continues
+abbrev pub is_due_from : Table → ℕ → Stopped → List Frame → List Place → Move
+is_due_from froms t (waiting_for event since) fs ps = notes_wait (event_on event (stack_at froms ps).events) t fs ps
+is_due_from froms t _ fs ps = onward fs ps None
 
 -- what a task that wakes does first, depending on where it stopped
 abbrev pub wake_of : Table → Now → Here → Wake → Stopped → List Frame → List Place → Move
 wake_of froms now here begins s fs ps = onward fs ps None
-wake_of froms now here sees s fs ps = sees_from now.at s fs ps
+wake_of froms now here sees s fs ps = sees_from here.clock froms now.at s fs ps
 wake_of froms now here gives_up s fs ps = onward fs ps (Some cancelled)
-wake_of froms now here is_due s fs ps = onward fs ps None
+wake_of froms now here is_due s fs ps = is_due_from froms now.at s fs ps
 wake_of froms now here (has_answer a) s fs ps = with_answer froms now.at here a s fs ps
 wake_of froms now here (settles exc) s fs ps = leaves_settled here.clock froms now exc fs ps
 
@@ -91,9 +123,26 @@ SettlesAt clock t exc ms ended e [] = ⊥
 SettlesAt clock t exc ms ended e (p ∷ ps) =
     (a_round_after clock (latest ended ms) ≡ t) × (group_of (by_nursery p.label) (parts_of (with_exc e (excs_of ms))) ≡ exc)
 
+-- a tick is before a moment
+abbrev pub IsBefore : Tick → ℕ → Type 0
+IsBefore None t = ⊥
+IsBefore (Some from) t = from < t
+
 -- A sleeper sees a cancellation when it begins to be seen, or in the first round of its sleep, if it was seen before.
 abbrev pub SeesAt : Clock → (since t : ℕ) → Stack → Type 0
-SeesAt clock since t st = (sight st ≡ Some t) ⊎ ((a_round_after clock since ≡ t) × (seen st t ≡ true))
+SeesAt clock since t st = (sight st.scopes ≡ Some t) ⊎ ((a_round_after clock since ≡ t) × (seen st.scopes t ≡ true))
+
+-- a task that waits for an event sees a cancellation before the event is set, or at a checkpoint
+abbrev pub SeesWaiting : Clock → (set since t : ℕ) → Stack → Type 0
+SeesWaiting clock set since t st =
+    (a_round_after clock since ≤ t) × SeesAt clock since t st
+    × (((set ≤ a_round_after clock since) × (t ≤ a_round_after clock since)) ⊎ ((a_round_after clock since < set) × (t < set)))
+
+-- it goes on when the event is set, or at a checkpoint a round later
+abbrev pub GoesOnWaiting : Clock → (set since t : ℕ) → Stack → Type 0
+GoesOnWaiting clock set since t st =
+    ((set ≤ a_round_after clock since) × (a_round_after clock since ≡ t) × (seen st.scopes t ≡ false))
+    ⊎ ((a_round_after clock since < set) × (set ≡ t) × (IsBefore (sight st.scopes) set → ⊥))
 
 -- According to a table, and to what is recorded of its children, a task that stopped in one moment wakes in another one by this
 -- wake: in the same moment if it begins or has the kernel's answer; a sleeper when it sees a cancellation on its stack, if that
@@ -106,7 +155,11 @@ WakesBy table told here u now sees (asleep paced n since) ps =
     (since < now.at) × (now.at ≤ wakes_at here.clock n since) × SeesAt here.clock since now.at (stack_at table ps) × (now.own ≡ [])
 WakesBy table told here u now gives_up (giving_up since) ps = (suc since ≡ now.at) × (now.own ≡ [])
 WakesBy table told here u now is_due (asleep paced n since) ps =
-    (wakes_at here.clock n since ≡ now.at) × (seen (stack_at table ps) now.at ≡ false) × (now.own ≡ [])
+    (wakes_at here.clock n since ≡ now.at) × (seen (stack_at table ps).scopes now.at ≡ false) × (now.own ≡ [])
+WakesBy table told here u now sees (waiting_for event since) ps =
+    SeesWaiting here.clock (ends_at here.clock table event since ps) since now.at (stack_at table ps) × (now.own ≡ [])
+WakesBy table told here u now is_due (waiting_for event since) ps =
+    GoesOnWaiting here.clock (ends_at here.clock table event since ps) since now.at (stack_at table ps) × (now.own ≡ [])
 WakesBy table told here u now (settles exc) (awaiting children ended e) ps =
     SettlesAt here.clock now.at exc (told_members told children) ended e ps × (now.own ≡ [])
 WakesBy table told here u now _ _ ps = ⊥
@@ -117,5 +170,7 @@ pub data CanWake : Wake → Stopped → Type 0 where
   from_asking : {a : Answer} {kernel : Kernel} {purpose : Purpose} → CanWake (has_answer a) (asking kernel purpose)
   from_sleep : {paced : Bool} {n since : ℕ} → CanWake sees (asleep paced n since)
   from_due : {paced : Bool} {n since : ℕ} → CanWake is_due (asleep paced n since)
+  from_seen_waiting : {event : List ℕ} {since : ℕ} → CanWake sees (waiting_for event since)
+  from_set : {event : List ℕ} {since : ℕ} → CanWake is_due (waiting_for event since)
   from_giving_up : {since : ℕ} → CanWake gives_up (giving_up since)
   from_wait : {exc : Option Exc} {children : List ℕ} {ended : ℕ} {e : Option Exc} → CanWake (settles exc) (awaiting children ended e)

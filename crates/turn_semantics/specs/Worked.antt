@@ -1,17 +1,17 @@
 -- Worked turns, each a theorem by computing.
 use Rattle.std.specs.Prelude.{◌≡◌, ℕ, true, false, None, Some, List, [], ◌∷◌, refl, codes, length}
-use Rattle.job_tree.specs.Tree.{Step, sleep, checkpoint, find, raise, cancel, stop}
+use Rattle.job_tree.specs.Tree.{Step, sleep, checkpoint, find, raise, cancel, set_event, wait_for, stop}
 use Rattle.exc_groups.specs.Exceptions.{cancelled}
-use Rattle.job_meaning.specs.Log.{Result, nil, entry, sign, entered, Table, line, scope_left, nursery_left}
+use Rattle.job_meaning.specs.Log.{Result, nil, entry, sign, entered, Table, line, waited, scope_left, nursery_left}
 use Rattle.job_meaning.specs.Moments.{by_ticks, only_at}
 use Rattle.job_meaning.specs.Walk.{by_table, walk, and_then, sleep_result, lines_result, need_result, cancel_result, block, with_sign, nursery_result, child, handler_result, cleanup_result, Here, here_in}
 use Rattle.job_meaning.specs.Asking.{lines, missing, counted, shows, needs, paces}
 use Rattle.job_meaning.specs.Asking as ask
-use Rattle.job_meaning.specs.Rest.{Event, Rest, rest_at_start, task_comes_to, finish, noted, signs, enters, starts, Frame, steps_left, in_scope, Stopped, to_begin, asking, asleep, awaiting, at_end}
-use Rattle.job_meaning.specs.Examples.{block_of, scope_of, timed_scope, nursery_of, start_of, label_named, raised_by, group_by}
+use Rattle.job_meaning.specs.Rest.{Event, Rest, rest_at_start, task_comes_to, finish, noted, signs, enters, starts, Frame, steps_left, in_scope, in_event, Stopped, to_begin, asking, asleep, waiting_for, awaiting, at_end}
+use Rattle.job_meaning.specs.Examples.{block_of, event_of, scope_of, timed_scope, nursery_of, start_of, label_named, raised_by, group_by}
 use Rattle.turn_semantics.specs.Midway.{none_told, stack_at, Place, Move}
 use Rattle.turn_semantics.specs.Steps.{step_of, turn_of}
-use Rattle.turn_semantics.specs.Wakes.{Wake, begins, has_answer, settles, turn_from}
+use Rattle.turn_semantics.specs.Wakes.{Wake, begins, is_due, has_answer, settles, turn_from}
 
 -- a task `main` on the whole of an input
 abbrev pub main_at : List ℕ → Here
@@ -23,7 +23,7 @@ never l = None
 
 -- an enclosing scope or nursery without a shield
 abbrev pub place : List ℕ → Place
-place name = record { label = label_named name; shield = false }
+place name = record { label = label_named name; shield = false; is_event = false }
 
 -- a first turn of `main`, of at most 20 steps, in tick 0 of a world in which nothing is cancelled
 unfoldable pub first_turn : List Step → Move
@@ -140,6 +140,38 @@ pub pace_sleeps :
     ≡ record { frames = steps_left stop ∷ []; places = []; exc = None; made = []; begun = []; stopped = Some (asleep true 2 2) }
 unfolding later_turn
 pace_sleeps = refl
+
+-- an enclosing event
+abbrev pub event_place : List ℕ → Place
+event_place name = record { label = label_named name; shield = false; is_event = true }
+
+-- event e { set e; wait e; }: the event is set, and the task waits for the next moment
+pub set_then_waits :
+    first_turn (event_of (codes "e") (set_event (codes "e") ∷ wait_for (codes "e") ∷ []) ∷ [])
+    ≡ record {
+      frames = steps_left stop ∷ in_event ∷ steps_left stop ∷ [];
+      places = event_place (codes "e") ∷ [];
+      exc = None;
+      made = enters (label_named (codes "e")) 0 None ∷ signs (label_named (codes "e")) 0 ∷ [];
+      begun = [];
+      stopped = Some (waiting_for (codes "e") 0);
+    }
+unfolding first_turn
+set_then_waits = refl
+
+-- and when it is set, the wait is noted, and the event is left
+pub wait_is_noted :
+    later_turn (λ l. Some 1) 1 [] is_due (waiting_for (codes "e") 0) (steps_left stop ∷ in_event ∷ steps_left stop ∷ []) (event_place (codes "e") ∷ [])
+    ≡ record {
+      frames = [];
+      places = [];
+      exc = None;
+      made = noted 1 (waited (label_named (codes "e"))) ∷ [];
+      begun = [];
+      stopped = Some (at_end 1 None);
+    }
+unfolding later_turn
+wait_is_noted = refl
 
 -- ---- the result of a task, before a turn and after it
 
