@@ -20,6 +20,7 @@ use Rattle.task_machine.specs.declared.task.Task.{Task}
 use Rattle.task_machine.specs.declared.world.World.{World}
 use Rattle.task_machine.specs.Fitting.{blocks_of, waits_of}
 use Rattle.task_machine.specs.Standing.{HasNurseryOf}
+use Rattle.task_machine.specs.Worlds.{event_at}
 use Rattle.run_refinement.specs.RunState.{LivesIn, HasHome, Refines}
 use Rattle.run_refinement.specs.Leaving.{EndIsTold, Leaving}
 use Rattle.run_refinement.specs.Ready.{Keeps, AreHomesOf}
@@ -34,11 +35,11 @@ use Rattle.task_table.proofs.Times.{all_others}
 use Rattle.job_runner.specs.declared.runner.Runner.{Runner}
 use Rattle.job_runner.specs.Shelves.{GoesBy, IsCalled, IsCalledAdded, IsCalledEntry, Stays, AllStay, AreKnown, times_shelved, running_times, state_in, IsConsistent, IsRefined}
 use Rattle.job_runner.specs.Steps.{IsStopping}
-use Rattle.job_runner.proofs.Known.{slots_kept}
+use Rattle.job_runner.proofs.Known.{slots_kept, waits_kept}
 use Rattle.job_runner.proofs.Lived.{LivesBy, lives_by, task_at}
 use Rattle.job_runner.proofs.Options.{some_kept}
 use Rattle.job_runner.proofs.Shelving.{timer_else}
-use Rattle.job_runner.proofs.Staying.{stays_still}
+use Rattle.job_runner.proofs.Staying.{same_event, stays_still}
 use Rattle.job_runner.proofs.States.{meaning_of, meaning_settled}
 use Rattle.job_runner.proofs.Stopped.{stopped_task}
 
@@ -193,6 +194,7 @@ module _ {r : Runner} {task_table : TaskTable} {id row : ℕ} {exc : Option held
     within = h.shelved.consistent.within;
     bounded = h.shelved.consistent.bounded;
     none_started = h.shelved.consistent.none_started;
+    none_set = h.shelved.consistent.none_set;
   }
 
   goes_after : (x : Task) (call : Call) → GoesBy r.world x call → GoesBy world_after x call
@@ -213,16 +215,20 @@ module _ {r : Runner} {task_table : TaskTable} {id row : ℕ} {exc : Option held
   stay_after key due f =
       some_kept (running_at r.task_table key) (running_at task_table key) (λ (y : Running). Stays r.world due y.task)
       (λ (y : Running). Stays world_after due y.task) (λ x is. e.others key (timer_else h.shelved key due f) ∙ is)
-      (λ x is. stays_still r.world world_after x.task due refl refl refl (λ nursery waits over.
+      (λ x is. stays_still r.world world_after x.task due refl refl refl
+      (same_event (event_at r.world) (event_at r.world) x.task.task_state refl) (λ nursery waits over.
       settled_same (meaning_of r) r.job.now r.input.now r.world.tick (task_count r.task_table) row (state_in r)
       (state_in (ended_runner r task_table book)) e.task (option_map exc_of exc) (state_before h e) leaving nursery over))
       (h.shelved.stay key due f)
 
-  pub known_after : AreKnown task_table world_after r.clock r.sleepers
+  pub known_after : AreKnown task_table world_after r.clock r.sleepers r.waiters
   known_after = record {
     sleep_slots = λ key. h.shelved.known.sleep_slots key
         ∙ slots_kept r.task_table task_table r.clock (λ other due f. e.others other (timer_else h.shelved other due f)) key;
     sights = h.shelved.known.sights;
+    waiting = λ key. h.shelved.known.waiting key
+        ∙ waits_kept (event_at r.world) r.task_table task_table r.clock
+        (λ other due f. e.others other (timer_else h.shelved other due f)) key;
   }
 
   -- those that were added to the next batch live still, and are ready by the same calls

@@ -1,27 +1,34 @@
 -- A task that is ready by a call may continue by the wake of that call.
-use Rattle.std.proofs.Common.{◌≡◌, ℕ, suc, ◌≤◌, Bool, true, false, Option, Some, None, refl, ◌∙◌, arith, if◌then◌else◌}
-use Rattle.std.specs.Prelude.{IsSomeAnd}
+use Rattle.std.proofs.Common.{◌≡◌, ◌⊎◌, inl, inr, ℕ, suc, ◌<◌, ◌≤◌, max, ◌&&◌, Bool, true, false, Option, Some, None, refl, ap, sym, ◌∙◌, arith, if◌then◌else◌}
+use Rattle.std.specs.Prelude.{IsSomeAnd, nat_le, nat_lt}
+use Rattle.std.proofs.lemmas.Bool.{cases_lt, leb-true, leb-false}
 use Rattle.std.proofs.lemmas.Option.{none-some, same_Some}
+use Rattle.batch_commit.specs.declared.entry.Call.{Call}
 use Rattle.batch_commit.specs.declared.entry.Call.TheVariants as calls
 use Rattle.batch_commit.specs.Entries.{wake_of}
-use Rattle.cancel_scopes.specs.Sight.{is_reached}
+use Rattle.cancel_scopes.specs.Sight.{is_reached, seen}
+use Rattle.cancel_scopes.specs.Tree.{outer_of}
 use Rattle.line_kernels.specs.declared.answers.Answer.{Answer}
 use Rattle.line_kernels.specs.declared.request.Request.{Request}
-use Rattle.job_meaning.specs.Moments.{Clock, a_round_after, wakes_at}
+use Rattle.interleavings.specs.Woken.{SeesNow, IsOver}
+use Rattle.job_meaning.specs.Moments.{Clock, by_ticks, by_rounds, a_round_after, wakes_at}
 use Rattle.nursery_book.specs.Nursery.{Nursery, is_settled}
 use Rattle.nursery_book.specs.Book.{nursery_at, HasNursery}
 use Rattle.task_machine.specs.declared.stop.TaskState.{TaskState}
-use Rattle.task_machine.specs.declared.stop.TaskState.TheVariants.{ToBegin, Asked, Asleep, GivingUp, Awaits, Over}
+use Rattle.task_machine.specs.declared.stop.TaskState.TheVariants.{ToBegin, Asked, Asleep, Waiting, GivingUp, Awaits, Over}
 use Rattle.task_machine.specs.declared.stop.Wake.{Wake}
 use Rattle.task_machine.specs.declared.stop.Wake.TheVariants as wakes
 use Rattle.task_machine.specs.declared.task.Task.{Task}
 use Rattle.task_machine.specs.declared.world.World.{World}
+use Rattle.task_machine.specs.Events.{set_by, wait_ends, is_wait_over}
 use Rattle.task_machine.specs.Tasks.{scope_of}
 use Rattle.task_machine.specs.Waking.{WakesFrom}
+use Rattle.task_machine.specs.Worlds.{event_at}
 use Rattle.run_refinement.specs.Ready.{MayGo, IsTimely}
 use Rattle.run_refinement.specs.Step.{Asks}
-use Rattle.job_runner.specs.Jumps.{sight_asleep, BeganBefore, Stayed}
+use Rattle.job_runner.specs.Jumps.{seen_call_if, seen_call, sight_asleep, BeganBefore, Stayed}
 use Rattle.job_runner.specs.Shelves.{left_in, moment_of, IsRight, GoesBy}
+use Rattle.job_runner.specs.Turns.{at_once, call_at_once}
 
 -- a task may continue by a wake that fits its blocked state
 goes_with : (world : World) (task : Task) (task_state : TaskState) (wake went : Wake) → task.task_state ≡ task_state →
@@ -71,22 +78,94 @@ pub left_by : (clock : Clock) (o : Option Nursery) (due u : ℕ) → left_in clo
 left_by clock None due u e le = absurd (none-some due e)
 left_by clock (Some n) due u e le = let is = (left_is clock (Some n) due e).1 in omega (arith, is, le)
 
--- a sleeper that sees a cancellation
-pub seen_goes : (world : World) (due : ℕ) (task : Task) → Stayed world due task →
-    is_reached (sight_asleep world (scope_of task) task.task_state) world.tick ≡ true → GoesBy world task calls.Seen
-seen_goes world due task h saw answer wake right e = by_task_state task.task_state refl h.began saw
-  where
-    by_task_state : (task_state : TaskState) → task.task_state ≡ task_state → BeganBefore world.tick task_state →
-        is_reached (sight_asleep world (scope_of task) task_state) world.tick ≡ true → MayGo world task wake
-    by_task_state (Asleep paced ticks since) is began f =
-        goes_with world task (Asleep paced ticks since) wakes.Seen wake is tt (began, f) e
-    by_task_state (ToBegin at) is began f = absurd (let g : false ≡ true = f in cc)
-    by_task_state (Asked kernel purpose) is began f = absurd (let g : false ≡ true = f in cc)
-    by_task_state (GivingUp since) is began f = absurd (let g : false ≡ true = f in cc)
-    by_task_state (Awaits id since) is began f = absurd (let g : false ≡ true = f in cc)
-    by_task_state Over is began f = absurd (let g : false ≡ true = f in cc)
+-- ---- a wait for an event
 
--- a task whose moment has come, and which sees no cancellation if it sleeps
+-- a task that began to wait before a moment has waited for a round by then
+round_over : (clock : Clock) (since t : ℕ) → since < t → a_round_after clock since ≤ t
+round_over by_ticks since t began = omega (arith, began)
+round_over by_rounds since t began = omega (arith, began)
+
+-- whether a wait, not at a checkpoint, is over by a moment; `round` is the moment after its first round
+abbrev is_over_by : (round set t : ℕ) → Bool
+is_over_by round set t = nat_lt round set && nat_le set t
+
+over_tells : (round set t : ℕ) → is_over_by round set t ≡ true → (round < set) × (set ≤ t)
+over_tells round set t e = by_first (nat_lt round set) refl e
+  where
+    by_first : (b : Bool) → nat_lt round set ≡ b → (b && nat_le set t) ≡ true → (round < set) × (set ≤ t)
+    by_first true f g = (leb-true (suc round) set f, leb-true set t g)
+    by_first false f g = absurd (let h : false ≡ true = g in cc)
+
+not_over_tells : (round set t : ℕ) → is_over_by round set t ≡ false → (set ≤ round) ⊎ (t < set)
+not_over_tells round set t e = by_first (nat_lt round set) refl e
+  where
+    by_first : (b : Bool) → nat_lt round set ≡ b → (b && nat_le set t) ≡ false → (set ≤ round) ⊎ (t < set)
+    by_first true f g = inr (leb-false set t g)
+    by_first false f g = inl (let lt : set < suc round = leb-false (suc round) set f in omega (arith, lt))
+
+-- One that sees a cancellation by the end of its wait: where it is not over, it may see it now.
+sees_waiting : (clock : Clock) (since set t : ℕ) → since < t → t ≤ max (a_round_after clock since) set →
+    is_over_by (a_round_after clock since) set t ≡ false → SeesNow clock set since t
+sees_waiting clock since set t began left over = (round_over clock since t began, by_case (not_over_tells (a_round_after clock since) set t over))
+  where
+    by_case : (set ≤ a_round_after clock since) ⊎ (t < set) →
+        ((set ≤ a_round_after clock since) × (t ≤ a_round_after clock since)) ⊎ ((a_round_after clock since < set) × (t < set))
+    by_case (inl le) = inl (le, omega (arith, le, left))
+    by_case (inr lt) = let round = round_over clock since t began in inr (omega (arith, lt, round), lt)
+
+-- and where it is over, it goes on
+goes_waiting : (clock : Clock) (since set t : ℕ) (saw : Bool) → t ≤ max (a_round_after clock since) set →
+    is_over_by (a_round_after clock since) set t ≡ true → IsOver clock set since t saw
+goes_waiting clock since set t saw left over =
+    let h = over_tells (a_round_after clock since) set t over in
+    let lt : a_round_after clock since < set = h.0 in
+    let le : set ≤ t = h.1 in
+    inr (lt, omega (arith, lt, le, left))
+
+-- one that sees nothing goes on at the end of its wait
+ends_waiting : (clock : Clock) (since set t : ℕ) (saw : Bool) → max (a_round_after clock since) set ≡ t → saw ≡ false →
+    IsOver clock set since t saw
+ends_waiting clock since set t saw is unseen =
+    elim (cases_lt (a_round_after clock since) set) [
+      | inl lt ↦ inr (lt, omega (arith, lt, is))
+      | inr le ↦ inl (le, omega (arith, le, is), unseen)
+    ]
+
+-- a task that sees a cancellation while it sleeps, or waits for an event
+pub seen_goes : (world : World) (due : ℕ) (task : Task) → Stayed world due task →
+    is_reached (sight_asleep world (scope_of task) task.task_state) world.tick ≡ true → GoesBy world task (seen_call world task)
+seen_goes world due task h saw answer wake right e = by_task_state task.task_state refl h.due_is h.began saw e
+  where
+    by_over : (event since : ℕ) → task.task_state ≡ Waiting event since → wait_ends world.clock (event_at world event) since ≡ due →
+        since < world.tick → seen (outer_of world.scopes (scope_of task)) world.tick ≡ true → (over : Bool) →
+        is_over_by (a_round_after world.clock since) (set_by world.clock (event_at world event) since) world.tick ≡ over →
+        wake_of (seen_call_if over) answer ≡ Some wake → MayGo world task wake
+    by_over event since is ends began f true over g =
+        let left : world.tick ≤ due = h.not_over in
+        goes_with world task (Waiting event since) wakes.Due wake is tt
+        (goes_waiting world.clock since (set_by world.clock (event_at world event) since) world.tick
+        (seen (outer_of world.scopes (scope_of task)) world.tick) (omega (arith, left, ends)) over) g
+    by_over event since is ends began f false over g =
+        let left : world.tick ≤ due = h.not_over in
+        goes_with world task (Waiting event since) wakes.Seen wake is tt
+        (sees_waiting world.clock since (set_by world.clock (event_at world event) since) world.tick began (omega (arith, left, ends)) over, f) g
+
+    by_task_state : (task_state : TaskState) → task.task_state ≡ task_state →
+        moment_of world.clock (event_at world) world.book task_state ≡ Some due → BeganBefore world.tick task_state →
+        is_reached (sight_asleep world (scope_of task) task_state) world.tick ≡ true →
+        wake_of (seen_call_if (is_wait_over world.clock (event_at world) task_state world.tick)) answer ≡ Some wake → MayGo world task wake
+    by_task_state (Asleep paced ticks since) is due_is began f g =
+        goes_with world task (Asleep paced ticks since) wakes.Seen wake is tt (began, f) g
+    by_task_state (Waiting event since) is due_is began f g =
+        by_over event since is (same_Some (wait_ends world.clock (event_at world event) since) due due_is) began f
+        (is_wait_over world.clock (event_at world) (Waiting event since) world.tick) refl g
+    by_task_state (ToBegin at) is due_is began f g = absurd (let k : false ≡ true = f in cc)
+    by_task_state (Asked kernel purpose) is due_is began f g = absurd (let k : false ≡ true = f in cc)
+    by_task_state (GivingUp since) is due_is began f g = absurd (let k : false ≡ true = f in cc)
+    by_task_state (Awaits id since) is due_is began f g = absurd (let k : false ≡ true = f in cc)
+    by_task_state Over is due_is began f g = absurd (let k : false ≡ true = f in cc)
+
+-- a task whose moment has come, and which sees no cancellation if it sleeps or waits for an event
 pub due_goes : (world : World) (due : ℕ) (task : Task) → Stayed world due task → due ≤ world.tick →
     is_reached (sight_asleep world (scope_of task) task.task_state) world.tick ≡ false → GoesBy world task calls.Due
 due_goes world due task h come unseen answer wake right e = by_task_state task.task_state refl h.due_is unseen
@@ -94,7 +173,8 @@ due_goes world due task h come unseen answer wake right e = by_task_state task.t
     now : due ≡ world.tick
     now = let left = h.not_over in omega (arith, left, come)
 
-    by_task_state : (task_state : TaskState) → task.task_state ≡ task_state → moment_of world.clock world.book task_state ≡ Some due →
+    by_task_state : (task_state : TaskState) → task.task_state ≡ task_state →
+        moment_of world.clock (event_at world) world.book task_state ≡ Some due →
         is_reached (sight_asleep world (scope_of task) task_state) world.tick ≡ false → MayGo world task wake
     by_task_state (ToBegin at) is due_is f =
         goes_with world task (ToBegin at) wakes.Due wake is tt (same_Some at due due_is ∙ now) e
@@ -102,9 +182,74 @@ due_goes world due task h come unseen answer wake right e = by_task_state task.t
     by_task_state (Asleep paced ticks since) is due_is f =
         goes_with world task (Asleep paced ticks since) wakes.Due wake is tt
         (same_Some (wakes_at world.clock ticks since) due due_is ∙ now, f) e
+    by_task_state (Waiting event since) is due_is f =
+        goes_with world task (Waiting event since) wakes.Due wake is tt
+        (ends_waiting world.clock since (set_by world.clock (event_at world event) since) world.tick
+        (seen (outer_of world.scopes (scope_of task)) world.tick)
+        (same_Some (wait_ends world.clock (event_at world event) since) due due_is ∙ now) f) e
     by_task_state (GivingUp since) is due_is f =
         goes_with world task (GivingUp since) wakes.Due wake is tt (same_Some (suc since) due due_is ∙ now) e
     by_task_state (Awaits id since) is due_is f =
         goes_with world task (Awaits id since) wakes.Due wake is (left_settled world.clock (nursery_at world.book id) due due_is)
         (left_by world.clock (nursery_at world.book id) due world.tick due_is come) e
     by_task_state Over is due_is f = absurd (none-some due due_is)
+
+-- A task that waits for an event since this moment continues at once, where a moment is a tick: it sees a cancellation, or the event is
+-- set.
+pub at_once_goes : (world : World) (event : ℕ) (task : Task) (call : Call) → task.task_state ≡ Waiting event world.tick →
+    call_at_once world (scope_of task) (wait_ends world.clock (event_at world event) world.tick) ≡ Some call → GoesBy world task call
+at_once_goes world event task call is e answer wake right g = by_clock world.clock refl e
+  where
+    round : ℕ
+    round = a_round_after world.clock world.tick
+
+    set : ℕ
+    set = set_by world.clock (event_at world event) world.tick
+
+    sees : Bool
+    sees = seen (outer_of world.scopes (scope_of task)) world.tick
+
+    may_see : round ≡ world.tick → SeesNow world.clock set world.tick world.tick
+    may_see same = (
+      omega (arith, same),
+      elim (cases_lt world.tick set) [
+        | inl lt ↦ inr (omega (arith, lt, same), lt)
+        | inr le ↦ inl (omega (arith, le, same), omega (arith, same))
+      ],
+    )
+
+    by_tests : round ≡ world.tick → (saw due : Bool) → sees ≡ saw → nat_le (max round set) world.tick ≡ due →
+        at_once by_ticks saw due ≡ Some call → MayGo world task wake
+    by_tests same true due f d h =
+        goes_with world task (Waiting event world.tick) wakes.Seen wake is tt (may_see same, f)
+        (ap (λ (x : Call). wake_of x answer) (same_Some calls.Seen call h) ∙ g)
+    by_tests same false true f d h =
+        let come : max round set ≤ world.tick = leb-true (max round set) world.tick d in
+        goes_with world task (Waiting event world.tick) wakes.Due wake is tt (inl (omega (arith, come, same), same, f))
+        (ap (λ (x : Call). wake_of x answer) (same_Some calls.Due call h) ∙ g)
+    by_tests same false false f d h = absurd (none-some call h)
+
+    by_clock : (c : Clock) → world.clock ≡ c → at_once c sees (nat_le (max round set) world.tick) ≡ Some call → MayGo world task wake
+    by_clock by_rounds c h = absurd (none-some call h)
+    by_clock by_ticks c h =
+        by_tests (ap (λ (x : Clock). a_round_after x world.tick) c) sees (nat_le (max round set) world.tick) refl refl h
+
+-- one that does not stays: it waits until a later moment, and where a moment is a tick it sees no cancellation
+pub waits_on_later : (world : World) (scope : Option ℕ) (due : ℕ) → call_at_once world scope due ≡ None →
+    a_round_after world.clock world.tick ≤ due → (world.tick < due)
+    × ((seen (outer_of world.scopes scope) world.tick ≡ false) ⊎ ((world.clock ≡ by_rounds) × (world.tick ≡ world.tick)))
+waits_on_later world scope due e round = by_clock world.clock refl e round
+  where
+    sees : Bool
+    sees = seen (outer_of world.scopes scope) world.tick
+
+    by_tests : (saw now : Bool) → sees ≡ saw → nat_le due world.tick ≡ now → at_once by_ticks saw now ≡ None →
+        (world.tick < due) × ((sees ≡ false) ⊎ ((world.clock ≡ by_rounds) × (world.tick ≡ world.tick)))
+    by_tests true now f d h = absurd (none-some calls.Seen (sym h))
+    by_tests false true f d h = absurd (none-some calls.Due (sym h))
+    by_tests false false f d h = (leb-false due world.tick d, inl f)
+
+    by_clock : (c : Clock) → world.clock ≡ c → at_once c sees (nat_le due world.tick) ≡ None → a_round_after c world.tick ≤ due →
+        (world.tick < due) × ((sees ≡ false) ⊎ ((world.clock ≡ by_rounds) × (world.tick ≡ world.tick)))
+    by_clock by_rounds c h le = (omega (arith, le), inr (c, refl))
+    by_clock by_ticks c h le = by_tests sees (nat_le due world.tick) refl refl h

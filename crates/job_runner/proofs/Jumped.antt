@@ -20,12 +20,14 @@ use Rattle.job_meaning.specs.Meaning.{meaning_end}
 use Rattle.job_meaning.specs.Moments.{Clock, by_rounds, clock_of, tick_of, a_round_after, wakes_at}
 use Rattle.job_meaning.specs.Rest.{Stopped, at_end}
 use Rattle.task_machine.specs.declared.stop.TaskState.{TaskState}
-use Rattle.task_machine.specs.declared.stop.TaskState.TheVariants.{ToBegin, Asked, Asleep, GivingUp, Awaits, Over}
+use Rattle.task_machine.specs.declared.stop.TaskState.TheVariants.{ToBegin, Asked, Asleep, Waiting, GivingUp, Awaits, Over}
 use Rattle.task_machine.specs.declared.task.Task.{Task}
 use Rattle.task_machine.specs.declared.world.World.{World}
+use Rattle.task_machine.specs.Events.{wait_ends}
 use Rattle.task_machine.specs.Fitting.{waits_of}
 use Rattle.task_machine.specs.Stops.{Numbers, IsTaskState}
 use Rattle.task_machine.specs.Tasks.{scope_of}
+use Rattle.task_machine.specs.Worlds.{event_at}
 use Rattle.interleavings.specs.Interleaving.{live}
 use Rattle.run_refinement.specs.RunState.{HasMembers, Refines}
 use Rattle.run_refinement.specs.Ready.{StaysTo, AllStay, HasMoment}
@@ -38,7 +40,7 @@ use Rattle.job_runner.specs.Jumps.{sight_asleep, sight_by, sight_in, Wakes, IsNe
 use Rattle.job_runner.specs.Limits.{last_of}
 use Rattle.sleepers.specs.Sleeping.{IsFirst}
 use Rattle.task_table.specs.TaskTable.{running_at, task_of, gone_of, id_of, task_count, run_state, IsTaskTable}
-use Rattle.job_runner.specs.Shelves.{left_in, moment_of, IsCalledAdded, IsConsistent, DozesIn, Stays, sleep_slot_of, timer_times, settled_times, task_state_times, running_times, times_shelved, state_in, IsUnderway}
+use Rattle.job_runner.specs.Shelves.{left_in, moment_of, IsCalledAdded, IsConsistent, IsAsleepIn, DozesIn, Stays, sleep_slot_of, wait_slot_of, timer_times, settled_times, task_state_times, running_times, times_shelved, state_in, IsUnderway}
 use Rattle.task_table.proofs.Times.{one_if}
 use Rattle.job_runner.proofs.Known.{seen_by, sees_from}
 use Rattle.job_runner.proofs.Lived.{lives_by}
@@ -70,6 +72,7 @@ moment_once : (book : NurseryBook) (task_state : TaskState) → HasMoment book t
 moment_once book (ToBegin at) h = refl
 moment_once book (Asked kernel purpose) h = absurd h
 moment_once book (Asleep paced ticks since) h = refl
+moment_once book (Waiting event since) h = refl
 moment_once book (GivingUp since) h = refl
 moment_once book (Awaits id since) h = by_nursery (nursery_at book id) h
   where
@@ -100,6 +103,7 @@ dozed_before : (world : World) (scope : Option ℕ) (t : ℕ) (task_state : Task
 dozed_before world scope t (ToBegin at) later h = tt
 dozed_before world scope t (Asked kernel purpose) later h = tt
 dozed_before world scope t (Asleep paced ticks since) later h = let le : since ≤ world.tick = h.0 in omega (arith, le, later)
+dozed_before world scope t (Waiting event since) later h = let le : since ≤ world.tick = h.0 in omega (arith, le, later)
 dozed_before world scope t (GivingUp since) later h = tt
 dozed_before world scope t (Awaits id since) later h = tt
 dozed_before world scope t Over later h = tt
@@ -167,17 +171,17 @@ module _ {r : Runner} (w : IsUnderway r) (none : r.batch.current ≡ []) where
 
       -- for its moment, which has not come by then
       by_moment : (task_state : TaskState) → task.task_state ≡ task_state → (a : TimedAs task) → (moment : ℕ) →
-          moment_of r.world.clock r.world.book task_state ≡ Some moment → u ≤ moment
+          moment_of r.world.clock (event_at r.world) r.world.book task_state ≡ Some moment → u ≤ moment
       by_moment task_state h a moment is =
           let due : a.due ≡ moment =
-          same_Some a.due moment (sym a.stays.due_is ∙ (ap (moment_of r.world.clock r.world.book) h ∙ is)) in
+          same_Some a.due moment (sym a.stays.due_is ∙ (ap (moment_of r.world.clock (event_at r.world) r.world.book) h ∙ is)) in
           let le : u ≤ a.due = (bound a.id a.due a.timer).0 in
           omega (arith, due, le)
 
       no_moment : (task_state : TaskState) → task.task_state ≡ task_state → TimedAs task →
-          moment_of r.world.clock r.world.book task_state ≡ None → ⊥
+          moment_of r.world.clock (event_at r.world) r.world.book task_state ≡ None → ⊥
       no_moment task_state h a is =
-          none-some a.due (sym is ∙ (ap (moment_of r.world.clock r.world.book) (sym h) ∙ a.stays.due_is))
+          none-some a.due (sym is ∙ (ap (moment_of r.world.clock (event_at r.world) r.world.book) (sym h) ∙ a.stays.due_is))
 
       by_nursery : (id since : ℕ) → task.task_state ≡ Awaits id since → (o : Option Nursery) → nursery_at r.world.book id ≡ o →
           IsSomeAnd o (λ (n : Nursery). HasMembers (state_in r) state.interleaving.at r.world.tick (state.numbers p) (state.interleaving.at p) id n) →
@@ -192,19 +196,18 @@ module _ {r : Runner} (w : IsUnderway r) (none : r.batch.current ≡ []) where
               (a_round_after r.world.clock n.last)
               (ap (left_in r.world.clock) f ∙ ap (λ (b : Bool). if b then Some (a_round_after r.world.clock n.last) else None) g))
 
-      -- a sleeper sees no cancellation by then, or has slept for a round at most
-      by_sight : (paced : Bool) (ticks since : ℕ) → task.task_state ≡ Asleep paced ticks since → TimedAs task →
+      -- one that sleeps, or waits for an event, sees no cancellation by then, or has done so for a round at most
+      by_sight : (since : ℕ) (a : TimedAs task) → IsAsleepIn r.world (scope_of task) since →
+          sight_asleep r.world (scope_of task) task.task_state ≡ sight (outer_of r.world.scopes (scope_of task)) →
           (c : Tick) → sight (outer_of r.world.scopes (scope_of task)) ≡ c →
           (upto u c ≡ u) ⊎ (u ≤ a_round_after r.world.clock since)
-      by_sight paced ticks since h a None g = inl refl
-      by_sight paced ticks since h a (Some s) g =
+      by_sight since a dozes as_asleep None g = inl refl
+      by_sight since a dozes as_asleep (Some s) g =
           elim (cases_lt s u) [
             | inl lt ↦
-                let dozes = subst (DozesIn r.world (scope_of task)) h a.stays.dozes in
                 inr (slept_now r.world.clock u r.world.tick s since (seen (outer_of r.world.scopes (scope_of task)) r.world.tick)
                 (sym (ap (λ (c : Tick). is_reached c r.world.tick) g)) lt
-                ((bound a.id a.due a.timer).1 s
-                (a.sees ∙ (ap (sight_asleep r.world (scope_of task)) h ∙ g))) dozes.1)
+                ((bound a.id a.due a.timer).1 s (a.sees ∙ (as_asleep ∙ g))) dozes.1)
             | inr le ↦ inl (let f : min u s ≡ u = omega (arith, le) in f)
           ]
 
@@ -215,7 +218,14 @@ module _ {r : Runner} (w : IsUnderway r) (none : r.batch.current ≡ []) where
       by_task_state (Asleep paced ticks since) h =
           let a = as_kept (Asleep paced ticks since) h refl in (
             by_moment (Asleep paced ticks since) h a (wakes_at r.world.clock ticks since) refl,
-            by_sight paced ticks since h a (sight (outer_of r.world.scopes (scope_of task))) refl,
+            by_sight since a (subst (DozesIn r.world (scope_of task)) h a.stays.dozes) (ap (sight_asleep r.world (scope_of task)) h)
+                (sight (outer_of r.world.scopes (scope_of task))) refl,
+          )
+      by_task_state (Waiting event since) h =
+          let a = as_kept (Waiting event since) h refl in (
+            by_moment (Waiting event since) h a (wait_ends r.world.clock (event_at r.world event) since) refl,
+            by_sight since a (subst (DozesIn r.world (scope_of task)) h a.stays.dozes) (ap (sight_asleep r.world (scope_of task)) h)
+                (sight (outer_of r.world.scopes (scope_of task))) refl,
           )
       by_task_state (GivingUp since) h = by_moment (GivingUp since) h (as_kept (GivingUp since) h refl) (suc since) refl
       by_task_state (Awaits id since) h =
@@ -410,6 +420,7 @@ module _ {r : Runner} (w : IsUnderway r) (none : r.batch.current ≡ []) where
             within = (let a : limit_of r.clock ≡ last_of r.world.clock r.limit = w.going.shelved.consistent.limit in omega (arith, a, within));
             bounded = w.going.shelved.consistent.bounded;
             none_started = w.going.shelved.consistent.none_started;
+            none_set = w.going.shelved.consistent.none_set;
           }
 
           pub has_jumped : IsWaking (record r { clock = clock; world = record r.world { tick = t } })
@@ -421,6 +432,8 @@ module _ {r : Runner} (w : IsUnderway r) (none : r.batch.current ≡ []) where
                   sleep_slots = λ id. w.going.shelved.known.sleep_slots id
                       ∙ ap (λ (d : Option ℕ). sleep_slot_of d (running_at r.task_table id)) (sym (timers id));
                   sights = w.going.shelved.known.sights;
+                  waiting = λ id. w.going.shelved.known.waiting id
+                      ∙ ap (λ (d : Option ℕ). wait_slot_of (event_at r.world) d (running_at r.task_table id)) (sym (timers id));
                 };
             unchanged = w.unchanged;
             none_current = none;

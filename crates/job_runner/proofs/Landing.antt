@@ -142,7 +142,7 @@ module _ {r : Runner} (w : IsUnderway r) (blocked : phase_of r ≡ phases.Blocke
 
         -- with those that may continue in the current batch
         pub landed : (woken : Runner) →
-            woken ≡ record r { world = world; clock = woken.clock; sleepers = woken.sleepers; batch = woken.batch } →
+            woken ≡ record r { world = world; clock = woken.clock; sleepers = woken.sleepers; waiters = woken.waiters; batch = woken.batch } →
             AreShelved None woken → woken.batch.current ≡ [] → (batch : Batches) → batch.current ≡ map without_answer woken.batch.next →
             batch.next ≡ [] → NonePlaced batch.current → IsUnderway (record woken { batch = batch })
         landed woken rest shelved over batch current next fresh =
@@ -162,7 +162,7 @@ module _ {r : Runner} (w : IsUnderway r) (blocked : phase_of r ≡ phases.Blocke
 
         -- first those that see a cancellation are woken, and then those whose moment has come
         pub both_woken : (seen woken : Runner) → WakesOnly (record r { clock = clock; world = world }) seen → WakesOnly seen woken →
-            woken ≡ record r { world = world; clock = woken.clock; sleepers = woken.sleepers; batch = woken.batch }
+            woken ≡ record r { world = world; clock = woken.clock; sleepers = woken.sleepers; waiters = woken.waiters; batch = woken.batch }
         both_woken seen woken a b = b ∙ ap (λ (x : Runner). record x
-            { clock = woken.clock; sleepers = woken.sleepers; batch = woken.batch })
+            { clock = woken.clock; sleepers = woken.sleepers; waiters = woken.waiters; batch = woken.batch })
             a

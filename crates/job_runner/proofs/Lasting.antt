@@ -1,5 +1,5 @@
 -- A job ends by the last tick to which a run of it may go.
-use Rattle.std.proofs.Common.{◌≡◌, ℕ, ◌+◌, ◌*◌, ◌<◌, ◌≤◌, List, [], length, ap, ◌∙◌, subst, arith}
+use Rattle.std.proofs.Common.{◌≡◌, ℕ, ◌+◌, ◌*◌, ◌<◌, ◌≤◌, List, length, ap, ◌∙◌, subst, arith}
 use Rattle.job_tree.proofs.Sizes.{few_steps}
 use Rattle.job_tree.specs.InRange.{IsInRange}
 use Rattle.job_tree.specs.Names.{size_of}
@@ -7,7 +7,7 @@ use Rattle.job_tree.specs.Tree.{Tree}
 use Rattle.job_meaning.specs.declared.limits.TheConstants.{MAX_INPUT}
 use Rattle.job_meaning.specs.Meaning.{meaning, meaning_end, root_here, root_walk}
 use Rattle.job_meaning.specs.Moments.{Clock, by_ticks, by_rounds, clock_of, tick_of, only_at}
-use Rattle.job_meaning.specs.Walk.{two_walks}
+use Rattle.job_meaning.specs.Walk.{two_walks, no_stack}
 use Rattle.job_meaning.proofs.Ends.{reach, span, ends_by}
 use Rattle.job_runner.specs.declared.fault.RunFault.{RunFault}
 use Rattle.job_runner.specs.declared.fault.RunFault.TheVariants.{Limit}
@@ -25,7 +25,7 @@ unfolding meaning
 ends_by_last job input in_range small =
     by_last_tick (clock_of job.format) (size_of job.steps) (root_walk two_walks job input).end
     (let size = in_range.size in let most = few_steps job.format in omega (arith, size, most))
-    (ends_by two_walks job.steps (root_here job input) [] (only_at 0) in_range.numbers small).end
+    (ends_by two_walks job.steps (root_here job input) no_stack (only_at 0) in_range.numbers small).end
 
 -- so no run is past it
 pub never_late : (job : Tree) (input : List ℕ) (clock : Clock) (last limit : ℕ) (fault : RunFault) → IsInRange job →

@@ -6,6 +6,9 @@ pub mod Lived
 pub mod Known
 pub mod Shelving
 pub mod Readied
+pub mod WokenWaiters
+pub mod Signalled
+pub mod AtOnce
 pub mod Stopped
 pub mod Counting
 pub mod Waking

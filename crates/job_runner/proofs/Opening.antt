@@ -12,16 +12,18 @@ use Rattle.job_meaning.specs.Log.{Table}
 use Rattle.job_meaning.specs.Moments.{Clock, clock_of}
 use Rattle.job_meaning.specs.declared.limits.TheConstants.{MAX_INPUT}
 use Rattle.task_machine.specs.declared.task.Task.{Task}
+use Rattle.task_machine.specs.Worlds.{event_at}
 use Rattle.run_refinement.specs.Begun.{IsNewWorld, IsRootTask}
 use Rattle.run_refinement.specs.RunState.{Refines}
 use Rattle.run_refinement.specs.Ready.{AreHomesOf}
 use Rattle.run_refinement.proofs.Begun.{state_begun}
 use Rattle.sleepers.specs.Sleeping.{scope_in}
+use Rattle.sleepers.specs.Waiting.{event_in}
 use Rattle.task_table.specs.declared.task_table.Running.{Running}
 use Rattle.job_runner.specs.declared.runner.Runner.{Runner}
 use Rattle.task_table.specs.TaskTable.{parent_of, running_at, task_of, HasRoot, IsTaskTable}
 use Rattle.job_runner.specs.Limits.{last_tick, last_of}
-use Rattle.job_runner.specs.Shelves.{state_in, task_state_times, running_times, timer_times, times_shelved, AreKnown, IsRefined, sleep_slot_of, GoesBy, IsCalledAdded, IsCalledEntry, IsConsistent, IsSoundJob, IsUnderway, NoneChanged}
+use Rattle.job_runner.specs.Shelves.{state_in, task_state_times, running_times, timer_times, times_shelved, AreKnown, IsRefined, sleep_slot_of, wait_slot_of, GoesBy, IsCalledAdded, IsCalledEntry, IsConsistent, IsSoundJob, IsUnderway, NoneChanged}
 use Rattle.task_table.proofs.Times.{one_if, times_cons}
 use Rattle.job_runner.proofs.Goes.{begin_goes}
 use Rattle.job_runner.proofs.Options.{some_has}
@@ -54,7 +56,7 @@ module _ (r : Runner) {root : Task} {id : ℕ} (sound : IsSoundJob r.job.now) (s
   module _ (agree : IsTaskTable r.task_table) (now : now_of r.clock ≡ 0) (limit : limit_of r.clock ≡ last_of (clock_of r.job.now.format) r.limit)
       (bounded : r.limit ≤ last_tick (clock_of r.job.now.format))
       (timers : (task : ℕ) → due_of r.clock task ≡ None)
-      (asleep : (task : ℕ) → scope_in r.sleepers task ≡ None) (unchanged : NoneChanged r.world) (before added : List Added)
+      (asleep : (task : ℕ) → scope_in r.sleepers task ≡ None) (unwaiting : (task : ℕ) → event_in r.waiters task ≡ None) (unchanged : NoneChanged r.world) (before added : List Added)
       (none_before : before ≡ []) (was_added : added ≡ before ++ (id, Begin) ∷ []) (current : r.batch.current ≡ map without_answer added)
       (next : r.batch.next ≡ []) (fresh : NonePlaced r.batch.current) where
     abbrev its_entry : Entry
@@ -91,12 +93,15 @@ module _ (r : Runner) {root : Task} {id : ℕ} (sound : IsSoundJob r.job.now) (s
       within = let none : r.world.tick ≡ 0 = world.tick in omega (arith, none);
       bounded = (let same : last_tick r.world.clock ≡ last_tick (clock_of r.job.now.format) = ap last_tick world.clock in omega (arith, bounded, same));
       none_started = world.started;
+      none_set = world.set;
     }
 
-    none_known : AreKnown r.task_table r.world r.clock r.sleepers
+    none_known : AreKnown r.task_table r.world r.clock r.sleepers r.waiters
     none_known = record {
       sleep_slots = λ task. asleep task ∙ sym (ap (λ (d : Option ℕ). sleep_slot_of d (running_at r.task_table task)) (timers task));
       sights = λ task key e. absurd (none-some key (sym (asleep task) ∙ e));
+      waiting = λ task. unwaiting task
+          ∙ sym (ap (λ (d : Option ℕ). wait_slot_of (event_at r.world) d (running_at r.task_table task)) (timers task));
     }
 
     root_called : All (IsCalledEntry r.task_table r.world) r.batch.current

@@ -1,6 +1,6 @@
 -- Tasks that continue a round later: where a moment is a tick, they are in the next batch, and otherwise each has a timer.
 use Rattle.std.proofs.Common.{◌≡◌, ℕ, zero, suc, ◌+◌, ◌<◌, ◌≤◌, inl, inr, Bool, true, Option, Some, None, List, [], ◌∷◌, ◌++◌, map, refl, ap, sym, ◌∙◌, subst, arith, if◌then◌else◌}
-use Rattle.std.specs.Prelude.{All, IsSomeAnd, ◌⊎◌, slice_get}
+use Rattle.std.specs.Prelude.{All, IsSome, is_some, IsSomeAnd, ◌⊎◌, slice_get}
 use Rattle.std.specs.Option.{ForSome}
 use Rattle.std.proofs.lemmas.List.{append-nil, append_assoc, map-append}
 use Rattle.std.proofs.lemmas.List.Elements.{All-append, All-cons, All-nil}
@@ -12,27 +12,32 @@ use Rattle.job_meaning.specs.Moments.{Clock, by_ticks, by_rounds, a_round_after}
 use Rattle.nursery_book.specs.Nursery.{Nursery, is_settled}
 use Rattle.nursery_book.specs.Book.{nursery_at, HasNursery}
 use Rattle.sleepers.specs.Sleeping.{scope_in}
+use Rattle.sleepers.specs.Waiting.{event_in}
 use Rattle.task_machine.specs.declared.stop.TaskState.{TaskState}
 use Rattle.task_machine.specs.declared.stop.TaskState.TheVariants.{ToBegin, Awaits}
 use Rattle.task_machine.specs.declared.task.Task.{Task}
 use Rattle.task_machine.specs.declared.world.World.{World}
+use Rattle.task_machine.specs.Labels.{Events}
 use Rattle.task_machine.specs.Tasks.{scope_of}
+use Rattle.task_machine.specs.Worlds.{event_at}
 use Rattle.task_table.specs.declared.task_table.TaskTable.{TaskTable}
 use Rattle.task_table.specs.declared.task_table.Running.{Running}
 use Rattle.task_table.specs.Rows.{times}
 use Rattle.task_table.specs.TaskTable.{running_at}
 use Rattle.task_table.proofs.Times.{place_of, times_append}
 use Rattle.job_runner.specs.declared.runner.Runner.{Runner}
-use Rattle.job_runner.specs.Shelves.{left_in, moment_of, GoesBy, IsCalledAdded, IsCalledEntry, IsConsistent, Stays, AllStay, sleeps_in, sleep_slot_of, AreKnown, timer_times, times_shelved, running_times, IsElse, AreShelved}
+use Rattle.job_runner.specs.Shelves.{left_in, moment_of, GoesBy, IsCalledAdded, IsCalledEntry, IsConsistent, Stays, AllStay, sleeps_in, sleep_slot_of, waits_in, wait_slot_of, AreKnown, timer_times, times_shelved, running_times, IsElse, AreShelved}
 use Rattle.job_runner.specs.Steps.{calls_in, timer_among, timer_in, IsReadied}
 use Rattle.job_runner.proofs.Goes.{begin_goes, settled_goes}
 use Rattle.job_runner.proofs.Options.{some_has, some_is}
 use Rattle.job_runner.proofs.Shelving.{times_next, times_now}
 
--- A task may continue a round later: by this call in the next batch, or in its own moment, for which it does not sleep.
+-- A task may continue a round later: by this call in the next batch, or in its own moment, for which it does not sleep, nor wait for an
+-- event.
 abbrev pub Continues : Clock → World → Task → Call → Type 0
 Continues by_ticks world task call = GoesBy world task call
-Continues by_rounds world task call = Stays world (suc world.tick) task × (sleeps_in task.task_state (scope_of task) ≡ None)
+Continues by_rounds world task call =
+    Stays world (suc world.tick) task × (sleeps_in task.task_state (scope_of task) ≡ None) × (waits_in (event_at world) task.task_state ≡ None)
 
 -- one whose nursery is settled, where a member ended last in this moment
 pub settled_continues : (world : World) (task : Task) (id since : ℕ) → task.task_state ≡ Awaits id since →
@@ -60,11 +65,13 @@ settled_continues world task id since is settled last = by_clock world.clock ref
     by_clock by_ticks e = settled_goes world task id since is settled (left_now world.clock (nursery_at world.book id) e last)
     by_clock by_rounds e = (
       record {
-        due_is = ap (moment_of world.clock world.book) is ∙ left_later world.clock (nursery_at world.book id) e settled last;
+        due_is =
+            ap (moment_of world.clock (event_at world) world.book) is ∙ left_later world.clock (nursery_at world.book id) e settled last;
         later = omega arith;
         dozes = rw is tt;
       },
       ap (λ (s : TaskState). sleeps_in s (scope_of task)) is,
+      ap (waits_in (event_at world)) is,
     )
 
 -- one that was started in this moment
@@ -77,11 +84,14 @@ begin_continues world task at is begins = by_clock world.clock refl
     by_clock by_rounds e =
         let next : at ≡ world.tick + 1 = begins ∙ ap (λ (x : Clock). a_round_after x world.tick) e in (
           record {
-            due_is = ap (moment_of world.clock world.book) is ∙ ap (λ (m : ℕ). Some m) (let f : at ≡ suc world.tick = omega (arith, next) in f);
+            due_is =
+                ap (moment_of world.clock (event_at world) world.book) is
+                ∙ ap (λ (m : ℕ). Some m) (let f : at ≡ suc world.tick = omega (arith, next) in f);
             later = omega arith;
             dozes = rw is tt;
           },
           ap (λ (s : TaskState). sleeps_in s (scope_of task)) is,
+          ap (waits_in (event_at world)) is,
         )
 
 -- ---- how often each is kept
@@ -169,6 +179,54 @@ ready_slot by_rounds task_table world ids call moment id due slot each is awake 
     let x = some_is (running_at task_table id) (λ (y : Running). Continues by_rounds world y.task call) (each at.0 id at.1) in
     some_has (running_at task_table id) (λ (y : Running). sleeps_in y.task.task_state (scope_of y.task) ≡ None) x.0 x.1 x.2.1)
 
+-- none of them waits for an event, and each other task waits for what it did
+wait_among : (events : Events) (n moment : ℕ) (due slot : Option ℕ) (o : Option Running) → slot ≡ wait_slot_of events due o →
+    (0 < n → due ≡ None) → (1 ≤ n → IsSomeAnd o (λ (x : Running). waits_in events x.task.task_state ≡ None)) →
+    slot ≡ wait_slot_of events (timer_among n moment due) o
+wait_among events zero moment due slot o is awake none = is
+wait_among events (suc n) moment due slot o is awake none =
+    let x = some_is o (λ (y : Running). waits_in events y.task.task_state ≡ None) (none (omega arith)) in
+    is ∙ ap (λ (d : Option ℕ). wait_slot_of events d o) (awake (omega arith))
+    ∙ (sym x.2 ∙ ap (wait_slot_of events (Some moment)) (sym x.1))
+
+ready_wait : (clock : Clock) (task_table : TaskTable) (world : World) (ids : List ℕ) (call : Call) (moment id : ℕ) (due slot : Option ℕ) →
+    ((i key : ℕ) → slice_get ids i ≡ Some key → IsSomeAnd (running_at task_table key) (λ (x : Running). Continues clock world x.task call)) →
+    slot ≡ wait_slot_of (event_at world) due (running_at task_table id) → (0 < times id ids → due ≡ None) →
+    slot ≡ wait_slot_of (event_at world) (timer_in clock ids moment id due) (running_at task_table id)
+ready_wait by_ticks task_table world ids call moment id due slot each is awake = is
+ready_wait by_rounds task_table world ids call moment id due slot each is awake =
+    wait_among (event_at world) (times id ids) moment due slot (running_at task_table id) is awake (λ some.
+    let at = place_of id ids some in
+    let x = some_is (running_at task_table id) (λ (y : Running). Continues by_rounds world y.task call) (each at.0 id at.1) in
+    some_has (running_at task_table id) (λ (y : Running). waits_in (event_at world) y.task.task_state ≡ None) x.0 x.1 x.2.2)
+
+-- each other task stays as before, and each of them until its moment
+pub stay_ready : {old new : Runner} {ids : List ℕ} {call : Call} → IsReadied ids call old new →
+    ((i id : ℕ) → slice_get ids i ≡ Some id →
+    IsSomeAnd (running_at old.task_table id) (λ (x : Running). Continues old.world.clock old.world x.task call)) →
+    AllStay old.task_table old.world old.clock → AllStay old.task_table old.world new.clock
+stay_ready {old} {new} {ids} {call} ready each stay id t e =
+    ready_stays old.world.clock old.task_table old.world ids call id (due_of old.clock id) t each (stay id t) (sym (ready.timers id) ∙ e)
+
+-- and sleepers, and those that wait for events, are known as before
+pub known_ready : {old new : Runner} {ids : List ℕ} {call : Call} → IsReadied ids call old new →
+    ((id : ℕ) → 0 < times id ids → due_of old.clock id ≡ None) →
+    ((i id : ℕ) → slice_get ids i ≡ Some id →
+    IsSomeAnd (running_at old.task_table id) (λ (x : Running). Continues old.world.clock old.world x.task call)) →
+    AreKnown old.task_table old.world old.clock old.sleepers old.waiters →
+    AreKnown old.task_table old.world new.clock old.sleepers old.waiters
+known_ready {old} {new} {ids} {call} ready awake each known = record {
+  sleep_slots = λ id.
+      ready_slot old.world.clock old.task_table old.world ids call (suc old.world.tick) id (due_of old.clock id)
+      (scope_in old.sleepers id) each (known.sleep_slots id) (awake id)
+      ∙ ap (λ (d : Option ℕ). sleep_slot_of d (running_at old.task_table id)) (sym (ready.timers id));
+  sights = known.sights;
+  waiting = λ id.
+      ready_wait old.world.clock old.task_table old.world ids call (suc old.world.tick) id (due_of old.clock id)
+      (event_in old.waiters id) each (known.waiting id) (awake id)
+      ∙ ap (λ (d : Option ℕ). wait_slot_of (event_at old.world) d (running_at old.task_table id)) (sym (ready.timers id));
+}
+
 -- ---- one after another
 
 -- at first none continues
@@ -251,6 +309,30 @@ readied_else {old} {new} {ids} h id none was = h.timers id ∙ by_clock old.worl
     by_clock by_ticks = was
     by_clock by_rounds = ap (λ (n : ℕ). timer_among n (suc old.world.tick) (due_of old.clock id)) none ∙ was
 
+-- and one that had a timer has one
+pub readied_timed : {old new : Runner} {ids : List ℕ} {call : Call} → IsReadied ids call old new → (id : ℕ) →
+    IsSome (due_of old.clock id) → IsSome (due_of new.clock id)
+readied_timed {old} {new} {ids} h id was =
+    ap is_some (h.timers id) ∙ by_clock old.world.clock (due_of old.clock id) was
+  where
+    by_times : (n : ℕ) (o : Option ℕ) → IsSome o → IsSome (timer_among n (suc old.world.tick) o)
+    by_times zero o some = some
+    by_times (suc n) o some = refl
+
+    by_clock : (clock : Clock) (o : Option ℕ) → IsSome o → IsSome (timer_in clock ids (suc old.world.tick) id o)
+    by_clock by_ticks o some = some
+    by_clock by_rounds o some = by_times (times id ids) o some
+
+-- each that was added to the next batch may continue by its call, in a world like that one
+pub called_ready : {old new : Runner} {ids : List ℕ} {call : Call} → IsReadied ids call old new → (world : World) →
+    ((i id : ℕ) → slice_get ids i ≡ Some id →
+    IsSomeAnd (running_at old.task_table id) (λ (x : Running). Continues old.world.clock world x.task call)) →
+    All (IsCalledAdded old.task_table world) old.batch.next → All (IsCalledAdded old.task_table world) new.batch.next
+called_ready {old} {new} {ids} {call} ready world each next =
+    let same = ready.next in
+    rw same (All-append (IsCalledAdded old.task_table world) old.batch.next (calls_in old.world.clock ids call) next
+    (ready_called old.world.clock old.task_table world ids call each))
+
 -- ---- the shelves
 
 -- Tasks that had no timer continue a round later. All else that the runner keeps is consistent, but for how often it has to
@@ -275,7 +357,8 @@ module _ {old new : Runner} {ids : List ℕ} {call : Call} (ready : IsReadied id
     there = record old { batch = new.batch; clock = new.clock }
 
     module _ (consistent : IsConsistent old.task_table old.world old.clock old.limit old.turns)
-        (stay : AllStay old.task_table old.world old.clock) (known : AreKnown old.task_table old.world old.clock old.sleepers)
+        (stay : AllStay old.task_table old.world old.clock)
+        (known : AreKnown old.task_table old.world old.clock old.sleepers old.waiters)
         (current : All (IsCalledEntry old.task_table old.world) old.batch.current)
         (next : All (IsCalledAdded old.task_table old.world) old.batch.next) where
       consistent_there : IsConsistent old.task_table old.world new.clock old.limit old.turns
@@ -287,30 +370,14 @@ module _ {old new : Runner} {ids : List ℕ} {call : Call} (ready : IsReadied id
         within = consistent.within;
         bounded = consistent.bounded;
         none_started = consistent.none_started;
-      }
-
-      stay_there : AllStay old.task_table old.world new.clock
-      stay_there id t e =
-          ready_stays old.world.clock old.task_table old.world ids call id (due_of old.clock id) t each (stay id t)
-          (sym (ready.timers id) ∙ e)
-
-      known_there : AreKnown old.task_table old.world new.clock old.sleepers
-      known_there = record {
-        sleep_slots = λ id.
-            ready_slot old.world.clock old.task_table old.world ids call (suc old.world.tick) id (due_of old.clock id)
-            (scope_in old.sleepers id) each (known.sleep_slots id) (awake id)
-            ∙ ap (λ (d : Option ℕ). sleep_slot_of d (running_at old.task_table id)) (sym (ready.timers id));
-        sights = known.sights;
+        none_set = consistent.none_set;
       }
 
       current_there : All (IsCalledEntry old.task_table old.world) new.batch.current
       current_there = let same = ready.current in rw same current
 
       next_there : All (IsCalledAdded old.task_table old.world) new.batch.next
-      next_there =
-          let same = ready.next in
-          rw same (All-append (IsCalledAdded old.task_table old.world) old.batch.next (calls_in old.world.clock ids call) next
-          (ready_called old.world.clock old.task_table old.world ids call each))
+      next_there = called_ready ready old.world each next
 
       -- if each is kept as often as it has to be then, the runner's tasks are
       pub shelved_ready : (turning : Option ℕ) →
@@ -321,8 +388,8 @@ module _ {old new : Runner} {ids : List ℕ} {call : Call} (ready : IsReadied id
           subst (AreShelved turning) (sym ready.rest)
           (record {
             consistent = consistent_there;
-            stay = stay_there;
-            known = known_there;
+            stay = stay_ready ready each stay;
+            known = known_ready ready awake each known;
             current = current_there;
             next = next_there;
             once = λ id other. times_ready id ∙ kept id other;

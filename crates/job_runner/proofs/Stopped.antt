@@ -1,25 +1,29 @@
 -- A task that stopped is put where it belongs: in the next batch, among those with a timer, or nowhere while it waits.
-use Rattle.std.proofs.Common.{◌≡◌, ◌≢◌, ℕ, zero, suc, ◌+◌, ◌<◌, ◌≤◌, Bool, true, false, inl, inr, Option, Some, None, [], ◌∷◌, ◌++◌, refl, ap, sym, ◌∙◌, subst, arith, if◌then◌else◌}
-use Rattle.std.specs.Prelude.{◌==◌, ◌⊎◌, slice_get, IsSomeAnd, IsSome}
+use Rattle.std.proofs.Common.{◌≡◌, ◌≢◌, ℕ, zero, suc, ◌+◌, ◌<◌, ◌≤◌, ◌^◌, Bool, true, false, inl, inr, List, Option, Some, None, [], ◌∷◌, ◌++◌, refl, ap, sym, ◌∙◌, subst, arith, if◌then◌else◌}
+use Rattle.std.specs.Prelude.{◌==◌, ◌⊎◌, slice_get, IsSomeAnd, IsSome, is_some}
 use Rattle.std.specs.Option.{ForSome}
 use Rattle.std.proofs.lemmas.Bool.{cases_eq}
 use Rattle.std.proofs.lemmas.Bool.Decides.{eqb_tells}
 use Rattle.std.proofs.lemmas.Option.{none-some, same_Some}
-use Rattle.autojump_clock.specs.Clock.{due_of, Updates, SameTime}
+use Rattle.autojump_clock.specs.Clock.{now_of, due_of, Updates, SameTime}
 use Rattle.autojump_clock.specs.Clock as timers
+use Rattle.batch_commit.specs.declared.entry.Call.{Call}
 use Rattle.batch_commit.specs.declared.entry.Call.TheVariants as calls
 use Rattle.batch_commit.specs.Batch.{Batches}
-use Rattle.job_meaning.specs.Moments.{Clock, by_ticks, by_rounds}
+use Rattle.job_meaning.specs.Moments.{Clock, by_ticks, by_rounds, a_round_after}
 use Rattle.line_kernels.specs.declared.request.Request.{Request}
 use Rattle.nursery_book.specs.Nursery.{Nursery, is_settled}
 use Rattle.nursery_book.specs.Book.{nursery_at, HasNursery}
 use Rattle.nursery_book.specs.declared.book.NurseryBook.{NurseryBook}
 use Rattle.task_machine.specs.declared.stop.TaskState.{TaskState}
+use Rattle.task_machine.specs.declared.stop.TaskState.TheVariants.{Waiting}
 use Rattle.task_machine.specs.declared.stop.Stop.{Stop}
 use Rattle.task_machine.specs.declared.stop.Stop.TheVariants as stops
 use Rattle.task_machine.specs.declared.task.Task.{Task}
 use Rattle.task_machine.specs.declared.world.World.{World}
+use Rattle.task_machine.specs.Events.{set_of, wait_ends}
 use Rattle.task_machine.specs.Tasks.{scope_of}
+use Rattle.task_machine.specs.Worlds.{event_at}
 use Rattle.cancel_scopes.specs.Sight.{Tick, seen, sight}
 use Rattle.cancel_scopes.specs.Tree.{Stack, stack_of, outer_of, IsOpen}
 use Rattle.run_refinement.specs.RunState.{Refines}
@@ -28,20 +32,23 @@ use Rattle.run_refinement.specs.Step.{IsUnseen, FallsAsleep, GivesUp, StopSays}
 use Rattle.run_refinement.specs.Turn.{leaving_by}
 use Rattle.run_refinement.proofs.OtherScopes.{open_stack}
 use Rattle.sleepers.specs.Sleeping.{Sleeping, scope_in, sight_of, Moves, Sees}
+use Rattle.sleepers.specs.Waiting.{event_in, WaitsFor}
 use Rattle.task_table.specs.declared.task_table.Running.{Running}
 use Rattle.task_table.specs.TaskTable.{running_at, task_count}
 use Rattle.task_table.specs.Rows.{times}
 use Rattle.task_table.proofs.Times.{one_if, place_of, times_cons}
 use Rattle.job_runner.specs.declared.runner.Runner.{Runner}
-use Rattle.job_runner.specs.Shelves.{GoesBy, moment_of, Stays, AllStay, sleeps_in, sleep_slot_of, AreKnown, AreShelved, timer_times, times_shelved, running_times, task_state_times, settled_times, state_in, IsConsistent, IsGoing}
-use Rattle.job_runner.specs.Steps.{IsReadied, IsStopping}
-use Rattle.job_runner.proofs.Goes.{answered_goes}
+use Rattle.job_runner.specs.Shelves.{GoesBy, moment_of, Stays, AllStay, sleeps_in, sleep_slot_of, if_unset, waits_in, wait_slot_of, AreKnown, AreShelved, timer_times, times_shelved, running_times, task_state_times, settled_times, state_in, IsConsistent, IsGoing}
+use Rattle.job_runner.specs.Steps.{IsReadied, IsStopping, SleepsIn, PutsToSleep}
+use Rattle.job_runner.specs.Turns.{call_at_once}
+use Rattle.job_runner.proofs.AtOnce.{wait_bounded}
+use Rattle.job_runner.proofs.Goes.{answered_goes, at_once_goes, waits_on_later}
 use Rattle.job_runner.proofs.Lived.{task_at}
 use Rattle.job_runner.proofs.Options.{some_is, some_has}
 use Rattle.job_runner.proofs.Readied.{Continues, settled_continues, shelved_ready}
 use Rattle.job_runner.proofs.Shelving.{no_timer, none_away, once_again, shelved_next, shelved_waiting}
 use Rattle.job_runner.proofs.Staying.{stays_once}
-use Rattle.job_runner.proofs.States.{meaning_of, meaning_settled}
+use Rattle.job_runner.proofs.States.{meaning_of, meaning_settled, moment_bounded}
 
 -- the task that stopped
 pub stopped_task : {id row : ℕ} {stop : Stop} {r : Runner} → IsStopping id row stop r →
@@ -74,7 +81,7 @@ asks_going {r} {id} {row} {request} b h current next =
 falls_dozing : (world : World) (due : ℕ) (task : Task) → FallsAsleep world task due → Stays world due task
 falls_dozing world due task h =
     record {
-      due_is = ap (moment_of world.clock world.book) h.task_state ∙ ap (λ (n : ℕ). Some n) (sym h.due_is);
+      due_is = ap (moment_of world.clock (event_at world) world.book) h.task_state ∙ ap (λ (n : ℕ). Some n) (sym h.due_is);
       later = h.later;
       dozes = (let is = h.task_state in rw is (omega arith, by_clock world.clock refl h.unseen));
     }
@@ -88,7 +95,7 @@ falls_dozing world due task h =
 gives_up_later : (world : World) (due : ℕ) (task : Task) → GivesUp world task due → Stays world due task
 gives_up_later world due task h =
     record {
-      due_is = ap (moment_of world.clock world.book) h.task_state ∙ ap (λ (n : ℕ). Some n) (sym h.due_is);
+      due_is = ap (moment_of world.clock (event_at world) world.book) h.task_state ∙ ap (λ (n : ℕ). Some n) (sym h.due_is);
       later = (let is = h.due_is in omega (arith, is));
       dozes = (let is = h.task_state in rw is tt);
     }
@@ -119,14 +126,21 @@ module _ {id row : ℕ} {stop : Stop} {r : Runner} (h : IsStopping id row stop r
   pub not_sleeping : scope_in r.sleepers id ≡ None
   not_sleeping = h.shelved.known.sleep_slots id ∙ ap (λ (d : Option ℕ). sleep_slot_of d (running_at r.task_table id)) not_timed
 
+  -- and waits for no event
+  pub not_waiting : event_in r.waiters id ≡ None
+  not_waiting =
+      h.shelved.known.waiting id ∙ ap (λ (d : Option ℕ). wait_slot_of (event_at r.world) d (running_at r.task_table id)) not_timed
+
   -- the task of a stop has its scope open
-  pub stopping_scope : (scope : Option ℕ) → ForSome (running_at r.task_table id) (λ (x : Running). scope ≡ scope_of x.task) → (key : ℕ) →
-      scope ≡ Some key → IsOpen r.world.scopes key
-  stopping_scope scope held key e =
-      let x = stopped_task h in
+  pub stopping_scope : ForSome (running_at r.task_table id) (λ (x : Running). ForSome (scope_of x.task) (IsOpen r.world.scopes))
+  stopping_scope x lives key e =
       let c : Refines (meaning_of r) r.job.now r.input.now r.world.tick (task_count r.task_table) (leaving_by stop row) (state_in r) =
       (h.interleaving (meaning_of r) (meaning_settled r h.sound)).is in
-      (c.follows x.0.row x.0.task (task_at r.task_table h.shelved.consistent.agree id x.0 x.1)).goes.scope key (sym (held x.0 x.1) ∙ e)
+      (c.follows x.row x.task (task_at r.task_table h.shelved.consistent.agree id x lives)).goes.scope key e
+
+  -- and it has not ended
+  pub stopping_lives : IsSome (running_at r.task_table id)
+  stopping_lives = ap is_some (stopped_task h).1
 
 -- It stays until this moment, for which it has a timer now.
 module _ {id row due : ℕ} {stop : Stop} {r : Runner} (h : IsStopping id row stop r) (alive : leaving_by stop row ≡ None)
@@ -145,6 +159,7 @@ module _ {id row due : ℕ} {stop : Stop} {r : Runner} (h : IsStopping id row st
       within = h.shelved.consistent.within;
       bounded = h.shelved.consistent.bounded;
       none_started = h.shelved.consistent.none_started;
+      none_set = h.shelved.consistent.none_set;
     }
 
     all_stay : AllStay r.task_table r.world clock
@@ -160,12 +175,12 @@ module _ {id row due : ℕ} {stop : Stop} {r : Runner} (h : IsStopping id row st
     kept_once : running_times r.world.book (running_at r.task_table id) ≡ 1
     kept_once =
         ap (running_times r.world.book) (stopped_task h).1
-        ∙ stays_once r.world.clock r.world.book (stopped_task h).0.task.task_state due stays.due_is
+        ∙ stays_once r.world.clock (event_at r.world) r.world.book (stopped_task h).0.task.task_state due stays.due_is
 
-    -- it is kept by its timer, where the sleepers know it
-    going_with : (sleepers : Sleeping) → AreKnown r.task_table r.world clock sleepers →
-        IsGoing None (record r { clock = clock; sleepers = sleepers })
-    going_with sleepers known =
+    -- it is kept by its timer, where the sleepers know it, and those that wait for events do
+    going_with : (sleepers : Sleeping) (waiters : List (Option ℕ)) → AreKnown r.task_table r.world clock sleepers waiters →
+        IsGoing None (record r { clock = clock; sleepers = sleepers; waiters = waiters })
+    going_with sleepers waiters known =
         record {
           sound = h.sound;
           counts = h.counts;
@@ -206,13 +221,35 @@ module _ {id row due : ℕ} {stop : Stop} {r : Runner} (h : IsStopping id row st
               ∙ ap (λ (d : Option ℕ). sleep_slot_of d (running_at r.task_table other)) (sym (u.others other differs))
         ]
 
-    -- where it sleeps in no scope, nothing more is known of it
+    -- so are the others that wait for events
+    waits_known : (slot : Option ℕ) → waits_in (event_at r.world) (stopped_task h).0.task.task_state ≡ slot → (waiters : List (Option ℕ)) →
+        WaitsFor r.waiters waiters id slot → (other : ℕ) →
+        event_in waiters other ≡ wait_slot_of (event_at r.world) (due_of clock other) (running_at r.task_table other)
+    waits_known slot is waiters waits other =
+        elim (cases_eq other id) [
+          | inl same ↦
+              let now : wait_slot_of (event_at r.world) (due_of clock id) (running_at r.task_table id) ≡ slot =
+              ap (λ (d : Option ℕ). wait_slot_of (event_at r.world) d (running_at r.task_table id)) u.changed
+              ∙ (ap (wait_slot_of (event_at r.world) (Some due)) (stopped_task h).1 ∙ is) in
+              rw same (waits.changed ∙ sym now)
+          | inr differs ↦
+              waits.others other differs ∙ h.shelved.known.waiting other
+              ∙ ap (λ (d : Option ℕ). wait_slot_of (event_at r.world) d (running_at r.task_table other)) (sym (u.others other differs))
+        ]
+
+    -- where it waits for no event, nothing more is known of those that do
+    same_waiters : waits_in (event_at r.world) (stopped_task h).0.task.task_state ≡ None → (other : ℕ) →
+        event_in r.waiters other ≡ wait_slot_of (event_at r.world) (due_of clock other) (running_at r.task_table other)
+    same_waiters none = waits_known None none r.waiters (record { changed = not_waiting h; others = λ other differs. refl })
+
+    -- where it sleeps in no scope either, nothing more is known of it
     going_alone : sleeps_in (stopped_task h).0.task.task_state (scope_of (stopped_task h).0.task) ≡ None →
-        IsGoing None (record r { clock = clock })
-    going_alone none =
-        going_with r.sleepers (record {
+        waits_in (event_at r.world) (stopped_task h).0.task.task_state ≡ None → IsGoing None (record r { clock = clock })
+    going_alone none unwaiting =
+        going_with r.sleepers r.waiters (record {
           sleep_slots = slots_known None none r.sleepers (record { changed = not_sleeping h; others = λ other differs. refl });
           sights = h.shelved.known.sights;
+          waiting = same_waiters unwaiting;
         })
 
 -- ---- it gives up
@@ -223,64 +260,197 @@ pub gives_up_going : {id row due : ℕ} {r : Runner} (h : IsStopping id row (sto
 gives_up_going {due = due} {r = r} h u time =
     let x = stopped_task h in
     going_alone h refl (gives_up_later r.world due x.0.task x.3) u time (ap (λ (s : TaskState). sleeps_in s (scope_of x.0.task)) x.3.task_state)
+    (ap (waits_in (event_at r.world)) x.3.task_state)
 
--- ---- it sleeps
+-- ---- it sleeps, or waits for an event
 
-module _ {id row due : ℕ} {r : Runner} (h : IsStopping id row (stops.Sleep due) r) {clock : timers.Clock}
-    (u : Updates r.clock clock id (Some due)) (time : SameTime r.clock clock) where
-  stays_asleep : Stays r.world due (stopped_task h).0.task
-  stays_asleep = falls_dozing r.world due (stopped_task h).0.task (stopped_task h).3
+-- the sleepers know a task by the scope that the code found
+pub put_in_scope : (old new : Runner) (id key : ℕ) (scope o : Option ℕ) (sight_now : Tick) → scope ≡ o → scope ≡ Some key →
+    ForSome (stack_of old.world.scopes key) (λ (st : Stack). sight_now ≡ sight st) → Moves old.sleepers new.sleepers id (Some key) →
+    Sees old.sleepers new.sleepers key sight_now → SleepsIn old new id o
+put_in_scope old new id key scope o sight_now e is sees moves tells =
+    subst (SleepsIn old new id) (sym is ∙ e) (moves, (sight_now, sees, tells))
 
-  -- it sleeps in the scope that encloses it
-  its_slot : sleeps_in (stopped_task h).0.task.task_state (scope_of (stopped_task h).0.task) ≡ scope_of (stopped_task h).0.task
-  its_slot = ap (λ (s : TaskState). sleeps_in s (scope_of (stopped_task h).0.task)) (stopped_task h).3.task_state
+-- or not at all
+pub put_in_none : (old new : Runner) (id : ℕ) (scope o : Option ℕ) → scope ≡ o → scope ≡ None → new.sleepers ≡ old.sleepers →
+    SleepsIn old new id o
+put_in_none old new id scope o e is same = subst (SleepsIn old new id) (sym is ∙ e) same
 
-  -- outside any scope
-  pub sleeps_alone : (scope : Option ℕ) → ForSome (running_at r.task_table id) (λ (y : Running). scope ≡ scope_of y.task) → scope ≡ None →
-      IsGoing None (record r { clock = clock })
-  sleeps_alone scope held e =
-      going_alone h refl stays_asleep u time (its_slot ∙ (sym (held (stopped_task h).0 (stopped_task h).1) ∙ e))
+-- it has a timer, and the sleepers know it by the scope that encloses it
+module _ {id row due : ℕ} {stop : Stop} {r mid : Runner} (h : IsStopping id row stop r) (alive : leaving_by stop row ≡ None)
+    (stays : Stays r.world due (stopped_task h).0.task) (puts : PutsToSleep id due r mid)
+    (inside : sleeps_in (stopped_task h).0.task.task_state (scope_of (stopped_task h).0.task) ≡ scope_of (stopped_task h).0.task)
+  where
+    sleeps_so : SleepsIn r mid id (scope_of (stopped_task h).0.task)
+    sleeps_so = puts.sleeps (stopped_task h).0 (stopped_task h).1
 
-  -- or in one
-  module _ (scope : Option ℕ) (held : ForSome (running_at r.task_table id) (λ (y : Running). scope ≡ scope_of y.task)) (key : ℕ)
-      (e : scope ≡ Some key) (sight_now : Tick) (sees : ForSome (stack_of r.world.scopes key) (λ stack. sight_now ≡ sight stack))
-      (sleepers : Sleeping) (moves : Moves r.sleepers sleepers id (Some key)) (tells : Sees r.sleepers sleepers key sight_now) where
-    here : scope_of (stopped_task h).0.task ≡ Some key
-    here = sym (held (stopped_task h).0 (stopped_task h).1) ∙ e
-
-    stack : (st : Stack) × (stack_of r.world.scopes key ≡ Some st)
-    stack = open_stack r.world.scopes key (stopping_scope h scope held key e)
-
-    -- a task that sleeps in another scope did so before
-    before : (other k : ℕ) → scope_in sleepers other ≡ Some k → k ≢ key → scope_in r.sleepers other ≡ Some k
-    before other k f differs =
-        elim (cases_eq other id) [
-          | inl same ↦ absurd (differs (sym (same_Some key k (sym moves.changed ∙ (ap (scope_in sleepers) (sym same) ∙ f)))))
-          | inr else_ ↦ sym (moves.others other else_) ∙ f
-        ]
-
-    sights : (other k : ℕ) → scope_in sleepers other ≡ Some k → Shows r.world.scopes k (sight_of sleepers k)
-    sights other k f =
-        elim (cases_eq k key) [
-          | inl same ↦
-              rw same (record {
-                stack = stack.0;
-                opened = stack.1;
-                known = inl (sym (sees stack.0 stack.1) ∙ sym (tells.here other (f ∙ ap (λ (n : ℕ). Some n) same)));
-              })
-          | inr differs ↦
-              let kept = tells.others other k differs f in
-              rw kept (h.shelved.known.sights other k (before other k f differs))
-        ]
-
-    pub sleeps_within : IsGoing None (record r { clock = clock; sleepers = sleepers })
-    sleeps_within =
-        going_with h refl stays_asleep u time sleepers (record {
-          sleep_slots = slots_known h refl stays_asleep u time (Some key) (its_slot ∙ here) sleepers moves;
+    known_by : (scope : Option ℕ) → scope_of (stopped_task h).0.task ≡ scope → SleepsIn r mid id scope → (waiters : List (Option ℕ)) →
+        ((other : ℕ) → event_in waiters other ≡ wait_slot_of (event_at r.world) (due_of mid.clock other) (running_at r.task_table other)) →
+        AreKnown r.task_table r.world mid.clock mid.sleepers waiters
+    known_by None e same waiters waiting =
+        record {
+          sleep_slots =
+              slots_known h alive stays puts.timers puts.time None (inside ∙ e) mid.sleepers (record {
+                changed = ap (λ (s : Sleeping). scope_in s id) same ∙ not_sleeping h;
+                others = λ other differs. ap (λ (s : Sleeping). scope_in s other) same;
+              });
+          sights = λ other key f.
+              subst (λ (s : Sleeping). Shows r.world.scopes key (sight_of s key)) (sym same)
+              (h.shelved.known.sights other key (sym (ap (λ (s : Sleeping). scope_in s other) same) ∙ f));
+          waiting = waiting;
+        }
+    known_by (Some key) e (moves, (sight_now, sees, tells)) waiters waiting =
+        record {
+          sleep_slots = slots_known h alive stays puts.timers puts.time (Some key) (inside ∙ e) mid.sleepers moves;
           sights = sights;
-        })
+          waiting = waiting;
+        }
+      where
+        stack : (st : Stack) × (stack_of r.world.scopes key ≡ Some st)
+        stack = open_stack r.world.scopes key (stopping_scope h (stopped_task h).0 (stopped_task h).1 key e)
 
--- ---- it waits
+        -- a task that sleeps in another scope did so before
+        before : (other k : ℕ) → scope_in mid.sleepers other ≡ Some k → k ≢ key → scope_in r.sleepers other ≡ Some k
+        before other k f differs =
+            elim (cases_eq other id) [
+              | inl same ↦ absurd (differs (sym (same_Some key k (sym moves.changed ∙ (ap (scope_in mid.sleepers) (sym same) ∙ f)))))
+              | inr else_ ↦ sym (moves.others other else_) ∙ f
+            ]
+
+        sights : (other k : ℕ) → scope_in mid.sleepers other ≡ Some k → Shows r.world.scopes k (sight_of mid.sleepers k)
+        sights other k f =
+            elim (cases_eq k key) [
+              | inl same ↦
+                  rw same (record {
+                    stack = stack.0;
+                    opened = stack.1;
+                    known = inl (sym (sees stack.0 stack.1) ∙ sym (tells.here other (f ∙ ap (λ (n : ℕ). Some n) same)));
+                  })
+              | inr differs ↦
+                  let kept = tells.others other k differs f in
+                  rw kept (h.shelved.known.sights other k (before other k f differs))
+            ]
+
+    -- where it waits for no event, or for one that is set, the run is between two turns then
+    pub sleeps_going : waits_in (event_at r.world) (stopped_task h).0.task.task_state ≡ None → IsGoing None mid
+    sleeps_going none =
+        subst (IsGoing None) (sym puts.rest)
+        (going_with h alive stays puts.timers puts.time mid.sleepers r.waiters
+        (known_by (scope_of (stopped_task h).0.task) refl sleeps_so r.waiters (same_waiters h alive stays puts.timers puts.time none)))
+
+    -- where it waits for one that nothing has set, it is when that is known too
+    pub waits_going : (event : ℕ) → waits_in (event_at r.world) (stopped_task h).0.task.task_state ≡ Some event →
+        (waiters : List (Option ℕ)) → WaitsFor mid.waiters waiters id (Some event) → IsGoing None (record mid { waiters = waiters })
+    waits_going event is waiters waits =
+        subst (IsGoing None) (sym (ap (λ (x : Runner). record x { waiters = waiters }) puts.rest))
+        (going_with h alive stays puts.timers puts.time mid.sleepers waiters
+        (known_by (scope_of (stopped_task h).0.task) refl sleeps_so waiters
+        (waits_known h alive stays puts.timers puts.time (Some event) is waiters
+        (subst (λ (ws : List (Option ℕ)). WaitsFor ws waiters id (Some event)) (ap (λ (x : Runner). x.waiters) puts.rest) waits))))
+
+-- a task that fell asleep now has a timer: then the run is between two turns
+pub asleep_going : {id row due : ℕ} {r mid : Runner} (h : IsStopping id row (stops.Sleep due) r) → PutsToSleep id due r mid →
+    IsGoing None mid
+asleep_going {due = due} {r = r} h puts =
+    let x = stopped_task h in
+    sleeps_going h refl (falls_dozing r.world due x.0.task x.3) puts (ap (λ (s : TaskState). sleeps_in s (scope_of x.0.task)) x.3.task_state)
+    (ap (waits_in (event_at r.world)) x.3.task_state)
+
+-- ---- it waits for an event
+
+-- a wait ends a round later at the earliest
+round_least : (clock : Clock) (event : Option Tick) (since : ℕ) → a_round_after clock since ≤ wait_ends clock event since
+round_least clock event since = omega arith
+
+module _ {id row event : ℕ} {r : Runner} (h : IsStopping id row (stops.WaitFor event) r) where
+  abbrev its : Task
+  its = (stopped_task h).0.task
+
+  waits_now : its.task_state ≡ Waiting event r.world.tick
+  waits_now = (stopped_task h).3.task_state
+
+  -- where it continues at once, the run is between two turns when it is in the next batch
+  pub at_once_going : {call : Call} (b : Batches) (due : ℕ) → due ≡ wait_ends r.world.clock (event_at r.world event) r.world.tick →
+      ForSome (running_at r.task_table id) (λ (x : Running). Some call ≡ call_at_once r.world (scope_of x.task) due) →
+      b.current ≡ r.batch.current → b.next ≡ r.batch.next ++ (id, call) ∷ [] → IsGoing None (record r { batch = b })
+  at_once_going {call} b due due_is once current next =
+      let x = stopped_task h in
+      record {
+        sound = h.sound;
+        counts = h.counts;
+        shelved =
+            shelved_next b call h.shelved current next
+            (some_has (running_at r.task_table id) (λ (y : Running). GoesBy r.world y.task call) x.0 x.1
+            (at_once_goes r.world event x.0.task call x.3.task_state
+            (sym (once x.0 x.1 ∙ ap (call_at_once r.world (scope_of x.0.task)) due_is))))
+            (ap (running_times r.world.book) x.1 ∙ ap (task_state_times r.world.book) x.3.task_state);
+        interleaving = λ k settled. (h.interleaving k settled).is;
+      }
+
+  module _ {due : ℕ} (due_is : due ≡ wait_ends r.world.clock (event_at r.world event) r.world.tick)
+      (later : ForSome (running_at r.task_table id) (λ (x : Running). None ≡ call_at_once r.world (scope_of x.task) due))
+    where
+      -- where it does not, it stays
+      stays_waiting : Stays r.world due its
+      stays_waiting =
+          let w = waits_on_later r.world (scope_of its) due (sym (later (stopped_task h).0 (stopped_task h).1))
+          (let le = round_least r.world.clock (event_at r.world event) r.world.tick in omega (arith, due_is, le)) in
+          record {
+            due_is = ap (moment_of r.world.clock (event_at r.world) r.world.book) waits_now ∙ ap (λ (n : ℕ). Some n) (sym due_is);
+            later = w.0;
+            dozes = (let is = waits_now in rw is (omega arith, w.1));
+          }
+
+      -- until a later moment
+      pub waits_later : now_of r.clock < due
+      waits_later =
+          let lt = stays_waiting.later in let now : now_of r.clock ≡ r.world.tick = h.shelved.consistent.now in omega (arith, lt, now)
+
+      -- which is not too late to be counted
+      pub waits_bounded : due < 2 ^ 63
+      waits_bounded =
+          let lt = wait_bounded r.world.clock (event_at r.world event) r.world.tick (moment_bounded h.shelved.consistent) in
+          omega (arith, lt, due_is)
+
+      its_scope : sleeps_in its.task_state (scope_of its) ≡ scope_of its
+      its_scope = ap (λ (s : TaskState). sleeps_in s (scope_of its)) waits_now
+
+      -- the event, by whether it is set
+      its_event : (o : Option Tick) → event_at r.world event ≡ o → waits_in (event_at r.world) its.task_state ≡ if_unset event o
+      its_event o e = ap (waits_in (event_at r.world)) waits_now ∙ ap (if_unset event) e
+
+      module _ {mid : Runner} (puts : PutsToSleep id due r mid) where
+        same_event_there : event_at mid.world event ≡ Some (stopped_task h).3.set
+        same_event_there = ap (λ (x : Runner). event_at x.world event) puts.rest ∙ (stopped_task h).3.is_event
+
+        -- it is set
+        pub set_going : (from : Tick) → from ≡ set_of (event_at mid.world event) → is_some from ≡ true → IsGoing None mid
+        set_going from is some = by_set from refl
+          where
+            by_set : (o : Tick) → from ≡ o → IsGoing None mid
+            by_set None e = absurd (let f : false ≡ true = sym (ap is_some e) ∙ some in cc)
+            by_set (Some m) e =
+                let set : (stopped_task h).3.set ≡ Some m = sym (is ∙ ap set_of same_event_there) ∙ e in
+                sleeps_going h refl stays_waiting puts its_scope
+                (its_event (Some (Some m)) ((stopped_task h).3.is_event ∙ ap (λ (t : Tick). Some t) set))
+
+        -- nothing has set it
+        pub unset_going : (from : Tick) → from ≡ set_of (event_at mid.world event) → is_some from ≡ false → (waiters : List (Option ℕ)) →
+            WaitsFor mid.waiters waiters id (Some event) → IsGoing None (record mid { waiters = waiters })
+        unset_going from is none waiters waits = by_set from refl
+          where
+            by_set : (o : Tick) → from ≡ o → IsGoing None (record mid { waiters = waiters })
+            by_set (Some m) e = absurd (let f : true ≡ false = sym (ap is_some e) ∙ none in cc)
+            by_set None e =
+                let set : (stopped_task h).3.set ≡ None = sym (is ∙ ap set_of same_event_there) ∙ e in
+                waits_going h refl stays_waiting puts its_scope event
+                (its_event (Some None) ((stopped_task h).3.is_event ∙ ap (λ (t : Tick). Some t) set)) waiters waits
+
+        -- it waited for none before
+        pub put_not_waiting : event_in mid.waiters id ≡ None
+        put_not_waiting = ap (λ (x : Runner). event_in x.waiters id) puts.rest ∙ not_waiting h
+
+-- ---- it waits for its nursery
 
 -- how often it has to be kept, by whether its nursery is settled
 pub settled_one : (o : Option Nursery) (b : Bool) → IsSomeAnd o (λ n. b ≡ is_settled n) → b ≡ true → settled_times o ≡ 1
@@ -357,8 +527,8 @@ module _ {r : Runner} {id row nursery : ℕ} (h : IsStopping id row (stops.Wait 
           (none_away (λ (other : ℕ). times_shelved r.batch r.clock other + times other (id ∷ []) ≡ 0))
 
   -- a task that waits for a nursery which is not settled is put nowhere: the run is between two turns
-  pub waits_going : (over : Bool) → HasNursery r.world.book nursery (λ n. over ≡ is_settled n) → over ≡ false → IsGoing None r
-  waits_going over tells is =
+  pub awaits_going : (over : Bool) → HasNursery r.world.book nursery (λ n. over ≡ is_settled n) → over ≡ false → IsGoing None r
+  awaits_going over tells is =
       record {
         sound = h.sound;
         counts = h.counts;

@@ -9,12 +9,13 @@ use Rattle.cancel_scopes.specs.Tree.{Tree, stack_of, is_changed, IsOpen, SameMar
 use Rattle.std.proofs.lemmas.Bool.{cases_eq}
 use Rattle.std.proofs.lemmas.List.Elements.{All-weaker}
 use Rattle.task_machine.specs.declared.stop.TaskState.{TaskState}
-use Rattle.task_machine.specs.declared.stop.TaskState.TheVariants.{ToBegin, Asleep, GivingUp, Awaits}
+use Rattle.task_machine.specs.declared.stop.TaskState.TheVariants.{ToBegin, Asleep, Waiting, GivingUp, Awaits}
 use Rattle.task_machine.specs.declared.stop.Wake.{Wake}
 use Rattle.task_machine.specs.declared.stop.Wake.TheVariants as wakes
 use Rattle.task_machine.specs.declared.task.Task.{Task}
 use Rattle.task_machine.specs.declared.world.World.{World}
 use Rattle.task_machine.specs.Tasks.{scope_of}
+use Rattle.task_machine.specs.Worlds.{event_at}
 use Rattle.run_refinement.specs.Ready.{IsTimely}
 use Rattle.run_refinement.specs.Sights.{Shows}
 use Rattle.run_refinement.proofs.Jumped.{state_takes}
@@ -27,7 +28,7 @@ use Rattle.job_runner.specs.Shelves.{GoesBy, IsCalled, IsCalledAdded, IsCalledEn
 use Rattle.job_runner.specs.Steps.{SeesOnly}
 use Rattle.job_runner.proofs.Counting.{count_below, fewer_below, found_within}
 use Rattle.job_runner.proofs.Options.{some_kept}
-use Rattle.job_runner.proofs.Staying.{stays_still}
+use Rattle.job_runner.proofs.Staying.{same_event, stays_still}
 
 -- a world with other scopes marked
 abbrev pub marked : World → List Bool → World
@@ -40,6 +41,8 @@ timely_marked : (w : World) (changed : List Bool) (scope : Option ℕ) (task_sta
 timely_marked w changed scope (ToBegin at) wake h = h
 timely_marked w changed scope (Asleep paced ticks since) wakes.Due h = h
 timely_marked w changed scope (Asleep paced ticks since) wakes.Seen h = h
+timely_marked w changed scope (Waiting event since) wakes.Due h = h
+timely_marked w changed scope (Waiting event since) wakes.Seen h = h
 timely_marked w changed scope (GivingUp since) wake h = h
 timely_marked w changed scope (Awaits id since) wake h = h
 timely_marked w changed scope _ _ h = h
@@ -80,7 +83,7 @@ shows_marked w changed scope was now kept mark h = record { stack = h.stack; ope
 
 -- a run with other marks, of which the sleepers know
 module _ {r : Runner} (going : IsGoing None r) (changed : List Bool) (sleepers : Sleeping)
-    (known : AreKnown r.task_table (marked r.world changed) r.clock sleepers) where
+    (known : AreKnown r.task_table (marked r.world changed) r.clock sleepers r.waiters) where
   abbrev told : Runner
   told = record r { world = marked r.world changed; sleepers = sleepers }
 
@@ -100,13 +103,15 @@ module _ {r : Runner} (going : IsGoing None r) (changed : List Bool) (sleepers :
     within = going.shelved.consistent.within;
     bounded = going.shelved.consistent.bounded;
     none_started = going.shelved.consistent.none_started;
+    none_set = going.shelved.consistent.none_set;
   }
 
   stay_told : AllStay r.task_table (marked r.world changed) r.clock
   stay_told key due e =
       some_kept (running_at r.task_table key) (running_at r.task_table key) (λ (y : Running). Stays r.world due y.task)
       (λ (y : Running). Stays (marked r.world changed) due y.task) (λ x is. is)
-      (λ x is d. stays_still r.world (marked r.world changed) x.task due refl refl refl (λ id waits over. refl) d) (going.shelved.stay key due e)
+      (λ x is d. stays_still r.world (marked r.world changed) x.task due refl refl refl
+      (same_event (event_at r.world) (event_at r.world) x.task.task_state refl) (λ id waits over. refl) d) (going.shelved.stay key due e)
 
   going_marked : IsGoing None told
   going_marked =
@@ -156,7 +161,11 @@ module _ {r : Runner} (going : IsGoing None r) {id : ℕ} (changed : List Bool) 
   pub told_going : IsGoing None (record r { world = marked r.world changed; sleepers = sleepers })
   told_going =
       going_marked going changed sleepers
-      (record { sleep_slots = λ key. same key ∙ going.shelved.known.sleep_slots key; sights = sights_told })
+      (record {
+        sleep_slots = λ key. same key ∙ going.shelved.known.sleep_slots key;
+        sights = sights_told;
+        waiting = going.shelved.known.waiting;
+      })
 
 -- where no mark changes, nothing does
 still_going : {r : Runner} → IsGoing None r → (changed : List Bool) →
@@ -168,6 +177,7 @@ still_going {r} going changed marks =
       sleep_slots = going.shelved.known.sleep_slots;
       sights = λ key scope e. shows_marked r.world changed scope (sight_of r.sleepers scope) (sight_of r.sleepers scope) refl (marks scope)
           (going.shelved.known.sights key scope e);
+      waiting = going.shelved.known.waiting;
     })
 
 -- a scope that is handed out is open still

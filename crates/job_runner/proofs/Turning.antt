@@ -1,7 +1,7 @@
 -- A turn of a task of a runner: afterwards it keeps the tasks of the program, of which that one stopped, and the others
 -- are kept as before.
-use Rattle.std.proofs.Common.{◌≡◌, ◌≢◌, ℕ, ◌+◌, ◌<◌, ◌≤◌, ◌^◌, inl, inr, Option, Some, None, List, ◌++◌, length, refl, ap, sym, ◌∙◌, subst, arith}
-use Rattle.std.specs.Prelude.{All, IsSome, is_some, IsSomeAnd, slice_get}
+use Rattle.std.proofs.Common.{◌≡◌, ◌≢◌, ℕ, suc, ◌+◌, ◌<◌, ◌≤◌, ◌^◌, inl, inr, Option, Some, None, List, [], ◌++◌, length, refl, ap, sym, ◌∙◌, subst, arith}
+use Rattle.std.specs.Prelude.{All, IsSome, is_some, IsSomeAnd, ◌⊎◌, slice_get}
 use Rattle.std.proofs.lemmas.Bool.{cases_eq, cases_lt}
 use Rattle.std.proofs.lemmas.Option.{none-some, same_Some, slice_get_within}
 use Rattle.autojump_clock.specs.Clock.{now_of, due_of}
@@ -19,29 +19,32 @@ use Rattle.job_meaning.specs.Follow.{IsSettled}
 use Rattle.job_meaning.specs.Log.{Table}
 use Rattle.job_meaning.specs.Moments.{Clock, tick_of, a_round_after}
 use Rattle.task_machine.specs.declared.stop.TaskState.{TaskState}
-use Rattle.task_machine.specs.declared.stop.TaskState.TheVariants.{ToBegin, Asked, Asleep, GivingUp, Awaits, Over}
+use Rattle.task_machine.specs.declared.stop.TaskState.TheVariants.{ToBegin, Asked, Asleep, Waiting, GivingUp, Awaits, Over}
 use Rattle.task_machine.specs.declared.stop.Stop.{Stop}
-use Rattle.task_machine.specs.declared.stop.Stop.TheVariants.{Ask, Sleep, GiveUp, Wait, Ended}
+use Rattle.task_machine.specs.declared.stop.Stop.TheVariants.{Ask, Sleep, WaitFor, GiveUp, Wait, Ended}
 use Rattle.task_machine.specs.declared.stop.Wake.{Wake}
 use Rattle.task_machine.specs.declared.stop.Wake.TheVariants as wakes
 use Rattle.task_machine.specs.declared.task.Task.{Task}
 use Rattle.task_machine.specs.declared.world.World.{World}
 use Rattle.task_machine.specs.Fitting.{blocks_of, waits_of}
 use Rattle.task_machine.specs.Standing.{now_for}
+use Rattle.task_machine.specs.Stacked.{AreAt}
 use Rattle.task_machine.specs.States.{state_of}
 use Rattle.task_machine.specs.Tasks.{scope_of}
 use Rattle.task_machine.specs.Waking.{wake_in}
+use Rattle.task_machine.specs.Worlds.{label_at, event_at}
 use Rattle.interleavings.specs.Interleaving.{Started}
 use Rattle.interleavings.specs.Woken.{MayWake}
 use Rattle.run_refinement.specs.RunState.{RunState, Follows, Refines}
 use Rattle.run_refinement.specs.Moved.{SameTasks}
 use Rattle.run_refinement.specs.Ready.{IsTimely, MayGo, AreHomesOf}
-use Rattle.run_refinement.specs.Sights.{Shows}
+use Rattle.run_refinement.specs.Sights.{Shows, StaysOrIsSet}
 use Rattle.run_refinement.specs.Step.{TakesTurn as StateTakesTurn, StopSays, EndsAs, StoppedIn}
 use Rattle.run_refinement.specs.Turn.{IsSound, numbers_then, leaving_by, serials_from}
 use Rattle.run_refinement.specs.Turning.{Turning}
 use Rattle.run_refinement.proofs.StateFits.{state_fits}
-use Rattle.run_refinement.proofs.StateTurn.{nursery_same}
+use Rattle.run_refinement.proofs.EventsStay.{event_still}
+use Rattle.run_refinement.proofs.StateTurn.{acted, nursery_same}
 use Rattle.run_refinement.proofs.Going.{may_wake}
 use Rattle.run_refinement.proofs.Jumped.{state_takes}
 use Rattle.run_refinement.proofs.Keeping.{still_goes, homes_kept, seen_still}
@@ -49,6 +52,7 @@ use Rattle.run_refinement.proofs.Parts.{begun_at}
 use Rattle.run_refinement.proofs.SightsStay.{shows_still}
 use Rattle.run_refinement.proofs.Stepped.{other_follows, turning_of, stepped, stop_says}
 use Rattle.sleepers.specs.Sleeping.{scope_in, sight_of}
+use Rattle.sleepers.specs.Waiting.{event_in}
 use Rattle.task_table.specs.declared.task_table.TaskTable.{TaskTable}
 use Rattle.task_table.specs.declared.task_table.Running.{Running}
 use Rattle.task_table.specs.Rows.{times}
@@ -56,32 +60,39 @@ use Rattle.task_table.specs.TaskTable.{running_at, task_of, gone_of, start_of, c
 use Rattle.task_table.proofs.Lists.{value_at}
 use Rattle.task_table.proofs.Times.{all_others, place_of, times_none}
 use Rattle.job_runner.specs.declared.runner.Runner.{Runner}
-use Rattle.job_runner.specs.Shelves.{GoesBy, IsCalled, IsCalledAdded, IsCalledEntry, IsConsistent, Stays, AllStay, AreKnown, times_shelved, settled_times, task_state_times, running_times, AreShelved, state_in, IsGoing}
+use Rattle.job_runner.specs.Shelves.{GoesBy, IsCalled, IsCalledAdded, IsCalledEntry, IsConsistent, Stays, AllStay, AreKnown, timer_times, times_shelved, settled_times, task_state_times, running_times, AreShelved, state_in, IsGoing}
 use Rattle.job_runner.specs.Limits.{last_tick, last_of}
-use Rattle.job_runner.specs.Steps.{StartsAll, IsReadied, TakesStarted, IsStopping}
-use Rattle.job_runner.proofs.Known.{sleeper_in, sleeps_inside, slots_kept}
+use Rattle.job_runner.specs.Steps.{StartsAll, IsReadied, TakesStarted, TakesSet, IsStopping}
+use Rattle.job_runner.proofs.Known.{sleeper_in, sleeps_inside, slots_kept, waits_kept, waiter_in}
 use Rattle.job_runner.proofs.Lived.{task_at, row_below, rows_apart}
 use Rattle.job_runner.proofs.Options.{some_has, some_is, some_kept, some_of}
-use Rattle.job_runner.proofs.Readied.{Continues, begin_continues, shelved_ready}
-use Rattle.job_runner.proofs.Shelving.{timer_else}
-use Rattle.job_runner.proofs.Staying.{stays_still}
+use Rattle.job_runner.proofs.Readied.{Continues, begin_continues, stay_ready, known_ready, called_ready, times_ready, readied_else, readied_timed}
+use Rattle.job_runner.proofs.Shelving.{no_timer, timer_else}
+use Rattle.job_runner.proofs.Signalled.{Woken, stay_set, known_set, timers_set}
+use Rattle.job_runner.proofs.Staying.{same_event, stays_still}
 use Rattle.job_runner.proofs.States.{meaning_of, meaning_run, meaning_settled, moment_bounded, turns_bounded}
 
--- ---- a world from which the started tasks were taken
+-- ---- a world from which the started tasks and the events that were set were taken
+
+-- another world has these
+abbrev left_of : World → World → World
+left_of w x = record w { started = x.started; set = x.set }
 
 timely_on : (w : World) (x : World) (scope : Option ℕ) (task_state : TaskState) (wake : Wake) → IsTimely w scope task_state wake →
-    IsTimely (record w { started = x.started }) scope task_state wake
+    IsTimely (left_of w x) scope task_state wake
 timely_on w x scope (ToBegin at) wake h = h
 timely_on w x scope (Asleep paced ticks since) wakes.Due h = h
 timely_on w x scope (Asleep paced ticks since) wakes.Seen h = h
+timely_on w x scope (Waiting event since) wakes.Due h = h
+timely_on w x scope (Waiting event since) wakes.Seen h = h
 timely_on w x scope (GivingUp since) wake h = h
 timely_on w x scope (Awaits id since) wake h = h
 timely_on w x scope _ _ h = h
 
-goes_on : (w : World) (x : World) (task : Task) (wake : Wake) → MayGo w task wake → MayGo (record w { started = x.started }) task wake
+goes_on : (w : World) (x : World) (task : Task) (wake : Wake) → MayGo w task wake → MayGo (left_of w x) task wake
 goes_on w x task wake h = record { fits = h.fits; timely = timely_on w x (scope_of task) task.task_state wake h.timely }
 
-says_on : (w : World) (x : World) (task : Task) (stop : Stop) → StopSays w task stop → StopSays (record w { started = x.started }) task stop
+says_on : (w : World) (x : World) (task : Task) (stop : Stop) → StopSays w task stop → StopSays (left_of w x) task stop
 says_on w x task (Ask request) h = h
 says_on w x task (Sleep due) h =
     record {
@@ -93,6 +104,7 @@ says_on w x task (Sleep due) h =
       later = h.later;
       unseen = h.unseen;
     }
+says_on w x task (WaitFor event) h = record { task_state = h.task_state; set = h.set; is_event = h.is_event }
 says_on w x task (GiveUp due) h = record { task_state = h.task_state; due_is = h.due_is }
 says_on w x task (Wait id) h = record { task_state = h.task_state; last = h.last }
 says_on w x task (Ended exc) h = tt
@@ -128,10 +140,10 @@ stopped_in e f h = rw (← e, ← f) h
 
 -- ---- the turn
 
-module _ {id : ℕ} {wake : Wake} {stop : Stop} {r new : Runner} {ro : TaskTable} {w : World} (going : IsGoing (Some id) r)
+module _ {id : ℕ} {wake : Wake} {stop : Stop} {r after new : Runner} {ro : TaskTable} {w : World} (going : IsGoing (Some id) r)
     (goes : IsSomeAnd (running_at r.task_table id) (λ (x : Running). MayGo r.world x.task wake))
     (turn : HasTurn r.task_table ro r.world w id wake stop) (sound : IsSound r.world.scopes) (sound_after : IsSound w.scopes)
-    (takes : TakesStarted (record r { world = w; task_table = ro; turns = r.turns + 1 }) new turn.row)
+    (takes : TakesStarted (record r { world = w; task_table = ro; turns = r.turns + 1 }) after turn.row) (sets : TakesSet after new)
   where
     abbrev t : ℕ
     t = r.world.tick
@@ -144,22 +156,46 @@ module _ {id : ℕ} {wake : Wake} {stop : Stop} {r new : Runner} {ro : TaskTable
 
     -- the tasks of the program right after the turn, and those of the runner after the started tasks were taken
     abbrev that : RunState
-    that = run_state new.task_table w (r.turns + 1)
+    that = run_state after.task_table w (r.turns + 1)
 
     -- where those tasks do not continue yet
     abbrev mid : Runner
-    mid = record r { world = record w { started = new.world.started }; task_table = new.task_table; turns = r.turns + 1 }
+    mid = record r { world = record w { started = after.world.started }; task_table = after.task_table; turns = r.turns + 1 }
+
+    -- the world from which the events that were set were taken too
+    abbrev last : World
+    last = record w { started = after.world.started; set = new.world.set }
+
+    -- the same with the events as they were before the turn
+    abbrev unset : World
+    unset = record w { started = after.world.started; events = r.world.events }
 
     abbrev left : Runner
-    left = record mid { batch = new.batch; clock = new.clock }
+    left = record mid { world = last; batch = after.batch; clock = new.clock; waiters = new.waiters }
 
-    ready : IsReadied takes.ids calls.Begin mid new
+    ready : IsReadied takes.ids calls.Begin mid after
     ready =
-        subst (λ (x : World). IsReadied takes.ids calls.Begin (record r { world = x; task_table = new.task_table; turns = r.turns + 1 }) new)
+        subst (λ (x : World). IsReadied takes.ids calls.Begin (record r { world = x; task_table = after.task_table; turns = r.turns + 1 }) after)
         takes.world takes.ready
 
+    -- the same of a world with the events as they were
+    abbrev were : Runner
+    were = record mid { world = unset }
+
+    abbrev there : Runner
+    there = record were { batch = after.batch; clock = after.clock }
+
+    ready_unset : IsReadied takes.ids calls.Begin were there
+    ready_unset = record { next = ready.next; timers = ready.timers; time = ready.time; current = ready.current; rest = refl }
+
+    last_is : new.world ≡ last
+    last_is = sets.world ∙ ap (λ (x : World). record x { set = new.world.set }) takes.world
+
     new_is : new ≡ left
-    new_is = ready.rest
+    new_is =
+        ap (λ (x : Runner). record x { world = new.world }) sets.wakes.rest
+        ∙ ap (λ (x : Runner). record x { world = new.world; clock = new.clock; waiters = new.waiters }) ready.rest
+        ∙ ap (λ (x : World). record left { world = x }) last_is
 
     tick : w.tick ≡ t
     tick = ap (λ (x : World). x.tick) turn.keeps.world
@@ -167,10 +203,21 @@ module _ {id : ℕ} {wake : Wake} {stop : Stop} {r new : Runner} {ro : TaskTable
     clock : w.clock ≡ r.world.clock
     clock = ap (λ (x : World). x.clock) turn.keeps.world
 
+    none_set : r.world.set.items ≡ []
+    none_set = going.shelved.consistent.none_set
+
+    -- tasks that waited for the events were woken
+    woken : Woken w.set.items (suc w.tick) after.clock new.clock r.waiters new.waiters
+    woken =
+        subst (λ (ws : List (Option ℕ)). Woken w.set.items (suc w.tick) after.clock new.clock ws new.waiters)
+        (ap (λ (x : Runner). x.waiters) ready.rest)
+        (subst (λ (x : World). Woken x.set.items (suc x.tick) after.clock new.clock after.waiters new.waiters) takes.world
+        (record { woken = sets.wakes.woken; others = sets.wakes.others }))
+
     same_many : task_count ro ≡ m
     same_many = turn.same.many
 
-    started_at : StartsAll ro new.task_table s w.started.items (tick_of w.clock (a_round_after w.clock w.tick)) takes.ids
+    started_at : StartsAll ro after.task_table s w.started.items (tick_of w.clock (a_round_after w.clock w.tick)) takes.ids
     started_at = takes.starts
 
     abbrev its : Running
@@ -186,7 +233,7 @@ module _ {id : ℕ} {wake : Wake} {stop : Stop} {r new : Runner} {ro : TaskTable
     may : MayGo r.world turn.before wake
     may = some_of (running_at r.task_table id) (λ (y : Running). MayGo r.world y.task wake) its turn.lived goes
 
-    gone_same : (p : ℕ) → gone_of new.task_table p ≡ gone_of r.task_table p
+    gone_same : (p : ℕ) → gone_of after.task_table p ≡ gone_of r.task_table p
     gone_same p =
         let here : gone_of ro p ≡ gone_of r.task_table p = elim (cases_eq p s) [
           | inl e ↦ rw e turn.gone
@@ -203,30 +250,31 @@ module _ {id : ℕ} {wake : Wake} {stop : Stop} {r new : Runner} {ro : TaskTable
       sound = sound;
       sound_after = sound_after;
       none_left = going.shelved.consistent.none_started;
+      none_set = none_set;
       fits_after = turn.fits;
       in_range = turn.keeps.in_range;
       turn = turn.turn;
       turns = refl;
       task_after = started_at.same_task s row_there ∙ turn.task;
-      child_after = λ i. ap (λ (n : ℕ). task_of new.task_table (n + i)) (sym same_many) ∙ started_at.task i;
+      child_after = λ i. ap (λ (n : ℕ). task_of after.task_table (n + i)) (sym same_many) ∙ started_at.task i;
       other_after = λ p lt differs. started_at.same_task p (below p lt) ∙ turn.same.task p differs;
       gone_after = gone_same;
       start_after = λ p lt. started_at.same_start p (below p lt) ∙ turn.same.start p;
       start_child = λ i lt.
-          ap (λ (n : ℕ). start_of new.task_table (n + i)) (sym same_many) ∙ started_at.start i lt
+          ap (λ (n : ℕ). start_of after.task_table (n + i)) (sym same_many) ∙ started_at.start i lt
           ∙ ap (λ (x : World). tick_of x.clock (a_round_after x.clock x.tick)) turn.keeps.world;
       more_children =
           started_at.child ∙ ap (λ (xs : List ℕ). xs ++ serials_from (task_count ro) (length w.started.items)) (turn.same.children s)
           ∙ ap (λ (n : ℕ). children_of r.task_table s ++ serials_from n (length w.started.items)) same_many;
       children_after = λ p lt differs. started_at.same_children p (below p lt) differs ∙ turn.same.children p;
-      no_children = λ i lt. ap (λ (n : ℕ). children_of new.task_table (n + i)) (sym same_many) ∙ started_at.childless i lt;
+      no_children = λ i lt. ap (λ (n : ℕ). children_of after.task_table (n + i)) (sym same_many) ∙ started_at.childless i lt;
     }
 
     same_tasks : SameTasks that (state_in left)
     same_tasks = record { turns = refl; task = λ p. refl; gone = λ p. refl; start = λ p. refl; children = λ p. refl }
 
-    count : m + length w.started.items ≡ task_count new.task_table
-    count = let more : task_count new.task_table ≡ task_count ro + length w.started.items = started_at.more in omega (arith, more, same_many)
+    count : m + length w.started.items ≡ task_count after.task_table
+    count = let more : task_count after.task_table ≡ task_count ro + length w.started.items = started_at.more in omega (arith, more, same_many)
 
     -- for each settled table
     module _ (k : Table) (settled : IsSettled k r.job.now r.input.now) where
@@ -246,11 +294,11 @@ module _ {id : ℕ} {wake : Wake} {stop : Stop} {r new : Runner} {ro : TaskTable
       stopped_left =
           let x =
           state_takes k r.job.now r.input.now t (m + length w.started.items) (leaving_by stop s) that (state_in left) same_tasks
-          (ap (λ (v : ℕ). record w { tick = v; started = new.world.started }) tick) stopped_there.is in
+          (ap (λ (v : ℕ). record w { tick = v; started = after.world.started; set = new.world.set }) tick) stopped_there.is in
           record { is = x.0; ended = subst (λ (at : ℕ → Started). EndsAs stop t (at s)) (sym x.1) stopped_there.ended }
 
       -- what the turn leaves is a run of the definitions by that table, in which this task stopped so
-      pub stopped_interleaving : StoppedIn k r.job.now r.input.now w.tick (task_count new.task_table) s stop (state_in left)
+      pub stopped_interleaving : StoppedIn k r.job.now r.input.now w.tick (task_count after.task_table) s stop (state_in left)
       stopped_interleaving = stopped_in (sym tick) count stopped_left
 
     -- ---- the other tasks
@@ -289,7 +337,7 @@ module _ {id : ℕ} {wake : Wake} {stop : Stop} {r new : Runner} {ro : TaskTable
         none-some y (sym (started_at.lives i other task.0 e task.1).0 ∙ lives))
 
     -- a task that had another id still has it
-    lived_still : (other : ℕ) (y : Running) → other ≢ id → running_at r.task_table other ≡ Some y → running_at new.task_table other ≡ Some y
+    lived_still : (other : ℕ) (y : Running) → other ≢ id → running_at r.task_table other ≡ Some y → running_at after.task_table other ≡ Some y
     lived_still other y differs lives =
         let at : running_at ro other ≡ Some y = turn.others other differs ∙ lives in
         started_at.others other (not_new other y at) ∙ at
@@ -314,23 +362,36 @@ module _ {id : ℕ} {wake : Wake} {stop : Stop} {r new : Runner} {ro : TaskTable
           other_follows table r.job.now r.input.now t m s (state_in r) that turn.before turn.after stop settled going.sound.names
           going.sound.starts state T y.row y_below y_else y.task y_task
 
-      goes_still : (v : Wake) → MayGo r.world y.task v → MayGo left.world y.task v
+      goes_still : (v : Wake) → MayGo r.world y.task v → MayGo last y.task v
       goes_still v h =
-          goes_on w new.world y.task v (still_goes settled going.sound.names going.sound.starts state T y.row y_below y_else y.task y_task
+          goes_on w last y.task v (still_goes settled going.sound.names going.sound.starts state T y.row y_below y_else y.task y_task
           y_follows v h)
 
-      its_stays : (due : ℕ) → Stays r.world due y.task → Stays left.world due y.task
+      -- it stays until then, where no event was set
+      its_stays : (due : ℕ) → Stays r.world due y.task → Stays unset due y.task
       its_stays due h =
-          stays_still r.world left.world y.task due clock tick
+          stays_still r.world unset y.task due clock tick
           (ap (λ (v : ℕ). seen (outer_of w.scopes (scope_of y.task)) v) tick
           ∙ seen_still settled going.sound.names going.sound.starts state T y.row y_below y_else y.task y_task y_follows)
+          (same_event (event_at r.world) (event_at unset) y.task.task_state refl)
           (λ nursery waits over. nursery_same state T y.row y.task y_else y_task nursery (inr waits)) h
+
+      -- the event for which it waits is as it was, or was set in the turn
+      its_event : (key since : ℕ) → y.task.task_state ≡ Waiting key since →
+          StaysOrIsSet unset.tick (event_at unset) (event_at last) [] w.set.items key
+      its_event key since is =
+          subst (λ (n : ℕ). StaysOrIsSet n (event_at r.world) (event_at w) [] w.set.items key) (sym tick)
+          (subst (λ (was : List ℕ). StaysOrIsSet t (event_at r.world) (event_at w) was w.set.items key) none_set
+          (event_still state T (acted state T settled going.sound.names going.sound.starts) y.row y.task y_task y_follows.goes.scope
+          (subst (λ (x : Started). AreAt (label_at w) (event_at w) T.is.froms (outer_of w.scopes (scope_of y.task)) x.places)
+          (T.of_other y.row y_below y_else) y_follows.stands.places) key since is))
 
       -- a nursery that it waits for is the same
       by_task_state : (h : TaskState) → y.task.task_state ≡ h → task_state_times w.book h ≡ task_state_times r.world.book h
       by_task_state (ToBegin at) e = refl
       by_task_state (Asked kernel purpose) e = refl
       by_task_state (Asleep paced ticks since) e = refl
+      by_task_state (Waiting event since) e = refl
       by_task_state (GivingUp since) e = refl
       by_task_state (Awaits nursery since) e =
           ap settled_times
@@ -338,7 +399,7 @@ module _ {id : ℕ} {wake : Wake} {stop : Stop} {r new : Runner} {ro : TaskTable
           (inr (ap waits_of e)))
       by_task_state Over e = refl
 
-      same_times : running_times left.world.book (running_at new.task_table other) ≡ running_times r.world.book (running_at r.task_table other)
+      same_times : running_times last.book (running_at after.task_table other) ≡ running_times r.world.book (running_at r.task_table other)
       same_times =
           ap (running_times w.book) (lived_still other y differs lives) ∙ by_task_state y.task.task_state refl
           ∙ sym (ap (running_times r.world.book) lives)
@@ -348,26 +409,27 @@ module _ {id : ℕ} {wake : Wake} {stop : Stop} {r new : Runner} {ro : TaskTable
     none_here : times_shelved r.batch r.clock id ≡ 0
     none_here = going.shelved.away id refl
 
-    called_still : (key : ℕ) (call : Call) → key ≢ id → IsCalled r.task_table r.world key call → IsCalled new.task_table left.world key call
+    called_still : (key : ℕ) (call : Call) → key ≢ id → IsCalled r.task_table r.world key call → IsCalled after.task_table last key call
     called_still key call differs =
-        some_kept (running_at r.task_table key) (running_at new.task_table key) (λ (x : Running). GoesBy r.world x.task call)
-        (λ (x : Running). GoesBy left.world x.task call) (λ y lives. lived_still key y differs lives)
+        some_kept (running_at r.task_table key) (running_at after.task_table key) (λ (x : Running). GoesBy r.world x.task call)
+        (λ (x : Running). GoesBy last x.task call) (λ y lives. lived_still key y differs lives)
         (λ y lives h answer v right e. goes_still key y differs lives v (h answer v right e))
 
-    stay_still : AllStay new.task_table left.world r.clock
+    -- where no event was set, each task that had a timer stays until then
+    stay_still : AllStay after.task_table unset r.clock
     stay_still key due f =
         let differs = timer_else going.shelved key due f in
-        some_kept (running_at r.task_table key) (running_at new.task_table key) (λ (z : Running). Stays r.world due z.task)
-        (λ (z : Running). Stays left.world due z.task) (λ y lives. lived_still key y differs lives)
+        some_kept (running_at r.task_table key) (running_at after.task_table key) (λ (z : Running). Stays r.world due z.task)
+        (λ (z : Running). Stays unset due z.task) (λ y lives. lived_still key y differs lives)
         (λ y lives h. its_stays key y differs lives due h) (going.shelved.stay key due f)
 
     -- a task that has a timer lives on as it did
-    sleeper_same : (key due : ℕ) → due_of r.clock key ≡ Some due → running_at new.task_table key ≡ running_at r.task_table key
+    sleeper_same : (key due : ℕ) → due_of r.clock key ≡ Some due → running_at after.task_table key ≡ running_at r.task_table key
     sleeper_same key due f =
         let y = some_is (running_at r.task_table key) (λ (z : Running). Stays r.world due z.task) (going.shelved.stay key due f) in
         lived_still key y.0 (timer_else going.shelved key due f) y.1 ∙ sym y.1
 
-    sights_still : (key scope : ℕ) → scope_in r.sleepers key ≡ Some scope → Shows left.world.scopes scope (sight_of r.sleepers scope)
+    sights_still : (key scope : ℕ) → scope_in r.sleepers key ≡ Some scope → Shows unset.scopes scope (sight_of r.sleepers scope)
     sights_still key scope f =
         let z = sleeper_in going.shelved.known key scope f in
         let differs = timer_else going.shelved key z.due z.timer in
@@ -379,10 +441,12 @@ module _ {id : ℕ} {wake : Wake} {stop : Stop} {r new : Runner} {ro : TaskTable
         record { stack = h.stack; opened = h.opened; known = h.known }
 
     -- each sleeper is still known by its scope, and the scope by its effective deadline (`sight`)
-    known_still : AreKnown new.task_table left.world r.clock r.sleepers
+    known_still : AreKnown after.task_table unset r.clock r.sleepers r.waiters
     known_still = record {
-      sleep_slots = λ key. going.shelved.known.sleep_slots key ∙ slots_kept r.task_table new.task_table r.clock sleeper_same key;
+      sleep_slots = λ key. going.shelved.known.sleep_slots key ∙ slots_kept r.task_table after.task_table r.clock sleeper_same key;
       sights = sights_still;
+      waiting = λ key. going.shelved.known.waiting key
+          ∙ waits_kept (event_at r.world) r.task_table after.task_table r.clock sleeper_same key;
     }
 
     -- a task that was started begins a round later
@@ -396,21 +460,21 @@ module _ {id : ℕ} {wake : Wake} {stop : Stop} {r new : Runner} {ro : TaskTable
         b.2.task_state
 
     new_task : (i key : ℕ) → slice_get takes.ids i ≡ Some key → (task : Task)
-        × (running_at new.task_table key ≡ Some (record { task = task; row = task_count ro + i }))
+        × (running_at after.task_table key ≡ Some (record { task = task; row = task_count ro + i }))
         × (task.task_state ≡ ToBegin (a_round_after r.world.clock t)) × (running_at ro key ≡ None)
     new_task i key e =
         let task = value_at w.started.items i (id_within i key e) in
         let lives = started_at.lives i key task.0 e task.1 in
         (task.0, lives.1, begins i task.0 task.1, lives.0)
 
-    each_begins : (i key : ℕ) → slice_get takes.ids i ≡ Some key →
-        IsSomeAnd (running_at new.task_table key) (λ (z : Running). Continues mid.world.clock mid.world z.task calls.Begin)
-    each_begins i key e =
+    each_begins : (v : World) → a_round_after v.clock v.tick ≡ a_round_after w.clock w.tick → (i key : ℕ) → slice_get takes.ids i ≡ Some key →
+        IsSomeAnd (running_at after.task_table key) (λ (z : Running). Continues v.clock v z.task calls.Begin)
+    each_begins v same i key e =
         let x = new_task i key e in
-        some_has (running_at new.task_table key) (λ (z : Running). Continues mid.world.clock mid.world z.task calls.Begin)
+        some_has (running_at after.task_table key) (λ (z : Running). Continues v.clock v z.task calls.Begin)
         (record { task = x.0; row = task_count ro + i }) x.1
-        (begin_continues mid.world x.0 (a_round_after r.world.clock t) x.2
-        (sym (ap (λ (v : World). a_round_after v.clock v.tick) turn.keeps.world)))
+        (begin_continues v x.0 (a_round_after r.world.clock t) x.2
+        (sym (same ∙ ap (λ (z : World). a_round_after z.clock z.tick) turn.keeps.world)))
 
     -- a task that has a timer lives
     timed_lives : (key due : ℕ) → due_of r.clock key ≡ Some due → running_at ro key ≡ None → ⊥
@@ -430,7 +494,7 @@ module _ {id : ℕ} {wake : Wake} {stop : Stop} {r new : Runner} {ro : TaskTable
 
     -- how often each task is kept
     once_of : (other : ℕ) → other ≢ id → (o : Option Running) → running_at r.task_table other ≡ o →
-        times_shelved r.batch r.clock other + times other takes.ids ≡ running_times left.world.book (running_at new.task_table other)
+        times_shelved r.batch r.clock other + times other takes.ids ≡ running_times last.book (running_at after.task_table other)
     once_of other differs (Some y) e =
         let b : times other takes.ids ≡ 0 = none_new other y differs e in
         let c : times_shelved r.batch r.clock other ≡ running_times r.world.book (running_at r.task_table other) =
@@ -444,30 +508,80 @@ module _ {id : ℕ} {wake : Wake} {stop : Stop} {r new : Runner} {ro : TaskTable
               let g = place_of other takes.ids (omega (arith, some)) in
               let x = new_task g.0 other g.1 in
               let c : times other takes.ids ≤ 1 = started_at.once other in
-              let d : running_times left.world.book (running_at new.task_table other) ≡ 1 =
+              let d : running_times last.book (running_at after.task_table other) ≡ 1 =
               ap (running_times w.book) x.1 ∙ ap (task_state_times w.book) x.2 in
               omega (arith, b, c, d, some)
           | inr few ↦
               let none : times other takes.ids ≡ 0 = omega (arith, few) in
               let nothing : running_at ro other ≡ None = turn.others other differs ∙ e in
-              let d : running_times left.world.book (running_at new.task_table other) ≡ 0 =
+              let d : running_times last.book (running_at after.task_table other) ≡ 0 =
               ap (running_times w.book) (started_at.others other none ∙ nothing) in
               omega (arith, b, none, d)
         ]
 
-    homes_there : AreHomesOf that (parent_of new.task_table)
+    -- ---- the events that were set
+
+    -- a task that has a timer afterwards and waits for an event did so before
+    its_event_there : (key due : ℕ) (z : Running) → due_of after.clock key ≡ Some due → running_at after.task_table key ≡ Some z →
+        (event since : ℕ) → z.task.task_state ≡ Waiting event since →
+        StaysOrIsSet unset.tick (event_at unset) (event_at last) [] w.set.items event
+    its_event_there key due z timer lives event since is = by_id (cases_eq key id)
+      where
+        Set : Type 0
+        Set = StaysOrIsSet unset.tick (event_at unset) (event_at last) [] w.set.items event
+
+        -- one that was started has not begun
+        not_started : (i : ℕ) → slice_get takes.ids i ≡ Some key → ⊥
+        not_started i e =
+            let x = new_task i key e in
+            let same : record { task = x.0; row = task_count ro + i } ≡ z =
+            same_Some (record { task = x.0; row = task_count ro + i }) z (sym x.1 ∙ lives) in
+            let f : ToBegin (a_round_after r.world.clock t) ≡ Waiting event since =
+            sym x.2 ∙ (ap (λ (y : Running). y.task.task_state) same ∙ is) in
+            cc
+
+        by_task : key ≢ id → (o : Option Running) → running_at r.task_table key ≡ o → Set
+        by_task differs (Some y) e =
+            let same : y ≡ z = same_Some y z (sym (lived_still key y differs e) ∙ lives) in
+            its_event key y differs e event since (ap (λ (x : Running). x.task.task_state) same ∙ is)
+        by_task differs None e =
+            absurd (elim (cases_lt 0 (times key takes.ids)) [
+              | inl some ↦ (let g = place_of key takes.ids (omega (arith, some)) in not_started g.0 g.1)
+              | inr few ↦
+                  let none : times key takes.ids ≡ 0 = omega (arith, few) in
+                  none-some z (sym (started_at.others key none ∙ (turn.others key differs ∙ e)) ∙ lives)
+            ])
+
+        by_id : (key ≡ id) ⊎ (key ≢ id) → Set
+        by_id (inr differs) = by_task differs (running_at r.task_table key) refl
+        by_id (inl e) =
+            let here : times id takes.ids ≡ 0 = not_new id (record { task = turn.after; row = s }) turn.lives in
+            let awake : due_of r.clock id ≡ None =
+            no_timer (due_of r.clock id) (let none = none_here in omega (arith, none)) in
+            absurd (none-some due (sym (ap (due_of after.clock) e ∙ readied_else ready id here awake) ∙ timer))
+
+    soon : (key from : ℕ) → event_at unset key ≡ Some (Some from) → from ≤ suc unset.tick
+    soon key from e = let le : from ≤ suc t = state.soon key from e in omega (arith, le, tick)
+
+    stay_unset : AllStay after.task_table unset after.clock
+    stay_unset = stay_ready ready_unset (each_begins unset refl) stay_still
+
+    known_unset : AreKnown after.task_table unset after.clock r.sleepers r.waiters
+    known_unset = known_ready ready_unset new_awake (each_begins unset refl) known_still
+
+    homes_there : AreHomesOf that (parent_of after.task_table)
     homes_there =
-        homes_kept state T (parent_of r.task_table) (parent_of new.task_table) (λ p lt. started_at.same_parent p (below p lt) ∙ turn.same.parent p)
-        (λ i lt. ap (λ (n : ℕ). parent_of new.task_table (n + i)) (sym same_many)
+        homes_kept state T (parent_of r.task_table) (parent_of after.task_table) (λ p lt. started_at.same_parent p (below p lt) ∙ turn.same.parent p)
+        (λ i lt. ap (λ (n : ℕ). parent_of after.task_table (n + i)) (sym same_many)
         ∙ started_at.parent_is i (let e = turned_so.1 in omega (arith, lt, e))) going.shelved.consistent.homes
 
-    consistent_left : IsConsistent new.task_table left.world r.clock r.limit (r.turns + 1)
+    consistent_left : IsConsistent after.task_table last new.clock r.limit (r.turns + 1)
     consistent_left = record {
       agree = takes.agree;
       homes = λ p task home lives at. (let h = homes_there p task home lives at in
           record { task = h.task; lives = h.lives; owned = h.owned });
-      now = going.shelved.consistent.now ∙ sym tick;
-      limit = going.shelved.consistent.limit ∙ ap (λ (x : Clock). last_of x r.limit) (sym clock);
+      now = sets.wakes.time.now ∙ (ready.time.now ∙ (going.shelved.consistent.now ∙ sym tick));
+      limit = sets.wakes.time.limit ∙ (ready.time.limit ∙ going.shelved.consistent.limit) ∙ ap (λ (x : Clock). last_of x r.limit) (sym clock);
       within =
           (let a = going.shelved.consistent.within in
           let b = tick in
@@ -478,50 +592,66 @@ module _ {id : ℕ} {wake : Wake} {stop : Stop} {r new : Runner} {ro : TaskTable
           let same : last_tick w.clock ≡ last_tick r.world.clock = ap last_tick clock in
           omega (arith, a, same));
       none_started = takes.none_left;
+      none_set = sets.none_left;
     }
 
-    entries_still : All (IsCalledEntry new.task_table left.world) r.batch.current
+    entries_still : All (IsCalledEntry after.task_table last) r.batch.current
     entries_still =
         let none = none_here in
         all_others (λ (e : Entry). e.task) id r.batch.current (omega (arith, none)) (IsCalledEntry r.task_table r.world)
-        (IsCalledEntry new.task_table left.world) going.shelved.current (λ e. called_still e.task e.call)
+        (IsCalledEntry after.task_table last) going.shelved.current (λ e. called_still e.task e.call)
 
-    added_still : All (IsCalledAdded new.task_table left.world) r.batch.next
+    added_still : All (IsCalledAdded after.task_table last) r.batch.next
     added_still =
         let none = none_here in
         all_others (λ (a : Added). a.0) id r.batch.next (omega (arith, none)) (IsCalledAdded r.task_table r.world)
-        (IsCalledAdded new.task_table left.world) going.shelved.next (λ a. called_still a.0 a.1)
+        (IsCalledAdded after.task_table last) going.shelved.next (λ a. called_still a.0 a.1)
 
-    shelved_left : AreShelved (Some id) new
-    shelved_left =
-        shelved_ready ready started_at.once new_awake each_begins consistent_left stay_still known_still entries_still added_still (Some id)
-        (λ other differs. once_of other differs (running_at r.task_table other) refl)
-        (λ key e.
-        let none : times_shelved r.batch r.clock key ≡ 0 = going.shelved.away key e in
-        let same : id ≡ key = same_Some id key e in
-        let here : times id takes.ids ≡ 0 = not_new id (record { task = turn.after; row = s }) turn.lives in
-        let there : times key takes.ids ≡ times id takes.ids = ap (λ (n : ℕ). times n takes.ids) (sym same) in
-        omega (arith, none, here, there))
+    -- how often each task is kept
+    kept_times : (other : ℕ) → times_shelved after.batch new.clock other ≡ times_shelved r.batch r.clock other + times other takes.ids
+    kept_times other =
+        let a : times_shelved after.batch after.clock other ≡ times_shelved r.batch r.clock other + times other takes.ids =
+        times_ready ready started_at.once new_awake (each_begins mid.world refl) other in
+        let b : timer_times (due_of new.clock other) ≡ timer_times (due_of after.clock other) =
+        timers_set {old = unset} {new = last} woken refl stay_unset known_unset soon its_event_there other in
+        omega (arith, a, b)
 
-    lives_left : IsSomeAnd (running_at new.task_table id) (λ (x : Running). (x.row ≡ s) × StopSays left.world x.task stop)
+    shelved_left : AreShelved (Some id) left
+    shelved_left = record {
+      consistent = consistent_left;
+      stay = stay_set {old = unset} {new = last} woken refl stay_unset known_unset soon its_event_there;
+      known = known_set {old = unset} {new = last} woken refl stay_unset known_unset soon its_event_there;
+      current = (let same = ready.current in rw same entries_still);
+      next = called_ready ready last (each_begins last refl) added_still;
+      once = λ other differs. kept_times other ∙ once_of other differs (running_at r.task_table other) refl;
+      away = λ key e.
+          let none : times_shelved r.batch r.clock key ≡ 0 = going.shelved.away key e in
+          let same : id ≡ key = same_Some id key e in
+          let here : times id takes.ids ≡ 0 = not_new id (record { task = turn.after; row = s }) turn.lives in
+          let there_too : times key takes.ids ≡ times id takes.ids = ap (λ (n : ℕ). times n takes.ids) (sym same) in
+          let all = kept_times key in
+          omega (arith, none, here, there_too, all);
+    }
+
+    lives_left : IsSomeAnd (running_at after.task_table id) (λ (x : Running). (x.row ≡ s) × StopSays last x.task stop)
     lives_left =
-        some_has (running_at new.task_table id) (λ (x : Running). (x.row ≡ s) × StopSays left.world x.task stop)
+        some_has (running_at after.task_table id) (λ (x : Running). (x.row ≡ s) × StopSays last x.task stop)
         (record { task = turn.after; row = s })
         (started_at.others id (not_new id (record { task = turn.after; row = s }) turn.lives) ∙ turn.lives) (
           refl,
-          says_on w new.world turn.after stop
+          says_on w last turn.after stop
               (stop_says table r.job.now r.input.now t m s (state_in r) that turn.before turn.after wake stop settled going.sound.names
               going.sound.starts state turn_taken wakes_so),
         )
 
-    -- the task has stopped, and those that it started begin a round later
+    -- the task has stopped, and those that it started, or that waited for an event which it set, continue a round later
     pub is_stopping : IsStopping id s stop new
     is_stopping =
         subst (IsStopping id s stop) (sym new_is)
         (record {
           sound = going.sound;
           counts = clock ∙ going.counts;
-          shelved = subst (AreShelved (Some id)) new_is shelved_left;
+          shelved = shelved_left;
           lives = lives_left;
           interleaving = stopped_interleaving;
         })
@@ -564,15 +694,34 @@ turn_bounded going turn =
     let same = ap (λ (x : World). x.tick) turn.keeps.world in
     rw same (moment_bounded going.shelved.consistent)
 
--- after a turn whose started tasks were taken, its task is one that stopped so
-pub goes_stopping : {id : ℕ} {r new : Runner} {ro : TaskTable} {w : World} {wake : Wake} {stop : Stop} (row : ℕ) → IsGoing (Some id) r →
+-- after the started tasks were taken, the clock still shows the world's moment
+pub started_now : (r : Runner) {after : Runner} {ro : TaskTable} {w : World} {turns row : ℕ} →
+    TakesStarted (record r { world = w; task_table = ro; turns = turns }) after row → now_of r.clock ≡ w.tick →
+    now_of after.clock ≡ after.world.tick
+started_now r takes now = takes.ready.time.now ∙ now ∙ sym (ap (λ (x : World). x.tick) takes.world)
+
+-- which is not too late
+pub started_bounded : (r : Runner) {after : Runner} {ro : TaskTable} {w : World} {turns row : ℕ} →
+    TakesStarted (record r { world = w; task_table = ro; turns = turns }) after row → w.tick ≤ 2 ^ 62 → after.world.tick ≤ 2 ^ 62
+started_bounded r takes bounded = let same = ap (λ (x : World). x.tick) takes.world in rw same bounded
+
+-- and each task that waits for an event has a timer
+pub started_timed : {away : Option ℕ} {r after : Runner} {ro : TaskTable} {w : World} {turns row : ℕ} → IsGoing away r →
+    TakesStarted (record r { world = w; task_table = ro; turns = turns }) after row → (id event : ℕ) →
+    event_in after.waiters id ≡ Some event → IsSome (due_of after.clock id)
+started_timed going takes id event e =
+    let z = waiter_in going.shelved.known id event (ap (λ (x : Runner). event_in x.waiters id) (sym takes.ready.rest) ∙ e) in
+    readied_timed takes.ready id (ap is_some z.timer)
+
+-- after a turn whose started tasks and events that were set were taken, its task is one that stopped so
+pub goes_stopping : {id : ℕ} {r after new : Runner} {ro : TaskTable} {w : World} {wake : Wake} {stop : Stop} (row : ℕ) → IsGoing (Some id) r →
     IsSomeAnd (running_at r.task_table id) (λ (x : Running). MayGo r.world x.task wake) →
     IsSomeAnd (running_at r.task_table id) (λ (x : Running). x.row ≡ row) →
     (turn : HasTurn r.task_table ro r.world w id wake stop) → IsSound r.world.scopes → IsSound w.scopes →
-    TakesStarted (record r { world = w; task_table = ro; turns = r.turns + 1 }) new row → IsStopping id row stop new
-goes_stopping {r = r} row going goes is turn sound sound_after takes =
+    TakesStarted (record r { world = w; task_table = ro; turns = r.turns + 1 }) after row → TakesSet after new → IsStopping id row stop new
+goes_stopping {r = r} row going goes is turn sound sound_after takes sets =
     let e = row_is r row is turn in
-    rw (← e) (is_stopping going goes turn sound sound_after (rw e takes))
+    rw (← e) (is_stopping going goes turn sound sound_after (rw e takes) sets)
 
 -- a tree is sound if its stacks are chains that begin with their own scopes, each once
 pub scopes_sound : {tree other : Tree} → tree ≡ other → IsOwn tree → IsChain tree → IsApart tree → IsSound other

@@ -17,7 +17,7 @@ use Rattle.nursery_book.specs.Nursery.{End, Nursery, is_settled, with_child}
 use Rattle.nursery_book.specs.Book.{nursery_at, HasNursery, Updates}
 use Rattle.nursery_book.specs.declared.book.NurseryBook.{NurseryBook}
 use Rattle.task_machine.specs.declared.stop.TaskState.{TaskState}
-use Rattle.task_machine.specs.declared.stop.TaskState.TheVariants.{ToBegin, Asked, Asleep, GivingUp, Awaits, Over}
+use Rattle.task_machine.specs.declared.stop.TaskState.TheVariants.{ToBegin, Asked, Asleep, Waiting, GivingUp, Awaits, Over}
 use Rattle.task_machine.specs.declared.stop.Stop.TheVariants as stops
 use Rattle.task_machine.specs.declared.task.Home.{Home}
 use Rattle.task_machine.specs.declared.task.Task.{Task}
@@ -52,6 +52,7 @@ task_state_due : (old new : NurseryBook) (task_state : TaskState) → ((key : �
 task_state_due old new (ToBegin at) same = refl
 task_state_due old new (Asked kernel purpose) same = refl
 task_state_due old new (Asleep paced ticks since) same = refl
+task_state_due old new (Waiting event since) same = refl
 task_state_due old new (GivingUp since) same = refl
 task_state_due old new (Awaits id since) same = same id refl
 task_state_due old new Over same = refl
@@ -68,6 +69,7 @@ awaits : (task_state : TaskState) (key : ℕ) → waits_of task_state ≡ Some k
 awaits (ToBegin at) key e = absurd (none-some key e)
 awaits (Asked kernel purpose) key e = absurd (none-some key e)
 awaits (Asleep paced ticks since) key e = absurd (none-some key e)
+awaits (Waiting event since) key e = absurd (none-some key e)
 awaits (GivingUp since) key e = absurd (none-some key e)
 awaits (Awaits id since) key e = (since, ap (λ (n : ℕ). Awaits n since) (same_Some id key e))
 awaits Over key e = absurd (none-some key e)

@@ -1,6 +1,7 @@
 -- Tasks with a timer in a new moment: which ones continue, and that the others stay.
-use Rattle.std.proofs.Common.{◌≡◌, ◌≢◌, inl, inr, ℕ, ◌<◌, ◌≤◌, Bool, true, false, Option, Some, None, [], ◌∷◌, ◌++◌, length, refl, ap, sym, ◌∙◌, arith, if◌then◌else◌}
+use Rattle.std.proofs.Common.{◌≡◌, ◌≢◌, inl, inr, ℕ, ◌^◌, ◌<◌, ◌≤◌, Bool, true, false, Option, Some, None, [], ◌∷◌, ◌++◌, length, refl, ap, sym, ◌∙◌, subst, arith, if◌then◌else◌}
 use Rattle.std.specs.Prelude.{IsSome, is_some, ◌==◌, ◌⊎◌}
+use Rattle.std.specs.Option.{ForSome}
 use Rattle.std.proofs.lemmas.Bool.{le-leb}
 use Rattle.std.proofs.lemmas.Bool.Decides.{eqb_tells, leb_tells}
 use Rattle.std.proofs.lemmas.List.Elements.{All-nil, All-push}
@@ -10,26 +11,30 @@ use Rattle.batch_commit.specs.declared.entry.Call.{Call}
 use Rattle.batch_commit.specs.declared.entry.Call.TheVariants as calls
 use Rattle.cancel_scopes.specs.Sight.{Tick, is_reached}
 use Rattle.task_machine.specs.declared.stop.TaskState.{TaskState}
-use Rattle.task_machine.specs.declared.stop.TaskState.TheVariants.{ToBegin, Asked, Asleep, GivingUp, Awaits, Over}
+use Rattle.task_machine.specs.declared.stop.TaskState.TheVariants.{ToBegin, Asked, Asleep, Waiting, GivingUp, Awaits, Over}
 use Rattle.task_machine.specs.declared.world.World.{World}
+use Rattle.task_machine.specs.Events.{WaitsWithin}
 use Rattle.task_machine.specs.Tasks.{scope_of}
+use Rattle.task_machine.specs.Worlds.{event_at}
 use Rattle.nursery_book.specs.Nursery.{Nursery, is_settled}
 use Rattle.nursery_book.specs.Book.{nursery_at}
 use Rattle.nursery_book.specs.declared.book.NurseryBook.{NurseryBook}
 use Rattle.sleepers.specs.Sleeping.{Sleeping, Moves, KeepsSights, TakesSeen, NoneSees as NoneSleeps}
+use Rattle.sleepers.specs.Waiting.{WaitsFor}
 use Rattle.task_table.specs.declared.task_table.TaskTable.{TaskTable}
 use Rattle.task_table.specs.declared.task_table.Running.{Running}
 use Rattle.task_table.specs.TaskTable.{running_at}
 use Rattle.task_table.proofs.Lists.{push_some}
 use Rattle.task_table.proofs.Times.{one_if}
 use Rattle.job_runner.specs.declared.runner.Runner.{Runner}
-use Rattle.job_runner.specs.Jumps.{sight_asleep, sight_by, sight_in, BeganBefore, Stayed, IsAnyNow, IsWaking, NoneSees, WakesOnly}
-use Rattle.job_runner.specs.Shelves.{GoesBy, IsCalled, IsCalledAdded, IsCalledEntry, IsConsistent, DozesIn, Stays, AllStay, sleep_slot_of, timer_times, times_shelved, running_times, task_state_times, settled_times, AreShelved}
+use Rattle.job_runner.specs.Jumps.{seen_call, sight_asleep, sight_by, sight_in, BeganBefore, Stayed, IsAnyNow, IsWaking, NoneSees, WakesOnly}
+use Rattle.job_runner.specs.Shelves.{GoesBy, IsCalled, IsCalledAdded, IsCalledEntry, IsConsistent, DozesIn, Stays, AllStay, sleep_slot_of, wait_slot_of, timer_times, times_shelved, running_times, task_state_times, settled_times, AreShelved}
 use Rattle.job_runner.proofs.Counting.{count_below, fewer_below, found_within}
 use Rattle.job_runner.proofs.Goes.{due_goes, seen_goes}
 use Rattle.job_runner.proofs.Known.{SleepsIn, seen_by, known_without, sees_from}
 use Rattle.job_runner.proofs.Options.{some_has, some_is, some_of}
 use Rattle.job_runner.proofs.Shelving.{none_away, shelved_more}
+use Rattle.job_runner.proofs.States.{moment_bounded}
 
 -- ---- how often a task is kept
 
@@ -50,6 +55,7 @@ running_most book (Some x) = by_task_state x.task.task_state
     by_task_state (ToBegin at) = omega arith
     by_task_state (Asked kernel purpose) = omega arith
     by_task_state (Asleep paced ticks since) = omega arith
+    by_task_state (Waiting event since) = omega arith
     by_task_state (GivingUp since) = omega arith
     by_task_state (Awaits id since) = by_settled (nursery_at book id)
     by_task_state Over = omega arith
@@ -67,6 +73,7 @@ consistent_still h time = record {
   within = h.within;
   bounded = h.bounded;
   none_started = h.none_started;
+  none_set = h.none_set;
 }
 
 -- how many timers there are
@@ -94,19 +101,20 @@ unseen_sleeper {r} h unseen id due e =
 
 -- ---- one is woken
 
--- a task has no timer any more, sleeps in no scope, and is ready by this call
+-- a task has no timer any more, sleeps in no scope, waits for no event, and is ready by this call
 pub record WakesOne (old new : Runner) (id : ℕ) (call : Call) : Type 0 where
   pub timers : Updates old.clock new.clock id None
   pub time : SameTime old.clock new.clock
   pub scopes : Moves old.sleepers new.sleepers id None
   pub sights : KeepsSights old.sleepers new.sleepers
+  pub waiters : WaitsFor old.waiters new.waiters id None
   pub current : new.batch.current ≡ old.batch.current
   pub next : new.batch.next ≡ old.batch.next ++ (id, call) ∷ []
   pub only : WakesOnly old new
 
 only_again : (was old new : Runner) → WakesOnly was old → WakesOnly old new → WakesOnly was new
 only_again was old new a b =
-    b ∙ ap (λ (r : Runner). record r { clock = new.clock; sleepers = new.sleepers; batch = new.batch }) a
+    b ∙ ap (λ (r : Runner). record r { clock = new.clock; sleepers = new.sleepers; waiters = new.waiters; batch = new.batch }) a
 
 module _ {old new : Runner} {id : ℕ} {call : Call} (h : IsWaking old) (w : WakesOne old new id call) (due : ℕ)
     (timer : due_of old.clock id ≡ Some due) where
@@ -137,7 +145,7 @@ module _ {old new : Runner} {id : ℕ} {call : Call} (h : IsWaking old) (w : Wak
       rw w.only (record {
         consistent = consistent_still h.consistent w.time;
         stayed = λ other tick e. h.stayed other tick (left other tick e);
-        known = known_without h.known w.timers w.scopes w.sights;
+        known = known_without h.known w.timers w.scopes w.sights w.waiters;
         unchanged = h.unchanged;
         none_current = w.current ∙ h.none_current;
         next = rw w.next (All-push (IsCalledAdded old.task_table old.world) old.batch.next (id, call) h.next called);
@@ -162,6 +170,16 @@ pub record IsSeeing (was r : Runner) : Type 0 where
   pub waking : IsWaking r
   pub only : WakesOnly was r
 
+-- a wait that began before a moment which is not too late to be counted did not either
+within_by : (task_state : TaskState) (t : ℕ) → BeganBefore t task_state → t ≤ 2 ^ 62 → WaitsWithin task_state
+within_by (Waiting event since) t began bounded = let lt : since < t = began in omega (arith, lt, bounded)
+within_by (ToBegin at) t began bounded = tt
+within_by (Asked kernel purpose) t began bounded = tt
+within_by (Asleep paced ticks since) t began bounded = tt
+within_by (GivingUp since) t began bounded = tt
+within_by (Awaits id since) t began bounded = tt
+within_by Over t began bounded = tt
+
 -- before the first one that sees a cancellation is woken, what holds while they are is true
 pub seeing_first : (r : Runner) → IsWaking r → IsSeeing r r
 seeing_first r h = record { waking = h; only = refl }
@@ -176,27 +194,42 @@ module _ {was old : Runner} {id : ℕ} {sleepers : Sleeping} (s : IsSeeing was o
     pub seer_timed : IsSome (due_of old.clock id)
     seer_timed = ap is_some seer.0.timer
 
-    seer_called : IsCalled old.task_table old.world id calls.Seen
-    seer_called =
+    -- and has not ended
+    pub seer_lives : IsSome (running_at old.task_table id)
+    seer_lives = ap is_some seer.0.lives
+
+    -- it did not begin to wait too late to be counted
+    pub seer_within : ForSome (running_at old.task_table id) (λ (x : Running). WaitsWithin x.task.task_state)
+    seer_within x lives =
+        let y = sleeper s.waking id seer.0.due seer.0.timer in
+        let same : y.0 ≡ x = same_Some y.0 x (sym y.1 ∙ lives) in
+        subst (λ (z : Running). WaitsWithin z.task.task_state) same
+        (within_by y.0.task.task_state old.world.tick y.2.began (moment_bounded s.waking.consistent))
+
+    seer_called : (call : Call) → ForSome (running_at old.task_table id) (λ (x : Running). call ≡ seen_call old.world x.task) →
+        IsCalled old.task_table old.world id call
+    seer_called call is =
         let x = sleeper s.waking id seer.0.due seer.0.timer in
         let same : seer.0.running ≡ x.0 = same_Some seer.0.running x.0 (sym seer.0.lives ∙ x.1) in
         let saw : is_reached (sight_asleep old.world (scope_of x.0.task) x.0.task.task_state) old.world.tick ≡ true =
         ap (λ (y : Running). is_reached (sight_asleep old.world (scope_of y.task) y.task.task_state) old.world.tick) (sym same)
         ∙ (ap (λ (t : Tick). is_reached t old.world.tick) seer.1 ∙ le-leb takes.from old.world.tick takes.come) in
-        some_has (running_at old.task_table id) (λ (y : Running). GoesBy old.world y.task calls.Seen) x.0 x.1
-        (seen_goes old.world seer.0.due x.0.task x.2 saw)
+        some_has (running_at old.task_table id) (λ (y : Running). GoesBy old.world y.task call) x.0 x.1
+        (subst (λ (z : Call). GoesBy old.world x.0.task z) (sym (is x.0 x.1)) (seen_goes old.world seer.0.due x.0.task x.2 saw))
 
-    module _ {new : Runner} (w : WakesOne old new id calls.Seen) where
-      -- once one that sees a cancellation is woken, what holds while they are is true again
-      pub seeing_next : IsSeeing was new
-      seeing_next = record {
-        waking = waking_more s.waking w seer.0.due seer.0.timer seer_called;
-        only = only_again was old new s.only w.only;
-      }
+    module _ {new : Runner} {call : Call} (is : ForSome (running_at old.task_table id) (λ (x : Running). call ≡ seen_call old.world x.task))
+        (w : WakesOne old new id call)
+      where
+        -- once one that sees a cancellation is woken, what holds while they are is true again
+        pub seeing_next : IsSeeing was new
+        seeing_next = record {
+          waking = waking_more s.waking w seer.0.due seer.0.timer (seer_called call is);
+          only = only_again was old new s.only w.only;
+        }
 
-      -- and fewer timers are left
-      pub seeing_fewer : timed (most_timed was) new.clock < timed (most_timed was) old.clock
-      seeing_fewer = fewer s.waking w seer.0.due seer.0.timer was s.only
+        -- and fewer timers are left
+        pub seeing_fewer : timed (most_timed was) new.clock < timed (most_timed was) old.clock
+        seeing_fewer = fewer s.waking w seer.0.due seer.0.timer was s.only
 
 -- none is left
 module _ {was r : Runner} (sleepers : Sleeping) (s : IsSeeing was r) (none : NoneSleeps r.sleepers sleepers r.world.tick) where
@@ -213,6 +246,7 @@ module _ {was r : Runner} (sleepers : Sleeping) (s : IsSeeing was r) (none : Non
           sights = λ id key e.
               let kept = none.sights id key e in
               rw kept (s.waking.known.sights id key (sym (none.scopes id) ∙ e));
+          waiting = s.waking.known.waiting;
         };
     unchanged = s.waking.unchanged;
     none_current = s.waking.none_current;
@@ -276,12 +310,13 @@ module _ {was old : Runner} {id : ℕ} {clock : Clock} (s : IsDue was old) (take
     pub due_fewer : timed (most_timed was) new.clock < timed (most_timed was) old.clock
     due_fewer = fewer s.waking w takes.due takes.had was s.only
 
--- a sleeper that fell asleep before and sees no cancellation dozes on
+-- one that fell asleep, or began to wait, before and sees no cancellation dozes on
 dozes_on : (world : World) (scope : Option ℕ) (task_state : TaskState) → BeganBefore world.tick task_state →
     is_reached (sight_asleep world scope task_state) world.tick ≡ false → DozesIn world scope task_state
 dozes_on world scope (ToBegin at) began unseen = tt
 dozes_on world scope (Asked kernel purpose) began unseen = tt
 dozes_on world scope (Asleep paced ticks since) began unseen = (let a : since < world.tick = began in omega (arith, a), inl unseen)
+dozes_on world scope (Waiting event since) began unseen = (let a : since < world.tick = began in omega (arith, a), inl unseen)
 dozes_on world scope (GivingUp since) began unseen = tt
 dozes_on world scope (Awaits id since) began unseen = tt
 dozes_on world scope Over began unseen = tt
@@ -316,6 +351,8 @@ module _ {was r : Runner} (clock : Clock) (s : IsDue was r) (none : NoneDue r.cl
           sleep_slots = λ id. s.waking.known.sleep_slots id ∙ ap (λ (d : Option ℕ). sleep_slot_of d (running_at r.task_table id))
               (sym (none.unchanged.timers id));
           sights = s.waking.known.sights;
+          waiting = λ id. s.waking.known.waiting id
+              ∙ ap (λ (d : Option ℕ). wait_slot_of (event_at r.world) d (running_at r.task_table id)) (sym (none.unchanged.timers id));
         };
     current =
         let over = s.waking.none_current in

@@ -1,15 +1,19 @@
 -- What a jump of the clock does: to which moment, and which tasks continue then.
-use Rattle.std.specs.Prelude.{◌≡◌, ◌≢◌, ◌⊎◌, ℕ, suc, ◌<◌, ◌≤◌, max, true, false, Option, Some, None, [], All, IsSomeAnd}
+use Rattle.std.specs.Prelude.{◌≡◌, ◌≢◌, ◌⊎◌, ℕ, suc, ◌<◌, ◌≤◌, max, Bool, true, false, Option, Some, None, [], All, IsSomeAnd}
 use Rattle.std.specs.Option.{option_map}
 use Rattle.autojump_clock.specs.Clock.{due_of}
 use Rattle.autojump_clock.specs.Clock as timers
+use Rattle.batch_commit.specs.declared.entry.Call.{Call}
+use Rattle.batch_commit.specs.declared.entry.Call.TheVariants.{Due, Seen}
 use Rattle.cancel_scopes.specs.Sight.{Tick, is_reached, sight}
 use Rattle.cancel_scopes.specs.Tree.{outer_of}
 use Rattle.task_machine.specs.declared.stop.TaskState.{TaskState}
-use Rattle.task_machine.specs.declared.stop.TaskState.TheVariants.{ToBegin, Asked, Asleep, GivingUp, Awaits, Over}
+use Rattle.task_machine.specs.declared.stop.TaskState.TheVariants.{ToBegin, Asked, Asleep, Waiting, GivingUp, Awaits, Over}
 use Rattle.task_machine.specs.declared.task.Task.{Task}
 use Rattle.task_machine.specs.declared.world.World.{World}
+use Rattle.task_machine.specs.Events.{is_wait_over}
 use Rattle.task_machine.specs.Tasks.{scope_of}
+use Rattle.task_machine.specs.Worlds.{event_at}
 use Rattle.sleepers.specs.Sleeping.{IsFirst}
 use Rattle.task_table.specs.TaskTable.{running_at}
 use Rattle.task_table.specs.declared.task_table.TaskTable.{TaskTable}
@@ -20,11 +24,20 @@ use Rattle.job_runner.specs.declared.runner.Runner.{Runner}
 use Rattle.job_runner.specs.Limits.{last_of}
 use Rattle.job_runner.specs.Shelves.{moment_of, AreKnown, IsCalledAdded, IsConsistent, NoneChanged, times_shelved, running_times}
 
--- the moment from which a task in a scope sees a cancellation while it sleeps
+abbrev pub seen_call_if : Bool → Call
+seen_call_if true = Due
+seen_call_if false = Seen
+
+-- how a task continues that sees a cancellation: one that waits for an event which is set by now goes on
+abbrev pub seen_call : World → Task → Call
+seen_call world task = seen_call_if (is_wait_over world.clock (event_at world) task.task_state world.tick)
+
+-- the moment from which a task in a scope sees a cancellation while it sleeps or waits for an event
 abbrev pub sight_asleep : World → Option ℕ → TaskState → Tick
 sight_asleep world scope (ToBegin at) = None
 sight_asleep world scope (Asked kernel purpose) = None
 sight_asleep world scope (Asleep paced ticks since) = sight (outer_of world.scopes scope)
+sight_asleep world scope (Waiting event since) = sight (outer_of world.scopes scope)
 sight_asleep world scope (GivingUp since) = None
 sight_asleep world scope (Awaits id since) = None
 sight_asleep world scope Over = None
@@ -66,18 +79,19 @@ abbrev pub PassesLimit : Runner → RunFault → Type 0
 PassesLimit r (Limit limit) = IsPast r limit
 PassesLimit r NoMemory = Unit {0}
 
--- a task that sleeps fell asleep before this moment
+-- a task that sleeps, or waits for an event, began that before this moment
 abbrev pub BeganBefore : ℕ → TaskState → Type 0
 BeganBefore t (ToBegin at) = Unit {0}
 BeganBefore t (Asked kernel purpose) = Unit {0}
 BeganBefore t (Asleep paced ticks since) = since < t
+BeganBefore t (Waiting event since) = since < t
 BeganBefore t (GivingUp since) = Unit {0}
 BeganBefore t (Awaits id since) = Unit {0}
 BeganBefore t Over = Unit {0}
 
 -- A task stayed until the clock reached this moment, which is not after the one in which it continues.
 pub record Stayed (world : World) (due : ℕ) (task : Task) : Type 0 where
-  pub due_is : moment_of world.clock world.book task.task_state ≡ Some due
+  pub due_is : moment_of world.clock (event_at world) world.book task.task_state ≡ Some due
   pub began : BeganBefore world.tick task.task_state
   pub not_over : world.tick ≤ due
 
@@ -92,7 +106,7 @@ pub record IsAnyNow (task_table : TaskTable) (world : World) (clock : timers.Clo
 pub record IsWaking (r : Runner) : Type 0 where
   pub consistent : IsConsistent r.task_table r.world r.clock r.limit r.turns
   pub stayed : (id due : ℕ) → due_of r.clock id ≡ Some due → IsSomeAnd (running_at r.task_table id) (λ (x : Running). Stayed r.world due x.task)
-  pub known : AreKnown r.task_table r.world r.clock r.sleepers
+  pub known : AreKnown r.task_table r.world r.clock r.sleepers r.waiters
   pub unchanged : NoneChanged r.world
   pub none_current : r.batch.current ≡ []
   pub next : All (IsCalledAdded r.task_table r.world) r.batch.next
@@ -105,6 +119,6 @@ NoneSees r =
     (id due : ℕ) → due_of r.clock id ≡ Some due → IsSomeAnd (running_at r.task_table id)
     (λ (x : Running). is_reached (sight_asleep r.world (scope_of x.task) x.task.task_state) r.world.tick ≡ false)
 
--- nothing but the timers, the sleepers and the next batch changed
+-- nothing but the timers, the sleepers, the tasks that wait for events and the next batch changed
 abbrev pub WakesOnly : Runner → Runner → Type 0
-WakesOnly old new = new ≡ record old { clock = new.clock; sleepers = new.sleepers; batch = new.batch }
+WakesOnly old new = new ≡ record old { clock = new.clock; sleepers = new.sleepers; waiters = new.waiters; batch = new.batch }

@@ -1,6 +1,6 @@
 -- Where the tasks of a run are kept between their turns: in the current batch or the next one, with a timer, or waiting for a
 -- nursery of which a member runs.
-use Rattle.std.specs.Prelude.{◌≡◌, ◌≢◌, ℕ, ◌⊎◌, ◌+◌, ◌<◌, ◌≤◌, suc, if◌then◌else◌, false, Option, Some, None, [], map, All, IsSomeAnd}
+use Rattle.std.specs.Prelude.{◌≡◌, ◌≢◌, ℕ, ◌⊎◌, ◌+◌, ◌<◌, ◌≤◌, suc, if◌then◌else◌, false, List, Option, Some, None, [], map, All, IsSomeAnd}
 use Rattle.std.specs.Option.{ForSome}
 use Rattle.autojump_clock.specs.Clock.{now_of, limit_of, due_of}
 use Rattle.autojump_clock.specs.Clock as timers
@@ -9,7 +9,7 @@ use Rattle.batch_commit.specs.declared.entry.Call.TheVariants.{Ask}
 use Rattle.batch_commit.specs.declared.entry.Entry.{Entry}
 use Rattle.batch_commit.specs.Batch.{Batches}
 use Rattle.batch_commit.specs.Entries.{Added, NonePlaced, wake_of}
-use Rattle.cancel_scopes.specs.Sight.{seen}
+use Rattle.cancel_scopes.specs.Sight.{Tick, seen}
 use Rattle.cancel_scopes.specs.Tree.{outer_of, is_changed}
 use Rattle.job_tree.specs.Tree.{Tree}
 use Rattle.job_tree.specs.Names.{GivesNamesOnce}
@@ -24,15 +24,19 @@ use Rattle.nursery_book.specs.Nursery.{Nursery, is_settled}
 use Rattle.nursery_book.specs.Book.{nursery_at}
 use Rattle.nursery_book.specs.declared.book.NurseryBook.{NurseryBook}
 use Rattle.task_machine.specs.declared.stop.TaskState.{TaskState}
-use Rattle.task_machine.specs.declared.stop.TaskState.TheVariants.{ToBegin, Asked, Asleep, GivingUp, Awaits, Over}
+use Rattle.task_machine.specs.declared.stop.TaskState.TheVariants.{ToBegin, Asked, Asleep, Waiting, GivingUp, Awaits, Over}
 use Rattle.task_machine.specs.declared.stop.Wake.{Wake}
 use Rattle.task_machine.specs.declared.task.Task.{Task}
 use Rattle.task_machine.specs.declared.world.World.{World}
+use Rattle.task_machine.specs.Events.{wait_ends}
+use Rattle.task_machine.specs.Labels.{Events}
 use Rattle.task_machine.specs.Tasks.{scope_of}
+use Rattle.task_machine.specs.Worlds.{event_at}
 use Rattle.run_refinement.specs.RunState.{RunState, Refines}
 use Rattle.run_refinement.specs.Ready.{MayGo, AreHomesOf}
 use Rattle.run_refinement.specs.Sights.{Shows}
 use Rattle.sleepers.specs.Sleeping.{Sleeping, scope_in, sight_of}
+use Rattle.sleepers.specs.Waiting.{event_in}
 use Rattle.task_table.specs.declared.task_table.TaskTable.{TaskTable}
 use Rattle.task_table.specs.declared.task_table.Running.{Running}
 use Rattle.job_runner.specs.declared.runner.Runner.{Runner}
@@ -70,33 +74,35 @@ abbrev pub left_in : Clock → Option Nursery → Option ℕ
 left_in clock None = None
 left_in clock (Some n) = if is_settled n then Some (a_round_after clock n.last) else None
 
--- The moment in which a task continues if no cancellation wakes it before: it begins, its sleep ends, it gives up, or its nursery is
--- left. A task that asked a kernel has none, and one that waits for a nursery of which a member runs has none yet.
-abbrev pub moment_of : Clock → NurseryBook → TaskState → Option ℕ
-moment_of clock book (ToBegin at) = Some at
-moment_of clock book (Asked kernel purpose) = None
-moment_of clock book (Asleep paced ticks since) = Some (wakes_at clock ticks since)
-moment_of clock book (GivingUp since) = Some (suc since)
-moment_of clock book (Awaits id since) = left_in clock (nursery_at book id)
-moment_of clock book Over = None
+-- The moment in which a task continues if no cancellation wakes it before: it begins, its sleep ends, its event is set, it gives up, or
+-- its nursery is left. A task that asked a kernel has none, and one that waits for a nursery of which a member runs has none yet.
+abbrev pub moment_of : Clock → Events → NurseryBook → TaskState → Option ℕ
+moment_of clock events book (ToBegin at) = Some at
+moment_of clock events book (Asked kernel purpose) = None
+moment_of clock events book (Asleep paced ticks since) = Some (wakes_at clock ticks since)
+moment_of clock events book (Waiting event since) = Some (wait_ends clock (events event) since)
+moment_of clock events book (GivingUp since) = Some (suc since)
+moment_of clock events book (Awaits id since) = left_in clock (nursery_at book id)
+moment_of clock events book Over = None
 
 -- A sleeper in this scope does not see a cancellation yet or, where there are rounds, fell asleep in this moment.
 abbrev pub IsAsleepIn : World → Option ℕ → ℕ → Type 0
 IsAsleepIn world scope since =
     (since ≤ world.tick) × ((seen (outer_of world.scopes scope) world.tick ≡ false) ⊎ ((world.clock ≡ by_rounds) × (since ≡ world.tick)))
 
--- that of a task that sleeps
+-- that of a task that sleeps, or waits for an event
 abbrev pub DozesIn : World → Option ℕ → TaskState → Type 0
 DozesIn world scope (ToBegin at) = Unit {0}
 DozesIn world scope (Asked kernel purpose) = Unit {0}
 DozesIn world scope (Asleep paced ticks since) = IsAsleepIn world scope since
+DozesIn world scope (Waiting event since) = IsAsleepIn world scope since
 DozesIn world scope (GivingUp since) = Unit {0}
 DozesIn world scope (Awaits id since) = Unit {0}
 DozesIn world scope Over = Unit {0}
 
 -- a task continues in this later moment, if no cancellation wakes it before
 pub record Stays (world : World) (due : ℕ) (task : Task) : Type 0 where
-  pub due_is : moment_of world.clock world.book task.task_state ≡ Some due
+  pub due_is : moment_of world.clock (event_at world) world.book task.task_state ≡ Some due
   pub later : world.tick < due
   pub dozes : DozesIn world (scope_of task) task.task_state
 
@@ -105,11 +111,12 @@ abbrev pub AllStay : TaskTable → World → timers.Clock → Type 0
 AllStay task_table world clock = (id due : ℕ) → due_of clock id ≡ Some due →
     IsSomeAnd (running_at task_table id) (λ (x : Running). Stays world due x.task)
 
--- the scope in which a task sleeps, if it does
+-- the scope in which a task sleeps or waits for an event, if it does
 abbrev pub sleeps_in : TaskState → Option ℕ → Option ℕ
 sleeps_in (ToBegin at) scope = None
 sleeps_in (Asked kernel purpose) scope = None
 sleeps_in (Asleep paced ticks since) scope = scope
+sleeps_in (Waiting event since) scope = scope
 sleeps_in (GivingUp since) scope = None
 sleeps_in (Awaits id since) scope = None
 sleeps_in Over scope = None
@@ -120,11 +127,31 @@ sleep_slot_of None o = None
 sleep_slot_of (Some due) None = None
 sleep_slot_of (Some due) (Some x) = sleeps_in x.task.task_state (scope_of x.task)
 
--- Each task that sleeps is known by the scope in which it does, and each such scope by its effective deadline (`sight`),
--- unless that was lowered and the scope is still marked as changed.
-pub record AreKnown (task_table : TaskTable) (world : World) (clock : timers.Clock) (sleepers : Sleeping) : Type 0 where
-  pub sleep_slots : (id : ℕ) → scope_in sleepers id ≡ sleep_slot_of (due_of clock id) (running_at task_table id)
-  pub sights : (id key : ℕ) → scope_in sleepers id ≡ Some key → Shows world.scopes key (sight_of sleepers key)
+-- an event that nothing has set
+abbrev pub if_unset : ℕ → Option Tick → Option ℕ
+if_unset event None = None
+if_unset event (Some None) = Some event
+if_unset event (Some (Some from)) = None
+
+-- the event for which a task waits, if it does and nothing has set it
+abbrev pub waits_in : Events → TaskState → Option ℕ
+waits_in events (Waiting event since) = if_unset event (events event)
+waits_in events _ = None
+
+-- that of a task with such a timer
+abbrev pub wait_slot_of : Events → Option ℕ → Option Running → Option ℕ
+wait_slot_of events None o = None
+wait_slot_of events (Some due) None = None
+wait_slot_of events (Some due) (Some x) = waits_in events x.task.task_state
+
+-- Each task that sleeps or waits for an event is known by the scope in which it does, and each such scope by its effective deadline
+-- (`sight`), unless that was lowered and the scope is still marked as changed. Each task that waits for an event that nothing has set is
+-- known by the event.
+pub record AreKnown (task_table : TaskTable) (world : World) (clock : timers.Clock) (sleepers : Sleeping) (waiters : List (Option ℕ)) : Type 0
+  where
+    pub sleep_slots : (id : ℕ) → scope_in sleepers id ≡ sleep_slot_of (due_of clock id) (running_at task_table id)
+    pub sights : (id key : ℕ) → scope_in sleepers id ≡ Some key → Shows world.scopes key (sight_of sleepers key)
+    pub waiting : (id : ℕ) → event_in waiters id ≡ wait_slot_of (event_at world) (due_of clock id) (running_at task_table id)
 
 -- no scope is marked as changed
 abbrev pub NoneChanged : World → Type 0
@@ -152,6 +179,7 @@ abbrev pub task_state_times : NurseryBook → TaskState → ℕ
 task_state_times book (ToBegin at) = 1
 task_state_times book (Asked kernel purpose) = 1
 task_state_times book (Asleep paced ticks since) = 1
+task_state_times book (Waiting event since) = 1
 task_state_times book (GivingUp since) = 1
 task_state_times book (Awaits id since) = settled_times (nursery_at book id)
 task_state_times book Over = 0
@@ -168,7 +196,7 @@ IsElse (Some away) id = id ≢ away
 -- ---- a run between turns
 
 -- The tasks, what they share and the clock are consistent, for a run up to tick `last` after the given number of turns, and no started
--- task waits in the world.
+-- task and no event that was set waits in the world.
 pub record IsConsistent (task_table : TaskTable) (world : World) (clock : timers.Clock) (last turns : ℕ) : Type 0 where
   pub agree : IsTaskTable task_table
   pub homes : AreHomesOf (run_state task_table world turns) (parent_of task_table)
@@ -177,12 +205,13 @@ pub record IsConsistent (task_table : TaskTable) (world : World) (clock : timers
   pub within : world.tick ≤ last_of world.clock last
   pub bounded : last ≤ last_tick world.clock
   pub none_started : world.started.items ≡ []
+  pub none_set : world.set.items ≡ []
 
 -- What the runner keeps is consistent. The task with one id may be missing: it is having its turn.
 pub record AreShelved (turning : Option ℕ) (r : Runner) : Type 0 where
   pub consistent : IsConsistent r.task_table r.world r.clock r.limit r.turns
   pub stay : AllStay r.task_table r.world r.clock
-  pub known : AreKnown r.task_table r.world r.clock r.sleepers
+  pub known : AreKnown r.task_table r.world r.clock r.sleepers r.waiters
   pub current : All (IsCalledEntry r.task_table r.world) r.batch.current
   pub next : All (IsCalledAdded r.task_table r.world) r.batch.next
   pub once : (id : ℕ) → IsElse turning id → times_shelved r.batch r.clock id ≡ running_times r.world.book (running_at r.task_table id)

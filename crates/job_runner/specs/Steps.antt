@@ -1,7 +1,10 @@
 -- The state after each step of a turn.
+use Rattle.std.specs.Option.{ForSome}
 use Rattle.std.specs.Prelude.{◌≡◌, ◌≢◌, ℕ, zero, suc, ◌+◌, ◌<◌, ◌≤◌, Bool, true, false, Option, Some, None, List, [], ◌∷◌, ◌++◌, length, map, slice_get, IsSomeAnd}
+use Rattle.cancel_scopes.specs.Sight.{Tick, sight}
+use Rattle.cancel_scopes.specs.Tree.{stack_of}
 use Rattle.exc_groups.specs.Exceptions.{Exc}
-use Rattle.autojump_clock.specs.Clock.{due_of, SameTime}
+use Rattle.autojump_clock.specs.Clock.{due_of, Updates, SameTime}
 use Rattle.batch_commit.specs.declared.entry.Call.{Call}
 use Rattle.batch_commit.specs.declared.entry.Call.TheVariants.{Begin, Settled}
 use Rattle.batch_commit.specs.Entries.{Added}
@@ -12,8 +15,12 @@ use Rattle.nursery_book.specs.Nursery.{Nursery, is_settled, with_child}
 use Rattle.nursery_book.specs.Book.{HasNursery, Changes}
 use Rattle.task_machine.specs.declared.stop.Stop.{Stop}
 use Rattle.task_machine.specs.declared.task.Task.{Task}
+use Rattle.task_machine.specs.Tasks.{scope_of}
+use Rattle.run_refinement.specs.Sights.{IsOneOf}
 use Rattle.run_refinement.specs.Step.{StopSays, StoppedIn}
 use Rattle.run_refinement.specs.Turn.{serials_from}
+use Rattle.sleepers.specs.Sleeping.{Moves, Sees}
+use Rattle.sleepers.specs.Waiting.{event_in}
 use Rattle.task_table.specs.Rows.{times}
 use Rattle.task_table.specs.TaskTable.{running_at, task_of, gone_of, start_of, children_of, parent_of, id_of, task_count, IsTaskTable}
 use Rattle.task_table.specs.declared.task_table.TaskTable.{TaskTable}
@@ -81,6 +88,42 @@ pub record TakesStarted (old new : Runner) (parent : ℕ) : Type 0 where
   pub world : new.world ≡ record old.world { started = new.world.started }
   pub none_left : new.world.started.items ≡ []
   pub ready : IsReadied ids Begin (record old { world = new.world; task_table = new.task_table }) new
+
+-- ---- the events that a task set
+
+-- Each task that waited for one of these events continues in this moment, and waits no more. Every other one waits for what it did, and
+-- keeps its timer.
+pub record WakesWaiters (set : List ℕ) (moment : ℕ) (old new : Runner) : Type 0 where
+  pub woken :
+      (id event : ℕ) → event_in old.waiters id ≡ Some event → IsOneOf event set →
+      (event_in new.waiters id ≡ None) × (due_of new.clock id ≡ Some moment)
+  pub others :
+      (id : ℕ) → ((event : ℕ) → event_in old.waiters id ≡ Some event → IsOneOf event set → ⊥) →
+      (event_in new.waiters id ≡ event_in old.waiters id) × (due_of new.clock id ≡ due_of old.clock id)
+  pub time : SameTime old.clock new.clock
+  pub rest : new ≡ record old { clock = new.clock; waiters = new.waiters }
+
+-- The events that were set were taken from the world, and the tasks that waited for them continue a round later.
+pub record TakesSet (old new : Runner) : Type 0 where
+  pub world : new.world ≡ record old.world { set = new.world.set }
+  pub none_left : new.world.set.items ≡ []
+  pub wakes : WakesWaiters old.world.set.items (suc old.world.tick) old (record new { world = old.world })
+
+-- ---- a task that stays
+
+-- the sleepers know a task by the scope that encloses it, if one does
+abbrev pub SleepsIn : Runner → Runner → ℕ → Option ℕ → Type 0
+SleepsIn old new id None = new.sleepers ≡ old.sleepers
+SleepsIn old new id (Some key) =
+    Moves old.sleepers new.sleepers id (Some key)
+    × ((sight_now : Tick) × ForSome (stack_of old.world.scopes key) (λ st. sight_now ≡ sight st) × Sees old.sleepers new.sleepers key sight_now)
+
+-- the task with an id has a timer for this moment, and is known to the sleepers
+pub record PutsToSleep (id due : ℕ) (old new : Runner) : Type 0 where
+  pub timers : Updates old.clock new.clock id (Some due)
+  pub time : SameTime old.clock new.clock
+  pub sleeps : ForSome (running_at old.task_table id) (λ (x : Running). SleepsIn old new id (scope_of x.task))
+  pub rest : new ≡ record old { clock = new.clock; sleepers = new.sleepers }
 
 -- ---- a task that stopped
 

@@ -1,24 +1,42 @@
 -- The turns of a batch, one after another, in the order of the picks.
-use Rattle.std.specs.Prelude.{◌≡◌, ℕ, ◌+◌, List, [], map}
+use Rattle.std.specs.Prelude.{◌≡◌, ℕ, ◌+◌, Bool, true, false, nat_le, Option, Some, None, List, [], map}
+use Rattle.batch_commit.specs.declared.entry.Call.{Call}
+use Rattle.batch_commit.specs.declared.entry.Call.TheVariants.{Due, Seen}
 use Rattle.batch_commit.specs.Batch.{Batches, HandsOut}
 use Rattle.batch_commit.specs.Entries.{answers_placed, without_answer}
 use Rattle.line_kernels.specs.declared.answers.Answer.{Answer}
-use Rattle.job_meaning.specs.Moments.{tick_of}
+use Rattle.cancel_scopes.specs.Sight.{seen}
+use Rattle.cancel_scopes.specs.Tree.{outer_of}
+use Rattle.job_meaning.specs.Moments.{Clock, by_ticks, by_rounds, tick_of}
 use Rattle.task_machine.specs.declared.stop.Stop.{Stop}
-use Rattle.task_machine.specs.declared.stop.Stop.TheVariants.{Ask, Sleep, GiveUp, Wait, Ended}
+use Rattle.task_machine.specs.declared.stop.Stop.TheVariants.{Ask, Sleep, WaitFor, GiveUp, Wait, Ended}
 use Rattle.task_machine.specs.declared.stop.Wake.{Wake}
 use Rattle.task_machine.specs.declared.world.World.{World}
 use Rattle.task_table.specs.declared.task_table.TaskTable.{TaskTable}
 use Rattle.task_table.specs.TaskTable.{HasTurn, Ends}
 use Rattle.job_runner.specs.declared.runner.Runner.{Runner}
-use Rattle.job_runner.specs.Steps.{TakesStarted}
+use Rattle.job_runner.specs.Steps.{TakesStarted, TakesSet}
 
--- The task with an id continued with this wake to its next stop, and the tasks that it started were taken from the world.
+-- The task with an id continued with this wake to its next stop, and the tasks that it started and the events that it set were taken
+-- from the world.
 pub record GoesOn (id : ℕ) (wake : Wake) (stop : Stop) (old new : Runner) : Type 0 where
   pub task_table : TaskTable
   pub world : World
   pub turn : HasTurn old.task_table task_table old.world world id wake stop
-  pub started : TakesStarted (record old { world = world; task_table = task_table; turns = old.turns + 1 }) new turn.row
+  pub after : Runner
+  pub started : TakesStarted (record old { world = world; task_table = task_table; turns = old.turns + 1 }) after turn.row
+  pub set : TakesSet after new
+
+abbrev pub at_once : Clock → (sees_now is_due : Bool) → Option Call
+at_once by_rounds sees_now is_due = None
+at_once by_ticks true is_due = Some Seen
+at_once by_ticks false true = Some Due
+at_once by_ticks false false = None
+
+-- How a task in a scope that waits until a moment continues in this one, if it does: where a moment is a tick, it may see a cancellation, or
+-- that moment may have come.
+abbrev pub call_at_once : World → Option ℕ → ℕ → Option Call
+call_at_once world scope due = at_once world.clock (seen (outer_of world.scopes scope) world.tick) (nat_le due world.tick)
 
 -- the tasks and what they share stay
 abbrev pub IsSameRunState : Runner → Runner → Type 0
@@ -29,6 +47,7 @@ IsSameRunState old new = (new.task_table ≡ old.task_table) × (new.world ≡ o
 abbrev pub ComesOf : ℕ → Stop → Runner → Runner → Type 0
 ComesOf id (Ask request) old new = IsSameRunState old new
 ComesOf id (Sleep due) old new = IsSameRunState old new
+ComesOf id (WaitFor event) old new = IsSameRunState old new
 ComesOf id (GiveUp due) old new = IsSameRunState old new
 ComesOf id (Wait nursery) old new = IsSameRunState old new
 ComesOf id (Ended exc) old new =

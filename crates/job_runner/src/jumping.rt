@@ -1,19 +1,22 @@
-ghost use Rattle.std.specs.Prelude.{◌≡◌, ◌≢◌, ◌≤◌, ◌^◌, [], None, IfOk, IfErr, OnOk};
+ghost use Rattle.std.specs.Prelude.{◌≡◌, ◌≢◌, ◌≤◌, ◌^◌, [], None, IsSome, IfOk, IfErr, OnOk};
 ghost use Rattle.job_runner.specs.declared.runner.Phase.TheVariants.{Ready, Blocked};
-ghost use Rattle.job_runner.specs.Jumps.{IsNextCancel, IsNextMoment, IsWaking, PassesLimit, NoneSees, WakesOnly};
+ghost use Rattle.std.specs.Option.{ForSome};
+ghost use Rattle.task_machine.specs.Events.{WaitsWithin};
+ghost use Rattle.task_table.specs.TaskTable.{running_at};
+ghost use Rattle.job_runner.specs.Jumps.{IsNextCancel, IsNextMoment, IsWaking, PassesLimit, NoneSees, WakesOnly, seen_call};
 ghost use Rattle.job_runner.specs.Phases.{phase_of};
 ghost use Rattle.job_runner.specs.Runs.{IsLate};
 ghost use Rattle.job_runner.specs.Shelves.{AreShelved, IsSameJob, IsUnderway};
 
 use crate::fault::RunFault;
 use crate::runner::Runner;
-use autojump_clock::Jump;
+use autojump_clock::{Jump, TaskId};
 use batch_commit::Call;
 use std::alloc::AllocError;
 
 impl<'a> Runner<'a> {
     /// Lets the clock jump to the next moment in which a task continues: the first in which the moment of a task has come, or
-    /// a sleeper sees a cancellation. Those tasks are ready then. The caller must ensure that every task is blocked
+    /// one that sleeps or waits for an event sees a cancellation. Those tasks are ready then. The caller must ensure that every task is blocked
     /// (`Phase::Blocked`). The errors are `Limit`, exactly if that moment is after the tick of the limit, and then the job's
     /// meaning ends later than the limit; or that the allocator is out of memory.
     pub fn jump(self) -> Result<Runner<'a>, RunFault>
@@ -53,7 +56,7 @@ impl<'a> Runner<'a> {
         Some(sight.max(next))
     }
 
-    // Each sleeper that sees a cancellation now is ready.
+    // Each task that sleeps, or waits for an event, and sees a cancellation now is ready.
     fn wake_seen(&mut self) -> Result<(), AllocError>
         requires { IsWaking self.old }
         ensures waking { OnOk result (IsWaking self.new) }
@@ -61,10 +64,24 @@ impl<'a> Runner<'a> {
         ensures rest { OnOk result (WakesOnly self.old self.new) }
     {
         'seen: while let Some(id) = self.sleepers.take_seen(self.world.now()) {
+            let call = self.seen_call(id);
             self.clock.wake(id);
-            self.batch.add(id, Call::Seen)?;
+            self.waiters.remove(id);
+            self.batch.add(id, call)?;
         }
         Ok(())
+    }
+
+    // How a task that sees a cancellation continues: one whose event is set now goes on.
+    fn seen_call(&self, id: TaskId) -> Call<'a>
+        requires lives { IsSome (running_at self.now.task_table id) }
+        requires within { ForSome (running_at self.now.task_table id) (λ x. WaitsWithin x.task.task_state) }
+        ensures { ForSome (running_at self.now.task_table id) (λ x. result ≡ seen_call self.now.world x.task) }
+    {
+        match self.task_table.is_wait_over(id, &self.world) {
+            true => Call::Due,
+            false => Call::Seen,
+        }
     }
 
     // Each task whose moment has come is ready. The others stay.
@@ -78,6 +95,7 @@ impl<'a> Runner<'a> {
     {
         'due: while let Some(id) = self.clock.take_due() {
             self.sleepers.remove(id);
+            self.waiters.remove(id);
             self.batch.add(id, Call::Due)?;
         }
         Ok(())

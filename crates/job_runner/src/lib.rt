@@ -14,6 +14,7 @@ mod runner;
 mod running;
 mod settings;
 mod stopping;
+mod waiting;
 
 pub use batch_commit::{Forward, Pick, Reverse, Turn};
 pub use fault::RunFault;

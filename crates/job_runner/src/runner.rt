@@ -24,7 +24,7 @@ use cancel_scopes::stacks_are_chains;
 use job_grammar::{Job, spelled_jobs_are_sound};
 use line_kernels::{Answer, Request};
 use moments::Clock;
-use sleepers::Sleepers;
+use sleepers::{EventWaiters, Sleepers};
 use std::alloc::{AllocError, Global};
 use task_machine::{Stop, Task, Wake, World};
 use task_table::{TaskTable, records_of};
@@ -51,8 +51,10 @@ pub struct Runner<'a> {
     // Its ticks are moments.
     pub(crate) clock: MockClock,
     pub(crate) task_table: TaskTable<'a>,
-    // The tasks that sleep in a cancel scope.
+    // The tasks that sleep, or wait for an event, in a cancel scope.
     pub(crate) sleepers: Sleepers,
+    // The tasks that wait for an event that nothing has set.
+    pub(crate) waiters: EventWaiters,
     pub(crate) batch: ReadyBatch<'a>,
     pub(crate) turns: u64,
 }
@@ -93,6 +95,7 @@ impl<'a> Runner<'a> {
             clock: MockClock::new(alloc, last_of(clock, limit)),
             task_table,
             sleepers: Sleepers::new(alloc),
+            waiters: EventWaiters::new(alloc),
             batch,
             turns: 0,
         })
@@ -197,6 +200,7 @@ impl<'a> Runner<'a> {
         stacks_are_chains(self.world.scopes());
         self.turns += 1;
         self.take_started(row)?;
+        self.take_set()?;
         Ok(stop)
     }
 

@@ -1,20 +1,26 @@
-ghost use Rattle.std.specs.Prelude.{◌≡◌, ◌<◌, ◌≤◌, ◌^◌, true, None, Some, IfOk, OnOk, slice_get};
+ghost use Rattle.std.specs.Prelude.{◌≡◌, ◌<◌, ◌≤◌, ◌^◌, true, None, Some, IsSome, IfOk, OnOk, slice_get};
 ghost use Rattle.autojump_clock.specs.Clock.{now_of, due_of};
-ghost use Rattle.std.specs.Option.{option_map};
+ghost use Rattle.std.specs.Option.{ForSome, option_map};
+ghost use Rattle.cancel_scopes.specs.Sight.{seen};
+ghost use Rattle.cancel_scopes.specs.Tree.{IsOpen, outer_of};
 ghost use Rattle.exc_groups.specs.Held.{exc_of};
 ghost use Rattle.nursery_book.specs.Nursery.{is_settled, with_child};
 ghost use Rattle.nursery_book.specs.Book.{HasNursery};
-ghost use Rattle.task_machine.specs.declared.stop.Stop.TheVariants.{Ask, Sleep, GiveUp, Wait, Ended};
-ghost use Rattle.task_table.specs.TaskTable.{parent_of, id_of, task_count};
+ghost use Rattle.sleepers.specs.Sleeping.{scope_in};
+ghost use Rattle.task_machine.specs.declared.stop.Stop.TheVariants.{Ask, Sleep, WaitFor, GiveUp, Wait, Ended};
+ghost use Rattle.task_machine.specs.Tasks.{scope_of};
+ghost use Rattle.task_table.specs.TaskTable.{running_at, parent_of, id_of, task_count};
 ghost use Rattle.job_runner.specs.Shelves.{IsGoing};
-ghost use Rattle.job_runner.specs.Steps.{IsStopping, IsSameTurn, TellsEnd};
-ghost use Rattle.job_runner.specs.Turns.{ComesOf};
+ghost use Rattle.job_runner.specs.Steps.{IsStopping, IsSameTurn, PutsToSleep, TellsEnd};
+ghost use Rattle.job_runner.specs.Turns.{ComesOf, call_at_once};
 
 use crate::runner::Runner;
 use autojump_clock::TaskId;
 use batch_commit::Call;
+use cancel_scopes::ScopeId;
 use exc_groups::Exc;
 use line_kernels::Request;
+use moments::Clock;
 use nursery_book::{NurseryId, Place};
 use std::alloc::{AllocError, Global};
 use task_machine::Stop;
@@ -35,6 +41,7 @@ impl<'a> Runner<'a> {
         match stop {
             Stop::Ask(request) => self.handle_ask(id, row, request)?,
             Stop::Sleep(due) => self.handle_sleep(id, row, due)?,
+            Stop::WaitFor(event) => self.handle_wait_for(id, row, event)?,
             Stop::GiveUp(due) => self.handle_give_up(id, row, due)?,
             Stop::Wait(nursery) => self.handle_wait(id, row, nursery)?,
             Stop::Ended(exc) => self.handle_end(id, row, exc)?,
@@ -54,7 +61,7 @@ impl<'a> Runner<'a> {
         Ok(())
     }
 
-    // The task is added to the sleepers.
+    // The task sleeps until a moment.
     fn handle_sleep(&mut self, id: TaskId, row: usize, due: u64) -> Result<(), AllocError>
         requires { IsStopping id row (Sleep due) self.old }
         ensures going { OnOk result (IsGoing None self.new) }
@@ -62,6 +69,74 @@ impl<'a> Runner<'a> {
         ensures same { OnOk result (IsSameTurn self.old self.new) }
     {
         let _row = row;
+        self.put_to_sleep(id, due)?;
+        Ok(())
+    }
+
+    // The task is added to the sleepers, and to those that wait for the event, if nothing has set it. Where a moment is a tick, it
+    // may continue in the same moment.
+    fn handle_wait_for(&mut self, id: TaskId, row: usize, event: ScopeId) -> Result<(), AllocError>
+        requires { IsStopping id row (WaitFor event) self.old }
+        ensures going { OnOk result (IsGoing None self.new) }
+        ensures comes { OnOk result (ComesOf id (WaitFor event) self.old self.new) }
+        ensures same { OnOk result (IsSameTurn self.old self.new) }
+    {
+        let _row = row;
+        let due = self.world.wait_ends(event);
+        if let Some(call) = self.call_at_once(id, due) {
+            self.batch.add(id, call)?;
+            return Ok(());
+        }
+        self.put_to_sleep(id, due)?;
+        if self.world.set_from(event).is_none() {
+            self.waiters.add(id, event)?;
+        }
+        Ok(())
+    }
+
+    // Where a moment is a tick, a task that waits until a moment continues in this one if it sees a cancellation, or if that moment has
+    // come.
+    fn call_at_once(&self, id: TaskId, due: u64) -> Option<Call<'a>>
+        requires lives { IsSome (running_at self.now.task_table id) }
+        requires opened { ForSome (running_at self.now.task_table id) (λ x. ForSome (scope_of x.task) (IsOpen self.now.world.scopes)) }
+        ensures { ForSome (running_at self.now.task_table id) (λ x. result ≡ call_at_once self.now.world (scope_of x.task) due) }
+    {
+        match self.world.clock() {
+            Clock::ByRounds => None,
+            Clock::ByTicks => {
+                if self.sees(id) {
+                    return Some(Call::Seen);
+                }
+                if due <= self.world.now() {
+                    return Some(Call::Due);
+                }
+                None
+            }
+        }
+    }
+
+    // Whether a task sees a cancellation now.
+    fn sees(&self, id: TaskId) -> bool
+        requires lives { IsSome (running_at self.now.task_table id) }
+        requires opened { ForSome (running_at self.now.task_table id) (λ x. ForSome (scope_of x.task) (IsOpen self.now.world.scopes)) }
+        ensures { ForSome (running_at self.now.task_table id) (λ x. result ≡ seen (outer_of self.now.world.scopes (scope_of x.task)) self.now.world.tick) }
+    {
+        match self.task_table.scope(id) {
+            Some(scope) => self.world.scopes().seen(scope, self.world.now()),
+            None => false,
+        }
+    }
+
+    // The task has a timer for a moment, and is added to the sleepers, if a scope encloses it.
+    fn put_to_sleep(&mut self, id: TaskId, due: u64) -> Result<(), AllocError>
+        requires awake { due_of self.old.clock id ≡ None }
+        requires asleep { scope_in self.old.sleepers id ≡ None }
+        requires later { now_of self.old.clock < due }
+        requires bounded { due < 2 ^ 63 }
+        requires lives { IsSome (running_at self.old.task_table id) }
+        requires opened { ForSome (running_at self.old.task_table id) (λ x. ForSome (scope_of x.task) (IsOpen self.old.world.scopes)) }
+        ensures { OnOk result (PutsToSleep id due self.old self.new) }
+    {
         self.clock.sleep_until(id, due)?;
         if let Some(scope) = self.task_table.scope(id) {
             let sight = self.world.scopes().seen_from(scope);

@@ -11,7 +11,7 @@ use Rattle.job_meaning.specs.Rest.{Event}
 use Rattle.interleavings.specs.Rows.{entered_made}
 use Rattle.run_refinement.specs.Turn.{AreNew}
 use Rattle.turn_semantics.specs.Turned.{Known}
-use Rattle.task_machine.specs.Acts.{Scoping, Signs, Enters, Leaves, Acts, no_act, act_noted, act_starts, act_signs, act_enters, act_leaves}
+use Rattle.task_machine.specs.Acts.{Scoping, Signs, Sets, Enters, Leaves, Acts, no_act, act_noted, act_starts, act_signs, act_sets, act_enters, act_leaves}
 use Rattle.task_machine.specs.Labels.{Labels, Updates}
 use Rattle.task_machine.specs.Stacked.{IsKey}
 use Rattle.task_machine.proofs.Stacked.{one_of}
@@ -81,11 +81,11 @@ pub all_last : {A : Type 0} (P : A → Type 0) (xs : List A) (y : A) → All P (
 all_last P [] y a = All-head P y [] a
 all_last P (x ∷ xs) y a = all_last P xs y (All-tail P x (xs ++ y ∷ []) a)
 
--- a label after one key's was changed is that one's, or another key's from before
-pub labelled_before : {old new : Labels} {key : ℕ} {o : Option Label} → Updates old new key o → (other : ℕ) (l : Label) →
+-- a label, or another value, after one key's was changed is that one's, or another key's from before
+pub labelled_before : {A : Type 0} {old new : ℕ → Option A} {key : ℕ} {o : Option A} → Updates old new key o → (other : ℕ) (l : A) →
     new other ≡ Some l →
     ((other ≡ key) × (o ≡ Some l)) ⊎ ((other ≢ key) × (old other ≡ Some l))
-labelled_before {old} {new} {key} {o} u other l e = by_key (same_or other key)
+labelled_before {A} {old} {new} {key} {o} u other l e = by_key (same_or other key)
   where
     by_key : (other ≡ key) ⊎ (other ≢ key) → ((other ≡ key) × (o ≡ Some l)) ⊎ ((other ≢ key) × (old other ≡ Some l))
     by_key (inl f) = inl (f, sym u.changed ∙ sym (ap new f) ∙ e)
@@ -135,6 +135,15 @@ sound_signs {t} {label} {s} {m} g h = record { own = own; around = around }
         let before : IsOpen s.tree k = h.around key b.0 b.1 k (is_key_before k g.key t b.0 (subst (IsKey k) (sym b.2) i)) in
         subst IsSome (sym (g.cancels.stacks k)) (mapped_is (after_cancel g.key t) (stack_of s.tree k) before)
 
+-- stacks stay sound where an event is set
+pub sound_sets : {t : ℕ} {label : Label} {s m : Scoping} → Sets t label s m → Sound s → Sound m
+sound_sets {t} {label} {s} {m} g h =
+    record {
+      own = subst IsOwn (sym g.tree) h.own;
+      around = subst (λ (tree : Tree). (key : ℕ) (st : Stack) → stack_of tree key ≡ Some st → (k : ℕ) → IsKey k st → IsOpen tree k)
+          (sym g.tree) h.around;
+    }
+
 -- a scope that was open is another than one that was not
 pub open_differs : (tree : Tree) (key other : ℕ) → stack_of tree key ≡ None → IsOpen tree other → other ≢ key
 open_differs tree key other fresh i e = not_closed (stack_of tree key) fresh (subst (IsOpen tree) e i)
@@ -152,7 +161,7 @@ around_parent {s} h (Some p) k i = by_stack (stack_of s.tree p) refl i
     by_stack (Some st) e j = h.around p st e k j
 
 -- stacks stay sound where a scope is entered
-pub sound_enters : {parent : Option ℕ} {label : Label} {d : Tick} {s m : Scoping} → Enters parent label d s m → Sound s → Sound m
+pub sound_enters : {parent : Option ℕ} {label : Label} {is_event : Bool} {d : Tick} {s m : Scoping} → Enters parent label is_event d s m → Sound s → Sound m
 sound_enters {parent} {label} {d} {s} {m} g h =
     record { own = λ key st e. own key st e (same_or key g.scope.id); around = λ key st e k i. around key st e k i (same_or key g.scope.id) }
   where
@@ -197,6 +206,7 @@ sound_acts (no_act s) h = h
 sound_acts (act_noted s u t e es a) h = sound_acts a h
 sound_acts (act_starts s u i l t es a) h = sound_acts a h
 sound_acts (act_signs s m u l es g a) h = sound_acts a (sound_signs g h)
+sound_acts (act_sets s m u l es g a) h = sound_acts a (sound_sets g h)
 sound_acts (act_enters s m u l t d es g a) h = sound_acts a (sound_enters g h)
 sound_acts (act_leaves s m u es g a) h = sound_acts a (sound_leaves g h)
 
@@ -216,8 +226,13 @@ pub apart_signs : {t : ℕ} → (known : Label → Type 0) → {label : Label} {
     Apart m × HasKnown known m
 apart_signs known g h k = labels_at known g.labels h k
 
+-- and where an event is set
+pub apart_sets : {t : ℕ} → (known : Label → Type 0) → {label : Label} {s m : Scoping} → Sets t label s m → Apart s → HasKnown known s →
+    Apart m × HasKnown known m
+apart_sets known g h k = labels_at known g.labels h k
+
 -- labels of scopes stay apart where a scope is entered with a new one, which is known then
-pub apart_enters : (known : Label → Type 0) → {parent : Option ℕ} {label : Label} {d : Tick} {s m : Scoping} → Enters parent label d s m → (known label → ⊥) →
+pub apart_enters : (known : Label → Type 0) → {parent : Option ℕ} {label : Label} {is_event : Bool} {d : Tick} {s m : Scoping} → Enters parent label is_event d s m → (known label → ⊥) →
     Apart s → HasKnown known s →
     Apart m × HasKnown (λ l. (l ≡ label) ⊎ known l) m
 apart_enters known {label} {d} {s} {m} g new h k = (
@@ -273,6 +288,7 @@ apart_acts known (no_act s) h k new = (h, λ key l e. inl (k key l e))
 apart_acts known (act_noted s u t e es a) h k new = apart_acts known a h k new
 apart_acts known (act_starts s u i l t es a) h k new = apart_acts known a h k new
 apart_acts known (act_signs s m u l es g a) h k new = let n = apart_signs known g h k in apart_acts known a n.0 n.1 new
+apart_acts known (act_sets s m u l es g a) h k new = let n = apart_sets known g h k in apart_acts known a n.0 n.1 new
 apart_acts known (act_enters s m u l t d es g a) h k new =
     let n = apart_enters known g new.0 h k in
     let o = apart_acts (λ x. (x ≡ l) ⊎ known x) a n.0 n.1 new.1 in

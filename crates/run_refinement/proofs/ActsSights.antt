@@ -1,21 +1,21 @@
 -- What a task does to scopes lowers the effective deadline (`sight`) of no scope that it does not
 -- mark as changed.
-use Rattle.std.proofs.Common.{◌≡◌, ◌≢◌, ◌⊎◌, inl, inr, ℕ, suc, ◌+◌, ◌<◌, ◌≤◌, Bool, true, false, ◌==◌, ◌||◌, if◌then◌else◌, Some, None, List, [], ◌∷◌, refl, ap, sym, ◌∙◌, arith, Option}
+use Rattle.std.proofs.Common.{◌≡◌, ◌≢◌, ◌⊎◌, inl, inr, ℕ, suc, ◌+◌, ◌<◌, ◌≤◌, Bool, true, false, ◌==◌, ◌||◌, if◌then◌else◌, Some, None, List, [], ◌∷◌, refl, ap, sym, ◌∙◌, subst, arith, Option}
 use Rattle.std.specs.Prelude.{nat_le, nat_lt}
 use Rattle.std.specs.Option.{option_map}
 use Rattle.std.proofs.lemmas.Bool.{le-leb, cases_eq}
 use Rattle.std.proofs.lemmas.Bool.Decides.{leb_tells}
 use Rattle.exc_groups.specs.Exceptions.{Label}
 use Rattle.cancel_scopes.specs.Sight.{Tick, earlier, before, is_reached, sight}
-use Rattle.cancel_scopes.specs.Tree.{Stack, is_changed, after_cancel}
+use Rattle.cancel_scopes.specs.Tree.{Stack, Tree, is_changed, after_cancel}
 use Rattle.job_meaning.specs.Rest.{Event}
 use Rattle.job_meaning.specs.Log.{Table}
 use Rattle.job_meaning.proofs.Ticks.{reached_earlier}
-use Rattle.task_machine.specs.Acts.{Scoping, Signs, Enters, Leaves, Acts, no_act, act_noted, act_starts, act_signs, act_enters, act_leaves}
+use Rattle.task_machine.specs.Acts.{Scoping, Signs, Enters, Leaves, Acts, no_act, act_noted, act_starts, act_signs, act_sets, act_enters, act_leaves}
 use Rattle.task_machine.specs.Labels.{Labels}
 use Rattle.run_refinement.specs.Sights.{Shows}
 use Rattle.run_refinement.specs.Turn.{AreNew}
-use Rattle.run_refinement.proofs.ActsKeep.{Apart, HasKnown, NoneHas, is_open, same_or, open_differs, labelled_left, apart_signs, apart_enters, apart_leaves}
+use Rattle.run_refinement.proofs.ActsKeep.{Apart, HasKnown, NoneHas, is_open, same_or, open_differs, labelled_left, apart_signs, apart_sets, apart_enters, apart_leaves}
 use Rattle.run_refinement.proofs.ActsFroms.{unmoved}
 
 -- ---- effective deadlines
@@ -105,7 +105,7 @@ shows_signs {t} {label} {s} {m} key kept g h =
         by_sight (inl f) = inl (f ∙ e)
         by_sight (inr f) = inr (marks ∙ or_right (is_changed s.tree key) (before (sight after) (sight h.stack)) f)
 
-shows_enters : {parent : Option ℕ} {label : Label} {d : Tick} {s m : Scoping} → (key : ℕ) (kept : Tick) → Enters parent label d s m → Shows s.tree key kept →
+shows_enters : {parent : Option ℕ} {label : Label} {is_event : Bool} {d : Tick} {s m : Scoping} → (key : ℕ) (kept : Tick) → Enters parent label is_event d s m → Shows s.tree key kept →
     Shows m.tree key kept
 shows_enters {label} {d} {s} {m} key kept g h =
     record { stack = h.stack; opened = g.others key differs ∙ h.opened; known = by_mark h.known }
@@ -128,7 +128,7 @@ shows_leaves {s} {m} key kept g differs h = record { stack = h.stack; opened = g
 -- ---- all acts
 
 -- a scope that is left has its label no more, and no scope gets that again
-closed_never : {t : ℕ} → (known : Label → Type 0) (f : Table) (l : Label) → {s m u : Scoping} {es : List Event} → (g : Leaves s m) →
+pub closed_never : {t : ℕ} → (known : Label → Type 0) (f : Table) (l : Label) → {s m u : Scoping} {es : List Event} → (g : Leaves s m) →
     Acts t m es u → Apart s → known l → AreNew known es →
     s.labels g.scope.id ≡ Some l → NoneHas l u
 closed_never known f l {s} {m} g a apart k new e = (unmoved known f l a none k new).1
@@ -158,6 +158,10 @@ shows_acts known f key l kept (act_starts s u i x t es a) apart has new k was is
 shows_acts known f key l kept (act_signs s m u x es g a) apart has new k was is h =
     let n = apart_signs known g apart has in
     shows_acts known f key l kept a n.0 n.1 new k (ap (λ (z : Labels). z key) g.labels ∙ was) is (shows_signs key kept g h)
+shows_acts known f key l kept (act_sets s m u x es g a) apart has new k was is h =
+    let n = apart_sets known g apart has in
+    shows_acts known f key l kept a n.0 n.1 new k (ap (λ (z : Labels). z key) g.labels ∙ was) is
+    (subst (λ (tree : Tree). Shows tree key kept) (sym g.tree) h)
 shows_acts known f key l kept (act_enters s m u x t d es g a) apart has new k was is h =
     let n = apart_enters known g new.0 apart has in
     let differs = open_differs s.tree g.scope.id key g.fresh (is_open s.tree key h.stack h.opened) in

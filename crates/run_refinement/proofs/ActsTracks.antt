@@ -1,27 +1,27 @@
 -- The froms that a task keeps of the scopes that it opened are those of the world, whatever it does to scopes.
-use Rattle.std.proofs.Common.{◌≡◌, ◌≢◌, ◌⊎◌, inl, inr, ℕ, zero, suc, Bool, Some, None, List, [], ◌∷◌, ◌++◌, length, map, append_assoc, append-nil, refl, ap, sym, ◌∙◌, subst, Option}
+use Rattle.std.proofs.Common.{◌≡◌, ◌≢◌, ◌⊎◌, inl, inr, ℕ, zero, suc, Bool, true, false, Some, None, List, [], ◌∷◌, ◌++◌, length, map, append_assoc, append-nil, refl, ap, sym, ◌∙◌, subst, Option}
 use Rattle.std.proofs.lemmas.List.{map-append}
 use Rattle.std.proofs.lemmas.List.Elements.{All-nil, All-cons, All-head, All-tail, All-append}
 use Rattle.std.specs.Prelude.{All, slice_get, slice_set}
 use Rattle.std.specs.Option.{option_map}
 use Rattle.exc_groups.specs.Exceptions.{Label}
-use Rattle.cancel_scopes.specs.Sight.{Tick}
-use Rattle.cancel_scopes.specs.Tree.{Stack, stack_of, own_from, own_label, after_cancel, outer_of}
-use Rattle.job_meaning.specs.Log.{Table}
+use Rattle.cancel_scopes.specs.Sight.{Tick, earlier, next}
+use Rattle.cancel_scopes.specs.Tree.{Stack, Tree, stack_of, own_from, own_label, after_cancel, outer_of}
+use Rattle.job_meaning.specs.Log.{Table, same_label}
 use Rattle.job_meaning.specs.Rest.{Event}
 use Rattle.job_meaning.proofs.Distinct.{same_label_itself}
-use Rattle.turn_semantics.specs.Steps.{froms_after_sign, froms_after_entry, from_entered_if, froms_after}
+use Rattle.turn_semantics.specs.Steps.{froms_after_sign, from_lowered_if, froms_after_entry, from_entered_if, froms_after}
 use Rattle.turn_semantics.specs.Turned.{Known}
 use Rattle.task_machine.specs.declared.entry.ScopeFrom.{ScopeFrom}
 use Rattle.task_machine.specs.declared.task.Own.{Own}
-use Rattle.task_machine.specs.Acts.{Scoping, Signs, Enters, Leaves, Acts, no_act, act_noted, act_starts, act_signs, act_enters, act_leaves}
+use Rattle.task_machine.specs.Acts.{Scoping, Signs, Sets, set_at_entry, kept_from, Enters, Leaves, Acts, no_act, act_noted, act_starts, act_signs, act_sets, act_enters, act_leaves}
 use Rattle.task_machine.specs.Fitting.{AreOthers}
-use Rattle.task_machine.specs.Labels.{Labels}
+use Rattle.task_machine.specs.Labels.{Labels, Events}
 use Rattle.interleavings.specs.Rows.{entered_made}
 use Rattle.run_refinement.specs.RunState.{Differ, IsPast, Tracks}
 use Rattle.run_refinement.specs.Turn.{AreNew}
-use Rattle.run_refinement.proofs.ActsKeep.{Sound, Apart, HasKnown, NoneHas, KnownWith, is_open, not_both, all_first, all_last, open_differs, labelled_left, known_one, apart_signs, apart_enters, apart_leaves, sound_signs, sound_enters, sound_leaves}
-use Rattle.run_refinement.proofs.ActsFroms.{alone_of, lowered_other, opened_other, signed_has, none_signs, none_enters, none_leaves}
+use Rattle.run_refinement.proofs.ActsKeep.{Sound, Apart, HasKnown, NoneHas, KnownWith, is_open, not_both, all_first, all_last, open_differs, labelled_left, known_one, same_or, apart_signs, apart_sets, apart_enters, apart_leaves, sound_signs, sound_sets, sound_enters, sound_leaves}
+use Rattle.run_refinement.proofs.ActsFroms.{alone_of, lowered_other, opened_other, signed_has, set_has, none_signs, none_sets, none_enters, none_leaves}
 use Rattle.task_machine.proofs.Others.{others_but}
 use Rattle.task_machine.proofs.Stacked.{one_of, signed_at}
 use Rattle.run_refinement.proofs.Found.{got_first}
@@ -123,9 +123,45 @@ pub own_from_signed : {t : ℕ} {label : Label} {s m : Scoping} (f : Table) (st 
     own_from st ≡ f l → own_from (after_cancel g.key t st) ≡ froms_after_sign f label t l
 own_from_signed f [] id l g h first e from = absurd (not_both refl first)
 own_from_signed {t} {label} {s} {m} f (x ∷ xs) id l g h first e from =
-    (signed_at s.labels f (x ∷ []) (record { label = l; shield = x.shield } ∷ []) g.key t label g.labelled
+    (signed_at s.labels (λ key. None) f (x ∷ []) (record { label = l; shield = x.shield; is_event = false } ∷ []) g.key t label g.labelled refl
     (alone_of s h g.key label g.labelled (x ∷ []))
-    (ap s.labels (one_of x.label id first) ∙ e, refl, from, tt)).2
+    (ap s.labels (one_of x.label id first) ∙ e, refl, (refl, from), tt)).2.1
+
+-- a scope is another than the one that is cancelled, or its label is not the one that is signed
+label_apart : {t : ℕ} {label : Label} {s m : Scoping} (id : ℕ) (l : Label) → (g : Signs t label s m) → Apart s → s.labels id ≡ Some l →
+    id ≢ g.key → l ≡ label → ⊥
+label_apart {t} {label} {s} {m} id l g h e differs same =
+    differs (h.labels id g.key label (e ∙ ap (λ (x : Label). Some x) same) g.labelled)
+
+-- the kept from of a scope, or of an event, after a cancellation
+pub kept_signed : {t : ℕ} {label : Label} {s m : Scoping} (f : Table) (st : Stack) (id : ℕ) (l : Label) → (g : Signs t label s m) →
+    Apart s → own_label st ≡ Some id → s.labels id ≡ Some l →
+    kept_from (s.events id) st ≡ f l → kept_from (m.events id) (after_cancel g.key t st) ≡ froms_after_sign f label t l
+kept_signed {t} {label} {s} {m} f st id l g h first e kept =
+    ap (λ (z : Events). kept_from (z id) (after_cancel g.key t st)) g.events ∙ by_kind (s.events id) refl kept
+  where
+    by_kind : (o : Option Tick) → s.events id ≡ o → kept_from o st ≡ f l → kept_from o (after_cancel g.key t st) ≡ froms_after_sign f label t l
+    by_kind None is from = own_from_signed f st id l g h first e from
+    by_kind (Some set) is from =
+        from ∙ sym (lowered_other f label l t (label_apart id l g h e (λ same. not_both (ap s.events same ∙ g.no_event) is)))
+
+-- the kept from of a scope, or of an event, after an event is set, which is perhaps its own
+pub kept_set : {t : ℕ} {label : Label} {s m : Scoping} (f : Table) (st : Stack) (id : ℕ) (l : Label) → (g : Sets t label s m) →
+    Apart s → s.labels id ≡ Some l → kept_from (s.events id) st ≡ f l → kept_from (m.events id) st ≡ froms_after_sign f label t l
+kept_set {t} {label} {s} {m} f st id l g h e kept = by_key (same_or id g.key)
+  where
+    by_key : (id ≡ g.key) ⊎ (id ≢ g.key) → kept_from (m.events id) st ≡ froms_after_sign f label t l
+    by_key (inl same) =
+        let named : l ≡ label = one_of l label (sym e ∙ (ap s.labels same ∙ g.labelled)) in
+        let was : g.sets.from ≡ f l = ap (λ (o : Option Tick). kept_from o st) (sym (ap s.events same ∙ g.sets.was)) ∙ kept in
+        ap (λ (o : Option Tick). kept_from o st) (ap m.events same ∙ g.sets.lowered.changed)
+        ∙ (ap (λ (x : Tick). earlier x (next (Some t))) was
+        ∙ sym (ap (λ (b : Bool). from_lowered_if b t (f l)) (subst (λ (x : Label). same_label l x ≡ true) named (same_label_itself l))))
+    by_key (inr differs) =
+        ap (λ (o : Option Tick). kept_from o st) (g.sets.lowered.others id differs)
+        ∙ (kept
+        ∙ sym (lowered_other f label l t
+        (λ same. differs (h.labels id g.key label (e ∙ ap (λ (x : Label). Some x) same) g.labelled))))
 
 -- where a scope is cancelled, the froms that a task keeps are those of the world, with the label's lowered
 pub tracks_signs : {known : Label → Type 0} {f : Table} {entered : List Label} {t : ℕ} {label : Label} {s m : Scoping} → Signs t label s m →
@@ -157,14 +193,15 @@ tracks_signs {known} {f} {entered} {t} {label} {s} {m} g sound apart h =
     )
 
     kept : (o : Own) (i : ℕ) → slice_get m.own i ≡ Some o →
-        (st : Stack) × (l : Label) × (stack_of m.tree o.id ≡ Some st) × (m.labels o.id ≡ Some l) × (own_from st ≡ froms_after_sign f label t l)
+        (st : Stack) × (l : Label) × (stack_of m.tree o.id ≡ Some st) × (m.labels o.id ≡ Some l)
+        × (kept_from (m.events o.id) st ≡ froms_after_sign f label t l)
     kept o i e =
         let k = h.kept o i (got o i e) in (
           after_cancel g.key t k.0,
           k.1,
           g.cancels.stacks o.id ∙ ap (option_map (after_cancel g.key t)) k.2,
           label_is o.id k.1 k.3,
-          own_from_signed f k.0 o.id k.1 g apart (sound.own o.id k.0 k.2) k.3 k.4,
+          kept_signed f k.0 o.id k.1 g apart (sound.own o.id k.0 k.2) k.3 k.4,
         )
 
     left : (i : ℕ) (x : ScopeFrom) → slice_get m.froms i ≡ Some x → IsPast i m.own → (x.seen ≡ froms_after_sign f label t x.label)
@@ -173,13 +210,59 @@ tracks_signs {known} {f} {entered} {t} {label} {s} {m} g sound apart h =
         let c = h.left i x (sym (ap (λ (xs : List ScopeFrom). slice_get xs i) g.froms) ∙ e) (subst (IsPast i) g.own past) in
         (c.0 ∙ sym (lowered_other f label x.label t (signed_has g x.label c.1)), none_signs g x.label c.1, c.2)
 
+-- ---- an event is set
+
+-- where an event is set, the froms that a task keeps are those of the world, with the label's lowered
+pub tracks_sets : {known : Label → Type 0} {f : Table} {entered : List Label} {t : ℕ} {label : Label} {s m : Scoping} → Sets t label s m →
+    Apart s → Tracks known f s entered → Tracks known (froms_after_sign f label t) m entered
+tracks_sets {known} {f} {entered} {t} {label} {s} {m} g apart h =
+    record {
+      labels = ap (map (λ (x : ScopeFrom). x.label)) g.froms ∙ h.labels;
+      differ = subst Differ (sym g.own) h.differ;
+      named = named;
+      kept = kept;
+      left = left;
+    }
+  where
+    got : (o : Own) (i : ℕ) → slice_get m.own i ≡ Some o → slice_get s.own i ≡ Some o
+    got o i e = sym (ap (λ (os : List Own). slice_get os i) g.own) ∙ e
+
+    label_is : (key : ℕ) (l : Label) → s.labels key ≡ Some l → m.labels key ≡ Some l
+    label_is key l e = ap (λ (z : Labels). z key) g.labels ∙ e
+
+    named : (o : Own) (i : ℕ) → slice_get m.own i ≡ Some o → (x : ScopeFrom) × (slice_get m.froms o.at ≡ Some x)
+        × (m.labels o.id ≡ Some x.label)
+    named o i e = let n = h.named o i (got o i e) in (
+      n.0,
+      ap (λ (xs : List ScopeFrom). slice_get xs o.at) g.froms ∙ n.1,
+      label_is o.id n.0.label n.2,
+    )
+
+    kept : (o : Own) (i : ℕ) → slice_get m.own i ≡ Some o →
+        (st : Stack) × (l : Label) × (stack_of m.tree o.id ≡ Some st) × (m.labels o.id ≡ Some l)
+        × (kept_from (m.events o.id) st ≡ froms_after_sign f label t l)
+    kept o i e =
+        let k = h.kept o i (got o i e) in (
+          k.0,
+          k.1,
+          ap (λ (tree : Tree). stack_of tree o.id) g.tree ∙ k.2,
+          label_is o.id k.1 k.3,
+          kept_set f k.0 o.id k.1 g apart k.3 k.4,
+        )
+
+    left : (i : ℕ) (x : ScopeFrom) → slice_get m.froms i ≡ Some x → IsPast i m.own → (x.seen ≡ froms_after_sign f label t x.label)
+        × NoneHas x.label m × known x.label
+    left i x e past =
+        let c = h.left i x (sym (ap (λ (xs : List ScopeFrom). slice_get xs i) g.froms) ∙ e) (subst (IsPast i) g.own past) in
+        (c.0 ∙ sym (lowered_other f label x.label t (set_has g x.label c.1)), none_sets g x.label c.1, c.2)
+
 -- ---- a scope is entered
 
 -- where a task enters a scope with a new label, its froms are those of the world, with the new label last
-pub tracks_enters : {known : Label → Type 0} {f : Table} {entered : List Label} {parent : Option ℕ} {label : Label} {d : Tick} {s m : Scoping} →
-    Enters parent label d s m → HasKnown known s → (known label → ⊥) →
+pub tracks_enters : {known : Label → Type 0} {f : Table} {entered : List Label} {parent : Option ℕ} {label : Label} {is_event : Bool} {d : Tick} {s m : Scoping} →
+    Enters parent label is_event d s m → HasKnown known s → (known label → ⊥) →
     Tracks known f s entered → Tracks (λ l. (l ≡ label) ⊎ known l) (froms_after_entry f label d) m (entered ++ label ∷ [])
-tracks_enters {known} {f} {entered} {parent} {label} {d} {s} {m} g has new h =
+tracks_enters {known} {f} {entered} {parent} {label} {is_event} {d} {s} {m} g has new h =
     record {
       labels =
           ap (map (λ (x : ScopeFrom). x.label)) g.froms
@@ -196,6 +279,11 @@ tracks_enters {known} {f} {entered} {parent} {label} {d} {s} {m} g has new h =
 
     got : (o : Own) (i : ℕ) → slice_get m.own i ≡ Some o → slice_get (s.own ++ g.scope ∷ []) i ≡ Some o
     got o i e = sym (ap (λ (os : List Own). slice_get os i) g.opened) ∙ e
+
+    -- what is kept of the scope is its deadline, which an event has not
+    at_entry : (b : Bool) → (b ≡ true → d ≡ None) → kept_from (set_at_entry b) (g.level ∷ outer_of s.tree parent) ≡ d
+    at_entry true undated = sym (undated refl)
+    at_entry false undated = g.from
 
     other : (o : Own) (i : ℕ) → slice_get s.own i ≡ Some o → o.id ≢ g.scope.id
     other o i e = let k = h.kept o i e in open_differs s.tree g.scope.id o.id g.fresh (is_open s.tree o.id k.0 k.2)
@@ -220,23 +308,26 @@ tracks_enters {known} {f} {entered} {parent} {label} {d} {s} {m} g has new h =
         )
 
     kept : (o : Own) {i : ℕ} → (slice_get s.own i ≡ Some o) ⊎ ((i ≡ length s.own) × (g.scope ≡ o)) →
-        (st : Stack) × (l : Label) × (stack_of m.tree o.id ≡ Some st) × (m.labels o.id ≡ Some l) × (own_from st ≡ froms_after_entry f label d l)
+        (st : Stack) × (l : Label) × (stack_of m.tree o.id ≡ Some st) × (m.labels o.id ≡ Some l)
+        × (kept_from (m.events o.id) st ≡ froms_after_entry f label d l)
     kept o {i} (inl e) =
         let k = h.kept o i e in (
           k.0,
           k.1,
           g.others o.id (other o i e) ∙ k.2,
           g.labelled.others o.id (other o i e) ∙ k.3,
-          k.4 ∙ sym (opened_other f label k.1 d (apart_from k.1 (has o.id k.1 k.3))),
+          ap (λ (x : Option Tick). kept_from x k.0) (g.kind.others o.id (other o i e))
+              ∙ (k.4 ∙ sym (opened_other f label k.1 d (apart_from k.1 (has o.id k.1 k.3)))),
         )
     kept o {i} (inr e) =
         subst (λ (z : Own). (st : Stack) × (l : Label) × (stack_of m.tree z.id ≡ Some st) × (m.labels z.id ≡ Some l)
-        × (own_from st ≡ froms_after_entry f label d l)) e.1 (
+        × (kept_from (m.events z.id) st ≡ froms_after_entry f label d l)) e.1 (
           g.level ∷ outer_of s.tree parent,
           label,
           g.stack,
           g.labelled.changed,
-          g.from ∙ sym (ap (λ (b : Bool). from_entered_if b d (f label)) (same_label_itself label)),
+          ap (λ (x : Option Tick). kept_from x (g.level ∷ outer_of s.tree parent)) g.kind.changed
+              ∙ (at_entry is_event g.undated ∙ sym (ap (λ (b : Bool). from_entered_if b d (f label)) (same_label_itself label))),
         )
 
     left : (i : ℕ) (x : ScopeFrom) → IsPast i (s.own ++ g.scope ∷ []) → (slice_get s.froms i ≡ Some x)
@@ -289,9 +380,15 @@ tracks_leaves {known} {f} {entered} {s} {m} g apart has h =
         )
 
     kept : (o : Own) (i : ℕ) → slice_get m.own i ≡ Some o → (st : Stack) × (l : Label) × (stack_of m.tree o.id ≡ Some st)
-        × (m.labels o.id ≡ Some l) × (own_from st ≡ f l)
+        × (m.labels o.id ≡ Some l) × (kept_from (m.events o.id) st ≡ f l)
     kept o i e =
-        let k = h.kept o i (got o i e) in (k.0, k.1, g.others o.id (other o i e) ∙ k.2, g.unlabelled.others o.id (other o i e) ∙ k.3, k.4)
+        let k = h.kept o i (got o i e) in (
+          k.0,
+          k.1,
+          g.others o.id (other o i e) ∙ k.2,
+          g.unlabelled.others o.id (other o i e) ∙ k.3,
+          ap (λ (x : Option Tick). kept_from x k.0) (g.no_event.others o.id (other o i e)) ∙ k.4,
+        )
 
     -- the entry is that of the scope's label
     labelled : s.labels g.scope.id ≡ Some g.entry.label
@@ -330,6 +427,9 @@ tracked known f entered (act_starts s u i l t es a) sound apart has new h = trac
 tracked {t} known f entered (act_signs s m u l es g a) sound apart has new h =
     let n = apart_signs known g apart has in
     tracked known (froms_after_sign f l t) entered a (sound_signs g sound) n.0 n.1 new (tracks_signs g sound apart h)
+tracked {t} known f entered (act_sets s m u l es g a) sound apart has new h =
+    let n = apart_sets known g apart has in
+    tracked known (froms_after_sign f l t) entered a (sound_sets g sound) n.0 n.1 new (tracks_sets g apart h)
 tracked known f entered (act_enters s m u l t d es g a) sound apart has new h =
     let n = apart_enters known g new.0 apart has in
     let more = tracked (λ x. (x ≡ l) ⊎ known x) (froms_after_entry f l d) (entered ++ l ∷ []) a (sound_enters g sound) n.0 n.1 new.1

@@ -31,11 +31,12 @@ use Rattle.task_machine.specs.Stacked.{AreAt}
 use Rattle.task_machine.specs.Stops.{Numbers, IsTaskState}
 use Rattle.task_machine.specs.Tasks.{home_scope, scope_of}
 use Rattle.task_machine.specs.Waking.{IsInRangeTaskState}
-use Rattle.task_machine.specs.Worlds.{label_at}
+use Rattle.task_machine.specs.Worlds.{label_at, event_at}
 use Rattle.task_machine.proofs.Stopping.{no_blocks_begun}
 use Rattle.interleavings.specs.Interleaving.{Started}
 use Rattle.interleavings.specs.Going.{root_task}
 use Rattle.interleavings.specs.Runs.{begun}
+use Rattle.run_refinement.proofs.ActsKeep.{not_both}
 use Rattle.run_refinement.specs.Begun.{IsNewWorld, IsRootTask}
 use Rattle.run_refinement.specs.RunState.{Interleaving, RunState, Gone, Differ, IsSince, LastEnds, HasHome, Follows, HasEnded, Refines}
 
@@ -80,11 +81,12 @@ root_follows k job input state root in_range starting names clock r =
       stands =
           record {
             places =
-                subst (λ (st : Stack). AreAt (label_at state.world) no_froms st []) (sym none_around) tt;
+                subst (λ (st : Stack). AreAt (label_at state.world) (event_at state.world) no_froms st []) (sym none_around) tt;
             numbered = λ id i. absurd (let h : ⊥ = subst (λ (bs : List Block). HasBlock id bs) blocks i in h);
             placed = subst (λ (fs : List rest.Frame). Placed fs []) (sym (r.frames (no_numbers 0))) (starting, tt);
             new = subst (λ (fs : List rest.Frame). NewIn fs []) (sym (r.frames (no_numbers 0))) (new_job job names);
             own = tt;
+            event = tt;
           };
       task_state = subst (λ (h : TaskState). IsTaskState (no_numbers 0) state.world.book h rest.to_begin) (sym r.task_state) tt;
       in_range = subst IsInRangeTaskState (sym r.task_state) tt;
@@ -184,6 +186,8 @@ state_begins k job input state root in_range starting names small world r first 
             owned = λ key h. absurd (none_open key h);
             apart = λ key s u a b. is_first s a.task a.lives ∙ sym (is_first u b.task b.lives);
             labelled = λ key l e. absurd (let f : None ≡ Some l = sym (world.labels key) ∙ e in cc);
+            opened = λ key set e. absurd (not_both (world.events key) e);
+            soon = λ key from e. absurd (not_both (world.events key) e);
             started = λ s lt. tt;
             children = λ s lt. let e : s ≡ 0 = omega (arith, lt) in ap state.children e ∙ children;
           };

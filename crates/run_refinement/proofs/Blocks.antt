@@ -1,6 +1,6 @@
 -- If all tasks of the program stay, the run is blocked, and while one has not ended, one has a moment in which it continues.
 -- And how long the program continues.
-use Rattle.std.proofs.Common.{◌≡◌, ◌⊎◌, inl, inr, ◌&&◌, Bool, true, false, ℕ, zero, suc, ◌+◌, ◌*◌, ◌<◌, ◌≤◌, Option, Some, None, List, [], ◌∷◌, length, refl, ap, sym, ◌∙◌, subst, arith}
+use Rattle.std.proofs.Common.{◌≡◌, ◌⊎◌, inl, inr, ◌&&◌, Bool, true, false, ℕ, zero, suc, ◌+◌, ◌*◌, ◌<◌, ◌≤◌, max, Option, Some, None, List, [], ◌∷◌, length, refl, ap, sym, ◌∙◌, subst, arith}
 use Rattle.std.specs.Prelude.{is_some, slice_get}
 use Rattle.std.specs.List.{list_all}
 use Rattle.exc_groups.specs.Exceptions.{Exc}
@@ -18,17 +18,22 @@ use Rattle.job_meaning.specs.Walk.{Here, latest}
 use Rattle.job_meaning.specs.Before.{upto}
 use Rattle.job_meaning.specs.Follow.{IsSettled}
 use Rattle.job_meaning.specs.Meaning.{meaning_end, meaning_table}
-use Rattle.job_meaning.specs.Rest.{Stopped, to_begin, asking, asleep, giving_up, awaiting, at_end}
+use Rattle.job_meaning.specs.Rest.{Stopped, to_begin, asking, asleep, waiting_for, giving_up, awaiting, at_end}
 use Rattle.turn_semantics.specs.Midway.{stack_at}
 use Rattle.turn_semantics.specs.Placed.{IsAmong}
+use Rattle.turn_semantics.specs.Wakes.{ends_at}
 use Rattle.task_machine.specs.declared.stop.TaskState.{TaskState}
-use Rattle.task_machine.specs.declared.stop.TaskState.TheVariants.{ToBegin, Asked, Asleep, GivingUp, Awaits, Over}
+use Rattle.task_machine.specs.declared.stop.TaskState.TheVariants.{ToBegin, Asked, Asleep, Waiting, GivingUp, Awaits, Over}
 use Rattle.task_machine.specs.declared.task.Home.{Home}
 use Rattle.task_machine.specs.declared.task.Task.{Task}
 use Rattle.task_machine.specs.Fitting.{waits_of}
+use Rattle.task_machine.specs.Events.{set_by, wait_ends}
+use Rattle.task_machine.specs.Stacked.{AwaitsEvent}
+use Rattle.task_machine.specs.Standing.{Stands}
+use Rattle.task_machine.specs.States.{state_of}
 use Rattle.task_machine.specs.Stops.{IsTaskState}
 use Rattle.task_machine.specs.Tasks.{scope_of}
-use Rattle.task_machine.specs.Worlds.{label_at}
+use Rattle.task_machine.specs.Worlds.{label_at, event_at}
 use Rattle.task_machine.proofs.Stacked.{sight_at}
 use Rattle.interleavings.specs.Interleaving.{Started, In, live, Unended, Settling, StaysUntil, Blocked, members_by}
 use Rattle.interleavings.specs.Laws.{HasNextTurn, GoesOn}
@@ -37,6 +42,7 @@ use Rattle.interleavings.proofs.Running.{blocked_runs_go_on, limits_are_exact, r
 use Rattle.run_refinement.specs.RunState.{RunState, HasHome, IsMember, HasMembers, IsSince, Refines}
 use Rattle.run_refinement.specs.Ready.{StaysTo, AllStay, HasMoment, HasNext}
 use Rattle.run_refinement.proofs.ActsKeep.{not_both}
+use Rattle.run_refinement.proofs.EventPlaces.{HasEvent, has_event, awaited_set}
 use Rattle.run_refinement.proofs.LabelsApart.{below_of}
 use Rattle.run_refinement.proofs.Found.{below_length}
 use Rattle.run_refinement.proofs.Found.{gives, finds, puts}
@@ -183,38 +189,56 @@ state_blocked k job input t m state c u stay q i =
                   (subst (λ (y : ℕ). u ≤ a_round_after state.world.clock y) (sym w.last) h);
             })
 
+    -- where what it sees is known, the definitions know the same
+    by_sight : (s : ℕ) (task : Task) → state.task s ≡ Some task → (since v : ℕ) → since ≡ v →
+        (upto u (sight (outer_of state.world.scopes (scope_of task))) ≡ u) ⊎ (u ≤ a_round_after state.world.clock since) →
+        (upto u (sight (stack_at f (at s).places).scopes) ≡ u) ⊎ (u ≤ a_round_after (at s).here.clock v)
+    by_sight s task lives since v same (inl g) =
+        inl (ap (upto u)
+        (sym (sight_at (label_at state.world) (event_at state.world) f (outer_of state.world.scopes (scope_of task)) (at s).places
+        (c.follows s task lives).stands.places)) ∙ g)
+    by_sight s task lives since v same (inr g) =
+        inr (subst (λ (x : Clock). u ≤ a_round_after x v) (clock s task lives)
+        (subst (λ (x : ℕ). u ≤ a_round_after state.world.clock x) same g))
+
     by_task_state : (s : ℕ) (task : Task) → state.task s ≡ Some task → (task_state : TaskState) (stopped : Stopped) → task.task_state ≡ task_state →
         IsTaskState (c.numbers s) book task_state stopped → IsSince t task.cancelled.items task_state (at s).stop →
-        StaysTo state.world u (scope_of task) task_state → StaysUntil f qs u (at s) stopped
-    by_task_state s task lives (ToBegin v) to_begin e h since to = subst (λ (x : Now). u ≤ x.at) (sym since) to
-    by_task_state s task lives (Asked kernel purpose) (asking asked p) e h since to = absurd to
-    by_task_state s task lives (Asleep paced ticks since) (asleep p n v) e h stop to = (
+        AwaitsEvent (label_at state.world) (outer_of state.world.scopes (scope_of task)) (Some stopped) task_state (at s).places →
+        HasEvent stopped (at s).places → StaysTo state.world u (scope_of task) task_state → StaysUntil f qs u (at s) stopped
+    by_task_state s task lives (ToBegin v) to_begin e h since event some to = subst (λ (x : Now). u ≤ x.at) (sym since) to
+    by_task_state s task lives (Asked kernel purpose) (asking asked p) e h since event some to = absurd to
+    by_task_state s task lives (Asleep paced ticks since) (asleep p n v) e h stop event some to = (
       subst (λ (x : Clock). u ≤ wakes_at x n v) (clock s task lives)
           (subst (λ (x : ℕ). u ≤ wakes_at state.world.clock x v) h.1
           (subst (λ (x : ℕ). u ≤ wakes_at state.world.clock ticks x) h.2 to.0)),
-      by_sight to.1,
+      by_sight s task lives since v h.2 to.1,
+    )
+    by_task_state s task lives (Waiting key since) (waiting_for name v) e h stop event some to = (
+      subst (λ (x : ℕ). u ≤ max (a_round_after (at s).here.clock x) (ends_at (at s).here.clock f name x (at s).places)) h
+          (subst (λ (x : ℕ). u ≤ max (a_round_after (at s).here.clock since) x) same_end
+          (subst (λ (x : Clock). u ≤ wait_ends x (event_at state.world key) since) (clock s task lives) to.0)),
+      by_sight s task lives since v h to.1,
     )
       where
-        by_sight : (upto u (sight (outer_of state.world.scopes (scope_of task))) ≡ u) ⊎ (u ≤ a_round_after state.world.clock since) →
-            (upto u (sight (stack_at f (at s).places)) ≡ u) ⊎ (u ≤ a_round_after (at s).here.clock v)
-        by_sight (inl g) =
-            inl (ap (upto u)
-            (sym (sight_at (label_at state.world) f (outer_of state.world.scopes (scope_of task)) (at s).places
-            (c.follows s task lives).stands.places)) ∙ g)
-        by_sight (inr g) =
-            inr (subst (λ (x : Clock). u ≤ a_round_after x v) (clock s task lives)
-            (subst (λ (x : ℕ). u ≤ a_round_after state.world.clock x) h.2 g))
-    by_task_state s task lives (GivingUp since) (giving_up v) e h stop to = subst (λ (x : ℕ). u ≤ suc x) h to
-    by_task_state s task lives (Awaits id since) (awaiting children v exc) e h stop to =
+        it : Stands (state_of task state.world) f (c.numbers s) (Some (at s).rest.stopped) (at s).places
+        it = (c.follows s task lives).stands
+
+        same_end : set_by (at s).here.clock (event_at state.world key) since ≡ ends_at (at s).here.clock f name since (at s).places
+        same_end =
+            (awaited_set (label_at state.world) (event_at state.world) f (outer_of state.world.scopes (scope_of task)) (at s).places key name
+            (at s).here.clock since it.own it.places event.0 event.1 some).0
+    by_task_state s task lives (GivingUp since) (giving_up v) e h stop event some to = subst (λ (x : ℕ). u ≤ suc x) h to
+    by_task_state s task lives (Awaits id since) (awaiting children v exc) e h stop event some to =
         waits s task id since v children exc lives e h.0 h.1 h.2 to
-    by_task_state s task lives Over (at_end v x) e h since to = absurd to
-    by_task_state s task lives _ _ e h since to = absurd h
+    by_task_state s task lives Over (at_end v x) e h since event some to = absurd to
+    by_task_state s task lives _ _ e h since event some to = absurd h
 
     by_task : (s : ℕ) → s < m → (o : Option Task) → state.task s ≡ o → StaysUntil f qs u (at s) (at s).rest.stopped
     by_task s lt None e = subst (StaysUntil f qs u (at s)) (sym (c.ended s lt e).2.stopped) tt
     by_task s lt (Some task) e =
         by_task_state s task e task.task_state (at s).rest.stopped refl (c.follows s task e).task_state (c.follows s task e).since
-        (stay s task e)
+        (c.follows s task e).stands.event
+        (has_event (at s).rest.stopped _ (at s).places (c.follows s task e).stands.placed) (stay s task e)
 
 -- while a task has not ended, one has a moment in which it continues
 pub state_goes_on : (k : Table) (job : Job) (input : List ℕ) (t m : ℕ) (state : RunState) → IsSettled k job input → GivesNamesOnce job →
@@ -264,6 +288,7 @@ state_goes_on k job input t m state settled names starting c u stay s task lives
     moment y there (ToBegin v) stopped e h next to = tt
     moment y there (Asked kernel purpose) stopped e h next to = absurd to
     moment y there (Asleep paced ticks since) stopped e h next to = tt
+    moment y there (Waiting key since) stopped e h next to = tt
     moment y there (GivingUp since) stopped e h next to = tt
     moment y there (Awaits id since) (awaiting children v exc) e h next to = settles y id since v children exc there e h.0 h.2 next
     moment y there (Awaits id since) _ e h next to = absurd h

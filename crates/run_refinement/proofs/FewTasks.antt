@@ -5,7 +5,7 @@ use Rattle.job_tree.specs.Tree.{Tree as Job}
 use Rattle.job_tree.specs.Names.{size_of}
 use Rattle.job_meaning.specs.Log.{Table}
 use Rattle.job_meaning.specs.Asking.{shows, needs, paces}
-use Rattle.job_meaning.specs.Rest.{Stopped, to_begin, asking, asleep, giving_up, awaiting, at_end, stop_weight, rest_weight}
+use Rattle.job_meaning.specs.Rest.{Stopped, to_begin, asking, asleep, waiting_for, giving_up, awaiting, at_end, stop_weight, rest_weight}
 use Rattle.task_machine.specs.declared.task.Task.{Task}
 use Rattle.interleavings.specs.Interleaving.{Started, In, live}
 use Rattle.interleavings.specs.Runs.{Front, is_front, after_one, all_weights}
@@ -24,6 +24,7 @@ live_weighs (asleep false zero since) e = omega arith
 live_weighs (asleep false (suc n) since) e = omega arith
 live_weighs (asleep true zero since) e = omega arith
 live_weighs (asleep true (suc n) since) e = omega arith
+live_weighs (waiting_for event since) e = omega arith
 live_weighs (giving_up since) e = omega arith
 live_weighs (awaiting children ended exc) e = omega arith
 live_weighs (at_end u x) e = absurd (let f : false ≡ true = e in cc)

@@ -1,6 +1,6 @@
 -- A run of the definitions continues with a turn of one of its tasks: which tasks it has then, by their serial
 -- numbers.
-use Rattle.std.proofs.Common.{◌≡◌, ◌≢◌, ◌⊎◌, inl, inr, ℕ, zero, suc, ◌+◌, ◌-◌, ◌<◌, ◌≤◌, ◌==◌, nat_lt, Bool, true, false, Option, Some, None, List, [], ◌∷◌, ◌++◌, length, refl, ap, sym, ◌∙◌, subst, arith}
+use Rattle.std.proofs.Common.{◌≡◌, ◌≢◌, ◌⊎◌, inl, inr, ℕ, zero, suc, ◌+◌, ◌-◌, ◌<◌, ◌≤◌, min, ◌==◌, nat_lt, Bool, true, false, Option, Some, None, List, [], ◌∷◌, ◌++◌, length, refl, ap, sym, ◌∙◌, subst, arith}
 use Rattle.std.proofs.lemmas.Bool.{eqb-true, eq-eqb}
 use Rattle.std.proofs.lemmas.Bool.Decides.{nat_tests}
 use Rattle.std.specs.List.{slice_get}
@@ -9,17 +9,18 @@ use Rattle.job_tree.specs.Tree.{Tree as Job}
 use Rattle.job_meaning.specs.Log.{Table}
 use Rattle.exc_groups.specs.Exceptions.{Exc, Label}
 use Rattle.job_meaning.specs.Moments.{a_round_after, Now}
-use Rattle.job_meaning.specs.Rest.{Stopped, to_begin, asking, asleep, giving_up, awaiting}
+use Rattle.job_meaning.specs.Rest.{Stopped, to_begin, asking, asleep, waiting_for, giving_up, awaiting}
 use Rattle.turn_semantics.specs.Midway.{Begun, Move, stack_at}
 use Rattle.turn_semantics.specs.Steps.{froms_after}
 use Rattle.turn_semantics.specs.Turned.{TurnsOver}
-use Rattle.turn_semantics.specs.Wakes.{Wake, begins, sees, gives_up, is_due, has_answer, settles, CanWake, from_start, from_asking, from_sleep, from_due, from_giving_up, from_wait}
+use Rattle.turn_semantics.specs.Wakes.{Wake, begins, sees, gives_up, is_due, has_answer, settles, ends_at, CanWake, from_start, from_asking, from_sleep, from_due, from_seen_waiting, from_set, from_giving_up, from_wait}
 use Rattle.interleavings.specs.Interleaving.{Started, In}
 use Rattle.interleavings.specs.Going.{task_after_turn, children_from}
 use Rattle.interleavings.specs.Woken.{MayWake, WaitIsOver}
 use Rattle.interleavings.specs.Runs.{turn, Front, is_front, after_one, turns_taken}
 use Rattle.interleavings.proofs.Picking.{SameTasks, front_same}
 use Rattle.interleavings.proofs.Readings.{in_first, in_second, in_either}
+use Rattle.interleavings.proofs.Waking.{sees_alike, over_alike}
 use Rattle.run_refinement.specs.RunState.{Interleaving, AreApart}
 use Rattle.run_refinement.specs.Turn.{child_at}
 
@@ -126,25 +127,37 @@ wait_moved : (qs rs : List Started) (q : Started) (t : ℕ) (children : List ℕ
 wait_moved qs rs q t children ended e x back h =
     record { ends = h.ends; numbers = h.numbers; over = λ i among c is serial. h.over i among c (back c is) serial; settled = h.settled }
 
--- or where other froms show the same
+-- or where other froms show the same, and an event is set in the same moment as far as now
 pub ready_by : (f g : Table) (qs rs : List Started) (now : Now) (q : Started) (w : Wake) (s : Stopped) →
-    seen (stack_at f q.places) now.at ≡ seen (stack_at g q.places) now.at →
+    seen (stack_at f q.places).scopes now.at ≡ seen (stack_at g q.places).scopes now.at →
+    ((event : List ℕ) (since : ℕ) → min (suc now.at) (ends_at q.here.clock f event since q.places)
+    ≡ min (suc now.at) (ends_at q.here.clock g event since q.places)) →
     ((children : List ℕ) (ended : ℕ) (e x : Option Exc) → WaitIsOver qs q now.at children ended e x →
     WaitIsOver rs q now.at children ended e x) →
     MayWake f qs now q w s → MayWake g rs now q w s
-ready_by f g qs rs now q begins to_begin same over h = h
-ready_by f g qs rs now q (has_answer a) (asking k p) same over h = h
-ready_by f g qs rs now q is_due (asleep paced n u) same over h = (h.0, sym same ∙ h.1, h.2)
-ready_by f g qs rs now q sees (asleep paced n u) same over h = (h.0, sym same ∙ h.1, h.2)
-ready_by f g qs rs now q gives_up (giving_up u) same over h = h
-ready_by f g qs rs now q (settles x) (awaiting cs u e) same over h = (over cs u e x h.0, h.1)
-ready_by f g qs rs now q _ _ same over h = absurd h
+ready_by f g qs rs now q begins to_begin same set over h = h
+ready_by f g qs rs now q (has_answer a) (asking k p) same set over h = h
+ready_by f g qs rs now q is_due (asleep paced n u) same set over h = (h.0, sym same ∙ h.1, h.2)
+ready_by f g qs rs now q sees (asleep paced n u) same set over h = (h.0, sym same ∙ h.1, h.2)
+ready_by f g qs rs now q is_due (waiting_for event u) same set over h = (
+  over_alike q.here.clock (ends_at q.here.clock f event u q.places) (ends_at q.here.clock g event u q.places) u now.at
+      (seen (stack_at f q.places).scopes now.at) (seen (stack_at g q.places).scopes now.at) (set event u) (sym same) h.0,
+  h.1,
+)
+ready_by f g qs rs now q sees (waiting_for event u) same set over h = (
+  sees_alike q.here.clock (ends_at q.here.clock f event u q.places) (ends_at q.here.clock g event u q.places) u now.at (set event u) h.0,
+  sym same ∙ h.1,
+  h.2,
+)
+ready_by f g qs rs now q gives_up (giving_up u) same set over h = h
+ready_by f g qs rs now q (settles x) (awaiting cs u e) same set over h = (over cs u e x h.0, h.1)
+ready_by f g qs rs now q _ _ same set over h = absurd h
 
 -- a task that may be woken among some tasks may be woken among fewer of them
 pub may_moved : (f : Table) (qs rs : List Started) (now : Now) (q : Started) (w : Wake) (s : Stopped) →
     ((c : Started) → In c rs → In c qs) → MayWake f qs now q w s → MayWake f rs now q w s
 may_moved f qs rs now q w s back h =
-    ready_by f f qs rs now q w s refl (λ children ended e x over. wait_moved qs rs q now.at children ended e x back over) h
+    ready_by f f qs rs now q w s refl (λ event since. refl) (λ children ended e x over. wait_moved qs rs q now.at children ended e x back over) h
 
 -- and such a wake can come of its stop
 pub may_can : (f : Table) (qs : List Started) (now : Now) (q : Started) (w : Wake) (s : Stopped) → MayWake f qs now q w s → CanWake w s
@@ -152,6 +165,8 @@ may_can f qs now q begins to_begin h = from_start
 may_can f qs now q (has_answer a) (asking k p) h = from_asking
 may_can f qs now q is_due (asleep paced n u) h = from_due
 may_can f qs now q sees (asleep paced n u) h = from_sleep
+may_can f qs now q is_due (waiting_for event u) h = from_set
+may_can f qs now q sees (waiting_for event u) h = from_seen_waiting
 may_can f qs now q gives_up (giving_up u) h = from_giving_up
 may_can f qs now q (settles x) (awaiting cs u e) h = from_wait
 may_can f qs now q _ _ h = absurd h

@@ -26,35 +26,37 @@ use Rattle.job_meaning.specs.Moments.{Clock, a_round_after, wakes_at, Now, only_
 use Rattle.job_meaning.specs.Walk.{Here, with_exc, excs_of, latest}
 use Rattle.job_meaning.specs.Asking as ask
 use Rattle.job_meaning.specs.Follow.{IsSettled}
-use Rattle.job_meaning.specs.Rest.{told_members, Stopped, to_begin, asking, asleep, giving_up, awaiting, at_end}
+use Rattle.job_meaning.specs.Rest.{told_members, Stopped, to_begin, asking, asleep, waiting_for, giving_up, awaiting, at_end}
 use Rattle.turn_semantics.specs.Midway.{Place, stack_at}
 use Rattle.turn_semantics.specs.Placed.{IsAmong}
 use Rattle.turn_semantics.specs.Turned.{AgreesOn}
-use Rattle.turn_semantics.specs.Wakes.{SettlesAt}
+use Rattle.turn_semantics.specs.Wakes.{ends_at, SettlesAt}
 use Rattle.task_machine.specs.declared.stop.TaskState.{TaskState}
-use Rattle.task_machine.specs.declared.stop.TaskState.TheVariants.{ToBegin, Asked, Asleep, GivingUp, Awaits, Over}
+use Rattle.task_machine.specs.declared.stop.TaskState.TheVariants.{ToBegin, Asked, Asleep, Waiting, GivingUp, Awaits, Over}
 use Rattle.task_machine.specs.declared.stop.Wake.{Wake}
 use Rattle.task_machine.specs.declared.stop.Wake.TheVariants.{Begin, Due, Seen, Answer, Settled}
 use Rattle.task_machine.specs.declared.task.Own.{Own}
 use Rattle.task_machine.specs.declared.task.Task.{Task}
 use Rattle.task_machine.specs.Fitting.{Block, a_scope, a_nursery, blocks_of, IsMine, Opened, waits_of}
-use Rattle.task_machine.specs.Labels.{Labels}
+use Rattle.task_machine.specs.Events.{set_by}
+use Rattle.task_machine.specs.Labels.{Labels, Events}
 use Rattle.task_machine.specs.Left.{keys_of, keys_in}
-use Rattle.task_machine.specs.Stacked.{AreAt}
+use Rattle.task_machine.specs.Stacked.{AreAt, IsEventNamed, AwaitsEvent}
 use Rattle.task_machine.specs.Standing.{here_of, HasBlock, HasNurseryOf, now_for}
 use Rattle.task_machine.specs.States.{state_of}
 use Rattle.task_machine.specs.Stops.{kernel_in, IsTaskState}
 use Rattle.task_machine.specs.Tasks.{home_scope, scope_of}
 use Rattle.task_machine.specs.Waking.{WakesFrom, answer_in, raised_in, wake_in}
-use Rattle.task_machine.specs.Worlds.{label_at}
+use Rattle.task_machine.specs.Worlds.{label_at, event_at}
 use Rattle.task_machine.proofs.Stacked.{one_of, seen_at}
 use Rattle.interleavings.specs.Interleaving.{Started, In, RunInvariant, live, goes_on, AllFrom}
 use Rattle.interleavings.specs.Going.{root_result}
-use Rattle.interleavings.specs.Woken.{members_by, WaitIsOver, MayWake}
+use Rattle.interleavings.specs.Woken.{members_by, SeesNow, IsOver, WaitIsOver, MayWake}
 use Rattle.interleavings.proofs.Running.{runs_keep_invariant}
 use Rattle.interleavings.proofs.Agreement.{told_tells, told_ended}
 use Rattle.run_refinement.specs.RunState.{RunState, IsMember, HasMembers, IsSince, SomeEnded, LastEnds, Follows, Refines}
 use Rattle.run_refinement.specs.Ready.{IsTimely, MayGo}
+use Rattle.run_refinement.proofs.EventPlaces.{HasEvent, has_event, awaited_set}
 use Rattle.run_refinement.proofs.LabelsApart.{below_of}
 use Rattle.run_refinement.proofs.Parts.{among_got}
 use Rattle.run_refinement.proofs.Found.{gives, puts, finds}
@@ -92,6 +94,7 @@ abbrev pub member_of : Stopped → Member
 member_of to_begin = record { end = 0; exc = None }
 member_of (asking kernel purpose) = record { end = 0; exc = None }
 member_of (asleep paced n since) = record { end = 0; exc = None }
+member_of (waiting_for event since) = record { end = 0; exc = None }
 member_of (giving_up since) = record { end = 0; exc = None }
 member_of (awaiting children ended exc) = record { end = 0; exc = None }
 member_of (at_end u e) = record { end = u; exc = e }
@@ -209,12 +212,13 @@ same_key : (a b : ℕ) (xs ys : List ℕ) → a ∷ xs ≡ b ∷ ys → a ≡ b
 same_key a b xs ys e = cc
 
 -- the innermost place has the label of the innermost scope
-first_label : (labels : Labels) (f : Table) (key : ℕ) (keys : List ℕ) (st : Stack) (ps : List Place) → AreAt labels f st ps →
+first_label : (labels : Labels) (events : Events) (f : Table) (key : ℕ) (keys : List ℕ) (st : Stack) (ps : List Place) →
+    AreAt labels events f st ps →
     keys_of st ≡ key ∷ keys → (label : Label) → labels key ≡ Some label →
     (p : Place) × (qs : List Place) × (ps ≡ p ∷ qs) × (p.label ≡ label)
-first_label labels f key keys [] ps a e label g = absurd (let h : [] ≡ key ∷ keys = e in cc)
-first_label labels f key keys (l ∷ ls) [] a e label g = absurd a
-first_label labels f key keys (l ∷ ls) (p ∷ ps) a e label g =
+first_label labels events f key keys [] ps a e label g = absurd (let h : [] ≡ key ∷ keys = e in cc)
+first_label labels events f key keys (l ∷ ls) [] a e label g = absurd a
+first_label labels events f key keys (l ∷ ls) (p ∷ ps) a e label g =
     (p, ps, refl, one_of p.label label (sym a.0 ∙ ap labels (same_key l.label key (keys_of ls) keys e) ∙ g))
 
 -- ---- which nurseries are settled
@@ -340,7 +344,8 @@ pub may_wake : (k : Table) (job : Job) (input : List ℕ) (t m : ℕ) (state : R
     MayWake c.interleaving.froms c.interleaving.tasks (record { at = t; own = (now_for wake (state_of task state.world)).own })
     (c.interleaving.at s) (wake_in state.world.book task.task_state wake) (c.interleaving.at s).rest.stopped
 may_wake k job input t m state settled names starting c s task lives wake may =
-    by_stop task.task_state q.rest.stopped refl it.task_state it.since (on.1 q there) may.fits may.timely
+    by_stop task.task_state q.rest.stopped refl it.task_state it.since it.stands.event
+    (has_event q.rest.stopped _ q.places it.stands.placed) (on.1 q there) may.fits may.timely
   where
     q : Started
     q = c.interleaving.at s
@@ -393,8 +398,8 @@ may_wake k job input t m state settled names starting c s task lives wake may =
     answers_now _ kernel purpose asked p same h since late = absurd h
 
     -- the same is seen in the world and in the froms
-    same_seen : (b : Bool) → seen stack state.world.tick ≡ b → seen (stack_at f q.places) t ≡ b
-    same_seen b e = sym (seen_at labels f stack q.places t it.stands.places) ∙ ap (λ (v : ℕ). seen stack v) (sym c.tick) ∙ e
+    same_seen : (b : Bool) → seen stack state.world.tick ≡ b → seen (stack_at f q.places).scopes t ≡ b
+    same_seen b e = sym (seen_at labels (event_at state.world) f stack q.places t it.stands.places) ∙ ap (λ (v : ℕ). seen stack v) (sym c.tick) ∙ e
 
     sleeps_now : (w : Wake) (paced : Bool) (ticks since : ℕ) (p : Bool) (n u : ℕ) → ticks ≡ n → since ≡ u →
         WakesFrom (Asleep paced ticks since) task.part book w →
@@ -413,6 +418,40 @@ may_wake k job input t m state settled names starting c s task lives wake may =
       refl,
     )
     sleeps_now _ paced ticks since p n u e g h timely = absurd h
+
+    -- a wait for an event ends when the definitions say so
+    same_end : (key since : ℕ) (name : List ℕ) → IsEventNamed labels stack (Waiting key since) name q.places →
+        HasEvent (waiting_for name since) q.places →
+        set_by state.world.clock (event_at state.world key) since ≡ ends_at q.here.clock f name since q.places
+    same_end key since name named some =
+        (awaited_set labels (event_at state.world) f stack q.places key name state.world.clock since it.stands.own it.stands.places named.0
+        named.1 some).0
+        ∙ ap (λ (x : Clock). ends_at x f name since q.places) clock
+
+    waits_now : (w : Wake) (key since : ℕ) (name : List ℕ) (u : ℕ) → since ≡ u →
+        IsEventNamed labels stack (Waiting key since) name q.places → HasEvent (waiting_for name since) q.places →
+        WakesFrom (Waiting key since) task.part book w → IsTimely state.world (scope_of task) (Waiting key since) w →
+        MayWake f qs (now w) q (wake_in book (Waiting key since) w) (waiting_for name u)
+    waits_now Due key since name u e named some h timely = (
+      subst (λ (x : ℕ). IsOver q.here.clock (ends_at q.here.clock f name x q.places) x t (seen (stack_at f q.places).scopes t)) e
+          (subst (λ (b : Bool). IsOver q.here.clock (ends_at q.here.clock f name since q.places) since t b)
+          (sym (same_seen (seen stack state.world.tick) refl))
+          (subst (λ (v : ℕ). IsOver q.here.clock (ends_at q.here.clock f name since q.places) since v (seen stack state.world.tick)) c.tick
+          (subst (λ (v : ℕ). IsOver q.here.clock v since state.world.tick (seen stack state.world.tick)) (same_end key since name named some)
+          (subst (λ (x : Clock). IsOver x (set_by state.world.clock (event_at state.world key) since) since state.world.tick
+          (seen stack state.world.tick)) clock timely)))),
+      refl,
+    )
+    waits_now Seen key since name u e named some h timely = (
+      subst (λ (x : ℕ). SeesNow q.here.clock (ends_at q.here.clock f name x q.places) x t) e
+          (subst (λ (v : ℕ). SeesNow q.here.clock (ends_at q.here.clock f name since q.places) since v) c.tick
+          (subst (λ (v : ℕ). SeesNow q.here.clock v since state.world.tick) (same_end key since name named some)
+          (subst (λ (x : Clock). SeesNow x (set_by state.world.clock (event_at state.world key) since) since state.world.tick) clock
+          timely.0))),
+      same_seen true timely.1,
+      refl,
+    )
+    waits_now _ key since name u e named some h timely = absurd h
 
     gives_up_now : (w : Wake) (since u : ℕ) → since ≡ u → WakesFrom (GivingUp since) task.part book w → suc since ≡ state.world.tick →
         MayWake f qs (now w) q (wake_in book (GivingUp since) w) (giving_up u)
@@ -478,7 +517,7 @@ may_wake k job input t m state settled names starting c s task lives wake may =
         keys = it.goes.first ∙ ap (λ (ks : List ℕ). ks ++ outer) (ap keys_in last.is ∙ keys_last last.before last.scope)
 
         first : (p : Place) × (ps : List Place) × (q.places ≡ p ∷ ps) × (p.label ≡ n.0.label)
-        first = first_label labels f last.scope.id (keys_in last.before ++ outer) stack q.places it.stands.places keys n.0.label mine.label
+        first = first_label labels (event_at state.world) f last.scope.id (keys_in last.before ++ outer) stack q.places it.stands.places keys n.0.label mine.label
 
         raises : group_of (by_nursery first.0.label) (parts_of (with_exc exc (excs_of (members_by found children))))
             ≡ raised_in (nursery_at book id)
@@ -503,17 +542,18 @@ may_wake k job input t m state settled names starting c s task lives wake may =
     settles_now _ id since u children exc task_state numbers same body late h timely = absurd h
 
     by_stop : (task_state : TaskState) (stopped : Stopped) → task.task_state ≡ task_state → IsTaskState (c.numbers s) book task_state stopped →
-        IsSince t task.cancelled.items task_state q.stop →
-        (live stopped ≡ true → t ≤ goes_on q.here.clock q.told stopped (stack_at k q.places) q.stop.at) →
-        WakesFrom task_state task.part book wake → IsTimely state.world (scope_of task) task_state wake →
+        IsSince t task.cancelled.items task_state q.stop → AwaitsEvent labels stack (Some stopped) task_state q.places →
+        HasEvent stopped q.places → (live stopped ≡ true → t ≤ goes_on q.here.clock q.told stopped (stack_at k q.places) q.stop.at) → WakesFrom task_state task.part book wake → IsTimely state.world (scope_of task) task_state wake →
         MayWake f qs (now wake) q (wake_in book task_state wake) stopped
-    by_stop (ToBegin at) to_begin e h since late fits timely = begins_now wake at fits since timely
-    by_stop (Asked kernel purpose) (asking asked p) e h since late fits timely =
+    by_stop (ToBegin at) to_begin e h since event some late fits timely = begins_now wake at fits since timely
+    by_stop (Asked kernel purpose) (asking asked p) e h since event some late fits timely =
         answers_now wake kernel purpose asked p h.0 fits since (late refl)
-    by_stop (Asleep paced ticks since) (asleep p n u) e h stop late fits timely =
+    by_stop (Asleep paced ticks since) (asleep p n u) e h stop event some late fits timely =
         sleeps_now wake paced ticks since p n u h.1 h.2 fits timely
-    by_stop (GivingUp since) (giving_up u) e h stop late fits timely = gives_up_now wake since u h fits timely
-    by_stop (Awaits id since) (awaiting children u exc) e h stop late fits timely =
+    by_stop (Waiting key since) (waiting_for name u) e h stop event some late fits timely =
+        waits_now wake key since name u h event some fits timely
+    by_stop (GivingUp since) (giving_up u) e h stop event some late fits timely = gives_up_now wake since u h fits timely
+    by_stop (Awaits id since) (awaiting children u exc) e h stop event some late fits timely =
         settles_now wake id since u children exc e h.0 h.1 h.2 (late refl) fits timely
-    by_stop Over (at_end u x) e h since late fits timely = absurd fits
-    by_stop _ _ e h since late fits timely = absurd h
+    by_stop Over (at_end u x) e h since event some late fits timely = absurd fits
+    by_stop _ _ e h since event some late fits timely = absurd h

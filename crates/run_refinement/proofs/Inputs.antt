@@ -1,18 +1,18 @@
 -- Each child that begins in a turn is on the input that its starter is on.
 use Rattle.std.proofs.Common.{◌≡◌, ℕ, zero, suc, ◌+◌, ◌-◌, Bool, true, false, Option, Some, None, List, [], ◌∷◌, ◌++◌, length, refl, subst}
 use Rattle.std.specs.Prelude.{slice_get}
-use Rattle.exc_groups.specs.Exceptions.{Exc}
+use Rattle.exc_groups.specs.Exceptions.{Label, Exc}
 use Rattle.exc_groups.specs.Split.{named, keep, drop}
-use Rattle.cancel_scopes.specs.Sight.{seen}
-use Rattle.job_tree.specs.Tree.{Step, sleep, checkpoint, forever, pace, find, head, longest, need, raise, cancel, scope, nursery, start, repeat, attempt, Steps, stop, step, Handled, unhandled, except, Cleaned, uncleaned, finally}
+use Rattle.cancel_scopes.specs.Sight.{Level, seen}
+use Rattle.job_tree.specs.Tree.{Step, sleep, checkpoint, forever, pace, find, head, longest, need, raise, cancel, set_event, wait_for, scope, nursery, event, start, repeat, attempt, Steps, stop, step, Handled, unhandled, except, Cleaned, uncleaned, finally}
 use Rattle.job_meaning.specs.Asking.{Answer, lines, missing, counted, shows, needs, paces}
 use Rattle.job_meaning.specs.Log.{Table}
 use Rattle.job_meaning.specs.Moments.{Clock, by_ticks, by_rounds, far, tick_of, Now}
-use Rattle.job_meaning.specs.Walk.{Here, pace_ticks}
-use Rattle.job_meaning.specs.Rest.{Frame, steps_left, in_scope, in_nursery, in_repeat, in_try, in_handler, in_cleanup, Stopped, to_begin, asking, asleep, giving_up, awaiting, at_end, inside}
-use Rattle.turn_semantics.specs.Midway.{Place, stack_at, Midway, Begun, Move, after_move, then_move, now_after}
-use Rattle.turn_semantics.specs.Steps.{froms_after, falls_asleep, begun_over, begins_passes, step_on, step_steps, handler_if, step_try, step_pass, step_frames, step_of, turn_of}
-use Rattle.turn_semantics.specs.Wakes.{Wake, begins, sees, gives_up, is_due, has_answer, settles, with_answer, sees_from, wake_of, turn_from}
+use Rattle.job_meaning.specs.Walk.{Here, event_on, pace_ticks}
+use Rattle.job_meaning.specs.Rest.{Frame, steps_left, in_scope, in_event, in_nursery, in_repeat, in_try, in_handler, in_cleanup, Stopped, to_begin, asking, asleep, waiting_for, giving_up, awaiting, at_end, inside}
+use Rattle.turn_semantics.specs.Midway.{Place, label_among, stack_at, Midway, Begun, Move, after_move, then_move, now_after}
+use Rattle.turn_semantics.specs.Steps.{froms_after, falls_asleep, waits_on, begun_over, begins_passes, step_on, step_steps, handler_if, step_try, step_pass, step_frames, step_of, turn_of}
+use Rattle.turn_semantics.specs.Wakes.{Wake, begins, sees, gives_up, is_due, has_answer, settles, ends_at, is_checkpoint, gives_up_if, notes_wait, is_due_from, with_answer, sees_from, wake_of, turn_from}
 use Rattle.run_refinement.proofs.ActsKeep.{not_both}
 use Rattle.task_machine.proofs.Stacked.{one_of}
 
@@ -44,6 +44,11 @@ asleep_on input by_ticks false paced zero t fs ps = tt
 asleep_on input by_ticks false paced (suc n) t fs ps = tt
 asleep_on input by_rounds b paced n t fs ps = tt
 
+waits_on_input : (input : List ℕ) (o : Option Label) (name : List ℕ) (t : ℕ) (fs : List Frame) (ps : List Place) →
+    AllOn input (waits_on o name t fs ps).begun
+waits_on_input input None name t fs ps = tt
+waits_on_input input (Some l) name t fs ps = tt
+
 passes_on : (input : List ℕ) (n : ℕ) (body : Steps) (fs : List Frame) (ps : List Place) → AllOn input (begins_passes n body fs ps).begun
 passes_on input zero body fs ps = tt
 passes_on input (suc k) body fs ps = tt
@@ -52,11 +57,11 @@ one_on : (input : List ℕ) (froms : Table) (now : Now) (here : Here) (s : Step)
     →
     here.input ≡ input →
     AllOn input (step_on froms now here s ss fs ps count).begun
-one_on input froms now here (sleep n) ss fs ps count e = asleep_on input here.clock (seen (stack_at froms ps) now.at) false n now.at
+one_on input froms now here (sleep n) ss fs ps count e = asleep_on input here.clock (seen (stack_at froms ps).scopes now.at) false n now.at
     (steps_left ss ∷ fs) ps
-one_on input froms now here checkpoint ss fs ps count e = asleep_on input here.clock (seen (stack_at froms ps) now.at) false 0 now.at
+one_on input froms now here checkpoint ss fs ps count e = asleep_on input here.clock (seen (stack_at froms ps).scopes now.at) false 0 now.at
     (steps_left ss ∷ fs) ps
-one_on input froms now here forever ss fs ps count e = asleep_on input here.clock (seen (stack_at froms ps) now.at) false
+one_on input froms now here forever ss fs ps count e = asleep_on input here.clock (seen (stack_at froms ps).scopes now.at) false
     (far - tick_of here.clock now.at) now.at (steps_left ss ∷ fs) ps
 one_on input froms now here (pace k) ss fs ps count e = tt
 one_on input froms now here (find text) ss fs ps count e = tt
@@ -65,8 +70,11 @@ one_on input froms now here longest ss fs ps count e = tt
 one_on input froms now here (need text name) ss fs ps count e = tt
 one_on input froms now here (raise name) ss fs ps count e = tt
 one_on input froms now here (cancel name) ss fs ps count e = tt
+one_on input froms now here (set_event name) ss fs ps count e = tt
+one_on input froms now here (wait_for name) ss fs ps count e = waits_on_input input (label_among true name ps) name now.at (steps_left ss ∷ fs) ps
 one_on input froms now here (scope name d shield fail body) ss fs ps count e = tt
 one_on input froms now here (nursery name d shield body) ss fs ps count e = tt
+one_on input froms now here (event name body) ss fs ps count e = tt
 one_on input froms now here (start name None body) ss fs ps count e = (e, tt)
 one_on input froms now here (start name (Some k) body) ss fs ps count e =
     subst (λ (xs : List ℕ). AllOn xs (begun_over name here k body ps count k)) e (over_on name here k body ps count k)
@@ -102,6 +110,8 @@ frame_on froms now here [] ps exc count = tt
 frame_on froms now here (steps_left ss ∷ fs) ps exc count = block_on froms now here ss fs ps exc count
 frame_on froms now here (in_scope fail ∷ fs) [] exc count = tt
 frame_on froms now here (in_scope fail ∷ fs) (p ∷ ps) exc count = tt
+frame_on froms now here (in_event ∷ fs) [] exc count = tt
+frame_on froms now here (in_event ∷ fs) (p ∷ ps) exc count = tt
 frame_on froms now here (in_nursery children ∷ fs) [] exc count = tt
 frame_on froms now here (in_nursery children ∷ fs) (p ∷ ps) exc count = tt
 frame_on froms now here (in_repeat pass left body ∷ fs) ps exc count = pass_on here.input pass left body fs ps exc
@@ -133,32 +143,53 @@ answer_on input froms t here (lines ls) (asking kernel purpose) fs ps = tt
 answer_on input froms t here missing (asking kernel (needs name)) fs ps = tt
 answer_on input froms t here missing (asking kernel shows) fs ps = tt
 answer_on input froms t here missing (asking kernel (paces k)) fs ps = tt
-answer_on input froms t here (counted n) (asking kernel (paces k)) fs ps = asleep_on input here.clock (seen (stack_at froms ps) t) true
+answer_on input froms t here (counted n) (asking kernel (paces k)) fs ps = asleep_on input here.clock (seen (stack_at froms ps).scopes t) true
     (pace_ticks n k) t fs ps
 answer_on input froms t here (counted n) (asking kernel shows) fs ps = tt
 answer_on input froms t here (counted n) (asking kernel (needs name)) fs ps = tt
 answer_on input froms t here a to_begin fs ps = tt
 answer_on input froms t here a (asleep paced n since) fs ps = tt
+answer_on input froms t here a (waiting_for e since) fs ps = tt
 answer_on input froms t here a (giving_up since) fs ps = tt
 answer_on input froms t here a (awaiting children ended exc) fs ps = tt
 answer_on input froms t here a (at_end u e) fs ps = tt
 
-sees_on : (input : List ℕ) (t : ℕ) (s : Stopped) (fs : List Frame) (ps : List Place) → AllOn input (sees_from t s fs ps).begun
-sees_on input t (asleep false zero since) fs ps = tt
-sees_on input t (asleep false (suc n) since) fs ps = tt
-sees_on input t (asleep true n since) fs ps = tt
-sees_on input t to_begin fs ps = tt
-sees_on input t (asking kernel purpose) fs ps = tt
-sees_on input t (giving_up since) fs ps = tt
-sees_on input t (awaiting children ended exc) fs ps = tt
-sees_on input t (at_end u e) fs ps = tt
+gives_up_on : (input : List ℕ) (b : Bool) (t : ℕ) (fs : List Frame) (ps : List Place) → AllOn input (gives_up_if b t fs ps).begun
+gives_up_on input true t fs ps = tt
+gives_up_on input false t fs ps = tt
+
+sees_on : (input : List ℕ) (clock : Clock) (froms : Table) (t : ℕ) (s : Stopped) (fs : List Frame) (ps : List Place) →
+    AllOn input (sees_from clock froms t s fs ps).begun
+sees_on input clock froms t (asleep false zero since) fs ps = tt
+sees_on input clock froms t (asleep false (suc n) since) fs ps = tt
+sees_on input clock froms t (asleep true n since) fs ps = tt
+sees_on input clock froms t to_begin fs ps = tt
+sees_on input clock froms t (asking kernel purpose) fs ps = tt
+sees_on input clock froms t (waiting_for e since) fs ps =
+    gives_up_on input (is_checkpoint clock (ends_at clock froms e since ps) since) t fs ps
+sees_on input clock froms t (giving_up since) fs ps = tt
+sees_on input clock froms t (awaiting children ended exc) fs ps = tt
+sees_on input clock froms t (at_end u e) fs ps = tt
+
+note_on : (input : List ℕ) (o : Option (Level Label)) (t : ℕ) (fs : List Frame) (ps : List Place) → AllOn input (notes_wait o t fs ps).begun
+note_on input None t fs ps = tt
+note_on input (Some l) t fs ps = tt
+
+due_on : (input : List ℕ) (froms : Table) (t : ℕ) (s : Stopped) (fs : List Frame) (ps : List Place) → AllOn input (is_due_from froms t s fs ps).begun
+due_on input froms t (waiting_for e since) fs ps = note_on input (event_on e (stack_at froms ps).events) t fs ps
+due_on input froms t to_begin fs ps = tt
+due_on input froms t (asking kernel purpose) fs ps = tt
+due_on input froms t (asleep paced n since) fs ps = tt
+due_on input froms t (giving_up since) fs ps = tt
+due_on input froms t (awaiting children ended exc) fs ps = tt
+due_on input froms t (at_end u e) fs ps = tt
 
 wake_on : (input : List ℕ) (froms : Table) (now : Now) (here : Here) (w : Wake) (s : Stopped) (fs : List Frame) (ps : List Place) →
     AllOn input (wake_of froms now here w s fs ps).begun
 wake_on input froms now here begins s fs ps = tt
-wake_on input froms now here sees s fs ps = sees_on input now.at s fs ps
+wake_on input froms now here sees s fs ps = sees_on input here.clock froms now.at s fs ps
 wake_on input froms now here gives_up s fs ps = tt
-wake_on input froms now here is_due s fs ps = tt
+wake_on input froms now here is_due s fs ps = due_on input froms now.at s fs ps
 wake_on input froms now here (has_answer a) s fs ps = answer_on input froms now.at here a s fs ps
 wake_on input froms now here (settles exc) s fs [] = tt
 wake_on input froms now here (settles exc) s fs (p ∷ ps) = tt

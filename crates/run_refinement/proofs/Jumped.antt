@@ -10,7 +10,7 @@ use Rattle.job_meaning.specs.Rest as rest
 use Rattle.nursery_book.specs.Nursery.{End, Nursery}
 use Rattle.nursery_book.specs.Book.{nursery_at}
 use Rattle.task_machine.specs.declared.stop.TaskState.{TaskState}
-use Rattle.task_machine.specs.declared.stop.TaskState.TheVariants.{ToBegin, Asked, Asleep, GivingUp, Awaits, Over}
+use Rattle.task_machine.specs.declared.stop.TaskState.TheVariants.{ToBegin, Asked, Asleep, Waiting, GivingUp, Awaits, Over}
 use Rattle.task_machine.specs.declared.task.Home.{Home}
 use Rattle.task_machine.specs.declared.task.Task.{Task}
 use Rattle.task_machine.specs.declared.world.World.{World}
@@ -68,6 +68,7 @@ module _ (t u m : ℕ) (le : t ≤ u) (old new : RunState) (at : ℕ → Started
   since_moved cancelled (ToBegin v) stop h = h
   since_moved cancelled (Asked kernel purpose) stop h = (let e = h.0 in omega (arith, e, le), h.1)
   since_moved cancelled (Asleep paced ticks since) stop h = tt
+  since_moved cancelled (Waiting event since) stop h = tt
   since_moved cancelled (GivingUp since) stop h = tt
   since_moved cancelled (Awaits id since) stop h = tt
   since_moved cancelled Over stop h = tt
@@ -88,8 +89,8 @@ module _ (t u m : ℕ) (le : t ≤ u) (old new : RunState) (at : ℕ → Started
           numbered = h.stands.numbered;
           placed = h.stands.placed;
           new = h.stands.new;
-          own =
-              h.stands.own;
+          own = h.stands.own;
+          event = h.stands.event;
         };
         task_state = h.task_state;
         in_range = h.in_range;
@@ -166,6 +167,8 @@ state_moved k job input t u m leaving old new le same world c d froms at taken =
         apart = λ key s v x y. c.apart key s v (opened_back t u m le old new d.at c.numbers same key s x)
             (opened_back t u m le old new d.at c.numbers same key v y);
         labelled = c.labelled;
+        opened = c.opened;
+        soon = λ key from e. (let f = c.soon key from e in omega (arith, f, le));
         started = λ s less.
             started_moved t u m le old new d.at c.numbers same old.world.clock (d.at s).child (d.at s).made
             (subst (λ (a : ℕ → Started). AreStarted old.world.clock old.start a (a s).child (a s).made) (sym at) (c.started s less));

@@ -1,6 +1,6 @@
 -- What stays the same for other tasks when one has its turn or leaves: a task that may continue may still do so, and
 -- each home has its owner.
-use Rattle.std.proofs.Common.{◌≡◌, ◌≢◌, ◌⊎◌, inl, inr, true, false, ℕ, zero, suc, ◌+◌, ◌-◌, ◌<◌, ◌≤◌, Option, Some, None, List, [], ◌∷◌, length, refl, ap, sym, ◌∙◌, subst, arith}
+use Rattle.std.proofs.Common.{◌≡◌, ◌≢◌, ◌⊎◌, inl, inr, true, false, ℕ, zero, suc, ◌+◌, ◌-◌, ◌<◌, ◌≤◌, min, Option, Some, None, List, [], ◌∷◌, length, refl, ap, sym, ◌∙◌, subst, arith}
 use Rattle.std.proofs.lemmas.Bool.{cases_lt}
 use Rattle.std.specs.Prelude.{is_some, slice_get}
 use Rattle.std.specs.List.{list_all}
@@ -22,7 +22,7 @@ use Rattle.job_meaning.proofs.Clips.{seen_near}
 use Rattle.turn_semantics.specs.Midway.{stack_at}
 use Rattle.turn_semantics.specs.Turned.{AgreesOn}
 use Rattle.task_machine.specs.declared.stop.TaskState.{TaskState}
-use Rattle.task_machine.specs.declared.stop.TaskState.TheVariants.{ToBegin, Asleep, GivingUp, Awaits}
+use Rattle.task_machine.specs.declared.stop.TaskState.TheVariants.{ToBegin, Asked, Asleep, Waiting, GivingUp, Awaits, Over}
 use Rattle.task_machine.specs.declared.stop.Stop.{Stop}
 use Rattle.task_machine.specs.declared.stop.Wake.{Wake}
 use Rattle.task_machine.specs.declared.stop.Wake.TheVariants.{Due, Seen, Settled}
@@ -31,14 +31,18 @@ use Rattle.task_machine.specs.declared.task.Task.{Task}
 use Rattle.task_machine.specs.declared.world.World.{World}
 use Rattle.task_machine.specs.Fitting.{Block, blocks_of, waits_of}
 use Rattle.task_machine.specs.Standing.{HasNurseryOf, IsBegun}
+use Rattle.task_machine.specs.Events.{set_by}
+use Rattle.task_machine.specs.Stacked.{AreAt}
 use Rattle.task_machine.specs.Stops.{IsTaskState}
 use Rattle.task_machine.specs.Tasks.{scope_of}
 use Rattle.task_machine.specs.Waking.{WakesFrom}
-use Rattle.task_machine.specs.Worlds.{label_at}
+use Rattle.task_machine.specs.Worlds.{label_at, event_at}
 use Rattle.task_machine.proofs.Stacked.{one_of, seen_at}
 use Rattle.interleavings.specs.Interleaving.{Started, In, RunInvariant, AllFrom}
 use Rattle.interleavings.specs.Going.{root_result}
+use Rattle.interleavings.specs.Woken.{SeesNow, IsOver}
 use Rattle.interleavings.proofs.Contract.{near_places}
+use Rattle.interleavings.proofs.Waking.{sees_alike, over_alike}
 use Rattle.interleavings.proofs.Running.{runs_keep_invariant}
 use Rattle.run_refinement.specs.RunState.{RunState, LivesIn, HasHome, Follows, Refines}
 use Rattle.run_refinement.specs.Leaving.{Leaving}
@@ -46,7 +50,8 @@ use Rattle.run_refinement.specs.Ready.{IsTimely, MayGo, Keeps, AreHomesOf}
 use Rattle.run_refinement.specs.Turn.{numbers_then, leaving_by}
 use Rattle.run_refinement.specs.Turning.{Turning}
 use Rattle.run_refinement.proofs.ActsKeep.{not_both, same_or}
-use Rattle.run_refinement.proofs.StateTurn.{nursery_same}
+use Rattle.run_refinement.proofs.EventsStay.{set_alike, event_still}
+use Rattle.run_refinement.proofs.StateTurn.{acted, nursery_same}
 use Rattle.run_refinement.proofs.Left.{ended_blocks, over_task_state}
 use Rattle.run_refinement.proofs.OtherHomes.{mover_owned}
 use Rattle.run_refinement.proofs.OtherNurseries.{same_nursery}
@@ -67,32 +72,50 @@ fits_still (Awaits id since) part old new Due same h = same_nursery (λ n. is_se
 fits_still (Awaits id since) part old new Settled same h = same_nursery (λ n. is_settled n ≡ true) old new id (same id refl) h
 fits_still _ part old new _ same h = h
 
+-- a wait for an event ends in the same moment, as far as can be known by this one
+abbrev pub SetsAlike : World → World → TaskState → Type 0
+SetsAlike old new (Waiting key since) =
+    min (suc old.tick) (set_by old.clock (event_at old key) since) ≡ min (suc old.tick) (set_by old.clock (event_at new key) since)
+SetsAlike old new task_state = Unit {0}
+
 -- and is timely where the same is seen in the same moment
 timely_still : (old new : World) (scope : Option ℕ) (task_state : TaskState) (wake : Wake) → new.clock ≡ old.clock → new.tick ≡ old.tick →
     seen (outer_of new.scopes scope) new.tick ≡ seen (outer_of old.scopes scope) old.tick →
-    ((id : ℕ) → waits_of task_state ≡ Some id → nursery_at new.book id ≡ nursery_at old.book id) → IsTimely old scope task_state wake →
-    IsTimely new scope task_state wake
-timely_still old new scope (ToBegin at) wake clock tick seeing same h = h ∙ sym tick
-timely_still old new scope (Asleep paced ticks since) Due clock tick seeing same h =
+    ((id : ℕ) → waits_of task_state ≡ Some id → nursery_at new.book id ≡ nursery_at old.book id) → SetsAlike old new task_state →
+    IsTimely old scope task_state wake → IsTimely new scope task_state wake
+timely_still old new scope (ToBegin at) wake clock tick seeing same sets h = h ∙ sym tick
+timely_still old new scope (Asleep paced ticks since) Due clock tick seeing same sets h =
     (ap (λ (x : Clock). wakes_at x ticks since) clock ∙ h.0 ∙ sym tick, seeing ∙ h.1)
-timely_still old new scope (Asleep paced ticks since) Seen clock tick seeing same h =
+timely_still old new scope (Asleep paced ticks since) Seen clock tick seeing same sets h =
     (subst (λ (v : ℕ). since < v) (sym tick) h.0, seeing ∙ h.1)
-timely_still old new scope (GivingUp since) wake clock tick seeing same h = h ∙ sym tick
-timely_still old new scope (Awaits id since) wake clock tick seeing same h =
+timely_still old new scope (Waiting key since) Due clock tick seeing same sets h =
+    subst (λ (x : Clock). IsOver x (set_by x (event_at new key) since) since new.tick (seen (outer_of new.scopes scope) new.tick)) (sym clock)
+    (subst (λ (v : ℕ). IsOver old.clock (set_by old.clock (event_at new key) since) since v (seen (outer_of new.scopes scope) new.tick))
+    (sym tick)
+    (over_alike old.clock (set_by old.clock (event_at old key) since) (set_by old.clock (event_at new key) since) since old.tick
+    (seen (outer_of old.scopes scope) old.tick) (seen (outer_of new.scopes scope) new.tick) sets seeing h))
+timely_still old new scope (Waiting key since) Seen clock tick seeing same sets h = (
+  subst (λ (x : Clock). SeesNow x (set_by x (event_at new key) since) since new.tick) (sym clock)
+      (subst (λ (v : ℕ). SeesNow old.clock (set_by old.clock (event_at new key) since) since v) (sym tick)
+      (sees_alike old.clock (set_by old.clock (event_at old key) since) (set_by old.clock (event_at new key) since) since old.tick sets h.0)),
+  seeing ∙ h.1,
+)
+timely_still old new scope (GivingUp since) wake clock tick seeing same sets h = h ∙ sym tick
+timely_still old new scope (Awaits id since) wake clock tick seeing same sets h =
     same_nursery (λ n. a_round_after new.clock n.last ≤ new.tick) old.book new.book id (same id refl)
     (subst (λ (x : Clock). HasNursery old.book id (λ n. a_round_after x n.last ≤ new.tick)) (sym clock)
     (subst (λ (v : ℕ). HasNursery old.book id (λ n. a_round_after old.clock n.last ≤ v)) (sym tick) h))
-timely_still old new scope _ _ clock tick seeing same h = h
+timely_still old new scope _ _ clock tick seeing same sets h = h
 
 -- so a task may continue in another world where a nursery that it waits for is the same, if it is settled
 may_still : (old new : World) (task : Task) (wake : Wake) → new.clock ≡ old.clock → new.tick ≡ old.tick →
     seen (outer_of new.scopes (scope_of task)) new.tick ≡ seen (outer_of old.scopes (scope_of task)) old.tick →
     ((id : ℕ) → waits_of task.task_state ≡ Some id → HasNursery old.book id (λ n. is_settled n ≡ true) →
-    nursery_at new.book id ≡ nursery_at old.book id) → MayGo old task wake → MayGo new task wake
-may_still old new task wake clock tick seeing same may =
+    nursery_at new.book id ≡ nursery_at old.book id) → SetsAlike old new task.task_state → MayGo old task wake → MayGo new task wake
+may_still old new task wake clock tick seeing same sets may =
     record {
       fits = fits_still task.task_state task.part old.book new.book wake there may.fits;
-      timely = timely_still old new (scope_of task) task.task_state wake clock tick seeing there may.timely;
+      timely = timely_still old new (scope_of task) task.task_state wake clock tick seeing there sets may.timely;
     }
   where
     there : (id : ℕ) → waits_of task.task_state ≡ Some id → nursery_at new.book id ≡ nursery_at old.book id
@@ -108,10 +131,10 @@ pub seen_still : {k : Table} {job : Job} {input : List ℕ} {t m s : ℕ} {old n
     Follows new T.is.froms input t T.is.at (numbers_then c.numbers s m T.took.numbers_after) (leaving_by stop s) u task →
     seen (outer_of new.world.scopes (scope_of task)) t ≡ seen (outer_of old.world.scopes (scope_of task)) t
 seen_still {k} {job} {input} {t} {m} {s} {old} {new} {before} {after} {stop} settled names starting c T u below differs task lives now =
-    seen_at (label_at new.world) T.is.froms (outer_of new.world.scopes (scope_of task)) (T.is.at u).places t now.stands.places
-    ∙ ap (λ (x : Started). seen (stack_at T.is.froms x.places) t) other
+    seen_at (label_at new.world) (event_at new.world) T.is.froms (outer_of new.world.scopes (scope_of task)) (T.is.at u).places t now.stands.places
+    ∙ ap (λ (x : Started). seen (stack_at T.is.froms x.places).scopes t) other
     ∙ sym seen_after ∙ seen_before
-    ∙ sym (seen_at (label_at old.world) c.interleaving.froms (outer_of old.world.scopes (scope_of task)) q.places t
+    ∙ sym (seen_at (label_at old.world) (event_at old.world) c.interleaving.froms (outer_of old.world.scopes (scope_of task)) q.places t
     (c.follows u task lives).stands.places)
   where
     q : Started
@@ -132,15 +155,15 @@ seen_still {k} {job} {input} {t} {m} {s} {old} {new} {before} {after} {stop} set
     less : u < m + length T.move.begun
     less = omega (arith, below)
 
-    seen_before : seen (stack_at k q.places) t ≡ seen (stack_at c.interleaving.froms q.places) t
+    seen_before : seen (stack_at k q.places).scopes t ≡ seen (stack_at c.interleaving.froms q.places).scopes t
     seen_before =
-        seen_near (suc t) (stack_at k q.places) (stack_at c.interleaving.froms q.places) t
-        (near_places t k c.interleaving.froms q.places (on_before.2 q (c.interleaving.has u below).0)) (omega arith)
+        seen_near (suc t) (stack_at k q.places).scopes (stack_at c.interleaving.froms q.places).scopes t
+        (near_places t k c.interleaving.froms q.places (on_before.2 q (c.interleaving.has u below).0)).0 (omega arith)
 
-    seen_after : seen (stack_at k q.places) t ≡ seen (stack_at T.is.froms q.places) t
+    seen_after : seen (stack_at k q.places).scopes t ≡ seen (stack_at T.is.froms q.places).scopes t
     seen_after =
-        seen_near (suc t) (stack_at k q.places) (stack_at T.is.froms q.places) t
-        (near_places t k T.is.froms q.places (on_after.2 q (subst (λ (x : Started). In x T.is.tasks) other (T.is.has u less).0)))
+        seen_near (suc t) (stack_at k q.places).scopes (stack_at T.is.froms q.places).scopes t
+        (near_places t k T.is.froms q.places (on_after.2 q (subst (λ (x : Started). In x T.is.tasks) other (T.is.has u less).0))).0
         (omega arith)
 
 -- a task that may continue may still do so
@@ -152,8 +175,25 @@ pub still_goes : {k : Table} {job : Job} {input : List ℕ} {t m s : ℕ} {old n
     MayGo old.world task wake → MayGo new.world task wake
 still_goes {t = t} {old = old} {new = new} settled names starting c T u below differs task lives now wake may =
     may_still old.world new.world task wake (ap (λ (w : World). w.clock) T.code.world) tick same
-    (λ id e over. nursery_same c T u task differs lives id (inr e)) may
+    (λ id e over. nursery_same c T u task differs lives id (inr e)) (sets task.task_state refl) may
   where
+    places : AreAt (label_at new.world) (event_at new.world) T.is.froms (outer_of new.world.scopes (scope_of task)) (c.interleaving.at u).places
+    places =
+        subst (λ (x : Started). AreAt (label_at new.world) (event_at new.world) T.is.froms (outer_of new.world.scopes (scope_of task)) x.places)
+        (T.of_other u below differs) now.stands.places
+
+    sets : (task_state : TaskState) → task.task_state ≡ task_state → SetsAlike old.world new.world task_state
+    sets (Waiting key since) is =
+        set_alike old.world.clock old.world.tick (event_at old.world) (event_at new.world) old.world.set.items
+        new.world.set.items key since
+        (event_still c T (acted c T settled names starting) u task lives now.goes.scope places key since is)
+    sets (ToBegin at) is = tt
+    sets (Asked kernel purpose) is = tt
+    sets (Asleep paced ticks since) is = tt
+    sets (GivingUp since) is = tt
+    sets (Awaits id since) is = tt
+    sets Over is = tt
+
     tick : new.world.tick ≡ old.world.tick
     tick = ap (λ (w : World). w.tick) T.code.world
 
@@ -323,4 +363,15 @@ module _ (k : Table) (job : Job) (input : List ℕ) (t m s : ℕ) (old new : Run
   pub goes_left : (x : Task) → (wake : Wake) → MayGo old.world x wake → MayGo new.world x wake
   goes_left x wake may =
       may_still old.world new.world x wake (ap (λ (w : World). w.clock) l.world) (ap (λ (w : World). w.tick) l.world)
-      (ap (λ (w : World). seen (outer_of w.scopes (scope_of x)) w.tick) l.world) (λ id e over. settled_same id over) may
+      (ap (λ (w : World). seen (outer_of w.scopes (scope_of x)) w.tick) l.world) (λ id e over. settled_same id over)
+      (sets x.task_state) may
+    where
+      sets : (task_state : TaskState) → SetsAlike old.world new.world task_state
+      sets (Waiting key since) =
+          ap (λ (w : World). min (suc old.world.tick) (set_by old.world.clock (event_at w key) since)) (sym l.world)
+      sets (ToBegin at) = tt
+      sets (Asked kernel purpose) = tt
+      sets (Asleep paced ticks since) = tt
+      sets (GivingUp since) = tt
+      sets (Awaits id since) = tt
+      sets Over = tt

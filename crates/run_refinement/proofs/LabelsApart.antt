@@ -21,7 +21,7 @@ use Rattle.task_machine.specs.Labels.{Labels}
 use Rattle.task_machine.specs.Left.{keys_of, keys_in}
 use Rattle.task_machine.specs.Stacked.{IsKey, Alone}
 use Rattle.task_machine.specs.Tasks.{scope_of}
-use Rattle.task_machine.specs.Worlds.{label_at}
+use Rattle.task_machine.specs.Worlds.{label_at, event_at}
 use Rattle.interleavings.specs.Interleaving.{Started, In, times_made, made_times, all_times, RunInvariant}
 use Rattle.interleavings.specs.Going.{root_result}
 use Rattle.interleavings.specs.Rows.{entered_made}
@@ -119,7 +119,7 @@ pub own_around : (st : Stack) (own : List Own) (keys : List ℕ) (o : Own) (i : 
     slice_get own i ≡ Some o → IsKey o.id st
 own_around st own keys o i e got = is_key o.id st (subst (IsAmong o.id) (sym e) (among_left o.id (keys_in own) keys (key_got own o i got)))
 
-alone_is : (labels : Labels) (key k : ℕ) (label : Label) (st : Stack) → Alone labels key label st → IsKey k st → labels k ≡ Some label →
+pub alone_is : (labels : Labels) (key k : ℕ) (label : Label) (st : Stack) → Alone labels key label st → IsKey k st → labels k ≡ Some label →
     k ≡ key
 alone_is labels key k label [] a i e = absurd i
 alone_is labels key k label (l ∷ ls) a (inl f) e = f ∙ a.0 (sym (ap labels f) ∙ e)
@@ -181,7 +181,7 @@ labels_apart {k} {job} {input} {t} {m} {leaving} {state} c settled names nurseri
         let inside : IsKey a (outer_of state.world.scopes (scope_of task)) =
         subst (λ (i : ℕ). IsKey i (outer_of state.world.scopes (scope_of task))) x.1.is (within x.1.scope x.1.place x.1.own) in
         let alone =
-        alone_at (label_at state.world) c.interleaving.froms (outer_of state.world.scopes (scope_of task)) (c.interleaving.at x.0).places b l f around
+        alone_at (label_at state.world) (event_at state.world) c.interleaving.froms (outer_of state.world.scopes (scope_of task)) (c.interleaving.at x.0).places b l f around
         follows.stands.own follows.stands.places in
         alone_is (label_at state.world) b a l (outer_of state.world.scopes (scope_of task)) alone inside e
 

@@ -21,7 +21,7 @@ use Rattle.turn_semantics.specs.Midway.{Place}
 use Rattle.turn_semantics.specs.Placed.{PlacedStop}
 use Rattle.turn_semantics.specs.Turned.{Known}
 use Rattle.task_machine.specs.declared.stop.TaskState.{TaskState}
-use Rattle.task_machine.specs.declared.stop.TaskState.TheVariants.{ToBegin, Asked, Asleep, GivingUp, Awaits, Over}
+use Rattle.task_machine.specs.declared.stop.TaskState.TheVariants.{ToBegin, Asked, Asleep, Waiting, GivingUp, Awaits, Over}
 use Rattle.task_machine.specs.declared.task.Home.{Home}
 use Rattle.task_machine.specs.declared.task.Own.{Own}
 use Rattle.task_machine.specs.declared.task.Task.{Task}
@@ -33,7 +33,7 @@ use Rattle.task_machine.specs.Labels.{Labels}
 use Rattle.task_machine.specs.Standing.{here_of, HasNurseryOf, Stands}
 use Rattle.task_machine.specs.Stops.{Numbers, IsTaskState}
 use Rattle.task_machine.specs.Tasks.{home_of}
-use Rattle.task_machine.specs.Worlds.{label_at}
+use Rattle.task_machine.specs.Worlds.{label_at, event_at}
 use Rattle.task_machine.proofs.Stopping.{no_blocks}
 use Rattle.interleavings.specs.Interleaving.{Started}
 use Rattle.interleavings.specs.Rows.{entered_made}
@@ -72,6 +72,7 @@ task_state_kept : (numbers : Numbers) (old new : NurseryBook) (task_state : Task
 task_state_kept numbers old new (ToBegin at) rest.to_begin like h = h
 task_state_kept numbers old new (Asked kernel purpose) (rest.asking k p) like h = h
 task_state_kept numbers old new (Asleep paced ticks since) (rest.asleep p n u) like h = h
+task_state_kept numbers old new (Waiting event since) (rest.waiting_for name u) like h = h
 task_state_kept numbers old new (GivingUp since) (rest.giving_up u) like h = h
 task_state_kept numbers old new (Awaits id since) (rest.awaiting children u exc) like h =
     (h.0, h.1, carry old new id (λ n. n.body ≡ Some exc) (λ n. n.body ≡ Some exc) like (λ n m l e. l.body ∙ e) h.2)
@@ -93,6 +94,7 @@ stands_kept task w book f numbers stopped ps like h =
       placed = h.placed;
       new = h.new;
       own = h.own;
+      event = h.event;
     }
 
 goes_kept : (task : Task) (w : World) (book : NurseryBook) → AllLike w.book book → CanGoOn task w → CanGoOn task (record w { book = book })
@@ -122,6 +124,7 @@ pub over_task_state : (numbers : Numbers) (book : NurseryBook) (task_state : Tas
 over_task_state numbers book (ToBegin at) u e h = absurd h
 over_task_state numbers book (Asked kernel purpose) u e h = absurd h
 over_task_state numbers book (Asleep paced ticks since) u e h = absurd h
+over_task_state numbers book (Waiting event since) u e h = absurd h
 over_task_state numbers book (GivingUp since) u e h = absurd h
 over_task_state numbers book (Awaits id since) u e h = absurd h
 over_task_state numbers book Over u e h = refl
@@ -185,6 +188,9 @@ state_left k job input t m s old new task exc c l =
       apart = λ key p u a b. c.apart key p u (opened_before key p a) (opened_before key u b);
       labelled = λ key label e. subst (λ (tree : _). IsOpen tree key) (sym scopes)
           (c.labelled key label (ap (λ (w : World). label_at w key) (sym l.world) ∙ e));
+      opened = λ key set e. subst (λ (tree : _). IsOpen tree key) (sym scopes)
+          (c.opened key set (ap (λ (w : World). event_at w key) (sym l.world) ∙ e));
+      soon = λ key from e. c.soon key from (ap (λ (w : World). event_at w key) (sym l.world) ∙ e);
       started = λ p lt.
           subst (λ (x : Clock). AreStarted x new.start c.interleaving.at (c.interleaving.at p).child (c.interleaving.at p).made) (sym clock)
           (started_kept old.world.clock old.start new.start c.interleaving.at (c.interleaving.at p).child (c.interleaving.at p).made l.start
@@ -487,6 +493,7 @@ state_left k job input t m s old new task exc c l =
         last_after (ToBegin at) is h = tt
         last_after (Asked kernel purpose) is h = tt
         last_after (Asleep paced ticks since) is h = tt
+        last_after (Waiting event since) is h = tt
         last_after (GivingUp since) is h = tt
         last_after Over is h = tt
 

@@ -4,7 +4,9 @@ pub mod ActsStay
 pub mod ActsFroms
 pub mod ActsTracks
 pub mod ActsOthers
+pub mod ActsEvents
 pub mod ActsSights
+pub mod ActsStacks
 pub mod NurseryPlaces
 pub mod Homes
 pub mod Parts
@@ -19,11 +21,14 @@ pub mod Taken
 pub mod StateFits
 pub mod Jumped
 pub mod LabelsApart
+pub mod EventPlaces
 pub mod OtherScopes
 pub mod OtherNurseries
 pub mod StateTurn
 pub mod OtherHomes
 pub mod OtherPlaces
+pub mod SightsStay
+pub mod EventsStay
 pub mod OthersFollow
 pub mod Told
 pub mod Left
@@ -37,4 +42,3 @@ pub mod Found
 pub mod Going
 pub mod Blocks
 pub mod Keeping
-pub mod SightsStay

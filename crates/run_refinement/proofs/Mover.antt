@@ -17,7 +17,7 @@ use Rattle.job_meaning.specs.Moments.{Clock}
 use Rattle.job_meaning.specs.Walk.{Here}
 use Rattle.job_meaning.specs.Shown.{Shown}
 use Rattle.job_meaning.specs.Rest as rest
-use Rattle.job_meaning.specs.Rest.{Event, Stopped, to_begin, asking, asleep, giving_up, awaiting, at_end}
+use Rattle.job_meaning.specs.Rest.{Event, Stopped, to_begin, asking, asleep, waiting_for, giving_up, awaiting, at_end}
 use Rattle.task_machine.specs.States.{state_of}
 use Rattle.task_machine.specs.Noted.{entry_of, IsSlice, shown_made, AreNoted}
 use Rattle.turn_semantics.specs.Names.{NewIn}
@@ -31,14 +31,14 @@ use Rattle.task_machine.specs.declared.task.Own.{Own}
 use Rattle.task_machine.specs.declared.task.Task.{Task}
 use Rattle.task_machine.specs.declared.world.World.{World}
 use Rattle.task_machine.specs.declared.stop.TaskState.{TaskState}
-use Rattle.task_machine.specs.declared.stop.TaskState.TheVariants.{ToBegin, Asked, Asleep, GivingUp, Awaits, Over}
+use Rattle.task_machine.specs.declared.stop.TaskState.TheVariants.{ToBegin, Asked, Asleep, Waiting, GivingUp, Awaits, Over}
 use Rattle.task_machine.specs.Acts.{scoping_of}
 use Rattle.task_machine.specs.Fitting.{blocks_of, waits_of, AreOthers}
-use Rattle.task_machine.specs.Stacked.{AreAt, IsKey}
+use Rattle.task_machine.specs.Stacked.{AreAt, IsKey, AwaitsEvent}
 use Rattle.task_machine.specs.Standing.{here_of, HasBlock, Stands, BodyEnds, now_for}
 use Rattle.task_machine.specs.Stops.{Numbers, IsTaskState, IsTold, StopsAs, OwnAfter}
 use Rattle.task_machine.specs.Tasks.{scope_of}
-use Rattle.task_machine.specs.Worlds.{label_at}
+use Rattle.task_machine.specs.Worlds.{label_at, event_at}
 use Rattle.interleavings.specs.Interleaving.{Started, live}
 use Rattle.interleavings.specs.Rows.{entered_made}
 use Rattle.run_refinement.specs.RunState.{RunState, Notes, Tracks, CanGoOn, LivesIn, HasHome, IsSince, LastEnds, Follows, OpenedBy, Refines}
@@ -71,6 +71,7 @@ since_now t clock there cancelled woken own made numbers book (Asked kernel purp
 )
 since_now t clock there cancelled woken own made numbers book (Asked kernel purpose) _ froms ps same count h stops after = absurd h
 since_now t clock there cancelled woken own made numbers book (Asleep paced ticks since) stopped froms ps same count h stops after = tt
+since_now t clock there cancelled woken own made numbers book (Waiting event since) stopped froms ps same count h stops after = tt
 since_now t clock there cancelled woken own made numbers book (GivingUp since) stopped froms ps same count h stops after = tt
 since_now t clock there cancelled woken own made numbers book (Awaits id since) stopped froms ps same count h stops after = tt
 since_now t clock there cancelled woken own made numbers book Over stopped froms ps same count h stops after = tt
@@ -85,6 +86,7 @@ ended_now at numbers q book (Awaits id since) ends =
 ended_now at numbers q book (ToBegin v) ends = tt
 ended_now at numbers q book (Asked kernel purpose) ends = tt
 ended_now at numbers q book (Asleep paced ticks since) ends = tt
+ended_now at numbers q book (Waiting event since) ends = tt
 ended_now at numbers q book (GivingUp since) ends = tt
 ended_now at numbers q book Over ends = tt
 
@@ -116,6 +118,7 @@ module _ (k : Table) (job : Job) (input : List ℕ) (t m s : ℕ) (old new : Run
   lives_on to_begin h told stays = refl
   lives_on (asking kernel purpose) h told stays = refl
   lives_on (asleep paced n since) h told stays = refl
+  lives_on (waiting_for event since) h told stays = refl
   lives_on (giving_up since) h told stays = refl
   lives_on (awaiting children ended exc) h told stays = refl
   lives_on (at_end u e) h told stays =
@@ -170,7 +173,7 @@ module _ (k : Table) (job : Job) (input : List ℕ) (t m s : ℕ) (old new : Run
   stands_after : Stands (state_of after new.world) T.is.froms now (Some T.stopped) T.move.places
   stands_after =
       record {
-        places = subst (λ (f : Table). AreAt (label_at new.world) f (outer_of new.world.scopes (scope_of after)) T.move.places)
+        places = subst (λ (f : Table). AreAt (label_at new.world) (event_at new.world) f (outer_of new.world.scopes (scope_of after)) T.move.places)
             (sym T.froms) T.took.places;
         numbered = λ id has. T.took.nurseries.numbered id (inl has);
         placed =
@@ -180,6 +183,10 @@ module _ (k : Table) (job : Job) (input : List ℕ) (t m s : ℕ) (old new : Run
             subst (λ (gs : List rest.Frame). NewIn gs (outer_places (Some T.stopped) T.move.places)) (sym T.took.frames_after)
             (subst (λ (o : Option Stopped). NewIn T.move.frames (outer_places o T.move.places)) T.stops T.names.frames);
         own = T.names.own;
+        event =
+            subst (λ (o : Option Stopped).
+            AwaitsEvent (label_at new.world) (outer_of new.world.scopes (scope_of after)) o after.task_state T.move.places) T.stops
+            T.took.event;
       }
 
   goes_after : CanGoOn after new.world

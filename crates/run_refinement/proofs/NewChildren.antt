@@ -38,7 +38,7 @@ use Rattle.task_machine.specs.Standing.{here_of, HasBlock, HasNurseryOf, IsBegun
 use Rattle.task_machine.specs.Stops.{Numbers, IsTaskState, StopsAs}
 use Rattle.task_machine.specs.Tasks.{home_scope, scope_of, home_of}
 use Rattle.task_machine.specs.Waking.{IsInRangeTaskState}
-use Rattle.task_machine.specs.Worlds.{label_at}
+use Rattle.task_machine.specs.Worlds.{label_at, event_at}
 use Rattle.interleavings.specs.Interleaving.{Started}
 use Rattle.interleavings.proofs.Turning.{later_child}
 use Rattle.run_refinement.specs.RunState.{RunState, Differ, Tracks, CanGoOn, LivesIn, HasHome, IsSince, LastEnds, Follows, Refines}
@@ -107,8 +107,8 @@ module _ (k : Table) (job : Job) (input : List ℕ) (t m s : ℕ) (old new : Run
   abbrev stack : Stack
   stack = outer_of new.world.scopes (scope_of after)
 
-  places_after : AreAt (label_at new.world) T.is.froms stack T.move.places
-  places_after = subst (λ (f : Table). AreAt (label_at new.world) f stack T.move.places) (sym T.froms) T.took.places
+  places_after : AreAt (label_at new.world) (event_at new.world) T.is.froms stack T.move.places
+  places_after = subst (λ (f : Table). AreAt (label_at new.world) (event_at new.world) f stack T.move.places) (sym T.froms) T.took.places
 
   keyed_after : KeyedAfter IsNursery (waits_of after.task_state) now T.move.frames (keys_of stack)
   keyed_after =
@@ -127,9 +127,9 @@ module _ (k : Table) (job : Job) (input : List ℕ) (t m s : ℕ) (old new : Run
     numbered = numbered_on (c.interleaving.at s).count T.move.made T.move.begun T.promise.starts i b begun
 
     -- the nursery of the task that has the child's number
-    found : HomeIn IsNursery now (label_at new.world) T.is.froms b.number b.places stack
+    found : HomeIn IsNursery now (label_at new.world) (event_at new.world) T.is.froms b.number b.places stack
     found =
-        home_there IsNursery now (label_at new.world) T.is.froms b.number b.places (waits_of after.task_state) T.move.frames stack T.move.places
+        home_there IsNursery now (label_at new.world) (event_at new.world) T.is.froms b.number b.places (waits_of after.task_state) T.move.frames stack T.move.places
         T.stopped
         (task_state_waits now new.world.book after.task_state T.stopped task_state_after) keyed_after places_after
         (subst (λ (o : Option Stopped). HasChildAfter b.number b.places o T.move.frames T.move.places) T.stops
@@ -201,11 +201,12 @@ module _ (k : Table) (job : Job) (input : List ℕ) (t m s : ℕ) (old new : Run
         let new_names : names.AreNew (names_at b.places) b.body × OwnNames (names_at b.places) =
         new_at T.move.begun T.names.begun i b begun in
         record {
-          places = subst (λ (st : Stack). AreAt (label_at new.world) T.is.froms st b.places) (sym around_is) found.places;
+          places = subst (λ (st : Stack). AreAt (label_at new.world) (event_at new.world) T.is.froms st b.places) (sym around_is) found.places;
           numbered = λ id has. absurd (subst (HasBlock id) no_blocks has);
           placed = subst (λ (gs : List rest.Frame). PlacedAfter (Some to_begin) gs b.places) (sym frames_are) (body_starts, tt);
           new = subst (λ (gs : List rest.Frame). NewIn gs b.places) (sym frames_are) (new_names.0, tt);
           own = new_names.1;
+          event = tt;
         }
 
     goes_there : CanGoOn task new.world

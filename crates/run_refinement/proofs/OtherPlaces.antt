@@ -20,12 +20,12 @@ use Rattle.task_machine.specs.declared.task.Own.{Own}
 use Rattle.task_machine.specs.declared.task.Task.{Task}
 use Rattle.task_machine.specs.Fitting.{blocks_of, waits_of}
 use Rattle.task_machine.specs.Frames.{frames_of}
-use Rattle.task_machine.specs.Labels.{Labels}
+use Rattle.task_machine.specs.Labels.{Labels, Events}
 use Rattle.task_machine.specs.Stacked.{AreAt}
 use Rattle.task_machine.specs.Standing.{HasBlock, HasNurseryOf, BeginsAt}
 use Rattle.task_machine.specs.Stops.{StopsAs}
 use Rattle.task_machine.specs.Tasks.{home_of, home_scope, scope_of}
-use Rattle.task_machine.specs.Worlds.{label_at}
+use Rattle.task_machine.specs.Worlds.{label_at, event_at}
 use Rattle.interleavings.specs.Interleaving.{Started, live}
 use Rattle.run_refinement.specs.RunState.{RunState, LivesIn, HasHome, IsMember, Follows, Refines}
 use Rattle.run_refinement.specs.Turning.{Turning}
@@ -117,10 +117,10 @@ mover_places : {k : Table} {job : Job} {input : List ℕ} {t m s : ℕ} {old new
     (T : Turning k job input t m s old new c.numbers before after stop c.interleaving) → (u : ℕ) (task : Task) → old.task u ≡ Some task →
     (home : Home) → task.home ≡ Some home →
     (h : LivesIn old c.interleaving.at c.numbers u home) → h.parent ≡ s → (ps : List Place) →
-    AreAt (label_at old.world) c.interleaving.froms (outer_of old.world.scopes (Some home.scope)) ps →
-    AreAt (label_at new.world) (froms_after c.interleaving.froms T.move.made) (outer_of new.world.scopes (Some home.scope)) ps
+    AreAt (label_at old.world) (event_at old.world) c.interleaving.froms (outer_of old.world.scopes (Some home.scope)) ps →
+    AreAt (label_at new.world) (event_at new.world) (froms_after c.interleaving.froms T.move.made) (outer_of new.world.scopes (Some home.scope)) ps
 mover_places {k} {job} {input} {t} {m} {s} {old} {new} {before} {after} {stop} c T u task is home at_home h e ps at =
-    subst (λ (x : Stack). AreAt (label_at new.world) (froms_after f T.move.made) x ps)
+    subst (λ (x : Stack). AreAt (label_at new.world) (event_at new.world) (froms_after f T.move.made) x ps)
     (sym (outer_is new.world.scopes home.scope now.0 (ap (stack_of new.world.scopes) (sym last) ∙ now.1))) now.2
   where
     f : Table
@@ -136,17 +136,17 @@ mover_places {k} {job} {input} {t} {m} {s} {old} {new} {before} {after} {stop} c
     among = among_place h.number (c.numbers s home.nursery) home.place
         (subst (λ (p : ℕ). slice_get (c.numbers p home.nursery) home.place ≡ Some h.number) e h.stands)
 
-    housed : Housed (label_at old.world) old.world.book f home.nursery h.number (frames_of (c.numbers s) before.frames.items)
+    housed : Housed (label_at old.world) (event_at old.world) old.world.book f home.nursery h.number (frames_of (c.numbers s) before.frames.items)
         (outer_of old.world.scopes (scope_of before)) (outer_places (Some q.rest.stopped) q.places)
     housed =
-        housed_onto (label_at old.world) old.world.book f (c.numbers s) before.frames.items before.own.items (waits_of before.task_state)
+        housed_onto (label_at old.world) (event_at old.world) old.world.book f (c.numbers s) before.frames.items before.own.items (waits_of before.task_state)
         q.rest.stopped _ []
         (outer_of old.world.scopes (scope_of before)) q.places T.fits.runs.opened
         (is_stop (c.numbers s) old.world.book before.task_state q.rest.stopped follows.task_state) follows.stands.places T.fits.runs.first
         home.nursery h.number (mover_owned c T u home h e).0 among
 
-    was : (st : Stack) × (stack_of old.world.scopes housed.scope.id ≡ Some st) × AreAt (label_at old.world) f st housed.home
-    was = stack_here (label_at old.world) f old.world.scopes (scope_of before) housed.scope.id housed.home T.code.sound.chain housed.at
+    was : (st : Stack) × (stack_of old.world.scopes housed.scope.id ≡ Some st) × AreAt (label_at old.world) (event_at old.world) f st housed.home
+    was = stack_here (label_at old.world) (event_at old.world) f old.world.scopes (scope_of before) housed.scope.id housed.home T.code.sound.chain housed.at
 
     -- it is the scope of that nursery
     first : housed.scope.id ≡ home.scope
@@ -157,8 +157,8 @@ mover_places {k} {job} {input} {t} {m} {s} {old} {new} {before} {after} {stop} c
 
     same : housed.home ≡ ps
     same =
-        same_places (label_at old.world) f was.0 housed.home ps was.2
-        (subst (λ (x : Stack). AreAt (label_at old.world) f x ps) (outer_is old.world.scopes home.scope was.0
+        same_places (label_at old.world) (event_at old.world) f was.0 housed.home ps was.2
+        (subst (λ (x : Stack). AreAt (label_at old.world) (event_at old.world) f x ps) (outer_is old.world.scopes home.scope was.0
         (ap (stack_of old.world.scopes) (sym first) ∙ was.1)) at)
 
     child : HasChild h.number ps q.rest.frames (outer_places (Some q.rest.stopped) q.places)
@@ -177,17 +177,17 @@ mover_places {k} {job} {input} {t} {m} {s} {old} {new} {before} {after} {stop} c
     task_state = subst (StopsAs old.world.clock T.took.numbers_after new.world.book before.part stop after.task_state) T.stops
         T.took.moves.1
 
-    there : Found (label_at new.world) new.world.book (froms_after f T.move.made) T.took.numbers_after (blocks_of after.frames.items)
+    there : Found (label_at new.world) (event_at new.world) new.world.book (froms_after f T.move.made) T.took.numbers_after (blocks_of after.frames.items)
         (waits_of after.task_state) (outer_of new.world.scopes (scope_of after)) h.number ps
     there =
-        found (label_at new.world) new.world.book (froms_after f T.move.made) T.took.numbers_after after.frames.items after.own.items
+        found (label_at new.world) (event_at new.world) new.world.book (froms_after f T.move.made) T.took.numbers_after after.frames.items after.own.items
         (waits_of after.task_state) T.stopped _
         (outer_of new.world.scopes (scope_of after)) T.move.places T.code.fits_after.runs.opened
         (is_stop T.took.numbers_after new.world.book after.task_state T.stopped task_state.0) T.took.places T.code.fits_after.runs.first
         h.number ps stays
 
-    now : (st : Stack) × (stack_of new.world.scopes there.scope.id ≡ Some st) × AreAt (label_at new.world) (froms_after f T.move.made) st ps
-    now = stack_here (label_at new.world) (froms_after f T.move.made) new.world.scopes (scope_of after) there.scope.id ps
+    now : (st : Stack) × (stack_of new.world.scopes there.scope.id ≡ Some st) × AreAt (label_at new.world) (event_at new.world) (froms_after f T.move.made) st ps
+    now = stack_here (label_at new.world) (event_at new.world) (froms_after f T.move.made) new.world.scopes (scope_of after) there.scope.id ps
         T.code.sound_after.chain there.at
 
     last : there.scope.id ≡ home.scope
@@ -198,16 +198,16 @@ mover_places {k} {job} {input} {t} {m} {s} {old} {new} {before} {after} {stop} c
         let x = finds new.world.book there.id _ there.nursery in
         sym x.2 ∙ (ap (λ (y : Members). y.scope) (one_of x.0 n.0 (sym x.1 ∙ (ap (nursery_at new.world.book) id ∙ n.1))) ∙ n.2.0)
 
-nowhere : (labels more : Labels) (f g : Table) (ps : List Place) → AreAt labels f [] ps → AreAt more g [] ps
-nowhere labels more f g [] a = a
-nowhere labels more f g (p ∷ ps) a = absurd a
+nowhere : (labels more : Labels) (events others : Events) (f g : Table) (ps : List Place) → AreAt labels events f [] ps → AreAt more others g [] ps
+nowhere labels more events others f g [] a = a
+nowhere labels more events others f g (p ∷ ps) a = absurd a
 
 -- after a turn the places of every other task are those of its stack, by the new froms
 pub places_other : {k : Table} {job : Job} {input : List ℕ} {t m s : ℕ} {old new : RunState} {before after : Task} {stop : Stop} →
     (c : Refines k job input t m None old) →
     (T : Turning k job input t m s old new c.numbers before after stop c.interleaving) → ActsOf c T → (u : ℕ) (task : Task) → u ≢ s →
     old.task u ≡ Some task →
-    AreAt (label_at new.world) (froms_after c.interleaving.froms T.move.made) (outer_of new.world.scopes (scope_of task)) (c.interleaving.at u).places
+    AreAt (label_at new.world) (event_at new.world) (froms_after c.interleaving.froms T.move.made) (outer_of new.world.scopes (scope_of task)) (c.interleaving.at u).places
 places_other {k} {job} {input} {t} {m} {s} {old} {new} {before} {after} c T a u task differs is =
     by_own task.own.items refl (c.follows u task is).stands.places
   where
@@ -218,19 +218,19 @@ places_other {k} {job} {input} {t} {m} {s} {old} {new} {before} {after} c T a u 
     ps = (c.interleaving.at u).places
 
     by_home : (home : Option Home) → task.home ≡ home → HasHome old c.interleaving.at c.numbers u home →
-        AreAt (label_at old.world) f (outer_of old.world.scopes (option_map (λ (h : Home). h.scope) home)) ps →
-        AreAt (label_at new.world) (froms_after f T.move.made) (outer_of new.world.scopes (option_map (λ (h : Home). h.scope) home)) ps
-    by_home None e h at = nowhere (label_at old.world) (label_at new.world) f (froms_after f T.move.made) ps at
+        AreAt (label_at old.world) (event_at old.world) f (outer_of old.world.scopes (option_map (λ (h : Home). h.scope) home)) ps →
+        AreAt (label_at new.world) (event_at new.world) (froms_after f T.move.made) (outer_of new.world.scopes (option_map (λ (h : Home). h.scope) home)) ps
+    by_home None e h at = nowhere (label_at old.world) (label_at new.world) (event_at old.world) (event_at new.world) f (froms_after f T.move.made) ps at
     by_home (Some home) e h at = by_parent (same_or h.parent s)
       where
-        by_parent : (h.parent ≡ s) ⊎ (h.parent ≢ s) → AreAt (label_at new.world) (froms_after f T.move.made)
+        by_parent : (h.parent ≡ s) ⊎ (h.parent ≢ s) → AreAt (label_at new.world) (event_at new.world) (froms_after f T.move.made)
             (outer_of new.world.scopes (Some home.scope)) ps
         by_parent (inl g) = mover_places c T u task is home e h g ps at
         by_parent (inr other) = let x = home_else c T u home h other in places_stay a f home.scope ps x.0 x.1 at
 
-    by_own : (own : List Own) → task.own.items ≡ own → AreAt (label_at old.world) f
+    by_own : (own : List Own) → task.own.items ≡ own → AreAt (label_at old.world) (event_at old.world) f
         (outer_of old.world.scopes (last_or (home_scope task) (map (λ (o : Own). o.id) own))) ps →
-        AreAt (label_at new.world) (froms_after f T.move.made) (outer_of new.world.scopes
+        AreAt (label_at new.world) (event_at new.world) (froms_after f T.move.made) (outer_of new.world.scopes
         (last_or (home_scope task) (map (λ (o : Own). o.id) own))) ps
     by_own [] e at = by_home task.home refl (c.follows u task is).home at
     by_own (x ∷ own) e at =

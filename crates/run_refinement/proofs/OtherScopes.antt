@@ -4,7 +4,7 @@ use Rattle.std.specs.Prelude.{slice_get, IsSome}
 use Rattle.std.specs.List.{last_or}
 use Rattle.std.specs.Option.{ForSome, unwrap_or}
 use Rattle.exc_groups.specs.Exceptions.{Label}
-use Rattle.cancel_scopes.specs.Tree.{Stack, Tree, stack_of, outer_of, own_label, own_from, IsOpen, IsOwn, IsChain}
+use Rattle.cancel_scopes.specs.Tree.{Stack, Tree, stack_of, outer_of, own_label, IsOpen, IsOwn, IsChain}
 use Rattle.job_meaning.specs.Log.{Table}
 use Rattle.job_meaning.specs.Rest.{Event}
 use Rattle.task_machine.specs.declared.entry.ScopeFrom.{ScopeFrom}
@@ -12,7 +12,7 @@ use Rattle.turn_semantics.specs.Midway.{Place}
 use Rattle.turn_semantics.specs.Steps.{froms_after}
 use Rattle.turn_semantics.specs.Turned.{Known}
 use Rattle.task_machine.specs.declared.task.Own.{Own}
-use Rattle.task_machine.specs.Acts.{Scoping, Acts}
+use Rattle.task_machine.specs.Acts.{Scoping, Acts, kept_from}
 use Rattle.task_machine.specs.Fitting.{AreOthers}
 use Rattle.task_machine.specs.Left.{keys_of, keys_in, OwnFirst}
 use Rattle.task_machine.specs.Stacked.{AreAt}
@@ -64,21 +64,22 @@ key_stays_open {s = s} {u = u} a key i others =
 -- a stack of another task still corresponds to these places
 pub places_stay : {known : Label → Type 0} {t : ℕ} {s u : Scoping} {es : List Event} → Acted known t s u es →
     (f : Table) (key : ℕ) (ps : List Place) → IsOpen s.tree key → AreOthers key s.own →
-    AreAt s.labels f (outer_of s.tree (Some key)) ps → AreAt u.labels (froms_after f es) (outer_of u.tree (Some key)) ps
+    AreAt s.labels s.events f (outer_of s.tree (Some key)) ps → AreAt u.labels u.events (froms_after f es) (outer_of u.tree (Some key)) ps
 places_stay {known} {t} {s} {u} {es} a f key ps i others at =
-    subst (λ (x : Stack). AreAt u.labels (froms_after f es) x ps) (sym (outer_is u.tree key after.0 after.1)) after.2
+    subst (λ (x : Stack). AreAt u.labels u.events (froms_after f es) x ps) (sym (outer_is u.tree key after.0 after.1)) after.2
   where
     st : (x : Stack) × (stack_of s.tree key ≡ Some x)
     st = open_stack s.tree key i
 
     after : StandsAt key (froms_after f es) ps u
     after = stays_at known f key st.0 ps a.acts (sound_of s a.sound) a.apart a.has a.new st.1 others
-        (subst (λ (x : Stack). AreAt s.labels f x ps) (outer_is s.tree key st.0 st.1) at)
+        (subst (λ (x : Stack). AreAt s.labels s.events f x ps) (outer_is s.tree key st.0 st.1) at)
 
 -- ---- what a task tracks
 
 abbrev pub with_own : Scoping → List Own → List ScopeFrom → Scoping
-with_own s own froms = record { tree = s.tree; labels = s.labels; own = own; froms = froms }
+with_own s own froms =
+    record { tree = s.tree; labels = s.labels; events = s.events; set = s.set; own = own; froms = froms }
 
 -- the froms of another task are those of the world after the turn
 pub tracks_other : {known : Label → Type 0} {t : ℕ} {s u : Scoping} {es : List Event} → Acted known t s u es →
@@ -101,7 +102,8 @@ tracks_other {known} {t} {s} {u} {es} a was now f own froms entered others mine 
         (n.0, n.1, k.2.2 ∙ (sym k.1 ∙ n.2))
 
     kept : (o : Own) (i : ℕ) → slice_get own i ≡ Some o →
-        (st : Stack) × (l : Label) × (stack_of u.tree o.id ≡ Some st) × (u.labels o.id ≡ Some l) × (own_from st ≡ froms_after f es l)
+        (st : Stack) × (l : Label) × (stack_of u.tree o.id ≡ Some st) × (u.labels o.id ≡ Some l)
+        × (kept_from (u.events o.id) st ≡ froms_after f es l)
     kept o i e = let k = after o i e in (k.2.0, k.0, k.2.1, k.2.2, k.2.3)
 
     left : (i : ℕ) (x : ScopeFrom) → slice_get froms i ≡ Some x → IsPast i own → (x.seen ≡ froms_after f es x.label)
@@ -134,13 +136,13 @@ scope_stays {u = u} a home (x ∷ own) others are h key e =
 pub own_places_stay : {known : Label → Type 0} {t : ℕ} {s u : Scoping} {es : List Event} → Acted known t s u es →
     (f : Table) (home : Option ℕ) (x : Own) (own : List Own) (ps : List Place) →
     AreElse (x ∷ own) s.own → ((o : Own) (i : ℕ) → slice_get (x ∷ own) i ≡ Some o → IsOpen s.tree o.id) →
-    AreAt s.labels f (outer_of s.tree (last_or home (map (λ (o : Own). o.id) (x ∷ own)))) ps →
-    AreAt u.labels (froms_after f es) (outer_of u.tree (last_or home (map (λ (o : Own). o.id) (x ∷ own)))) ps
+    AreAt s.labels s.events f (outer_of s.tree (last_or home (map (λ (o : Own). o.id) (x ∷ own)))) ps →
+    AreAt u.labels u.events (froms_after f es) (outer_of u.tree (last_or home (map (λ (o : Own). o.id) (x ∷ own)))) ps
 own_places_stay {known} {t} {s} {u} {es} a f home x own ps others are at =
     let o = last_is x own in
-    subst (λ (k : Option ℕ). AreAt u.labels (froms_after f es) (outer_of u.tree k) ps) (sym o.3)
+    subst (λ (k : Option ℕ). AreAt u.labels u.events (froms_after f es) (outer_of u.tree k) ps) (sym o.3)
     (places_stay a f o.0.id ps (are o.0 o.1 o.2) (others o.0 o.1 o.2)
-    (subst (λ (k : Option ℕ). AreAt s.labels f (outer_of s.tree k) ps) o.3 at))
+    (subst (λ (k : Option ℕ). AreAt s.labels s.events f (outer_of s.tree k) ps) o.3 at))
 
 -- ---- the stack of a task, and that of its home
 

@@ -18,19 +18,20 @@ use Rattle.task_machine.specs.declared.task.Own.{Own}
 use Rattle.task_machine.specs.declared.task.Task.{Task}
 use Rattle.task_machine.specs.declared.world.World.{World}
 use Rattle.task_machine.specs.declared.stop.TaskState.{TaskState}
-use Rattle.task_machine.specs.declared.stop.TaskState.TheVariants.{ToBegin, Asked, Asleep, GivingUp, Awaits, Over}
+use Rattle.task_machine.specs.declared.stop.TaskState.TheVariants.{ToBegin, Asked, Asleep, Waiting, GivingUp, Awaits, Over}
 use Rattle.task_machine.specs.Acts.{scoping_of}
 use Rattle.task_machine.specs.Fitting.{blocks_of, waits_of}
 use Rattle.task_machine.specs.Stacked.{AreAt}
 use Rattle.task_machine.specs.Standing.{here_of, HasNurseryOf, Stands}
 use Rattle.task_machine.specs.Tasks.{home_of, home_scope, scope_of}
-use Rattle.task_machine.specs.Worlds.{label_at}
+use Rattle.task_machine.specs.Worlds.{label_at, event_at}
 use Rattle.interleavings.specs.Interleaving.{Started, live}
 use Rattle.interleavings.specs.Rows.{entered_made}
 use Rattle.run_refinement.specs.RunState.{RunState, Notes, Tracks, CanGoOn, IsMember, HasMembers, SomeEnded, LastEnds, Follows, Refines}
 use Rattle.run_refinement.specs.Turn.{IsEntered, numbers_then, leaving_by}
 use Rattle.run_refinement.specs.Turning.{Turning}
 use Rattle.run_refinement.proofs.ActsKeep.{not_both, same_or}
+use Rattle.run_refinement.proofs.EventsStay.{event_kept}
 use Rattle.run_refinement.proofs.RunStates.{Stood, follows_by, gone_below}
 use Rattle.run_refinement.proofs.StateTurn.{ActsOf, else_own, own_open, nursery_same}
 use Rattle.run_refinement.proofs.OtherHomes.{home_stays, home_open}
@@ -135,13 +136,17 @@ module _ (k : Table) (job : Job) (input : List ℕ) (t m s : ℕ) (old new : Run
               was.goes.opened;
         }
 
+    places : AreAt (label_at new.world) (event_at new.world) T.is.froms (outer_of new.world.scopes (scope_of task)) (c.interleaving.at u).places
+    places =
+        subst (λ (f : Table). AreAt (label_at new.world) (event_at new.world) f (outer_of new.world.scopes (scope_of task)) (c.interleaving.at u).places)
+        (sym T.froms)
+        (places_other c T a u task differs is)
+
     stands : Stands (state_of task new.world) T.is.froms (c.numbers u) (Some (c.interleaving.at u).rest.stopped) (c.interleaving.at u).places
     stands =
         record {
-          places =
-              subst (λ (f : Table). AreAt (label_at new.world) f (outer_of new.world.scopes (scope_of task)) (c.interleaving.at u).places)
-              (sym T.froms)
-              (places_other c T a u task differs is);
+          places = places;
+          event = event_kept c T a u task is goes.scope places;
           numbered =
               λ id has.
               same_nursery (λ n. length (c.numbers u id) ≡ length n.children) old.world.book new.world.book id (nursery id (inl has))
@@ -209,6 +214,7 @@ module _ (k : Table) (job : Job) (input : List ℕ) (t m s : ℕ) (old new : Run
     last_after (ToBegin at) e h = tt
     last_after (Asked kernel purpose) e h = tt
     last_after (Asleep paced ticks since) e h = tt
+    last_after (Waiting event since) e h = tt
     last_after (GivingUp since) e h = tt
     last_after Over e h = tt
 

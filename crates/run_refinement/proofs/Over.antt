@@ -9,7 +9,7 @@ use Rattle.job_meaning.specs.Moments.{Clock, clock_of, tick_of, a_round_after}
 use Rattle.job_meaning.specs.Walk.{Here}
 use Rattle.job_meaning.specs.Meaning.{root_label, root_here, meaning_table, meaning_records, meaning_froms, meaning_end, froms_by}
 use Rattle.job_meaning.specs.Shown.{Shown, as_shown, shown_at}
-use Rattle.job_meaning.specs.Rest.{Event, noted, signs, enters, starts, Stopped, to_begin, asking, asleep, giving_up, awaiting, at_end}
+use Rattle.job_meaning.specs.Rest.{Event, noted, signs, enters, starts, Stopped, to_begin, asking, asleep, waiting_for, giving_up, awaiting, at_end}
 use Rattle.turn_semantics.specs.Midway.{Begun}
 use Rattle.task_machine.specs.Noted.{shown_made}
 use Rattle.interleavings.specs.Interleaving.{Started, In}
@@ -65,6 +65,7 @@ abbrev end_at : Stopped → ℕ
 end_at to_begin = 0
 end_at (asking kernel purpose) = 0
 end_at (asleep paced n since) = 0
+end_at (waiting_for event since) = 0
 end_at (giving_up since) = 0
 end_at (awaiting children ended exc) = 0
 end_at (at_end u e) = u
@@ -73,6 +74,7 @@ abbrev exc_at : Stopped → Option Exc
 exc_at to_begin = None
 exc_at (asking kernel purpose) = None
 exc_at (asleep paced n since) = None
+exc_at (waiting_for event since) = None
 exc_at (giving_up since) = None
 exc_at (awaiting children ended exc) = None
 exc_at (at_end u e) = e

@@ -1,6 +1,6 @@
 -- What may wake a task in a moment may do so after the turn of another task in that moment.
 use Rattle.std.proofs.lemmas.Bool.{eqb-true, eq-eqb}
-use Rattle.std.proofs.Common.{◌≡◌, ◌≢◌, ◌==◌, Bool, true, false, ℕ, suc, ◌+◌, ◌<◌, Option, List, [], length, refl, ap, sym, ◌∙◌, subst, arith}
+use Rattle.std.proofs.Common.{◌≡◌, ◌≢◌, ◌==◌, Bool, true, false, ℕ, suc, ◌+◌, ◌<◌, min, Option, List, [], length, refl, ap, sym, ◌∙◌, subst, arith}
 use Rattle.cancel_scopes.specs.Sight.{seen}
 use Rattle.exc_groups.specs.Exceptions.{Label, Exc}
 use Rattle.job_tree.specs.Tree.{Tree as Job}
@@ -14,7 +14,8 @@ use Rattle.job_meaning.proofs.Clips.{seen_near}
 use Rattle.turn_semantics.specs.Midway.{Place, stack_at}
 use Rattle.turn_semantics.specs.Placed.{PlacedStop, IsAmong}
 use Rattle.turn_semantics.specs.Turned.{AgreesOn}
-use Rattle.turn_semantics.specs.Wakes.{Wake}
+use Rattle.turn_semantics.specs.Wakes.{Wake, ends_at}
+use Rattle.turn_semantics.proofs.Waits.{ends_near}
 use Rattle.task_machine.specs.declared.stop.Stop.{Stop}
 use Rattle.task_machine.specs.declared.task.Task.{Task}
 use Rattle.task_machine.specs.Stops.{Numbers}
@@ -46,7 +47,8 @@ pub still_ready : (k : Table) (job : Job) (input : List ℕ) (t m s : ℕ) (old 
 still_ready k job input t m s old new numbers before after stop was settled names starting turn p below differs own w may =
     let now : Now = record { at = t; own = own } in
     subst (λ (x : Started). MayWake turn.is.froms turn.is.tasks now x w x.rest.stopped) (sym other)
-    (ready_by was.froms turn.is.froms was.tasks turn.is.tasks now q w q.rest.stopped (sym seen_before ∙ seen_after) over may)
+    (ready_by was.froms turn.is.froms was.tasks turn.is.tasks now q w q.rest.stopped (sym seen_before ∙ seen_after)
+    (λ event since. sym (set_before event since) ∙ set_after event since) over may)
   where
     q : Started
     q = was.at p
@@ -66,15 +68,28 @@ still_ready k job input t m s old new numbers before after stop was settled name
     less : p < m + length turn.move.begun
     less = omega (arith, below)
 
-    seen_before : seen (stack_at k q.places) t ≡ seen (stack_at was.froms q.places) t
-    seen_before = seen_near (suc t) (stack_at k q.places) (stack_at was.froms q.places) t
-        (near_places t k was.froms q.places (on_before.2 q (was.has p below).0)) (omega arith)
+    agrees_before : AgreesOn t k was.froms q.places
+    agrees_before = on_before.2 q (was.has p below).0
 
-    seen_after : seen (stack_at k q.places) t ≡ seen (stack_at turn.is.froms q.places) t
-    seen_after =
-        seen_near (suc t) (stack_at k q.places) (stack_at turn.is.froms q.places) t
-        (near_places t k turn.is.froms q.places (on_after.2 q (subst (λ (x : Started). In x turn.is.tasks) other (turn.is.has p less).0)))
-        (omega arith)
+    agrees_after : AgreesOn t k turn.is.froms q.places
+    agrees_after = on_after.2 q (subst (λ (x : Started). In x turn.is.tasks) other (turn.is.has p less).0)
+
+    seen_before : seen (stack_at k q.places).scopes t ≡ seen (stack_at was.froms q.places).scopes t
+    seen_before = seen_near (suc t) (stack_at k q.places).scopes (stack_at was.froms q.places).scopes t
+        (near_places t k was.froms q.places agrees_before).0 (omega arith)
+
+    seen_after : seen (stack_at k q.places).scopes t ≡ seen (stack_at turn.is.froms q.places).scopes t
+    seen_after = seen_near (suc t) (stack_at k q.places).scopes (stack_at turn.is.froms q.places).scopes t
+        (near_places t k turn.is.froms q.places agrees_after).0 (omega arith)
+
+    -- an event is set in the same moment by the table and by the froms, as far as now
+    set_before : (event : List ℕ) (since : ℕ) →
+        min (suc t) (ends_at q.here.clock k event since q.places) ≡ min (suc t) (ends_at q.here.clock was.froms event since q.places)
+    set_before event since = ends_near q.here.clock t since k was.froms event q.places agrees_before
+
+    set_after : (event : List ℕ) (since : ℕ) →
+        min (suc t) (ends_at q.here.clock k event since q.places) ≡ min (suc t) (ends_at q.here.clock turn.is.froms event since q.places)
+    set_after event since = ends_near q.here.clock t since k turn.is.froms event q.places agrees_after
 
     -- the task that had its turn had not ended
     alive : (u : ℕ) (e : Option Exc) → (was.at s).rest.stopped ≡ at_end u e → ⊥

@@ -12,10 +12,10 @@ use Rattle.job_meaning.specs.Follow.{IsSettled}
 use Rattle.turn_semantics.specs.Midway.{Place}
 use Rattle.task_machine.specs.declared.stop.Stop.{Stop}
 use Rattle.task_machine.specs.declared.task.Task.{Task}
-use Rattle.task_machine.specs.Labels.{Labels}
+use Rattle.task_machine.specs.Labels.{Labels, Events}
 use Rattle.task_machine.specs.Stacked.{AreAt}
 use Rattle.task_machine.specs.Tasks.{scope_of}
-use Rattle.task_machine.specs.Worlds.{label_at}
+use Rattle.task_machine.specs.Worlds.{label_at, event_at}
 use Rattle.task_machine.proofs.Stacked.{one_of}
 use Rattle.interleavings.specs.Interleaving.{Started}
 use Rattle.run_refinement.specs.RunState.{RunState, Follows, Refines}
@@ -28,25 +28,25 @@ use Rattle.run_refinement.proofs.StateTurn.{ActsOf, acted}
 use Rattle.run_refinement.proofs.OtherScopes.{open_stack, outer_is}
 
 -- the label of the innermost of some places
-abbrev first_label : List Place → Option Label
+abbrev pub first_label : List Place → Option Label
 first_label [] = None
 first_label (p ∷ ps) = Some p.label
 
 -- the label of an open scope is that of the place of its stack's innermost level
-label_first : (labels : Labels) (f : Table) (key : ℕ) (st : Stack) (ps : List Place) → own_label st ≡ Some key → AreAt labels f st ps →
+label_first : (labels : Labels) (events : Events) (f : Table) (key : ℕ) (st : Stack) (ps : List Place) → own_label st ≡ Some key → AreAt labels events f st ps →
     (l : Label) × (labels key ≡ Some l) × (first_label ps ≡ Some l)
-label_first labels f key [] ps own at = absurd (not_both refl own)
-label_first labels f key (x ∷ st) [] own at = absurd at
-label_first labels f key (x ∷ st) (p ∷ ps) own at = (p.label, ap labels (sym (one_of x.label key own)) ∙ at.0, refl)
+label_first labels events f key [] ps own at = absurd (not_both refl own)
+label_first labels events f key (x ∷ st) [] own at = absurd at
+label_first labels events f key (x ∷ st) (p ∷ ps) own at = (p.label, ap labels (sym (one_of x.label key own)) ∙ at.0, refl)
 
 -- so is that of a task's scope
-scope_label : (labels : Labels) (f : Table) (tree : Tree) (scope : Option ℕ) (key : ℕ) (ps : List Place) → IsOwn tree → scope ≡ Some key →
+pub scope_label : (labels : Labels) (events : Events) (f : Table) (tree : Tree) (scope : Option ℕ) (key : ℕ) (ps : List Place) → IsOwn tree → scope ≡ Some key →
     (st : Stack) → stack_of tree key ≡ Some st →
-    AreAt labels f (outer_of tree scope) ps → (l : Label) × (labels key ≡ Some l) × (first_label ps ≡ Some l)
-scope_label labels f tree scope key ps own is st opened at =
-    label_first labels f key st ps (own key st opened)
-    (subst (λ (x : Stack). AreAt labels f x ps) (outer_is tree key st opened)
-    (subst (λ (o : Option ℕ). AreAt labels f (outer_of tree o) ps) is at))
+    AreAt labels events f (outer_of tree scope) ps → (l : Label) × (labels key ≡ Some l) × (first_label ps ≡ Some l)
+scope_label labels events f tree scope key ps own is st opened at =
+    label_first labels events f key st ps (own key st opened)
+    (subst (λ (x : Stack). AreAt labels events f x ps) (outer_is tree key st opened)
+    (subst (λ (o : Option ℕ). AreAt labels events f (outer_of tree o) ps) is at))
 
 -- The scope of another task shows the effective deadline that it showed, or is marked.
 pub shows_still : {k : Table} {job : Job} {input : List ℕ} {t m s : ℕ} {old new : RunState} {before after : Task} {stop : Stop} →
@@ -69,7 +69,7 @@ shows_still {k} {job} {input} {t} {m} {s} {old} {new} {before} {after} {stop} se
 
     was : (l : Label) × (label_at old.world key ≡ Some l) × (first_label q.places ≡ Some l)
     was =
-        scope_label (label_at old.world) c.interleaving.froms old.world.scopes (scope_of task) key q.places T.code.sound.own is h.stack h.opened
+        scope_label (label_at old.world) (event_at old.world) c.interleaving.froms old.world.scopes (scope_of task) key q.places T.code.sound.own is h.stack h.opened
         (c.follows u task lives).stands.places
 
     after_stack : (st : Stack) × (stack_of new.world.scopes key ≡ Some st)
@@ -77,7 +77,7 @@ shows_still {k} {job} {input} {t} {m} {s} {old} {new} {before} {after} {stop} se
 
     then : (l : Label) × (label_at new.world key ≡ Some l) × (first_label (T.is.at u).places ≡ Some l)
     then =
-        scope_label (label_at new.world) T.is.froms new.world.scopes (scope_of task) key (T.is.at u).places T.code.sound_after.own is
+        scope_label (label_at new.world) (event_at new.world) T.is.froms new.world.scopes (scope_of task) key (T.is.at u).places T.code.sound_after.own is
         after_stack.0 after_stack.1 now.stands.places
 
     same : then.0 ≡ was.0

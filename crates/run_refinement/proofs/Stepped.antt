@@ -13,33 +13,37 @@ use Rattle.job_meaning.specs.Follow.{IsSettled}
 use Rattle.job_meaning.specs.Log.{Table}
 use Rattle.job_meaning.specs.Moments.{Clock, by_ticks, by_rounds, tick_of, start_of, far, wakes_at}
 use Rattle.job_meaning.specs.Walk.{Here}
-use Rattle.job_meaning.specs.Rest.{Stopped, asleep, giving_up, awaiting, at_end}
+use Rattle.job_meaning.specs.Rest.{Stopped, asleep, waiting_for, giving_up, awaiting, at_end}
 use Rattle.nursery_book.specs.Book.{HasNursery}
 use Rattle.nursery_book.specs.declared.book.NurseryBook.{NurseryBook}
 use Rattle.turn_semantics.specs.Midway.{Place, stack_at}
 use Rattle.turn_semantics.specs.Steps.{froms_after}
+use Rattle.turn_semantics.specs.Names.{names_at, OwnNames}
+use Rattle.turn_semantics.specs.Placed.{PlacedAfter}
 use Rattle.turn_semantics.specs.Turned.{StopsAt, FallsAsleep as FallsAsleepFor}
 use Rattle.task_machine.specs.declared.stop.TaskState.{TaskState}
-use Rattle.task_machine.specs.declared.stop.TaskState.TheVariants.{Asked, Asleep, GivingUp, Awaits, Over}
+use Rattle.task_machine.specs.declared.stop.TaskState.TheVariants.{Asked, Asleep, Waiting, GivingUp, Awaits, Over}
 use Rattle.task_machine.specs.declared.stop.Stop.{Stop}
-use Rattle.task_machine.specs.declared.stop.Stop.TheVariants.{Ask, Sleep, GiveUp, Wait, Ended}
+use Rattle.task_machine.specs.declared.stop.Stop.TheVariants.{Ask, Sleep, WaitFor, GiveUp, Wait, Ended}
 use Rattle.task_machine.specs.declared.stop.Wake.{Wake}
 use Rattle.task_machine.specs.declared.task.Task.{Task}
 use Rattle.task_machine.specs.declared.world.World.{World}
-use Rattle.task_machine.specs.Stacked.{AreAt}
+use Rattle.task_machine.specs.Stacked.{AreAt, AwaitsEvent}
 use Rattle.task_machine.specs.Standing.{BodyEnds, now_for}
 use Rattle.task_machine.specs.States.{state_of}
 use Rattle.task_machine.specs.Stops.{Numbers, IsTaskState, IsTold, StopsAs}
 use Rattle.task_machine.specs.Tasks.{scope_of}
 use Rattle.task_machine.specs.Waking.{wake_in, IsInRangeTaskState}
-use Rattle.task_machine.specs.Worlds.{label_at}
-use Rattle.task_machine.proofs.Stacked.{seen_at}
+use Rattle.task_machine.specs.Worlds.{label_at, event_at}
+use Rattle.task_machine.proofs.Stacked.{one_of, seen_at}
 use Rattle.interleavings.specs.Interleaving.{Started}
 use Rattle.interleavings.specs.Woken.{MayWake}
 use Rattle.run_refinement.specs.RunState.{RunState, Follows, Refines}
 use Rattle.run_refinement.specs.Turn.{numbers_then, leaving_by}
 use Rattle.run_refinement.specs.Turning.{Turning}
 use Rattle.run_refinement.specs.Step.{TakesTurn, IsUnseen, StopSays, EndsAs, StoppedIn}
+use Rattle.run_refinement.proofs.ActsKeep.{not_both}
+use Rattle.run_refinement.proofs.EventPlaces.{HasEvent, has_event, awaited_set}
 use Rattle.run_refinement.proofs.StateFits.{state_fits}
 use Rattle.run_refinement.proofs.StateTurn.{acted}
 use Rattle.run_refinement.proofs.OthersFollow.{others_follow}
@@ -71,6 +75,7 @@ pub ends_now : (clock there : Clock) (numbers : Numbers) (book : NurseryBook) (p
     IsToldNow clock there numbers book part stop task_state t froms ps s → (q : Started) → q.rest.stopped ≡ s → EndsAs stop t q
 ends_now clock there numbers book part (Ask request) task_state t froms ps s h q e = tt
 ends_now clock there numbers book part (Sleep due) task_state t froms ps s h q e = tt
+ends_now clock there numbers book part (WaitFor event) task_state t froms ps s h q e = tt
 ends_now clock there numbers book part (GiveUp due) task_state t froms ps s h q e = tt
 ends_now clock there numbers book part (Wait id) task_state t froms ps s h q e = tt
 ends_now clock there numbers book part (Ended exc) Over t froms ps (at_end u x) h q e =
@@ -91,50 +96,71 @@ sees_none : (clock : Clock) (n : ℕ) (seen_now there : Bool) → there ≡ seen
 sees_none by_ticks n seen_now there e h = e ∙ h.1
 sees_none by_rounds n seen_now there e h = tt
 
+-- the event for which a task waits, if it waits for one, is one that encloses it
+record WaitsIn (world : World) (task : Task) (task_state : TaskState) (s : Stopped) (ps : List Place) : Type 0 where
+  pub own : OwnNames (names_at ps)
+  pub event : AwaitsEvent (label_at world) (outer_of world.scopes (scope_of task)) (Some s) task_state ps
+  pub some : HasEvent s ps
+
 -- and what the stop says is so
 says_now : (clock there : Clock) (numbers : Numbers) (book : NurseryBook) (part : Part) (stop : Stop) (task_state : TaskState) (t : ℕ)
     (froms : Table) (ps : List Place) (s : Stopped) →
     IsToldNow clock there numbers book part stop task_state t froms ps s → (world : World) (task : Task) → task.task_state ≡ task_state →
     task.part ≡ part → world.tick ≡ t → world.clock ≡ clock → there ≡ clock →
-    AreAt (label_at world) froms (outer_of world.scopes (scope_of task)) ps → IsInRangeTaskState task_state → book ≡ world.book →
-    BodyEnds task_state book → StopSays world task stop
-says_now clock there numbers book part (Ask request) (Asked kernel purpose) t froms ps s h world task e of tick ticking same at in_range held ends =
+    AreAt (label_at world) (event_at world) froms (outer_of world.scopes (scope_of task)) ps → IsInRangeTaskState task_state → book ≡ world.book →
+    BodyEnds task_state book → WaitsIn world task task_state s ps → StopSays world task stop
+says_now clock there numbers book part (Ask request) (Asked kernel purpose) t froms ps s h world task e of tick ticking same at in_range held ends w =
     record { purpose = purpose; task_state = e ∙ ap (λ (k : Kernel). Asked k purpose) (sym h.told.0); part = h.told.1 ∙ sym of }
-says_now clock there numbers book part (Ask request) _ t froms ps s h world task e of tick ticking same at in_range held ends = absurd h.told
+says_now clock there numbers book part (Ask request) _ t froms ps s h world task e of tick ticking same at in_range held ends w = absurd h.told
 says_now clock there numbers book part (Sleep due) (Asleep paced ticks since) t froms ps (asleep p n u) h world task e of tick ticking same
     at
-    in_range held ends =
+    in_range held ends w =
     let is : since ≡ world.tick = h.blocks_on.2 ∙ (h.now.0 ∙ sym tick) in
     let told : due ≡ wakes_at world.clock ticks world.tick =
     h.told ∙ ap (λ (x : Clock). wakes_at x ticks since) (sym ticking) ∙ ap (wakes_at world.clock ticks) is in
-    let falls : FallsAsleepFor world.clock ticks (seen (stack_at froms ps) t) =
-    subst (λ (x : Clock). FallsAsleepFor x ticks (seen (stack_at froms ps) t)) (same ∙ sym ticking)
-    (subst (λ (v : ℕ). FallsAsleepFor there v (seen (stack_at froms ps) t)) (sym h.blocks_on.1) h.now.1) in
+    let falls : FallsAsleepFor world.clock ticks (seen (stack_at froms ps).scopes t) =
+    subst (λ (x : Clock). FallsAsleepFor x ticks (seen (stack_at froms ps).scopes t)) (same ∙ sym ticking)
+    (subst (λ (v : ℕ). FallsAsleepFor there v (seen (stack_at froms ps).scopes t)) (sym h.blocks_on.1) h.now.1) in
     record {
       paced = paced;
       ticks = ticks;
       task_state = e ∙ ap (λ (v : ℕ). Asleep paced ticks v) is;
       short = in_range;
       due_is = told;
-      later = subst (λ (v : ℕ). world.tick < v) (sym told) (ends_later world.clock ticks world.tick (seen (stack_at froms ps) t) falls);
+      later = subst (λ (v : ℕ). world.tick < v) (sym told) (ends_later world.clock ticks world.tick (seen (stack_at froms ps).scopes t) falls);
       unseen =
-          sees_none world.clock ticks (seen (stack_at froms ps) t) (seen (outer_of world.scopes (scope_of task)) world.tick)
+          sees_none world.clock ticks (seen (stack_at froms ps).scopes t) (seen (outer_of world.scopes (scope_of task)) world.tick)
           (ap (λ (v : ℕ). seen (outer_of world.scopes (scope_of task)) v) tick
-          ∙ seen_at (label_at world) froms (outer_of world.scopes (scope_of task)) ps t at) falls;
+          ∙ seen_at (label_at world) (event_at world) froms (outer_of world.scopes (scope_of task)) ps t at) falls;
     }
-says_now clock there numbers book part (Sleep due) (Asleep paced ticks since) t froms ps _ h world task e of tick ticking same at in_range held ends =
+says_now clock there numbers book part (Sleep due) (Asleep paced ticks since) t froms ps _ h world task e of tick ticking same at in_range held ends w =
     absurd h.blocks_on
-says_now clock there numbers book part (Sleep due) _ t froms ps s h world task e of tick ticking same at in_range held ends = absurd h.told
+says_now clock there numbers book part (Sleep due) _ t froms ps s h world task e of tick ticking same at in_range held ends w = absurd h.told
+says_now clock there numbers book part (WaitFor event) (Waiting key since) t froms ps (waiting_for name u) h world task e of tick ticking same at
+    in_range held ends w =
+    let is : since ≡ world.tick = h.blocks_on ∙ (h.now ∙ sym tick) in
+    let set =
+    (awaited_set (label_at world) (event_at world) froms (outer_of world.scopes (scope_of task)) ps key name world.clock since w.own at w.event.0
+    w.event.1 w.some).1 in
+    record {
+      task_state = e ∙ (ap (λ (n : ℕ). Waiting n since) (sym h.told) ∙ ap (λ (v : ℕ). Waiting event v) is);
+      set = set.0;
+      is_event = ap (event_at world) h.told ∙ set.1;
+    }
+says_now clock there numbers book part (WaitFor event) (Waiting key since) t froms ps _ h world task e of tick ticking same at in_range held
+    ends w =
+    absurd h.blocks_on
+says_now clock there numbers book part (WaitFor event) _ t froms ps s h world task e of tick ticking same at in_range held ends w = absurd h.told
 says_now clock there numbers book part (GiveUp due) (GivingUp since) t froms ps (giving_up u) h world task e of tick ticking same at
-    in_range held ends =
+    in_range held ends w =
     let is : since ≡ world.tick = h.blocks_on ∙ (h.now ∙ sym tick) in
     record { task_state = e ∙ ap (λ (v : ℕ). GivingUp v) is; due_is = h.told ∙ ap suc is }
-says_now clock there numbers book part (GiveUp due) (GivingUp since) t froms ps _ h world task e of tick ticking same at in_range held ends =
+says_now clock there numbers book part (GiveUp due) (GivingUp since) t froms ps _ h world task e of tick ticking same at in_range held ends w =
     absurd h.blocks_on
-says_now clock there numbers book part (GiveUp due) _ t froms ps s h world task e of tick ticking same at in_range held ends = absurd h.told
+says_now clock there numbers book part (GiveUp due) _ t froms ps s h world task e of tick ticking same at in_range held ends w = absurd h.told
 says_now clock there numbers book part (Wait id) (Awaits key since) t froms ps (awaiting children u x) h world task e of tick ticking same
     at
-    in_range held ends =
+    in_range held ends w =
     let is : since ≡ world.tick = h.blocks_on.1 ∙ (h.now ∙ sym tick) in
     record {
       task_state = e ∙ (ap (λ (n : ℕ). Awaits n since) (sym h.told) ∙ ap (λ (v : ℕ). Awaits id v) is);
@@ -143,10 +169,10 @@ says_now clock there numbers book part (Wait id) (Awaits key since) t froms ps (
           (subst (λ (b : NurseryBook). HasNursery b id (λ n. n.last ≡ since)) held
           (subst (λ (n : ℕ). HasNursery book n (λ m. m.last ≡ since)) (sym h.told) ends));
     }
-says_now clock there numbers book part (Wait id) (Awaits key since) t froms ps _ h world task e of tick ticking same at in_range held ends =
+says_now clock there numbers book part (Wait id) (Awaits key since) t froms ps _ h world task e of tick ticking same at in_range held ends w =
     absurd h.blocks_on
-says_now clock there numbers book part (Wait id) _ t froms ps s h world task e of tick ticking same at in_range held ends = absurd h.told
-says_now clock there numbers book part (Ended exc) task_state t froms ps s h world task e of tick ticking same at in_range held ends = tt
+says_now clock there numbers book part (Wait id) _ t froms ps s h world task e of tick ticking same at in_range held ends w = absurd h.told
+says_now clock there numbers book part (Ended exc) task_state t froms ps s h world task e of tick ticking same at in_range held ends w = tt
 
 -- ---- a turn
 
@@ -205,6 +231,21 @@ module _ (k : Table) (job : Job) (input : List ℕ) (t m s : ℕ) (old new : Run
           c T) in
           record { is = after.0; ended = subst (λ (at : ℕ → Started). EndsAs stop t (at s)) (sym after.1) now }
 
+      placed : (o : Option Stopped) → o ≡ Some T.stopped → PlacedAfter o T.move.frames T.move.places → HasEvent T.stopped T.move.places
+      placed None e h = absurd (not_both refl e)
+      placed (Some x) e h =
+          subst (λ (z : Stopped). HasEvent z T.move.places) (one_of x T.stopped e) (has_event x T.move.frames T.move.places h)
+
+      waits : WaitsIn new.world after after.task_state T.stopped T.move.places
+      waits =
+          record {
+            own = T.names.own;
+            event =
+                subst (λ (o : Option Stopped). AwaitsEvent (label_at new.world) (outer_of new.world.scopes (scope_of after)) o
+                after.task_state T.move.places) T.stops T.took.event;
+            some = placed T.move.stopped T.stops T.promise.placed;
+          }
+
       says : StopSays new.world after stop
       says =
           says_now old.world.clock (c.interleaving.at s).here.clock T.took.numbers_after new.world.book before.part stop after.task_state t
@@ -212,7 +253,7 @@ module _ (k : Table) (job : Job) (input : List ℕ) (t m s : ℕ) (old new : Run
           T.stopped told new.world after refl
           (ap (λ (z : Task). z.part) T.code.stays) (ap (λ (w : World). w.tick) T.code.world ∙ c.tick)
           (ap (λ (w : World). w.clock) T.code.world) (sym (ap (λ (h : Here). h.clock) (c.follows s before T.code.task).here)) T.took.places
-          T.code.in_range refl T.took.last
+          T.code.in_range refl T.took.last waits
 
     -- After a task of the program took a turn, the tasks are one run with those that it started, in which that
     -- task stopped so.

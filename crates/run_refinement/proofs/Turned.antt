@@ -34,6 +34,7 @@ use Rattle.run_refinement.specs.Turn.{IsEntered, numbers_then, leaving_by}
 use Rattle.run_refinement.specs.Turning.{Turning}
 use Rattle.run_refinement.proofs.ActsKeep.{not_both, same_or}
 use Rattle.run_refinement.proofs.ActsFroms.{unmoved}
+use Rattle.run_refinement.proofs.ActsEvents.{events_acts, soon_acts}
 use Rattle.run_refinement.proofs.ActsOthers.{labelled_acts}
 use Rattle.run_refinement.proofs.ActsStay.{Stays, stays, IsElse, else_acts}
 use Rattle.run_refinement.proofs.ActsTracks.{all_got}
@@ -397,6 +398,10 @@ module _ (k : Table) (job : Job) (input : List ℕ) (t m s : ℕ) (old new : Run
         owned = owned_after;
         apart = apart_after;
         labelled = labelled_acts T.took.acts c.labelled;
+        opened = events_acts T.took.acts c.opened;
+        soon =
+            λ key from e. subst (λ (v : ℕ). from ≤ suc v) c.tick
+            (soon_acts T.took.acts (λ i x is. subst (λ (v : ℕ). x ≤ suc v) (sym c.tick) (c.soon i x is)) key from e);
         started = λ p less.
             subst (λ (x : Clock). AreStarted x new.start T.is.at (T.is.at p).child (T.is.at p).made) (sym clock) (started_after p less);
         children = children_kept k job input t m s old new before after stop settled names starting c T;

@@ -11,7 +11,7 @@ use Rattle.task_machine.specs.declared.stop.TaskState.TheVariants.{ToBegin}
 use Rattle.task_machine.specs.declared.task.Task.{Task}
 use Rattle.task_machine.specs.declared.world.World.{World}
 use Rattle.task_machine.specs.Frames.{frames_of}
-use Rattle.task_machine.specs.Worlds.{label_at}
+use Rattle.task_machine.specs.Worlds.{label_at, event_at}
 use Rattle.run_refinement.specs.RunState.{RunState}
 
 -- a world as `World::new` returns it for the clock of a job
@@ -20,6 +20,8 @@ pub record IsNewWorld (job : Job) (world : World) : Type 0 where
   pub tick : world.tick ≡ 0
   pub scopes : (key : ℕ) → stack_of world.scopes key ≡ None
   pub labels : (key : ℕ) → label_at world key ≡ None
+  pub events : (key : ℕ) → event_at world key ≡ None
+  pub set : world.set.items ≡ []
   pub book : (key : ℕ) → nursery_at world.book key ≡ None
   pub started : world.started.items ≡ []
 

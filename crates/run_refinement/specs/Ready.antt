@@ -7,27 +7,36 @@ use Rattle.nursery_book.specs.Book.{HasNursery}
 use Rattle.nursery_book.specs.declared.book.NurseryBook.{NurseryBook}
 use Rattle.job_meaning.specs.Moments.{a_round_after, wakes_at}
 use Rattle.job_meaning.specs.Before.{upto}
+use Rattle.interleavings.specs.Woken.{SeesNow, IsOver}
 use Rattle.task_machine.specs.declared.stop.TaskState.{TaskState}
-use Rattle.task_machine.specs.declared.stop.TaskState.TheVariants.{ToBegin, Asked, Asleep, GivingUp, Awaits, Over}
+use Rattle.task_machine.specs.declared.stop.TaskState.TheVariants.{ToBegin, Asked, Asleep, Waiting, GivingUp, Awaits, Over}
 use Rattle.task_machine.specs.declared.stop.Wake.{Wake}
 use Rattle.task_machine.specs.declared.stop.Wake.TheVariants.{Due, Seen}
 use Rattle.task_machine.specs.declared.task.Home.{Home}
 use Rattle.task_machine.specs.declared.task.Task.{Task}
 use Rattle.task_machine.specs.declared.world.World.{World}
+use Rattle.task_machine.specs.Events.{set_by, wait_ends}
 use Rattle.task_machine.specs.Fitting.{blocks_of, waits_of}
 use Rattle.task_machine.specs.Standing.{HasNurseryOf}
 use Rattle.task_machine.specs.Tasks.{scope_of}
 use Rattle.task_machine.specs.Waking.{WakesFrom}
+use Rattle.task_machine.specs.Worlds.{event_at}
 use Rattle.run_refinement.specs.RunState.{RunState}
 
 -- A task continues in its moment: it begins in the moment that it was started for; a sleeper in that scope when it is due and sees
--- nothing, or when it sees a cancellation, after the moment in which it fell asleep; one that gives up a round later; and one that
--- waits after the last member of its nursery has ended, a round later where there are rounds.
+-- nothing, or when it sees a cancellation, after the moment in which it fell asleep; one that waits for an event when that is set, or
+-- when it sees a cancellation before; one that gives up a round later; and one that waits after the last member of its nursery has
+-- ended, a round later where there are rounds.
 abbrev pub IsTimely : World → Option ℕ → TaskState → Wake → Type 0
 IsTimely world scope (ToBegin at) wake = at ≡ world.tick
 IsTimely world scope (Asleep paced ticks since) Due =
     (wakes_at world.clock ticks since ≡ world.tick) × (seen (outer_of world.scopes scope) world.tick ≡ false)
 IsTimely world scope (Asleep paced ticks since) Seen = (since < world.tick) × (seen (outer_of world.scopes scope) world.tick ≡ true)
+IsTimely world scope (Waiting event since) Due =
+    IsOver world.clock (set_by world.clock (event_at world event) since) since world.tick (seen (outer_of world.scopes scope) world.tick)
+IsTimely world scope (Waiting event since) Seen =
+    SeesNow world.clock (set_by world.clock (event_at world event) since) since world.tick
+    × (seen (outer_of world.scopes scope) world.tick ≡ true)
 IsTimely world scope (GivingUp since) wake = suc since ≡ world.tick
 IsTimely world scope (Awaits id since) wake = HasNursery world.book id (λ n. a_round_after world.clock n.last ≤ world.tick)
 IsTimely world scope task_state wake = Unit {0}
@@ -38,13 +47,16 @@ pub record MayGo (world : World) (task : Task) (wake : Wake) : Type 0 where
   pub timely : IsTimely world (scope_of task) task.task_state wake
 
 -- A task in that scope does not continue before moment u: it begins then or later; a sleeper is due then or later, and sees no
--- cancellation before, or has not slept for a round by then; one that gives up does so then or later; and one that waits does so for
--- a nursery of which a member runs, or that is left then or later.
+-- cancellation before, or has not slept for a round by then; so does one whose event is set then or later; one that gives up does so
+-- then or later; and one that waits does so for a nursery of which a member runs, or that is left then or later.
 abbrev pub StaysTo : World → ℕ → Option ℕ → TaskState → Type 0
 StaysTo world u scope (ToBegin at) = u ≤ at
 StaysTo world u scope (Asked kernel purpose) = ⊥
 StaysTo world u scope (Asleep paced ticks since) =
     (u ≤ wakes_at world.clock ticks since)
+    × ((upto u (sight (outer_of world.scopes scope)) ≡ u) ⊎ (u ≤ a_round_after world.clock since))
+StaysTo world u scope (Waiting event since) =
+    (u ≤ wait_ends world.clock (event_at world event) since)
     × ((upto u (sight (outer_of world.scopes scope)) ≡ u) ⊎ (u ≤ a_round_after world.clock since))
 StaysTo world u scope (GivingUp since) = u ≤ suc since
 StaysTo world u scope (Awaits id since) =
@@ -60,6 +72,7 @@ abbrev pub HasMoment : NurseryBook → TaskState → Type 0
 HasMoment book (ToBegin at) = Unit {0}
 HasMoment book (Asked kernel purpose) = ⊥
 HasMoment book (Asleep paced ticks since) = Unit {0}
+HasMoment book (Waiting event since) = Unit {0}
 HasMoment book (GivingUp since) = Unit {0}
 HasMoment book (Awaits id since) = HasNursery book id (λ n. is_settled n ≡ true)
 HasMoment book Over = ⊥

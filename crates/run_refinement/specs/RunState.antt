@@ -1,7 +1,8 @@
 -- The tasks of the program as the code holds them, and their relation to a run of the definitions.
-use Rattle.std.specs.Prelude.{◌≡◌, ◌≢◌, ◌⊎◌, true, ℕ, ◌<◌, ◌≤◌, Option, Some, None, List, [], ◌∷◌, All, map, length, slice_get}
+use Rattle.std.specs.Prelude.{◌≡◌, ◌≢◌, ◌⊎◌, true, ℕ, suc, ◌<◌, ◌≤◌, Option, Some, None, List, [], ◌∷◌, All, map, length, slice_get}
 use Rattle.exc_groups.specs.Exceptions.{Label, Exc}
-use Rattle.cancel_scopes.specs.Tree.{Stack, stack_of, IsOpen, own_from}
+use Rattle.cancel_scopes.specs.Sight.{Tick}
+use Rattle.cancel_scopes.specs.Tree.{Stack, stack_of, IsOpen}
 use Rattle.nursery_book.specs.Nursery.{End, Nursery}
 use Rattle.nursery_book.specs.Book.{HasNursery}
 use Rattle.nursery_book.specs.declared.book.NurseryBook.{NurseryBook}
@@ -22,14 +23,14 @@ use Rattle.task_machine.specs.declared.task.Home.{Home}
 use Rattle.task_machine.specs.declared.task.Own.{Own}
 use Rattle.task_machine.specs.declared.task.Task.{Task}
 use Rattle.task_machine.specs.declared.world.World.{World}
-use Rattle.task_machine.specs.Acts.{Scoping, scoping_of}
+use Rattle.task_machine.specs.Acts.{Scoping, scoping_of, kept_from}
 use Rattle.task_machine.specs.Fitting.{blocks_of, CanRun, AreOthers, waits_of}
 use Rattle.task_machine.specs.Frames.{frames_of}
 use Rattle.task_machine.specs.Standing.{here_of, HasNurseryOf, Stands}
 use Rattle.task_machine.specs.Stops.{Numbers, IsTaskState}
 use Rattle.task_machine.specs.Tasks.{home_of, home_scope}
 use Rattle.task_machine.specs.Waking.{IsInRangeTaskState}
-use Rattle.task_machine.specs.Worlds.{label_at}
+use Rattle.task_machine.specs.Worlds.{label_at, event_at}
 use Rattle.interleavings.specs.Interleaving.{Started, In, live}
 use Rattle.interleavings.specs.Rows.{entered_made, children_made}
 use Rattle.interleavings.specs.Runs.{Reached, turns_taken}
@@ -98,7 +99,7 @@ pub record Tracks (known : Label → Type 0) (f : Table) (s : Scoping) (entered 
       × (s.labels o.id ≡ Some x.label)
   pub kept :
       (o : Own) (i : ℕ) → slice_get s.own i ≡ Some o →
-      (st : Stack) × (l : Label) × (stack_of s.tree o.id ≡ Some st) × (s.labels o.id ≡ Some l) × (own_from st ≡ f l)
+      (st : Stack) × (l : Label) × (stack_of s.tree o.id ≡ Some st) × (s.labels o.id ≡ Some l) × (kept_from (s.events o.id) st ≡ f l)
   pub left :
       (i : ℕ) (x : ScopeFrom) → slice_get s.froms i ≡ Some x → IsPast i s.own →
       (x.seen ≡ f x.label) × ((key : ℕ) → s.labels key ≡ Some x.label → ⊥) × known x.label
@@ -239,6 +240,10 @@ pub record Refines (k : Table) (job : Job) (input : List ℕ) (t m : ℕ) (leavi
   pub owned : (key : ℕ) → IsOpen state.world.scopes key → (s : ℕ) × OpenedBy state key s
   pub apart : (key s u : ℕ) → OpenedBy state key s → OpenedBy state key u → s ≡ u
   pub labelled : (key : ℕ) (l : Label) → label_at state.world key ≡ Some l → IsOpen state.world.scopes key
+  -- each event is an open scope
+  pub opened : (key : ℕ) (set : Tick) → event_at state.world key ≡ Some set → IsOpen state.world.scopes key
+  -- and is set from the next moment on at the latest, if it is
+  pub soon : (key from : ℕ) → event_at state.world key ≡ Some (Some from) → from ≤ suc t
   pub started : (s : ℕ) → s < m → AreStarted state.world.clock state.start interleaving.at (interleaving.at s).child
       (interleaving.at s).made
   pub children : (s : ℕ) → s < m → state.children s ≡ children_made (interleaving.at s).child (interleaving.at s).made

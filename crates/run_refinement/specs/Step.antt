@@ -2,7 +2,7 @@
 use Rattle.std.specs.Prelude.{◌≡◌, ◌≢◌, ℕ, suc, ◌+◌, ◌<◌, ◌≤◌, ◌^◌, Bool, false, Some, List, [], ◌++◌, length, slice_get}
 use Rattle.std.specs.Option.{option_map}
 use Rattle.exc_groups.specs.Held.{exc_of}
-use Rattle.cancel_scopes.specs.Sight.{seen}
+use Rattle.cancel_scopes.specs.Sight.{Tick, seen}
 use Rattle.cancel_scopes.specs.Tree.{outer_of}
 use Rattle.line_kernels.specs.declared.request.Request.{Request}
 use Rattle.nursery_book.specs.Book.{HasNursery}
@@ -12,10 +12,10 @@ use Rattle.job_meaning.specs.Moments.{Clock, by_ticks, by_rounds, tick_of, a_rou
 use Rattle.job_meaning.specs.Rest as rest
 use Rattle.interleavings.specs.Interleaving.{Started}
 use Rattle.task_machine.specs.States.{state_of}
-use Rattle.task_machine.specs.declared.stop.TaskState.TheVariants.{Asked, Asleep, GivingUp, Awaits}
+use Rattle.task_machine.specs.declared.stop.TaskState.TheVariants.{Asked, Asleep, Waiting, GivingUp, Awaits}
 use Rattle.task_machine.specs.declared.stop.Purpose.{Purpose}
 use Rattle.task_machine.specs.declared.stop.Stop.{Stop}
-use Rattle.task_machine.specs.declared.stop.Stop.TheVariants.{Ask, Sleep, GiveUp, Wait, Ended}
+use Rattle.task_machine.specs.declared.stop.Stop.TheVariants.{Ask, Sleep, WaitFor, GiveUp, Wait, Ended}
 use Rattle.task_machine.specs.declared.stop.Wake.{Wake}
 use Rattle.task_machine.specs.declared.task.Task.{Task}
 use Rattle.task_machine.specs.declared.world.World.{World}
@@ -23,6 +23,7 @@ use Rattle.task_machine.specs.Fitting.{Fits, waits_of}
 use Rattle.task_machine.specs.Standing.{TurnsAs}
 use Rattle.task_machine.specs.Tasks.{scope_of}
 use Rattle.task_machine.specs.Waking.{IsInRangeTaskState}
+use Rattle.task_machine.specs.Worlds.{event_at}
 use Rattle.run_refinement.specs.RunState.{RunState, Refines}
 use Rattle.run_refinement.specs.Turn.{IsSound, serials_from, leaving_by}
 use Rattle.run_refinement.specs.Ready.{MayGo}
@@ -46,6 +47,8 @@ pub record TakesTurn (t m s : ℕ) (old new : RunState) (before after : Task) (w
       new.world ≡ record old.world {
         scopes = new.world.scopes;
         labels = new.world.labels;
+        events = new.world.events;
+        set = new.world.set;
         book = new.world.book;
         started =
             new.world.started;
@@ -53,6 +56,7 @@ pub record TakesTurn (t m s : ℕ) (old new : RunState) (before after : Task) (w
   pub sound : IsSound old.world.scopes
   pub sound_after : IsSound new.world.scopes
   pub none_left : old.world.started.items ≡ []
+  pub none_set : old.world.set.items ≡ []
   pub fits_after : Fits (state_of after new.world) (waits_of after.task_state)
   pub in_range : IsInRangeTaskState after.task_state
   pub turn : TurnsAs (state_of before old.world) (state_of after new.world) wake stop
@@ -92,6 +96,12 @@ pub record FallsAsleep (world : World) (task : Task) (due : ℕ) : Type 0 where
   pub later : world.tick < due
   pub unseen : IsUnseen world.clock (seen (outer_of world.scopes (scope_of task)) world.tick)
 
+-- a task waits for an event since this moment
+pub record WaitsNow (world : World) (task : Task) (event : ℕ) : Type 0 where
+  pub task_state : task.task_state ≡ Waiting event world.tick
+  pub set : Tick
+  pub is_event : event_at world event ≡ Some set
+
 -- a task was cancelled at a checkpoint in this moment, and raises in the next one
 pub record GivesUp (world : World) (task : Task) (due : ℕ) : Type 0 where
   pub task_state : task.task_state ≡ GivingUp world.tick
@@ -105,6 +115,7 @@ pub record AwaitsNow (world : World) (task : Task) (id : ℕ) : Type 0 where
 abbrev pub StopSays : World → Task → Stop → Type 0
 StopSays world task (Ask request) = Asks task request
 StopSays world task (Sleep due) = FallsAsleep world task due
+StopSays world task (WaitFor event) = WaitsNow world task event
 StopSays world task (GiveUp due) = GivesUp world task due
 StopSays world task (Wait id) = AwaitsNow world task id
 StopSays world task (Ended exc) = Unit {0}
@@ -113,6 +124,7 @@ StopSays world task (Ended exc) = Unit {0}
 abbrev pub EndsAs : Stop → ℕ → Started → Type 0
 EndsAs (Ask request) t q = Unit {0}
 EndsAs (Sleep due) t q = Unit {0}
+EndsAs (WaitFor event) t q = Unit {0}
 EndsAs (GiveUp due) t q = Unit {0}
 EndsAs (Wait id) t q = Unit {0}
 EndsAs (Ended exc) t q = q.rest.stopped ≡ rest.at_end t (option_map exc_of exc)

@@ -8,7 +8,7 @@ use Rattle.job_meaning.specs.Rest as rest
 use Rattle.turn_semantics.specs.Midway.{Begun, none_told, begun_comes_to}
 use Rattle.turn_semantics.specs.Turned.{Known}
 use Rattle.task_machine.specs.declared.stop.Stop.{Stop}
-use Rattle.task_machine.specs.declared.stop.Stop.TheVariants.{Ask, Sleep, GiveUp, Wait, Ended}
+use Rattle.task_machine.specs.declared.stop.Stop.TheVariants.{Ask, Sleep, WaitFor, GiveUp, Wait, Ended}
 use Rattle.task_machine.specs.Stops.{Numbers}
 use Rattle.interleavings.specs.Interleaving.{Started}
 use Rattle.interleavings.specs.Rows.{entered_made}
@@ -66,6 +66,7 @@ serials_from m (suc n) = m ∷ serials_from (suc m) n
 abbrev pub leaving_by : Stop → ℕ → Option ℕ
 leaving_by (Ask request) s = None
 leaving_by (Sleep due) s = None
+leaving_by (WaitFor event) s = None
 leaving_by (GiveUp due) s = None
 leaving_by (Wait id) s = None
 leaving_by (Ended exc) s = Some s

@@ -1,5 +1,6 @@
 //! The laws of the tasks of the program (a `RunState`). The function does nothing: its contract is the law.
 
+ghost use Rattle.std.specs.Prelude.{◌≡◌};
 ghost use Rattle.run_refinement.specs.Laws.{
   RunStatesAreInTime,
   RunStatesBegin,

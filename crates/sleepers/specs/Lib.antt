@@ -1,2 +1,3 @@
 pub mod Sleeping
+pub mod Waiting
 pub mod Kept

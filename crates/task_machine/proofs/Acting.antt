@@ -11,23 +11,27 @@ use Rattle.job_meaning.specs.Log.{Table}
 use Rattle.job_meaning.specs.Log as log
 use Rattle.job_meaning.specs.Moments.{Clock}
 use Rattle.job_meaning.specs.Walk.{Here, label_over}
-use Rattle.job_meaning.specs.Rest.{Event, noted, signs, enters, starts, starts_over, Stopped, to_begin, asking, asleep, giving_up, awaiting, at_end}
+use Rattle.job_meaning.specs.Rest.{Event, noted, signs, enters, starts, starts_over, Stopped, to_begin, asking, asleep, waiting_for, giving_up, awaiting, at_end}
 use Rattle.nursery_book.specs.declared.book.NurseryBook.{NurseryBook}
 use Rattle.buffer_parts.specs.declared.part.Part.{Part}
 use Rattle.buffer_parts.specs.Lines.{Span}
-use Rattle.turn_semantics.specs.Midway.{Place, Move}
-use Rattle.turn_semantics.specs.Steps.{signs_to, signs_home}
+use Rattle.turn_semantics.specs.Midway.{Place, label_among, Move}
+use Rattle.turn_semantics.specs.Steps.{signs_to, home_among, signs_home}
 use Rattle.turn_semantics.specs.Wakes.{lines_made}
 use Rattle.task_machine.specs.declared.stop.TaskState.{TaskState}
-use Rattle.task_machine.specs.declared.stop.TaskState.TheVariants.{ToBegin, Asked, Asleep, GivingUp, Awaits, Over}
+use Rattle.task_machine.specs.declared.stop.TaskState.TheVariants.{ToBegin, Asked, Asleep, Waiting, GivingUp, Awaits, Over}
 use Rattle.task_machine.specs.declared.stop.Moved.{Moved}
 use Rattle.task_machine.specs.declared.stop.Moved.TheVariants.{On, Stops}
 use Rattle.task_machine.specs.declared.task.Own.{Own}
-use Rattle.task_machine.specs.Acts.{Scoping, Cancels, Enters, Leaves, Acts, no_act, act_noted, act_starts, act_signs, act_enters, act_leaves, Signed, key_failed}
+use Rattle.task_machine.specs.Acts.{Scoping, scoping_in, Cancels, Enters, Leaves, Acts, no_act, act_noted, act_starts, act_signs, act_sets, act_enters, act_leaves, Signed, key_failed}
+use Rattle.task_machine.specs.Entered.{SetAt}
 use Rattle.task_machine.specs.Fitting.{Block, a_scope, a_nursery, AreOthers, waits_of}
-use Rattle.task_machine.specs.Stacked.{AreAt, FoundAs}
+use Rattle.task_machine.specs.Labels.{Labels, Events, scope_named, home_key}
+use Rattle.task_machine.specs.Stacked.{AreAt, FoundAs, AwaitsEvent}
 use Rattle.task_machine.specs.Standing.{HasBlock, HasNurseryOf, waits_by}
+use Rattle.task_machine.specs.States.{State}
 use Rattle.task_machine.specs.Stops.{Numbers, IsTaskState, MovesAs}
+use Rattle.task_machine.proofs.Stacked.{named_at, named_sought, no_event, home_at, home_no_event}
 
 -- ---- a task that waits for no nursery
 
@@ -37,6 +41,7 @@ WaitsNot None = Unit {0}
 WaitsNot (Some to_begin) = Unit {0}
 WaitsNot (Some (asking kernel purpose)) = Unit {0}
 WaitsNot (Some (asleep paced n since)) = Unit {0}
+WaitsNot (Some (waiting_for event since)) = Unit {0}
 WaitsNot (Some (giving_up since)) = Unit {0}
 WaitsNot (Some (awaiting children ended exc)) = ⊥
 WaitsNot (Some (at_end u e)) = Unit {0}
@@ -46,10 +51,12 @@ task_states_not : (numbers : Numbers) (book : NurseryBook) (task_state : TaskSta
 task_states_not numbers book (ToBegin at) s not h = refl
 task_states_not numbers book (Asked kernel purpose) s not h = refl
 task_states_not numbers book (Asleep paced ticks since) s not h = refl
+task_states_not numbers book (Waiting event since) s not h = refl
 task_states_not numbers book (GivingUp since) s not h = refl
 task_states_not numbers book (Awaits id since) to_begin not h = absurd h
 task_states_not numbers book (Awaits id since) (asking kernel purpose) not h = absurd h
 task_states_not numbers book (Awaits id since) (asleep paced n u) not h = absurd h
+task_states_not numbers book (Awaits id since) (waiting_for event u) not h = absurd h
 task_states_not numbers book (Awaits id since) (giving_up u) not h = absurd h
 task_states_not numbers book (Awaits id since) (awaiting children ended exc) not h = absurd not
 task_states_not numbers book (Awaits id since) (at_end u e) not h = absurd h
@@ -71,6 +78,22 @@ waits_not clock numbers book part (Stops stop) task_state o not h = by_stop o.st
         let f : MovesAs clock numbers book part (Stops stop) task_state (record o { stopped = Some s }) =
         subst (λ (x : Option Stopped). MovesAs clock numbers book part (Stops stop) task_state (record o { stopped = x })) e h in
         task_states_not numbers book task_state s (subst WaitsNot e not) f.1.0
+
+-- ---- a task that waits for no event
+
+-- a stop that waits for no event, or none
+abbrev pub WaitsElse : Option Stopped → Type 0
+WaitsElse (Some (waiting_for event since)) = ⊥
+WaitsElse _ = Unit {0}
+
+-- there is no event that would have to be one of the stack
+pub waits_else : (labels : Labels) (st : Stack) (s : Option Stopped) (task_state : TaskState) (ps : List Place) → WaitsElse s →
+    AwaitsEvent labels st s task_state ps
+waits_else labels st None task_state ps h = tt
+waits_else labels st (Some (waiting_for event since)) task_state ps h = absurd h
+waits_else labels st (Some _) task_state ps h = tt
+
+-- ---- the nurseries of a task
 
 -- a nursery of a task that waits for none is among its blocks
 pub block_of : (id : ℕ) (bs : List Block) (waits : Option ℕ) → waits ≡ None → HasNurseryOf id bs waits → HasBlock id bs
@@ -109,6 +132,7 @@ acts_append tick _ _ u _ fs (no_act s) b = b
 acts_append tick _ _ u _ fs (act_noted s m t e ds a) b = act_noted s u t e (ds ++ fs) (acts_append tick s m u ds fs a b)
 acts_append tick _ _ u _ fs (act_starts s m i l t ds a) b = act_starts s u i l t (ds ++ fs) (acts_append tick s m u ds fs a b)
 acts_append tick _ _ u _ fs (act_signs s x m l ds h a) b = act_signs s x u l (ds ++ fs) h (acts_append tick x m u ds fs a b)
+acts_append tick _ _ u _ fs (act_sets s x m l ds h a) b = act_sets s x u l (ds ++ fs) h (acts_append tick x m u ds fs a b)
 acts_append tick _ _ u _ fs (act_enters s x m l t d ds h a) b = act_enters s x u l t d (ds ++ fs) h (acts_append tick x m u ds fs a b)
 acts_append tick _ _ u _ fs (act_leaves s x m es h a) b = act_leaves s x u (es ++ fs) h (acts_append tick x m u es fs a b)
 
@@ -132,40 +156,90 @@ starts_acts tick name here t first (suc k) s u e =
 -- ---- signs
 
 -- a scope of this label is signed, and nothing else is changed
-one_signed : (tick : ℕ) (s : Scoping) (tree : Tree) (key : ℕ) (label : Label) → s.labels key ≡ Some label → Cancels key tick s.tree tree →
-    Acts tick s (signs label tick ∷ []) (record s { tree = tree })
-one_signed tick s tree key label labelled cancels =
+one_signed : (tick : ℕ) (s : Scoping) (tree : Tree) (key : ℕ) (label : Label) → s.labels key ≡ Some label → s.events key ≡ None →
+    Cancels key tick s.tree tree → Acts tick s (signs label tick ∷ []) (record s { tree = tree })
+one_signed tick s tree key label labelled no_event cancels =
     act_signs s (record s { tree = tree }) (record s { tree = tree }) label []
-    (record { key = key; labelled = labelled; cancels = cancels; labels = refl; own = refl; froms = refl }) (no_act (record s { tree = tree }))
+    (record {
+      key = key;
+      labelled = labelled;
+      no_event = no_event;
+      cancels = cancels;
+      labels = refl;
+      events = refl;
+      set = refl;
+      own = refl;
+      froms = refl;
+    }) (no_act (record s { tree = tree }))
 
 none_signed : (tick : ℕ) (s : Scoping) (tree : Tree) → tree ≡ s.tree → Acts tick s [] (record s { tree = tree })
 none_signed tick s tree e = same_acts tick s (record s { tree = tree }) (ap (λ (x : Tree). record s { tree = x }) e)
 
--- the scope that a name finds
-pub found_signed : (tick : ℕ) (s : Scoping) (tree : Tree) (found : Option ℕ) (label : Option Label) → FoundAs s.labels found label →
-    Signed tick s.tree tree found → Acts tick s (signs_to label tick) (record s { tree = tree })
-found_signed tick s tree None label at signed =
+-- the scope that was found, which is no event
+signed_as : (tick : ℕ) (s : Scoping) (tree : Tree) (found : Option ℕ) (label : Option Label) → FoundAs s.labels found label →
+    ((key : ℕ) → found ≡ Some key → s.events key ≡ None) → Signed tick s.tree tree found →
+    Acts tick s (signs_to label tick) (record s { tree = tree })
+signed_as tick s tree None label at none signed =
     subst (λ (o : Option Label). Acts tick s (signs_to o tick) (record s { tree = tree })) (sym at) (none_signed tick s tree signed)
-found_signed tick s tree (Some key) label at signed =
+signed_as tick s tree (Some key) label at none signed =
     subst (λ (o : Option Label). Acts tick s (signs_to o tick) (record s { tree = tree })) (sym at.1.1)
-    (one_signed tick s tree key at.1.0 (at.0 ∙ at.1.1) signed)
+    (one_signed tick s tree key at.1.0 (at.0 ∙ at.1.1) (none key refl) signed)
 
--- the innermost scope, by a task or body that failed
+-- by a name
+pub found_signed : (tick : ℕ) (s : Scoping) (tree : Tree) (name : List ℕ) (froms : Table) (st : Stack) (ps : List Place) →
+    AreAt s.labels s.events froms st ps → Signed tick s.tree tree (scope_named false s.labels s.events name st) →
+    Acts tick s (signs_to (label_among false name ps) tick) (record s { tree = tree })
+found_signed tick s tree name froms st ps a signed =
+    signed_as tick s tree (scope_named false s.labels s.events name st) (label_among false name ps)
+    (named_at false s.labels s.events froms name st ps a)
+    (λ key e. no_event (s.events key) (named_sought false s.labels s.events name st key e)) signed
+
+-- the innermost scope that is no event, by a task or body that failed
 pub home_signed : (tick : ℕ) (s : Scoping) (tree : Tree) (exc : Option Exc) (froms : Table) (st : Stack) (ps : List Place) →
-    AreAt s.labels froms st ps → Signed tick s.tree tree (key_failed exc st) →
+    AreAt s.labels s.events froms st ps → Signed tick s.tree tree (key_failed exc s.events st) →
     Acts tick s (signs_home exc ps tick) (record s { tree = tree })
-home_signed tick s tree None table st ps at signed = none_signed tick s tree signed
-home_signed tick s tree (Some e) table [] [] at signed = none_signed tick s tree signed
-home_signed tick s tree (Some e) table [] (p ∷ ps) at signed = absurd at
-home_signed tick s tree (Some e) table (l ∷ ls) [] at signed = absurd at
-home_signed tick s tree (Some e) table (l ∷ ls) (p ∷ ps) at signed = one_signed tick s tree l.label p.label at.0 signed
+home_signed tick s tree None froms st ps a signed = none_signed tick s tree signed
+home_signed tick s tree (Some e) froms st ps a signed =
+    signed_as tick s tree (home_key s.events st) (home_among ps) (home_at s.labels s.events froms st ps a)
+    (λ key f. home_no_event s.events st key f) signed
+
+-- an event that was found is set, or none is
+pub found_set : (b : State) (events : Events) (set : List ℕ) (cancelled : List Label) (found : Option ℕ) (label : Option Label) →
+    FoundAs b.labels found label → ((key : ℕ) → found ≡ Some key → IsOpen b.tree key) →
+    (let u : State = record b { events = events; set = set; cancelled = cancelled } in
+    SetAt b u found → Acts b.tick (scoping_in b) (signs_to label b.tick) (scoping_in u))
+found_set b events set cancelled None label at opened sets =
+    let u : State = record b { events = events; set = set; cancelled = cancelled } in
+    subst (λ (o : Option Label). Acts b.tick (scoping_in b) (signs_to o b.tick) (scoping_in u)) (sym at)
+    (same_acts b.tick (scoping_in b) (scoping_in u)
+    (ap (λ (es : Events). record (scoping_in b) { events = es; set = set }) sets.0
+    ∙ ap (λ (ks : List ℕ). record (scoping_in b) { set = ks }) sets.1))
+found_set b events set cancelled (Some key) label at opened sets =
+    let u : State = record b { events = events; set = set; cancelled = cancelled } in
+    subst (λ (o : Option Label). Acts b.tick (scoping_in b) (signs_to o b.tick) (scoping_in u)) (sym at.1.1)
+    (act_sets (scoping_in b) (scoping_in u) (scoping_in u) at.1.0 []
+    (record {
+      key = key;
+      labelled = at.0 ∙ at.1.1;
+      opened = opened key refl;
+      sets = sets;
+      tree = refl;
+      labels = refl;
+      own = refl;
+      froms = refl;
+    }) (no_act (scoping_in u)))
 
 -- ---- scopes that are entered and left
 
--- a task that opened one scope acted as the event of entering its label says
-pub entered_acts : (tick : ℕ) (parent : Option ℕ) (s u : Scoping) (label : Label) (deadline : Tick) → Enters parent label deadline s u →
-    Acts tick s (enters label tick deadline ∷ []) u
-entered_acts tick parent s u label deadline e = act_enters {parent = parent} s u u label tick deadline [] e (no_act u)
+-- a task that opened one scope or event acted as the event of entering its label says
+pub entered_acts : (tick : ℕ) (parent : Option ℕ) (is_event : Bool) (s u : Scoping) (label : Label) (deadline : Tick) →
+    Enters parent label is_event deadline s u → Acts tick s (enters label tick deadline ∷ []) u
+entered_acts tick parent is_event s u label deadline e =
+    act_enters {parent = parent} {is_event = is_event} s u u label tick deadline [] e (no_act u)
+
+-- a task that closed the last of its scopes or events acted so
+pub closed_acts : (tick : ℕ) (s u : Scoping) → Leaves s u → Acts tick s [] u
+closed_acts tick s u e = act_leaves s u u [] e (no_act u)
 
 -- a task that closed the last of its scopes acted so, with an entry noted
 pub left_acts : (tick : ℕ) (s u : Scoping) (t : ℕ) (entry : log.Entry) → Leaves s u → Acts tick s (noted t entry ∷ []) u
@@ -198,6 +272,8 @@ acts_stay tick _ u _ key (act_noted s x t e ds a) h = acts_stay tick s u ds key 
 acts_stay tick _ u _ key (act_starts s x i l t ds a) h = acts_stay tick s u ds key a h
 acts_stay tick _ u _ key (act_signs s m x l ds g a) h =
     acts_stay tick m u ds key a (signed_open key g.key tick s.tree m.tree g.cancels.stacks h.0, subst (AreOthers key) (sym g.own) h.1)
+acts_stay tick _ u _ key (act_sets s m x l ds g a) h =
+    acts_stay tick m u ds key a (subst (λ (t : Tree). IsOpen t key) (sym g.tree) h.0, subst (AreOthers key) (sym g.own) h.1)
 acts_stay tick _ u _ key (act_enters s m x l t d ds g a) h =
     acts_stay tick m u ds key a (
       subst IsSome (sym (g.others key other)) h.0,

@@ -21,14 +21,14 @@ use Rattle.nursery_book.specs.declared.book.NurseryBook.{NurseryBook}
 use Rattle.turn_semantics.specs.Midway.{Place, Move}
 use Rattle.turn_semantics.specs.Steps.{onward, step_pass, handler_if, step_try, step_frames, step_of}
 use Rattle.task_machine.specs.declared.frame.Frame.{Frame}
-use Rattle.task_machine.specs.declared.frame.Frame.TheVariants.{Steps, Scope, Nursery, Repeat, Try, Handler, Cleanup}
+use Rattle.task_machine.specs.declared.frame.Frame.TheVariants.{Steps, Scope, Event, Nursery, Repeat, Try, Handler, Cleanup}
 use Rattle.block_exits.specs.declared.kind.Kind.TheVariants as kind
 use Rattle.task_machine.specs.declared.stop.TaskState.TheVariants.{Awaits, Over}
 use Rattle.task_machine.specs.declared.stop.Moved.{Moved}
 use Rattle.task_machine.specs.declared.stop.Moved.TheVariants.{On, Stops}
 use Rattle.task_machine.specs.declared.stop.Stop.TheVariants.{Wait, Ended}
 use Rattle.task_machine.specs.Acts.{Leaves, scoping_in}
-use Rattle.task_machine.specs.Exits.{ExitsAt, FailsAt}
+use Rattle.task_machine.specs.Exits.{ExitsAt, LeavesEventAt, FailsAt}
 use Rattle.task_machine.specs.Fitting.{Block, a_scope, a_nursery, blocks_of}
 use Rattle.task_machine.specs.Frames.{unboxed_exc, frame_of, frames_onto, frames_of}
 use Rattle.task_machine.specs.Standing.{Stands, Took, StepsAs, with_frames}
@@ -36,7 +36,7 @@ use Rattle.task_machine.specs.States.{State, here_at, now_at}
 use Rattle.task_machine.specs.Stops.{Numbers}
 use Rattle.task_machine.proofs.FrameLemmas.{frames_pushed}
 use Rattle.task_machine.proofs.Nurseries.{blocks_pushed}
-use Rattle.task_machine.proofs.Tooks.{took_onward, took_end, took_exit, took_body}
+use Rattle.task_machine.proofs.Tooks.{took_onward, took_end, took_exit, took_event_left, took_body}
 
 -- ---- the definitions' step by the innermost frame
 
@@ -64,6 +64,7 @@ abbrev pub blocks_onto : List rest.Frame → List Block → List Block
 blocks_onto [] bs = bs
 blocks_onto (rest.steps_left ss ∷ fs) bs = blocks_onto fs bs
 blocks_onto (rest.in_scope fail ∷ fs) bs = blocks_onto fs (a_scope ∷ bs)
+blocks_onto (rest.in_event ∷ fs) bs = blocks_onto fs (a_scope ∷ bs)
 blocks_onto (rest.in_nursery ns ∷ fs) bs = blocks_onto fs (key_in ns ++ bs)
 blocks_onto (rest.in_repeat pass left body ∷ fs) bs = blocks_onto fs bs
 blocks_onto (rest.in_try handler cleanup ∷ fs) bs = blocks_onto fs bs
@@ -78,6 +79,7 @@ onto_keys : (fs : List Frame) (outer : List rest.Frame) (bs : List Block) →
 onto_keys [] outer bs = refl
 onto_keys (Steps steps ∷ fs) outer bs = onto_keys fs (frame_of own_keys (Steps steps) ∷ outer) bs
 onto_keys (Scope fail ∷ fs) outer bs = onto_keys fs (rest.in_scope fail ∷ outer) bs
+onto_keys (Event ∷ fs) outer bs = onto_keys fs (rest.in_event ∷ outer) bs
 onto_keys (Nursery id ∷ fs) outer bs = onto_keys fs (rest.in_nursery (id ∷ []) ∷ outer) bs
 onto_keys (Repeat pass left body ∷ fs) outer bs = onto_keys fs (frame_of own_keys (Repeat pass left body) ∷ outer) bs
 onto_keys (Try handler cleanup ∷ fs) outer bs = onto_keys fs (frame_of own_keys (Try handler cleanup) ∷ outer) bs
@@ -122,7 +124,7 @@ takes_end b u whole tree exc goes popped none goes_is stays fails froms numbers 
 
 -- the innermost scope is left
 pub takes_exit : (b u : State) (whole : List Frame) (fail : Bool) (exc goes : Option held.Exc) → whole ≡ b.frames ++ Scope fail ∷ [] →
-    u ≡ record b { own = u.own; froms = u.froms; entries = u.entries; tree = u.tree; labels = u.labels } →
+    u ≡ record b { own = u.own; froms = u.froms; entries = u.entries; tree = u.tree; labels = u.labels; events = u.events } →
     ExitsAt b u (kind.Scope fail) (option_map exc_of exc) (option_map exc_of goes) → Leaves (scoping_in b) (scoping_in u) →
     StepsAs (with_frames b whole) u (option_map exc_of exc) (On goes)
 takes_exit b u whole fail exc goes popped stays exits one =
@@ -130,6 +132,14 @@ takes_exit b u whole fail exc goes popped stays exits one =
     (λ froms numbers ps count stands.
     took_exit b whole froms numbers ps stands u fail exc goes count popped (ap (λ (s : State). s.frames) stays)
     (ap (λ (s : State). s.book) stays) (ap (λ (s : State). s.started) stays) (ap (λ (s : State). s.cancelled) stays) exits one)
+
+-- the innermost event is left
+pub takes_event_left : (b u : State) (whole : List Frame) (exc : Option held.Exc) → whole ≡ b.frames ++ Event ∷ [] →
+    u ≡ record b { own = u.own; froms = u.froms; tree = u.tree; labels = u.labels; events = u.events } → LeavesEventAt b u →
+    Leaves (scoping_in b) (scoping_in u) → StepsAs (with_frames b whole) u (option_map exc_of exc) (On exc)
+takes_event_left b u whole exc popped stays left one =
+    takes_step b u whole b.frames Event (On exc) (option_map exc_of exc) popped
+    (λ froms numbers ps count stands. took_event_left b whole froms numbers ps stands u exc count popped stays left one)
 
 -- the body of the innermost nursery has ended
 pub takes_body : (b u : State) (whole : List Frame) (id : ℕ) (tree : Tree) (book : NurseryBook) (exc : Option held.Exc) (goes : Moved) →

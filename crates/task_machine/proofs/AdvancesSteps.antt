@@ -1,5 +1,7 @@
 -- A step of the code that is one of the steps of a block, as the definitions' step: one lemma for each kind.
-use Rattle.std.proofs.Common.{◌≡◌, ℕ, Bool, false, Option, Some, None, List, [], ◌∷◌, ◌++◌, refl, ap, sym, ◌∙◌, subst, append_assoc, Bor}
+use Rattle.std.proofs.Common.{◌≡◌, ℕ, Bool, true, false, Option, Some, None, List, [], ◌∷◌, ◌++◌, refl, ap, sym, ◌∙◌, subst}
+use Rattle.cancel_scopes.specs.Sight.{Tick}
+use Rattle.cancel_scopes.specs.Tree.{IsChain}
 use Rattle.exc_groups.specs.Exceptions.{Label}
 use Rattle.job_tree.specs.Tree as tree
 use Rattle.job_tree.specs.InRange.{AreInRange}
@@ -14,24 +16,26 @@ use Rattle.job_meaning.specs.Walk.{Here}
 use Rattle.job_meaning.specs.Rest as rest
 use Rattle.job_meaning.specs.Rest.{inside, path_in, asking}
 use Rattle.nursery_book.specs.declared.book.NurseryBook.{NurseryBook}
-use Rattle.turn_semantics.specs.Midway.{Place, Move}
-use Rattle.turn_semantics.specs.Names.{names_at, AreNew, IsNew, NewIn}
-use Rattle.turn_semantics.specs.Steps.{onward, makes, sleeps, label_among, signs_to, begins_passes, step_on, step_frames}
+use Rattle.turn_semantics.specs.Midway.{Place, label_among, Move}
+use Rattle.turn_semantics.specs.Names.{IsName, names_at, AreNew, IsNew, NewIn}
+use Rattle.turn_semantics.specs.Steps.{onward, makes, sleeps, waits_on, signs_to, begins_passes, step_on, step_frames}
 use Rattle.task_machine.specs.declared.frame.Frame.{Frame}
-use Rattle.task_machine.specs.declared.frame.Frame.TheVariants.{Steps, Scope, Nursery}
+use Rattle.task_machine.specs.declared.frame.Frame.TheVariants.{Steps, Scope, Event, Nursery}
 use Rattle.task_machine.specs.declared.stop.Moved.{Moved}
 use Rattle.task_machine.specs.declared.stop.Moved.TheVariants.{On}
 use Rattle.task_machine.specs.Acts.{Enters, scoping_in}
-use Rattle.task_machine.specs.Entered.{EntersAt, EntersBlock, EntersNursery, CancelsAt}
-use Rattle.task_machine.specs.Fitting.{blocks_of}
-use Rattle.task_machine.specs.Frames.{frames_of}
-use Rattle.task_machine.specs.Stacked.{AreAt}
+use Rattle.task_machine.specs.Entered.{EntersAt, a_scope_at, an_event_at, EntersBlock, EntersNursery, CancelsAt, SetsAt}
+use Rattle.task_machine.specs.Fitting.{blocks_of, AreLoops}
+use Rattle.task_machine.specs.Frames.{frame_of, frames_of}
+use Rattle.task_machine.specs.Stacked.{AreAt, AwaitsEvent}
 use Rattle.task_machine.specs.Standing.{AtStep, before_step, HasBlock, Stands, Took, StepsAs, with_frames}
 use Rattle.task_machine.specs.Started.{StartsOne, StartsOver}
 use Rattle.task_machine.specs.States.{State, here_at, now_at, path_at, scope_at, stack_in}
 use Rattle.task_machine.specs.Stops.{Numbers, MovesAs}
 use Rattle.task_machine.proofs.FrameLemmas.{frames_pushed, path_inside}
-use Rattle.task_machine.proofs.Tooks.{LeavesAlone, took_onward, took_task_states, took_sleep, took_cancel}
+use Rattle.task_machine.proofs.Acting.{WaitsElse, waits_else}
+use Rattle.task_machine.proofs.Blocks.{IsScope}
+use Rattle.task_machine.proofs.Tooks.{LeavesAlone, took_onward, took_task_states, took_sleep, took_wait, took_cancel, took_set}
 use Rattle.task_machine.proofs.TooksEntered.{took_scope, took_nursery}
 use Rattle.task_machine.proofs.TooksStarted.{here_inside, took_start, took_start_over}
 use Rattle.task_machine.proofs.Advances.{takes_step, blocks_onto, own_keys, blocks_same, blocks_off}
@@ -39,12 +43,6 @@ use Rattle.task_machine.proofs.Advances.{takes_step, blocks_onto, own_keys, bloc
 -- the label of that name for what is entered in a state
 abbrev pub label_there : State → List ℕ → Label
 label_there b name = record { name = name; indices = path_at b }
-
--- the frames of a task whose steps are the body of a nursery
-in_body : (fs outer gs : List Frame) (id : ℕ) (left : Bor (List Step)) → gs ≡ outer ++ Steps left ∷ [] → outer ≡ fs ++ Nursery id ∷ [] →
-    gs ≡ fs ++ Nursery id ∷ Steps left ∷ []
-in_body fs outer gs id left e f = e ∙ ap (λ (hs : List Frame). hs ++ Steps left ∷ []) f
-    ∙ append_assoc fs (Nursery id ∷ []) (Steps left ∷ [])
 
 -- ---- the state in which a step is done
 
@@ -112,7 +110,7 @@ module _ (b : State) (first : Step) (a : AtStep b first) where
       ≡ sleeps b.clock froms false ticks b.tick (rest.steps_left ss ∷ fs) ps) →
       u ≡ record b { task_state = u.task_state } →
       ((froms : Table) (numbers : Numbers) (book : NurseryBook) (fs : List rest.Frame) (ps : List Place) →
-      AreAt b.labels froms (stack_in b) ps →
+      AreAt b.labels b.events froms (stack_in b) ps →
       MovesAs b.clock numbers book b.part goes u.task_state (sleeps b.clock froms false ticks b.tick fs ps)) →
       StepsAs (before_step b first a) u None goes
   takes_sleeps s u goes ticks is known stays sleep =
@@ -132,11 +130,12 @@ module _ (b : State) (first : Step) (a : AtStep b first) where
   pub takes_alone : (s : Step) (u : State) (goes : Moved) (move : List rest.Frame → List Place → Move) → first ≡ s →
       ((froms : Table) (ss : tree.Steps) (fs : List rest.Frame) (ps : List Place) (count : ℕ) →
       step_on froms (now_at b) (here_inside b) (step_in s) ss fs ps count ≡ move (rest.steps_left ss ∷ fs) ps) →
-      ((fs : List rest.Frame) (ps : List Place) → LeavesAlone (move fs ps) fs ps) → u ≡ record b { task_state = u.task_state } →
+      ((fs : List rest.Frame) (ps : List Place) → LeavesAlone (move fs ps) fs ps) →
+      ((fs : List rest.Frame) (ps : List Place) → WaitsElse (move fs ps).stopped) → u ≡ record b { task_state = u.task_state } →
       ((numbers : Numbers) (book : NurseryBook) (fs : List rest.Frame) (ps : List Place) →
       MovesAs b.clock numbers book b.part goes u.task_state (move fs ps)) →
       StepsAs (before_step b first a) u None goes
-  takes_alone s u goes move is known alone stays moves =
+  takes_alone s u goes move is known alone others stays moves =
       takes_on u goes
       (λ froms numbers ps count stands new.
       let gs = rest.steps_left (steps_of a.left.now) ∷ frames_of numbers a.outer in
@@ -146,7 +145,27 @@ module _ (b : State) (first : Step) (a : AtStep b first) where
       (subst (λ (o : Move). Took (before_step b first a) (record b { task_state = u.task_state }) goes froms numbers o)
       (sym (on_known s is froms numbers ps count ∙ known froms (steps_of a.left.now) (frames_of numbers a.outer) ps count))
       (took_task_states b whole froms numbers None ps stands b.frames u.task_state goes (move gs ps) blocks_put
-      (l.frames ∙ sym (frames_put numbers)) l.places l.made l.begun l.waits (moves numbers b.book gs ps))))
+      (l.frames ∙ sym (frames_put numbers)) l.places l.made l.begun l.waits (moves numbers b.book gs ps)
+      (waits_else b.labels (stack_in b) (move gs ps).stopped u.task_state (move gs ps).places (others gs ps)))))
+
+  -- ---- a wait for an event
+
+  -- a `wait`, where the code stops for the innermost event of its name, if there is one, is the definitions' step
+  pub takes_wait : (u : State) (goes : Moved) (name : List ℕ) → first ≡ code.Wait name → u ≡ record b { task_state = u.task_state } →
+      ((froms : Table) (numbers : Numbers) (book : NurseryBook) (fs : List rest.Frame) (ps : List Place) →
+      AreAt b.labels b.events froms (stack_in b) ps →
+      MovesAs b.clock numbers book b.part goes u.task_state (waits_on (label_among true name ps) name b.tick fs ps)
+      × AwaitsEvent b.labels (stack_in b) (waits_on (label_among true name ps) name b.tick fs ps).stopped u.task_state ps) →
+      StepsAs (before_step b first a) u None goes
+  takes_wait u goes name is stays wait =
+      takes_on u goes
+      (λ froms numbers ps count stands new.
+      subst (λ (v : State). Took (before_step b first a) v goes froms numbers (step_there froms numbers ps count)) (sym stays)
+      (subst (λ (o : Move). Took (before_step b first a) (record b { task_state = u.task_state }) goes froms numbers o)
+      (ap (λ (gs : List rest.Frame). waits_on (label_among true name ps) name b.tick gs ps) (frames_put numbers)
+      ∙ sym (on_known (code.Wait name) is froms numbers ps count))
+      (took_wait b whole froms numbers None ps stands u.task_state goes name blocks_put
+      (λ at. wait froms numbers b.book (frames_of numbers b.frames) ps at))))
 
   -- ---- a scope is cancelled
 
@@ -160,17 +179,54 @@ module _ (b : State) (first : Step) (a : AtStep b first) where
       subst (λ (v : State). Took (before_step b first a) v (On None) froms numbers
       (step_there froms numbers ps count)) (sym stays)
       (subst (λ (o : Move). Took (before_step b first a) (record b { tree = u.tree; cancelled = u.cancelled }) (On None) froms numbers o)
-      (ap (λ (gs : List rest.Frame). makes (signs_to (label_among name ps) b.tick) gs ps) (frames_put numbers)
+      (ap (λ (gs : List rest.Frame). makes (signs_to (label_among false name ps) b.tick) gs ps) (frames_put numbers)
       ∙ sym (on_known (code.Cancel name) is froms numbers ps count))
       (took_cancel b whole froms numbers None ps stands u.tree u.cancelled name blocks_put
       (subst (λ (v : State). CancelsAt b v name) stays cancels))))
 
-  -- ---- a scope or nursery is entered
+  -- a `set`, where the code sets the innermost event of its name, if there is one, is the definitions' step
+  pub takes_set : (u : State) (name : List ℕ) → IsChain b.tree → first ≡ code.Set name →
+      u ≡ record b { events = u.events; set = u.set; cancelled = u.cancelled } → SetsAt b u name →
+      StepsAs (before_step b first a) u None (On None)
+  takes_set u name chain is stays sets =
+      takes_on u (On None)
+      (λ froms numbers ps count stands new.
+      subst (λ (v : State). Took (before_step b first a) v (On None) froms numbers
+      (step_there froms numbers ps count)) (sym stays)
+      (subst
+      (λ (o : Move). Took (before_step b first a) (record b { events = u.events; set = u.set; cancelled = u.cancelled }) (On None) froms numbers o)
+      (ap (λ (gs : List rest.Frame). makes (signs_to (label_among true name ps) b.tick) gs ps) (frames_put numbers)
+      ∙ sym (on_known (code.Set name) is froms numbers ps count))
+      (took_set b whole froms numbers None ps stands u.events u.set u.cancelled name chain blocks_put
+      (subst (λ (v : State). SetsAt b v name) stays sets))))
+
+  -- ---- a scope, nursery or event is entered
+
+  module _ (u : State) (name : List ℕ) (shield is_event : Bool) (d : Tick) (body : tree.Steps) (started : u.started ≡ b.started)
+      (entries : u.entries ≡ b.entries) (cancelled : u.cancelled ≡ b.cancelled)
+      (enters : EntersAt b u (record { label = label_there b name; shield = shield; is_event = is_event }) d)
+      (one : Enters (scope_at b) (label_there b name) is_event d (scoping_in b) (scoping_in u)) where
+    -- where the code enters one with its label, shield and deadline, it makes the definitions' move
+    enters_as : (froms : Table) (numbers : Numbers) (ps : List Place) → Stands (before_step b first a) froms numbers None ps →
+        (IsName name (names_at ps) → ⊥) → (f : Frame) → IsScope f → u.book ≡ b.book → EntersBlock b.frames u.frames f body →
+        Took (before_step b first a) u (On None) froms numbers
+        (makes (rest.enters (label_there b name) b.tick d ∷ [])
+        (rest.steps_left body ∷ frame_of numbers f ∷ rest.steps_left (steps_of a.left.now) ∷ frames_of numbers a.outer)
+        (record { label = label_there b name; shield = shield; is_event = is_event } ∷ ps))
+    enters_as froms numbers ps stands fresh f scope book block =
+        subst
+        (λ (gs : List rest.Frame). Took (before_step b first a) u (On None) froms numbers
+        (makes (rest.enters (label_there b name) b.tick d ∷ []) (rest.steps_left body ∷ frame_of numbers f ∷ gs)
+        (record { label = label_there b name; shield = shield; is_event = is_event } ∷ ps)))
+        (frames_put numbers)
+        (took_scope b whole froms numbers None ps stands u
+        (record { label = label_there b name; shield = shield; is_event = is_event }) d body blocks_put fresh started entries cancelled enters
+        one f scope book block)
 
   module _ (u : State) (name : List ℕ) (deadline : Deadline) (shield : Bool) (body : tree.Steps) (started : u.started ≡ b.started)
       (entries : u.entries ≡ b.entries) (cancelled : u.cancelled ≡ b.cancelled)
-      (enters : EntersAt b u (label_there b name) shield (due b.clock deadline b.tick))
-      (one : Enters (scope_at b) (label_there b name) (due b.clock deadline b.tick) (scoping_in b) (scoping_in u)) where
+      (enters : EntersAt b u (a_scope_at (label_there b name) shield) (due b.clock deadline b.tick))
+      (one : Enters (scope_at b) (label_there b name) false (due b.clock deadline b.tick) (scoping_in b) (scoping_in u)) where
     -- a `scope`, where the code enters one with its label, shield and deadline, is the definitions' step
     pub takes_scope : (fail : Bool) → first ≡ code.Scope name deadline shield fail body → u.book ≡ b.book →
         EntersBlock b.frames u.frames (Scope fail) body → StepsAs (before_step b first a) u None (On None)
@@ -179,13 +235,8 @@ module _ (b : State) (first : Step) (a : AtStep b first) where
         (λ froms numbers ps count stands fresh.
         subst (λ (o : Move). Took (before_step b first a) u (On None) froms numbers o)
         (sym (on_known (code.Scope name deadline shield fail body) is froms numbers ps count))
-        (subst
-        (λ (gs : List rest.Frame). Took (before_step b first a) u (On None) froms numbers
-        (makes (rest.enters (label_there b name) b.tick (due b.clock deadline b.tick) ∷ []) (rest.steps_left body ∷ rest.in_scope fail ∷ gs)
-        (record { label = label_there b name; shield = shield } ∷ ps)))
-        (frames_put numbers)
-        (took_scope b whole froms numbers None ps stands u (label_there b name) shield (due b.clock deadline b.tick) body blocks_put
-        (subst (λ (s : Step). IsNew (names_at ps) (step_in s)) is fresh).0 started entries cancelled enters one fail book block)))
+        (enters_as u name shield false (due b.clock deadline b.tick) body started entries cancelled enters one froms numbers ps stands
+        (subst (λ (s : Step). IsNew (names_at ps) (step_in s)) is fresh).0 (Scope fail) tt book block))
 
     -- a `nursery`, where the code enters one with its label, shield and deadline, is the definitions' step
     pub takes_nursery : (me : ℕ) → first ≡ code.Nursery name deadline shield body → EntersNursery me b u (label_there b name) body →
@@ -198,15 +249,28 @@ module _ (b : State) (first : Step) (a : AtStep b first) where
         (subst
         (λ (gs : List rest.Frame). Took (before_step b first a) u (On None) froms numbers
         (makes (rest.enters (label_there b name) b.tick (due b.clock deadline b.tick) ∷ [])
-        (rest.steps_left body ∷ rest.in_nursery [] ∷ gs) (record { label = label_there b name; shield = shield } ∷ ps)))
+        (rest.steps_left body ∷ rest.in_nursery [] ∷ gs) (a_scope_at (label_there b name) shield ∷ ps)))
         (frames_put numbers)
-        (took_nursery b whole froms numbers None ps stands u (label_there b name) shield (due b.clock deadline b.tick) body blocks_put
-        (subst (λ (s : Step). IsNew (names_at ps) (step_in s)) is fresh).0 started entries cancelled enters one me n)))
+        (took_nursery b whole froms numbers None ps stands u (a_scope_at (label_there b name) shield) (due b.clock deadline b.tick) body
+        blocks_put (subst (λ (s : Step). IsNew (names_at ps) (step_in s)) is fresh).0 started entries cancelled enters one me n)))
+
+  -- an `event`, where the code enters one with its label, is the definitions' step
+  pub takes_event : (u : State) (name : List ℕ) (body : tree.Steps) → first ≡ code.Event name body → u.started ≡ b.started →
+      u.entries ≡ b.entries → u.cancelled ≡ b.cancelled → u.book ≡ b.book → EntersAt b u (an_event_at (label_there b name)) None →
+      Enters (scope_at b) (label_there b name) true None (scoping_in b) (scoping_in u) → EntersBlock b.frames u.frames Event body →
+      StepsAs (before_step b first a) u None (On None)
+  takes_event u name body is started entries cancelled book enters one block =
+      takes_on u (On None)
+      (λ froms numbers ps count stands fresh.
+      subst (λ (o : Move). Took (before_step b first a) u (On None) froms numbers o)
+      (sym (on_known (code.Event name body) is froms numbers ps count))
+      (enters_as u name false true None body started entries cancelled enters one froms numbers ps stands
+      (subst (λ (s : Step). IsNew (names_at ps) (step_in s)) is fresh).0 Event tt book block))
 
   -- ---- children are started
 
-  module _ (u : State) (fs : List Frame) (id : ℕ) (name : List ℕ) (body : tree.Steps) (within : a.outer ≡ fs ++ Nursery id ∷ [])
-      (apart : HasBlock id (blocks_of fs) → ⊥) (world : u ≡ record b { book = u.book; started = u.started })
+  module _ (u : State) (fs ls : List Frame) (id : ℕ) (name : List ℕ) (body : tree.Steps) (within : a.outer ≡ fs ++ Nursery id ∷ ls)
+      (are : AreLoops ls) (apart : HasBlock id (blocks_of fs) → ⊥) (world : u ≡ record b { book = u.book; started = u.started })
       (in_range : AreInRange body) where
     -- one child is started; no other block of the task has the nursery
     pub takes_start : first ≡ code.Start name None body → StartsOne b u id (label_there b name) b.part body →
@@ -215,12 +279,9 @@ module _ (b : State) (first : Step) (a : AtStep b first) where
         takes_on u (On None)
         (λ froms numbers ps count stands new.
         subst (λ (o : Move). Took (before_step b first a) u (On None) froms numbers o)
-        (ap (λ (gs : List rest.Frame). step_on froms (now_at b) (here_inside b) (tree.start name None body)
-        (steps_of a.left.now) gs ps count)
-        (sym (frames_pushed numbers fs a.outer (Nursery id) within))
-        ∙ sym (on_known (code.Start name None body) is froms numbers ps count))
-        (took_start b whole fs id a.left u froms numbers None ps stands (in_body fs a.outer b.frames id a.left a.held within) blocks_put apart
-        world name body count in_range starts))
+        (sym (on_known (code.Start name None body) is froms numbers ps count))
+        (took_start b whole fs ls a.outer id a.left u froms numbers None ps stands are within a.held blocks_put apart world name body count
+        in_range starts))
 
     -- and one for each of the cuts of its part
     pub takes_start_over : (k : ℕ) → first ≡ code.Start name (Some k) body → StartsOver b u id name k body k →
@@ -229,12 +290,9 @@ module _ (b : State) (first : Step) (a : AtStep b first) where
         takes_on u (On None)
         (λ froms numbers ps count stands new.
         subst (λ (o : Move). Took (before_step b first a) u (On None) froms numbers o)
-        (ap (λ (gs : List rest.Frame). step_on froms (now_at b) (here_inside b) (tree.start name (Some k) body)
-        (steps_of a.left.now) gs ps count)
-        (sym (frames_pushed numbers fs a.outer (Nursery id) within))
-        ∙ sym (on_known (code.Start name (Some k) body) is froms numbers ps count))
-        (took_start_over b whole fs id a.left u froms numbers None ps stands (in_body fs a.outer b.frames id a.left a.held within) blocks_put
-        apart world name body count in_range k starts))
+        (sym (on_known (code.Start name (Some k) body) is froms numbers ps count))
+        (took_start_over b whole fs ls a.outer id a.left u froms numbers None ps stands are within a.held blocks_put apart world name body
+        count in_range k starts))
 
   -- ---- a `try` or a `repeat` begins
 

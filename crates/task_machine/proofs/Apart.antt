@@ -13,10 +13,11 @@ use Rattle.nursery_book.specs.declared.book.NurseryBook.{NurseryBook}
 use Rattle.task_machine.specs.declared.frame.Frame.{Frame}
 use Rattle.task_machine.specs.declared.frame.Frame.TheVariants.{Steps, Nursery}
 use Rattle.task_machine.specs.declared.task.Own.{Own}
-use Rattle.task_machine.specs.Fitting.{Block, a_scope, a_nursery, blocks_of, AreOthers, IsMine, Opened, FitsIn}
+use Rattle.task_machine.specs.Fitting.{Block, a_scope, a_nursery, blocks_of, AreLoops, AreOthers, IsMine, Opened, FitsIn}
 use Rattle.task_machine.specs.Labels.{Labels}
 use Rattle.task_machine.specs.Standing.{HasBlock, HasNurseryOf}
 use Rattle.task_machine.proofs.Blocks.{blocks_append}
+use Rattle.task_machine.proofs.Loops.{body_blocks}
 use Rattle.task_machine.proofs.Nurseries.{has_last, blocks_pushed}
 
 -- a nursery with the scope of the first does not have one of the others
@@ -102,12 +103,12 @@ apart_body fs gs part home own n tree labels book id h same has =
     apart_inner labels book (blocks_of fs) own id (subst (λ (bs : List Block). Opened labels book bs own None)
     (same ∙ blocks_append fs (Nursery id ∷ [])) h.runs.opened) has
 
--- and for a task whose steps are those of such a body
-pub apart_steps : (fs outer gs : List Frame) (steps : Bor (List Step)) (part : Part) (home : Option ℕ) (own : List Own) (n : ℕ)
-    (tree : Tree) (labels : Labels)
-    (book : NurseryBook) (id : ℕ) →
-    gs ≡ outer ++ Steps steps ∷ [] → outer ≡ fs ++ Nursery id ∷ [] → FitsIn gs part home own n tree labels book None →
+-- and for a task whose steps are those of such a body, or of passes there
+pub apart_steps : (fs ls outer gs : List Frame) (steps : Bor (List Step)) (part : Part) (home : Option ℕ) (own : List Own) (n : ℕ)
+    (tree : Tree) (labels : Labels) (book : NurseryBook) (id : ℕ) → AreLoops ls →
+    gs ≡ outer ++ Steps steps ∷ [] → outer ≡ fs ++ Nursery id ∷ ls → FitsIn gs part home own n tree labels book None →
     HasBlock id (blocks_of fs) → ⊥
-apart_steps fs outer gs steps part home own n tree labels book id popped within h has =
+apart_steps fs ls outer gs steps part home own n tree labels book id are popped within h has =
     apart_body fs gs part home own n tree labels book id h
-    (blocks_pushed outer gs (Steps steps) popped ∙ append-nil (blocks_of outer) ∙ ap blocks_of within) has
+    (blocks_pushed outer gs (Steps steps) popped ∙ append-nil (blocks_of outer) ∙ ap blocks_of within ∙ body_blocks fs ls id are
+    ∙ sym (blocks_append fs (Nursery id ∷ []))) has

@@ -1,15 +1,19 @@
 -- The blocks of a task, and the scopes that it opened for them.
-use Rattle.std.proofs.Common.{◌≡◌, ◌≢◌, inl, inr, ℕ, zero, suc, ◌<◌, ◌≤◌, Option, Some, None, List, [], ◌∷◌, ◌++◌, length, refl, ap, sym, ◌∙◌, subst, arith}
+use Rattle.std.proofs.Common.{◌≡◌, ◌≢◌, inl, inr, ℕ, zero, suc, false, ◌<◌, ◌≤◌, Option, Some, None, List, [], ◌∷◌, ◌++◌, length, refl, ap, sym, ◌∙◌, subst, arith}
 use Rattle.std.specs.Prelude.{IsSome}
 use Rattle.std.specs.Option.{IsSomeAnd}
 use Rattle.std.proofs.lemmas.List.Elements.{All-nil, All-cons, All-head, All-tail, All-append}
+use Rattle.job_tree.specs.Starting.{StartsIn}
+use Rattle.job_tree.specs.Tree as tree
+use Rattle.job_meaning.specs.Rest as rest
 use Rattle.nursery_book.specs.Nursery.{Nursery as Members}
 use Rattle.nursery_book.specs.Book.{nursery_at, HasNursery}
 use Rattle.nursery_book.specs.declared.book.NurseryBook.{NurseryBook}
 use Rattle.task_machine.specs.declared.frame.Frame.{Frame}
-use Rattle.task_machine.specs.declared.frame.Frame.TheVariants.{Steps, Scope, Nursery, Repeat, Try, Handler, Cleanup}
+use Rattle.task_machine.specs.declared.frame.Frame.TheVariants.{Steps, Scope, Event, Nursery, Repeat, Try, Handler, Cleanup}
 use Rattle.task_machine.specs.declared.task.Own.{Own}
-use Rattle.task_machine.specs.Fitting.{Block, a_scope, a_nursery, blocks_of, AreOthers, IsMine, IsBlockOf, Opened, HasRunning, RunsIn}
+use Rattle.task_machine.specs.Fitting.{Block, a_scope, a_nursery, blocks_of, AreInRangeFrames, StartsFit, AreOthers, IsMine, IsBlockOf, Opened, HasRunning, RunsIn}
+use Rattle.task_machine.specs.Frames.{frame_of}
 use Rattle.task_machine.specs.Labels.{Labels}
 
 -- the blocks of some frames, and of others inside them
@@ -17,11 +21,52 @@ pub blocks_append : (fs gs : List Frame) → blocks_of (fs ++ gs) ≡ blocks_of 
 blocks_append [] gs = refl
 blocks_append (Steps steps ∷ fs) gs = blocks_append fs gs
 blocks_append (Scope fail ∷ fs) gs = ap (λ (bs : List Block). a_scope ∷ bs) (blocks_append fs gs)
+blocks_append (Event ∷ fs) gs = ap (λ (bs : List Block). a_scope ∷ bs) (blocks_append fs gs)
 blocks_append (Nursery id ∷ fs) gs = ap (λ (bs : List Block). a_nursery id ∷ bs) (blocks_append fs gs)
 blocks_append (Repeat pass left body ∷ fs) gs = blocks_append fs gs
 blocks_append (Try handler cleanup ∷ fs) gs = blocks_append fs gs
 blocks_append (Handler others cleanup ∷ fs) gs = blocks_append fs gs
 blocks_append (Cleanup outcome ∷ fs) gs = blocks_append fs gs
+
+-- ---- frames with a scope of their own, which are no nursery
+
+abbrev pub IsScope : Frame → Type 0
+IsScope (Scope fail) = Unit {0}
+IsScope Event = Unit {0}
+IsScope _ = ⊥
+
+-- such a frame is one block
+pub scope_block : (f : Frame) → IsScope f → blocks_of (f ∷ []) ≡ a_scope ∷ []
+scope_block (Scope fail) h = refl
+scope_block Event h = refl
+scope_block _ h = absurd h
+
+-- what is left inside it is in range as what is left outside it
+pub range_outer : (children : ℕ → List ℕ) (f : Frame) (gs : List rest.Frame) → IsScope f →
+    AreInRangeFrames (frame_of children f ∷ gs) → AreInRangeFrames gs
+range_outer children (Scope fail) gs h r = r
+range_outer children Event gs h r = r
+range_outer children _ gs h r = absurd h
+
+pub range_inner : (children : ℕ → List ℕ) (f : Frame) (gs : List rest.Frame) → IsScope f → AreInRangeFrames gs →
+    AreInRangeFrames (frame_of children f ∷ gs)
+range_inner children (Scope fail) gs h r = r
+range_inner children Event gs h r = r
+range_inner children _ gs h r = absurd h
+
+-- and each `start` that is left fits
+pub starts_outer : (children : ℕ → List ℕ) (f : Frame) (gs : List rest.Frame) → IsScope f → StartsFit (frame_of children f ∷ gs) →
+    StartsFit gs
+starts_outer children (Scope fail) gs h r = r
+starts_outer children Event gs h r = r
+starts_outer children _ gs h r = absurd h
+
+-- also in a block that is entered, in which there is none
+pub starts_inner : (children : ℕ → List ℕ) (f : Frame) (body : tree.Steps) (gs : List rest.Frame) → IsScope f → StartsIn false body →
+    StartsFit gs → StartsFit (rest.steps_left body ∷ frame_of children f ∷ gs)
+starts_inner children (Scope fail) body gs h starts r = (starts, r)
+starts_inner children Event body gs h starts r = (starts, r)
+starts_inner children _ body gs h starts r = absurd h
 
 -- ---- the scopes that were opened
 

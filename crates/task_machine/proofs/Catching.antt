@@ -10,7 +10,7 @@ use Rattle.cancel_scopes.specs.Tree.{Stack, Tree, stack_of, outer_of, outer_leve
 use Rattle.cancel_scopes.specs.Tree as scopes
 use Rattle.job_meaning.proofs.Ticks.{reached_earlier}
 use Rattle.job_meaning.specs.Walk.{is_among}
-use Rattle.task_machine.specs.Labels.{Labels, has_label_among, level_from, seen_levels}
+use Rattle.task_machine.specs.Labels.{Labels, Events, is_sought, has_label_among, level_from, seen_levels}
 use Rattle.task_machine.proofs.FindLemmas.{Begins, begins}
 use Rattle.task_machine.proofs.Stacked.{seen_as_is}
 
@@ -49,36 +49,36 @@ among_any label (l ∷ own) = both (same_label l label) (same_label label l) (sa
 
 -- ---- a task that has cancelled these labels in this moment
 
-module _ (labels : Labels) (own : List Label) (t : ℕ) where
+module _ (labels : Labels) (events : Events) (own : List Label) (t : ℕ) where
   -- whether the innermost scope of a stack is cancelled for the task
   abbrev pub cancelled_for : Stack → Bool
-  cancelled_for st = is_reached (own_from (seen_levels labels own t st)) t
+  cancelled_for st = is_reached (own_from (seen_levels labels events own t st)) t
 
   -- it catches as it does for others if the task has cancelled nothing
-  pub catches_alike : (st : Stack) → own ≡ [] → scopes.catches st t ≡ scopes.catches (seen_levels labels own t st) t
+  pub catches_alike : (st : Stack) → own ≡ [] → scopes.catches st t ≡ scopes.catches (seen_levels labels events own t st) t
   catches_alike st none =
-      sym (ap (λ (ls : List Label). scopes.catches (seen_levels labels ls t st) t) none
-      ∙ ap (λ (su : Stack). scopes.catches su t) (seen_as_is labels t st))
+      sym (ap (λ (ls : List Label). scopes.catches (seen_levels labels events ls t st) t) none
+      ∙ ap (λ (su : Stack). scopes.catches su t) (seen_as_is labels events t st))
 
   -- it does not catch if it is not
-  pub catches_not : (st : Stack) → false ≡ cancelled_for st → false ≡ scopes.catches (seen_levels labels own t st) t
+  pub catches_not : (st : Stack) → false ≡ cancelled_for st → false ≡ scopes.catches (seen_levels labels events own t st) t
   catches_not [] e = refl
-  catches_not (l ∷ ls) e = ap (λ (b : Bool). b && (l.shield || not (seen (seen_levels labels own t ls) t))) e
+  catches_not (l ∷ ls) e = ap (λ (b : Bool). b && (l.shield || not (seen (seen_levels labels events own t ls) t))) e
 
   -- it does if it is, and has a shield
   pub catches_shielded : (st : Stack) → true ≡ cancelled_for st → true ≡ own_shield st →
-      true ≡ scopes.catches (seen_levels labels own t st) t
+      true ≡ scopes.catches (seen_levels labels events own t st) t
   catches_shielded [] e f = f
   catches_shielded (l ∷ ls) e f = both (cancelled_for (l ∷ ls)) l.shield e f
     where
-      both : (b s : Bool) → true ≡ b → true ≡ s → true ≡ (b && (s || not (seen (seen_levels labels own t ls) t)))
+      both : (b s : Bool) → true ≡ b → true ≡ s → true ≡ (b && (s || not (seen (seen_levels labels events own t ls) t)))
       both b s e f = cc
 
   -- and else if nothing is seen in the scopes that enclose it
-  pub catches_outer : (st : Stack) (u : Bool) → true ≡ cancelled_for st → u ≡ seen (seen_levels labels own t (outer_levels st)) t →
-      false ≡ own_shield st → not u ≡ scopes.catches (seen_levels labels own t st) t
+  pub catches_outer : (st : Stack) (u : Bool) → true ≡ cancelled_for st → u ≡ seen (seen_levels labels events own t (outer_levels st)) t →
+      false ≡ own_shield st → not u ≡ scopes.catches (seen_levels labels events own t st) t
   catches_outer [] u e g f = absurd (let h : true ≡ false = e in cc)
-  catches_outer (l ∷ ls) u e g f = both (cancelled_for (l ∷ ls)) l.shield u (seen (seen_levels labels own t ls) t) e f g
+  catches_outer (l ∷ ls) u e g f = both (cancelled_for (l ∷ ls)) l.shield u (seen (seen_levels labels events own t ls) t) e f g
     where
       both : (b s u v : Bool) → true ≡ b → false ≡ s → u ≡ v → not u ≡ (b && (s || not v))
       both b s u v e f g = cc
@@ -86,24 +86,26 @@ module _ (labels : Labels) (own : List Label) (t : ℕ) where
   module _ (tree : Tree) (owns : IsOwn tree) (id : ℕ) where
     -- an open scope is cancelled for the task by its from, or by its label
     pub cancelled_by : (st : Stack) → stack_of tree id ≡ Some st →
-        cancelled_for st ≡ (is_reached (own_from st) t || has_label_among (labels id) own)
+        cancelled_for st ≡ (is_reached (own_from st) t || (is_sought false (events id) && has_label_among (labels id) own))
     cancelled_by [] e = absurd (let f : None ≡ Some id = owns id [] e in cc)
     cancelled_by (l ∷ ls) e =
-        reached_own (has_label_among (labels l.label) own) l.from t
-        ∙ ap (λ (key : ℕ). is_reached l.from t || has_label_among (labels key) own)
+        reached_own (is_sought false (events l.label) && has_label_among (labels l.label) own) l.from t
+        ∙ ap (λ (key : ℕ). is_reached l.from t || (is_sought false (events key) && has_label_among (labels key) own))
         (let f : Some l.label ≡ Some id = owns id (l ∷ ls) e in cc)
 
     -- what is seen in a scope
     abbrev pub seen_in : Option ℕ → Bool
-    seen_in scope = seen (seen_levels labels own t (outer_of tree scope)) t
+    seen_in scope = seen (seen_levels labels events own t (outer_of tree scope)) t
 
     -- is by the scope itself
     seen_top : (top : Begins tree id) → seen_in (Some id)
-        ≡ (cancelled_for (top.first ∷ top.outer) || (not top.first.shield && seen (seen_levels labels own t top.outer) t))
+        ≡ (cancelled_for (top.first ∷ top.outer) || (not top.first.shield && seen (seen_levels labels events own t top.outer) t))
     seen_top top =
-        ap (λ (o : Option Stack). seen (seen_levels labels own t (unwrap_or o [])) t) top.stack
-        ∙ seen_first (record top.first { from = level_from (has_label_among (labels top.first.label) own) t top.first.from })
-        (seen_levels labels own t top.outer) t
+        ap (λ (o : Option Stack). seen (seen_levels labels events own t (unwrap_or o [])) t) top.stack
+        ∙ seen_first (record top.first {
+          from = level_from (is_sought false (events top.first.label) && has_label_among (labels top.first.label) own) t top.first.from;
+        })
+        (seen_levels labels events own t top.outer) t
 
     -- which is cancelled,
     pub seen_here : IsOpen tree id → ForSome (stack_of tree id) (λ st. true ≡ cancelled_for st) → seen_in (Some id) ≡ true
@@ -138,5 +140,5 @@ module _ (labels : Labels) (own : List Label) (t : ℕ) where
         (cancelled (top.first ∷ top.outer) top.stack) (shield (top.first ∷ top.outer) top.stack) (around (top.first ∷ top.outer) top.stack)
       where
         outer : (x y : Bool) (ls ms : Stack) → false ≡ x → false ≡ y → ms ≡ ls →
-            (x || (not y && seen (seen_levels labels own t ls) t)) ≡ seen (seen_levels labels own t ms) t
+            (x || (not y && seen (seen_levels labels events own t ls) t)) ≡ seen (seen_levels labels events own t ms) t
         outer x y ls ms e f g = cc

@@ -1,12 +1,10 @@
 -- The children of a `start`, as a move of the definitions.
-use Rattle.std.proofs.Common.{◌≡◌, ℕ, Option, Some, None, List, [], ◌∷◌, ◌++◌, append_assoc, refl, ap, sym, ◌∙◌}
+use Rattle.std.proofs.Common.{◌≡◌, ℕ, Option, Some, None, List, sym, ◌∙◌}
 use Rattle.std.specs.Option.{option_map}
 use Rattle.job_tree.specs.InRange.{AreInRange}
 use Rattle.job_tree.specs.Tree.{Steps}
 use Rattle.job_tree.specs.declared.step.Step.{Step}
 use Rattle.job_tree.specs.declared.step.Step.TheVariants as code
-use Rattle.task_machine.specs.declared.frame.Frame.{Frame}
-use Rattle.task_machine.specs.declared.frame.Frame.TheVariants.{Nursery}
 use Rattle.task_machine.specs.declared.stop.Moved.TheVariants.{On}
 use Rattle.task_machine.specs.declared.task.Home.{Home}
 use Rattle.task_machine.specs.Fitting.{blocks_of, Fits}
@@ -15,18 +13,7 @@ use Rattle.task_machine.specs.Started.{StartsAll, StartsChildren}
 use Rattle.task_machine.specs.States.{State}
 use Rattle.task_machine.proofs.AdvancesSteps.{takes_start, takes_start_over}
 use Rattle.task_machine.proofs.Apart.{apart_steps}
-
-same_outer : (xs ys : List Frame) (x y : Frame) → xs ++ x ∷ [] ≡ ys ++ y ∷ [] → xs ≡ ys
-same_outer [] [] x y e = refl
-same_outer [] (b ∷ []) x y e = absurd (let f : x ∷ [] ≡ b ∷ y ∷ [] = e in let g : [] ≡ y ∷ [] = cc in cc)
-same_outer [] (b ∷ c ∷ ys) x y e = absurd (let f : x ∷ [] ≡ b ∷ c ∷ (ys ++ y ∷ []) = e in let g : [] ≡ c ∷ (ys ++ y ∷ []) = cc in cc)
-same_outer (a ∷ []) [] x y e = absurd (let f : a ∷ x ∷ [] ≡ y ∷ [] = e in let g : x ∷ [] ≡ [] = cc in cc)
-same_outer (a ∷ c ∷ xs) [] x y e = absurd (let f : a ∷ c ∷ (xs ++ x ∷ []) ≡ y ∷ [] = e in let g : c ∷ (xs ++ x ∷ []) ≡ [] = cc in cc)
-same_outer (a ∷ xs) (b ∷ ys) x y e =
-    let f : a ∷ (xs ++ x ∷ []) ≡ b ∷ (ys ++ y ∷ []) = e in
-    let first : a ≡ b = cc in
-    let more : xs ++ x ∷ [] ≡ ys ++ y ∷ [] = cc in
-    ap (λ (z : Frame). z ∷ xs) first ∙ ap (λ (zs : List Frame). b ∷ zs) (same_outer xs ys x y more)
+use Rattle.task_machine.proofs.Loops.{Around, around_steps}
 
 -- a `start`, if the code starts its children in the nursery whose body the task is in, is the definitions' step
 pub takes_children : (b u : State) (first : Step) (name : List ℕ) (over : Option ℕ) (body : Steps) → Fits b None →
@@ -34,15 +21,17 @@ pub takes_children : (b u : State) (first : Step) (name : List ℕ) (over : Opti
     StartsChildren b u name over body → AreInRange body → StepsAs (before_step b first a) u None (On None)
 takes_children b u first name over body h a is world s in_range = by_over over is s.started
   where
-    within : a.outer ≡ s.at.outer ++ Nursery s.id ∷ []
-    within = same_outer a.outer (s.at.outer ++ Nursery s.id ∷ []) _ s.at.top
-        (sym a.held ∙ s.at.is ∙ sym (append_assoc s.at.outer (Nursery s.id ∷ []) (s.at.top ∷ [])))
+    around : Around a.outer s.at.outer s.id
+    around = around_steps a.outer s.at.outer s.at.loops s.id a.left (sym a.held ∙ s.at.is) s.at.are
 
     other : HasBlock s.id (blocks_of s.at.outer) → ⊥
-    other = apart_steps s.at.outer a.outer b.frames a.left b.part (option_map (λ (x : Home). x.scope) b.home) b.own _ b.tree b.labels b.book
-        s.id a.held within h
+    other =
+        apart_steps s.at.outer around.loops a.outer b.frames a.left b.part (option_map (λ (x : Home). x.scope) b.home) b.own _ b.tree b.labels
+        b.book s.id around.are a.held around.is h
 
     by_over : (o : Option ℕ) → first ≡ code.Start name o body → StartsAll b u s.id name o body →
         StepsAs (before_step b first a) u None (On None)
-    by_over None e started = takes_start b first a u s.at.outer s.id name body within other world in_range e started
-    by_over (Some k) e started = takes_start_over b first a u s.at.outer s.id name body within other world in_range k e started
+    by_over None e started =
+        takes_start b first a u s.at.outer around.loops s.id name body around.is around.are other world in_range e started
+    by_over (Some k) e started =
+        takes_start_over b first a u s.at.outer around.loops s.id name body around.is around.are other world in_range k e started

@@ -1,12 +1,12 @@
 -- A block that is left, and the sign of a task or body that fails.
-use Rattle.std.proofs.Common.{◌≡◌, inl, ℕ, Bool, not, Option, Some, None, List, [], ◌∷◌, refl, ap, sym, ◌∙◌, subst}
+use Rattle.std.proofs.Common.{◌≡◌, ℕ, Bool, not, Option, Some, None, List, [], ◌∷◌, ap, ◌∙◌, subst}
 use Rattle.std.proofs.lemmas.List.Elements.{All-nil, All-cons}
-use Rattle.std.specs.Prelude.{IsSome, true, false}
-use Rattle.std.specs.Option.{option_map, unwrap_or, is_some}
+use Rattle.std.specs.Prelude.{true, false}
+use Rattle.std.specs.Option.{option_map, is_some}
 use Rattle.exc_groups.specs.declared.exc.Exc as held
 use Rattle.exc_groups.specs.Held.{exc_of}
 use Rattle.exc_groups.specs.Exceptions.{Label, Exc}
-use Rattle.cancel_scopes.specs.Tree.{Stack, Tree, stack_of, outer_of, own_label, IsOwn, after_cancel}
+use Rattle.cancel_scopes.specs.Tree.{Stack, Tree, stack_of, outer_of, IsOpen, IsChain, after_cancel}
 use Rattle.job_meaning.specs.Log.{Table}
 use Rattle.job_meaning.specs.Moments.{Clock, tick_of}
 use Rattle.job_meaning.specs.Shown.{shown_at}
@@ -16,12 +16,12 @@ use Rattle.task_machine.specs.declared.entry.Entry.{Entry}
 use Rattle.task_machine.specs.Noted.{entry_of, IsSlice, AreNoted}
 use Rattle.turn_semantics.specs.Midway.{Place}
 use Rattle.turn_semantics.specs.Names.{names_at, OwnNames}
-use Rattle.turn_semantics.specs.Steps.{signs_home, froms_after}
+use Rattle.turn_semantics.specs.Steps.{home_among, signs_home, froms_after}
 use Rattle.task_machine.specs.Acts.{key_failed}
-use Rattle.task_machine.specs.Labels.{Labels}
-use Rattle.task_machine.specs.Stacked.{AreAt}
-use Rattle.task_machine.proofs.Cancels.{around_after}
-use Rattle.task_machine.proofs.Stacked.{one_of, signed_alike}
+use Rattle.task_machine.specs.Labels.{Labels, Events, home_key}
+use Rattle.task_machine.specs.Stacked.{AreAt, FoundAs}
+use Rattle.task_machine.proofs.Cancels.{open_around, signs_at, signs_none}
+use Rattle.task_machine.proofs.Stacked.{home_at, home_is_in, home_no_event}
 
 -- the exception that propagates after a block, by what was read of its place
 pub exc_goes_on : (kind : Kind) (l p : Label) (t u : ℕ) (b c : Bool) (left : Left) (e after : Option Exc) →
@@ -52,55 +52,39 @@ leaving_noted clock input entry kind l p t u b c left e h s i j k m =
 
 -- ---- a task or body that fails
 
-no_places : (labels : Labels) (froms : Table) (st : Stack) (key t : ℕ) → AreAt labels froms st [] →
-    AreAt labels froms (after_cancel key t st) []
-no_places labels froms [] key t a = a
-no_places labels froms (l ∷ ls) key t a = absurd a
+-- it signs for the innermost scope that is no event
+pub failed_key : (events : Events) (st : Stack) (found : Option ℕ) (o : Option held.Exc) (b : Bool) → is_some o ≡ not b → b ≡ false →
+    home_key events st ≡ found → key_failed (option_map exc_of o) events st ≡ found
+failed_key events st found None b h i e = absurd (let f : false ≡ true = h ∙ ap not i in cc)
+failed_key events st found (Some exc) b h i e = e
 
-signed_first : (labels : Labels) (froms : Table) (st : Stack) (ps : List Place) (key t : ℕ) (e : Exc) → own_label st ≡ Some key →
-    OwnNames (names_at ps) → AreAt labels froms st ps →
-    AreAt labels (froms_after froms (signs_home (Some e) ps t)) (after_cancel key t st) ps
-signed_first labels froms st [] key t e top own a = no_places labels froms st key t a
-signed_first labels froms [] (p ∷ ps) key t e top own a = absurd a
-signed_first labels froms (l ∷ ls) (p ∷ ps) key t e top own a =
-    let same : key ≡ l.label = sym (one_of l.label key top) in
-    signed_alike labels froms (l ∷ ls) (p ∷ ps) key t p.label (ap labels same ∙ a.0) (inl same) own a
+-- that is open
+pub home_open : (events : Events) (tree : Tree) (scope : Option ℕ) (key : ℕ) → IsChain tree →
+    home_key events (outer_of tree scope) ≡ Some key → IsOpen tree key
+home_open events tree scope key chain e = open_around tree chain scope key (home_is_in events (outer_of tree scope) key e)
 
--- the innermost scope of a stack is the scope whose stack it is
-top_at : (tree : Tree) (scope : Option ℕ) (key : ℕ) → IsOwn tree → scope ≡ Some key → IsSome (stack_of tree key) →
-    own_label (outer_of tree scope) ≡ Some key
-top_at tree scope key own within is_open =
-    subst (λ (s : Option ℕ). own_label (outer_of tree s) ≡ Some key) (sym within) (by_stack (stack_of tree key) refl is_open)
-  where
-    by_stack : (o : Option Stack) → stack_of tree key ≡ o → IsSome o → own_label (unwrap_or o []) ≡ Some key
-    by_stack None f s = absurd (let g : false ≡ true = s in cc)
-    by_stack (Some st) f s = own key st f
+-- what is found among the places, by the scope that is found
+home_as : (labels : Labels) (events : Events) (froms : Table) (st : Stack) (ps : List Place) (found : Option ℕ) → home_key events st ≡ found →
+    AreAt labels events froms st ps → FoundAs labels found (home_among ps)
+home_as labels events froms st ps found e a =
+    subst (λ (o : Option ℕ). FoundAs labels o (home_among ps)) e (home_at labels events froms st ps a)
 
--- a task or body that fails signs for that
-pub failed_at : (tree : Tree) (scope : Option ℕ) (key : ℕ) (o : Option held.Exc) (b : Bool) → is_some o ≡ not b → b ≡ false → IsOwn tree →
-    scope ≡ Some key → IsSome (stack_of tree key) →
-    key_failed (option_map exc_of o) (outer_of tree scope) ≡ Some key
-failed_at tree scope key None b h i own within is_open = absurd (let f : false ≡ true = h ∙ ap not i in cc)
-failed_at tree scope key (Some e) b h i own within is_open = top_at tree scope key own within is_open
+-- if a test says that the task or body failed, the from of the innermost place that is no event is lowered by the sign
+pub fails_if : (labels more : Labels) (events others : Events) (old new : Tree) (scope : Option ℕ) (key t : ℕ) (o : Option held.Exc)
+    (b : Bool) → is_some o ≡ not b → b ≡ false → more ≡ labels → others ≡ events → home_key events (outer_of old scope) ≡ Some key →
+    ((at : ℕ) → stack_of new at ≡ option_map (after_cancel key t) (stack_of old at)) →
+    (froms : Table) (ps : List Place) → OwnNames (names_at ps) → AreAt labels events froms (outer_of old scope) ps →
+    AreAt more others (froms_after froms (signs_home (option_map exc_of o) ps t)) (outer_of new scope) ps
+fails_if labels more events others old new scope key t None b h i same alike found after froms ps own a =
+    absurd (let f : false ≡ true = h ∙ ap not i in cc)
+fails_if labels more events others old new scope key t (Some e) b h i same alike found after froms ps own a =
+    signs_at labels more events others old new scope key t froms ps (home_among ps) same alike after
+    (home_as labels events froms (outer_of old scope) ps (Some key) found a) (home_is_in events (outer_of old scope) key found)
+    (home_no_event events (outer_of old scope) key found) own a
 
--- the from of the innermost place is lowered by the sign for its scope
-pub fails_at : (labels more : Labels) (old new : Tree) (scope : Option ℕ) (key t : ℕ) (e : Exc) → more ≡ labels → IsOwn old →
-    scope ≡ Some key → IsSome (stack_of old key) →
-    ((at : ℕ) → stack_of new at ≡ option_map (after_cancel key t) (stack_of old at)) → (froms : Table) (ps : List Place) →
-    OwnNames (names_at ps) →
-    AreAt labels froms (outer_of old scope) ps → AreAt more (froms_after froms (signs_home (Some e) ps t)) (outer_of new scope) ps
-fails_at labels more old new scope key t e same own within is_open after froms ps names a =
-    subst (λ (ls : Labels). AreAt ls (froms_after froms (signs_home (Some e) ps t)) (outer_of new scope) ps) (sym same)
-    (subst (λ (st : Stack). AreAt labels (froms_after froms (signs_home (Some e) ps t)) st ps) (sym (around_after old new key t scope after))
-    (signed_first labels froms (outer_of old scope) ps key t e (top_at old scope key own within is_open) names a))
-
--- if a test says that the task or body failed, it signs for the innermost scope: the from of the innermost
--- place is lowered by that
-pub fails_if : (labels more : Labels) (old new : Tree) (scope : Option ℕ) (key t : ℕ) (o : Option held.Exc) (b : Bool) → is_some o ≡ not b →
-    b ≡ false → more ≡ labels → IsOwn old → scope ≡ Some key →
-    IsSome (stack_of old key) → ((at : ℕ) → stack_of new at ≡ option_map (after_cancel key t) (stack_of old at)) →
-    (froms : Table) (ps : List Place) → OwnNames (names_at ps) →
-    AreAt labels froms (outer_of old scope) ps → AreAt more (froms_after froms (signs_home (option_map exc_of o) ps t)) (outer_of new scope)
-    ps
-fails_if labels more old new scope key t None b h i = absurd (let f : false ≡ true = h ∙ ap not i in cc)
-fails_if labels more old new scope key t (Some e) b h i = fails_at labels more old new scope key t (exc_of e)
+-- where no scope encloses it, nothing is signed
+pub fails_none : (labels : Labels) (events : Events) (st : Stack) (t : ℕ) (o : Option Exc) → home_key events st ≡ None →
+    (froms : Table) (ps : List Place) → AreAt labels events froms st ps → AreAt labels events (froms_after froms (signs_home o ps t)) st ps
+fails_none labels events st t None none froms ps a = a
+fails_none labels events st t (Some e) none froms ps a =
+    signs_none labels events froms st ps t (home_among ps) (home_as labels events froms st ps None none a) a

@@ -1,5 +1,5 @@
 -- What holds between moves is kept by each.
-use Rattle.std.proofs.Common.{◌≡◌, ◌≢◌, inl, ℕ, ◌<◌, Bool, true, false, Option, Some, None, List, [], ◌∷◌, ◌++◌, length, refl, ap, sym, ◌∙◌, subst, arith}
+use Rattle.std.proofs.Common.{◌≡◌, ◌≢◌, inl, ℕ, ◌<◌, true, false, Option, Some, None, List, [], ◌∷◌, ◌++◌, length, refl, ap, sym, ◌∙◌, subst, arith}
 use Rattle.std.proofs.lemmas.List.Elements.{All-head}
 use Rattle.std.specs.Prelude.{All, IsSome}
 use Rattle.std.specs.Option.{ForSome, unwrap_or}
@@ -10,13 +10,12 @@ use Rattle.cancel_scopes.specs.Tree.{Stack, Tree, stack_of, outer_of, own_label,
 use Rattle.nursery_book.specs.declared.book.NurseryBook.{NurseryBook}
 use Rattle.turn_semantics.specs.Placed.{IsAmong}
 use Rattle.task_machine.specs.declared.frame.Frame.{Frame}
-use Rattle.task_machine.specs.declared.frame.Frame.TheVariants.{Scope}
 use Rattle.task_machine.specs.declared.task.Own.{Own}
 use Rattle.task_machine.specs.Fitting.{Block, a_scope, blocks_of, AreInRangeFrames, StartsFit, Opened, OthersRun, FitsIn}
 use Rattle.task_machine.specs.Frames.{frames_of}
 use Rattle.task_machine.specs.Labels.{Labels}
 use Rattle.task_machine.specs.Left.{keys_of}
-use Rattle.task_machine.proofs.Blocks.{blocks_append, Innermost, opened_out, opened_some, opened_length, runs_in_outer, runs_after}
+use Rattle.task_machine.proofs.Blocks.{blocks_append, IsScope, scope_block, Innermost, opened_out, opened_some, opened_length, runs_in_outer, runs_after}
 use Rattle.task_machine.proofs.Leaves.{head_of, first_is_last, Top, top_of}
 use Rattle.task_machine.proofs.Others.{level_at, all_after, innermost_of}
 use Rattle.task_machine.proofs.OwnLemmas.{ids, last_pushed}
@@ -64,11 +63,11 @@ fits_frames fs gs part home own n tree labels book same in_range starts h =
 
 -- ---- a scope that is left
 
--- the innermost block of a task is a scope: it may be left
-pub ready_scope : (fs : List Frame) (fail : Bool) (part : Part) (home : Option ℕ) (own : List Own) (n : ℕ) (tree : Tree) (labels : Labels)
+-- the innermost block of a task is a scope or event: it may be left
+pub ready_scope : (fs : List Frame) (f : Frame) → IsScope f → (part : Part) (home : Option ℕ) (own : List Own) (n : ℕ) (tree : Tree) (labels : Labels)
     (book : NurseryBook) → IsChain tree → IsOwn tree → IsApart tree →
-    FitsIn (fs ++ Scope fail ∷ []) part home own n tree labels book None → Ready home own tree labels
-ready_scope fs fail part home own n tree labels book chain owns apart h =
+    FitsIn (fs ++ f ∷ []) part home own n tree labels book None → Ready home own tree labels
+ready_scope fs f is part home own n tree labels book chain owns apart h =
     record {
       some = some;
       innermost =
@@ -84,8 +83,8 @@ ready_scope fs fail part home own n tree labels book chain owns apart h =
       labelled = λ id e. subst (λ (k : ℕ). IsSome (labels k)) (one_of l.last.id id (sym scope_is ∙ e)) inner.block;
     }
   where
-    blocks : blocks_of (fs ++ Scope fail ∷ []) ≡ blocks_of fs ++ a_scope ∷ []
-    blocks = blocks_append fs (Scope fail ∷ [])
+    blocks : blocks_of (fs ++ f ∷ []) ≡ blocks_of fs ++ a_scope ∷ []
+    blocks = blocks_append fs (f ∷ []) ∙ ap (λ (bs : List Block). blocks_of fs ++ bs) (scope_block f is)
 
     opened : Opened labels book (blocks_of fs ++ a_scope ∷ []) own None
     opened = subst (λ (bs : List Block). Opened labels book bs own None) blocks h.runs.opened

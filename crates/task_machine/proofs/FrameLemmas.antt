@@ -3,7 +3,7 @@ use Rattle.std.proofs.Common.{◌≡◌, ℕ, List, [], ◌∷◌, ◌++◌, ref
 use Rattle.job_meaning.specs.Rest as rest
 use Rattle.job_meaning.specs.Rest.{path_in}
 use Rattle.task_machine.specs.declared.frame.Frame.{Frame}
-use Rattle.task_machine.specs.declared.frame.Frame.TheVariants.{Steps, Scope, Nursery, Repeat, Try, Handler, Cleanup}
+use Rattle.task_machine.specs.declared.frame.Frame.TheVariants.{Steps, Scope, Event, Nursery, Repeat, Try, Handler, Cleanup}
 use Rattle.task_machine.specs.Fitting.{Block, a_scope, a_nursery, blocks_of, block_in}
 use Rattle.task_machine.specs.Frames.{frame_of, frames_onto, frames_of, passes_onto}
 
@@ -29,6 +29,7 @@ blocks_pushed fs gs f e = ap blocks_of e ∙ by_frames fs
     by_frame : (h : Frame) → blocks_of (h ∷ []) ≡ block_in h []
     by_frame (Steps steps) = refl
     by_frame (Scope fail) = refl
+    by_frame Event = refl
     by_frame (Nursery id) = refl
     by_frame (Repeat pass left body) = refl
     by_frame (Try handler cleanup) = refl
@@ -38,6 +39,7 @@ blocks_pushed fs gs f e = ap blocks_of e ∙ by_frames fs
     block_after : (b : Block) (h : Frame) (bs : List Block) → b ∷ block_in h bs ≡ block_in h (b ∷ bs)
     block_after b (Steps steps) bs = refl
     block_after b (Scope fail) bs = refl
+    block_after b Event bs = refl
     block_after b (Nursery id) bs = refl
     block_after b (Repeat pass left body) bs = refl
     block_after b (Try handler cleanup) bs = refl
@@ -48,6 +50,7 @@ blocks_pushed fs gs f e = ap blocks_of e ∙ by_frames fs
     by_frames [] = by_frame f
     by_frames (Steps steps ∷ hs) = by_frames hs
     by_frames (Scope fail ∷ hs) = ap (λ (bs : List Block). a_scope ∷ bs) (by_frames hs) ∙ block_after a_scope f (blocks_of hs)
+    by_frames (Event ∷ hs) = ap (λ (bs : List Block). a_scope ∷ bs) (by_frames hs) ∙ block_after a_scope f (blocks_of hs)
     by_frames (Nursery id ∷ hs) = ap (λ (bs : List Block). a_nursery id ∷ bs) (by_frames hs) ∙ block_after (a_nursery id) f (blocks_of hs)
     by_frames (Repeat pass left body ∷ hs) = by_frames hs
     by_frames (Try handler cleanup ∷ hs) = by_frames hs
@@ -59,6 +62,7 @@ path_onto : (numbers : ℕ → List ℕ) (fs : List Frame) (outer : List rest.Fr
 path_onto numbers [] outer path = refl
 path_onto numbers (Steps steps ∷ fs) outer path = path_onto numbers fs (frame_of numbers (Steps steps) ∷ outer) path
 path_onto numbers (Scope fail ∷ fs) outer path = path_onto numbers fs (frame_of numbers (Scope fail) ∷ outer) path
+path_onto numbers (Event ∷ fs) outer path = path_onto numbers fs (frame_of numbers Event ∷ outer) path
 path_onto numbers (Nursery id ∷ fs) outer path = path_onto numbers fs (frame_of numbers (Nursery id) ∷ outer) path
 path_onto numbers (Repeat pass left body ∷ fs) outer path =
     path_onto numbers fs (frame_of numbers (Repeat pass left body) ∷ outer) path
@@ -76,6 +80,7 @@ pub path_append : (fs gs : List Frame) (path : List ℕ) → passes_onto (fs ++ 
 path_append [] gs path = refl
 path_append (Steps steps ∷ fs) gs path = path_append fs gs path
 path_append (Scope fail ∷ fs) gs path = path_append fs gs path
+path_append (Event ∷ fs) gs path = path_append fs gs path
 path_append (Nursery id ∷ fs) gs path = path_append fs gs path
 path_append (Repeat pass left body ∷ fs) gs path = path_append fs gs (path ++ pass ∷ [])
 path_append (Try handler cleanup ∷ fs) gs path = path_append fs gs path

@@ -14,7 +14,7 @@ use Rattle.nursery_book.specs.Book.{nursery_at, Updates, Changes}
 use Rattle.nursery_book.specs.declared.book.NurseryBook.{NurseryBook}
 use Rattle.turn_semantics.specs.Placed.{IsAmong}
 use Rattle.task_machine.specs.declared.frame.Frame.{Frame}
-use Rattle.task_machine.specs.declared.frame.Frame.TheVariants.{Scope, Nursery}
+use Rattle.task_machine.specs.declared.frame.Frame.TheVariants.{Nursery}
 use Rattle.task_machine.specs.declared.task.Own.{Own}
 use Rattle.task_machine.specs.Fitting.{Block, a_scope, a_nursery, blocks_of, AreInRangeFrames, StartsFit, AreOthers, IsMine, IsBlockOf, Opened, AnyRuns, HasRunning, RunsIn, OthersRun, SameKeys, FitsIn}
 use Rattle.task_machine.specs.Frames.{frames_of}
@@ -22,7 +22,7 @@ use Rattle.task_machine.specs.Labels.{Labels}
 use Rattle.task_machine.specs.Labels as label
 use Rattle.task_machine.specs.Left.{keys_of, keys_in, OwnFirst}
 use Rattle.task_machine.specs.Stacked.{IsKey}
-use Rattle.task_machine.proofs.Blocks.{blocks_append, Innermost, opened_in, opened_out, opened_some, opened_waits, StaysBut, opened_stays, runs_in_waits, runs_in_later}
+use Rattle.task_machine.proofs.Blocks.{blocks_append, IsScope, scope_block, range_outer, starts_outer, Innermost, opened_in, opened_out, opened_some, opened_waits, StaysBut, opened_stays, runs_in_waits, runs_in_later}
 use Rattle.task_machine.proofs.Cancels.{open_around}
 use Rattle.task_machine.proofs.Fits.{LastOf, last_of, first_key, head_among, outer_open, around_open}
 use Rattle.task_machine.proofs.FrameLemmas.{frames_push}
@@ -230,17 +230,17 @@ home_open old new chain owns apart home os o top keep opened key e =
     after_open old new chain owns apart home os o top keep key (head_among (keys_of (outer_of old home)) key
     (first_key old home owns opened ∙ e))
 
--- what holds of a task is kept when it leaves its innermost block, a scope
-pub fits_left : (fs : List Frame) (fail : Bool) (part : Part) (home : Option ℕ) (os : List Own) (o : Own) (n : ℕ) (old new : Tree)
+-- what holds of a task is kept when it leaves its innermost block, a scope or event
+pub fits_left : (fs : List Frame) (f : Frame) → IsScope f → (part : Part) (home : Option ℕ) (os : List Own) (o : Own) (n : ℕ) (old new : Tree)
     (labels more : Labels) (book : NurseryBook) → IsChain old → IsOwn old →
     IsApart old → Top old home os o → stack_of new o.id ≡ None → OthersKeep old new o.id → label.Updates labels more o.id None →
     OwnFirst new home os →
-    FitsIn (fs ++ Scope fail ∷ []) part home (os ++ o ∷ []) n old labels book None → FitsIn fs part home os n new more book None
-fits_left fs fail part home os o n old new labels more book chain owns apart top closed keep u first h =
+    FitsIn (fs ++ f ∷ []) part home (os ++ o ∷ []) n old labels book None → FitsIn fs part home os n new more book None
+fits_left fs f is part home os o n old new labels more book chain owns apart top closed keep u first h =
     record {
       runs = record {
-        in_range = subst AreInRangeFrames (frames_push (λ id. []) fs (Scope fail)) h.runs.in_range;
-        starts = subst StartsFit (frames_push (λ id. []) fs (Scope fail)) h.runs.starts;
+        in_range = range_outer (λ id. []) f _ is (subst AreInRangeFrames (frames_push (λ id. []) fs f) h.runs.in_range);
+        starts = starts_outer (λ id. []) f _ is (subst StartsFit (frames_push (λ id. []) fs f) h.runs.starts);
         home = home_open old new chain owns apart home os o top keep h.runs.home;
         scope = around_open old new chain owns apart home os o h.runs.home top keep;
         first = first;
@@ -253,8 +253,8 @@ fits_left fs fail part home os o n old new labels more book chain owns apart top
           (subst (λ (bs : List Block). OthersRun old book bs (os ++ o ∷ []) None) blocks h.others);
     }
   where
-    blocks : blocks_of (fs ++ Scope fail ∷ []) ≡ blocks_of fs ++ a_scope ∷ []
-    blocks = blocks_append fs (Scope fail ∷ [])
+    blocks : blocks_of (fs ++ f ∷ []) ≡ blocks_of fs ++ a_scope ∷ []
+    blocks = blocks_append fs (f ∷ []) ∙ ap (λ (bs : List Block). blocks_of fs ++ bs) (scope_block f is)
 
     inner : Innermost labels book (blocks_of fs) os a_scope o
     inner = opened_out labels book (blocks_of fs) os a_scope o (subst (λ (bs : List Block). Opened labels book bs (os ++ o ∷ []) None)

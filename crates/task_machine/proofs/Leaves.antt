@@ -4,14 +4,13 @@ use Rattle.std.proofs.lemmas.List.Elements.{All-head, All-tail}
 use Rattle.std.specs.List.{All}
 use Rattle.std.specs.Option.{unwrap_or}
 use Rattle.std.specs.List.{last_or}
-use Rattle.exc_groups.specs.Exceptions.{Label}
-use Rattle.cancel_scopes.specs.Sight.{Level}
+use Rattle.cancel_scopes.specs.Sight.{Tick, Level}
 use Rattle.cancel_scopes.specs.Tree.{Stack, Tree, stack_of, outer_of, IsOpen, IsOwn, IsChain, OthersKeep}
 use Rattle.job_meaning.specs.Log.{Table}
 use Rattle.turn_semantics.specs.Midway.{Place}
 use Rattle.task_machine.specs.declared.task.Own.{Own}
-use Rattle.task_machine.specs.Labels.{Labels, Updates}
-use Rattle.task_machine.specs.Stacked.{AreAt, SameOn}
+use Rattle.task_machine.specs.Labels.{Labels, Events, Updates}
+use Rattle.task_machine.specs.Stacked.{IsLevelOf, AreAt, SameOn}
 use Rattle.task_machine.specs.Left.{keys_of, keys_in, OwnFirst}
 use Rattle.task_machine.proofs.OwnLemmas.{ids}
 
@@ -76,14 +75,14 @@ keeps_outer old new key l ls others stack (Some p) short = ap (λ (o : Option St
         ∙ ap (λ (o : Option Stack). length (unwrap_or o [])) stack in
         omega (arith, short, f)
 
--- a key is in no rest of its own stack, so its label may change
-same_after : (labels more : Labels) (tree : Tree) (key : ℕ) (label : Option Label) (whole before st : Stack) →
-    Updates labels more key label → stack_of tree key ≡ Some whole →
-    length st < length whole → Suffixes tree before st → SameOn labels more st
-same_after labels more tree key label whole before [] u stack short chain = tt
-same_after labels more tree key label whole before (l ∷ ls) u stack short chain = (
+-- a key is in no rest of its own stack, so what is kept of it may change
+same_after : {A : Type 0} (kept new : ℕ → Option A) (tree : Tree) (key : ℕ) (value : Option A) (whole before st : Stack) →
+    Updates kept new key value → stack_of tree key ≡ Some whole →
+    length st < length whole → Suffixes tree before st → SameOn kept new st
+same_after kept new tree key value whole before [] u stack short chain = tt
+same_after kept new tree key value whole before (l ∷ ls) u stack short chain = (
   sym (u.others l.label other),
-  same_after labels more tree key label whole (before ++ l ∷ []) ls u stack (omega (arith, short))
+  same_after kept new tree key value whole (before ++ l ∷ []) ls u stack (omega (arith, short))
       (λ front m following e. chain front m following (sym (append_assoc before (l ∷ []) ls) ∙ e)),
 )
   where
@@ -94,13 +93,18 @@ same_after labels more tree key label whole before (l ∷ ls) u stack short chai
         let h : length (l ∷ ls) ≡ length whole = ap length g in
         omega (arith, short, h)
 
--- a stack has the same places if its scopes keep their labels
-pub same_labels : (labels more : Labels) (froms : Table) (st : Stack) (ps : List Place) → SameOn labels more st → AreAt labels froms st ps →
-    AreAt more froms st ps
-same_labels labels more froms [] [] same a = tt
-same_labels labels more froms [] (p ∷ ps) same a = absurd a
-same_labels labels more froms (l ∷ ls) [] same a = absurd a
-same_labels labels more froms (l ∷ ls) (p ∷ ps) same a = (sym same.0 ∙ a.0, a.1, a.2, same_labels labels more froms ls ps same.1 a.3)
+-- a stack has the same places if its scopes keep their labels, and its events the moments from which they are set
+pub same_labels : (labels more : Labels) (events others : Events) (froms : Table) (st : Stack) (ps : List Place) → SameOn labels more st →
+    SameOn events others st → AreAt labels events froms st ps → AreAt more others froms st ps
+same_labels labels more events others froms [] [] same alike a = tt
+same_labels labels more events others froms [] (p ∷ ps) same alike a = absurd a
+same_labels labels more events others froms (l ∷ ls) [] same alike a = absurd a
+same_labels labels more events others froms (l ∷ ls) (p ∷ ps) same alike a = (
+  sym same.0 ∙ a.0,
+  a.1,
+  subst (λ (o : Option Tick). IsLevelOf o l froms p) alike.0 a.2,
+  same_labels labels more events others froms ls ps same.1 alike.1 a.3,
+)
 
 -- ---- the scope that is left, at the top of its stack
 
@@ -158,25 +162,28 @@ first_after old new home os x others top =
     ∙ ap (λ (st : Stack). keys_in os ++ keys_of st) (sym (keeps_outer old new x.id top.level top.following others top.at home m))
 
 -- and its places are those that enclose the one that is left
-pub places_after : (labels more : Labels) (old new : Tree) (home : Option ℕ) (os : List Own) (x : Own) (label : Option Label) →
-    IsChain old → OthersKeep old new x.id →
-    Updates labels more x.id label → (top : Top old home os x) → (froms : Table) (ps : List Place) → AreAt labels froms top.following ps →
-    AreAt more froms (outer_of new (last_or home (ids os))) ps
-places_after labels more old new home os x label chain others u top froms ps a =
+pub places_after : (labels more : Labels) (events others : Events) (old new : Tree) (home : Option ℕ) (os : List Own) (x : Own) →
+    IsChain old → OthersKeep old new x.id → Updates labels more x.id None → Updates events others x.id None → (top : Top old home os x) →
+    (froms : Table) (ps : List Place) → AreAt labels events froms top.following ps →
+    AreAt more others froms (outer_of new (last_or home (ids os))) ps
+places_after labels more events others old new home os x chain keep u v top froms ps a =
     let n : length (outer_of old (last_or home (ids os))) < length (top.level ∷ top.following) =
     subst (λ (st : Stack). length st < length (top.level ∷ top.following)) (sym top.around) (omega arith) in
-    subst (λ (st : Stack). AreAt more froms st ps)
-    (sym (keeps_outer old new x.id top.level top.following others top.at (last_or home (ids os)) n ∙ top.around))
-    (same_labels labels more froms top.following ps
-    (same_after labels more old x.id label (top.level ∷ top.following) (top.level ∷ []) top.following u top.at (omega arith)
-    (λ front l following e. chain x.id (top.level ∷ top.following) top.at front l following e)) a)
+    let suffixes : Suffixes old (top.level ∷ []) top.following =
+    (λ front l following e. chain x.id (top.level ∷ top.following) top.at front l following e) in
+    subst (λ (st : Stack). AreAt more others froms st ps)
+    (sym (keeps_outer old new x.id top.level top.following keep top.at (last_or home (ids os)) n ∙ top.around))
+    (same_labels labels more events others froms top.following ps
+    (same_after labels more old x.id None (top.level ∷ top.following) (top.level ∷ []) top.following u top.at (omega arith) suffixes)
+    (same_after events others old x.id None (top.level ∷ top.following) (top.level ∷ []) top.following v top.at (omega arith) suffixes) a)
 
 -- the innermost place, by the scope that is left
-pub left_from : (labels : Labels) (froms : Table) (tree : Tree) (home outer : Option ℕ) (os : List Own) (x : Own) (p : Place)
-    (ps : List Place) → (top : Top tree home os x) →
-    outer ≡ Some x.id → AreAt labels froms (outer_of tree outer) (p ∷ ps) → AreAt labels froms (top.level ∷ top.following) (p ∷ ps)
-left_from labels froms tree home outer os x p ps top last a =
-    subst (λ (st : Stack). AreAt labels froms st (p ∷ ps)) (ap (outer_of tree) last ∙ ap (λ (o : Option Stack). unwrap_or o []) top.at) a
+pub left_from : (labels : Labels) (events : Events) (froms : Table) (tree : Tree) (home outer : Option ℕ) (os : List Own) (x : Own)
+    (p : Place) (ps : List Place) → (top : Top tree home os x) → outer ≡ Some x.id →
+    AreAt labels events froms (outer_of tree outer) (p ∷ ps) → AreAt labels events froms (top.level ∷ top.following) (p ∷ ps)
+left_from labels events froms tree home outer os x p ps top last a =
+    subst (λ (st : Stack). AreAt labels events froms st (p ∷ ps))
+    (ap (outer_of tree) last ∙ ap (λ (o : Option Stack). unwrap_or o []) top.at) a
 
 -- what holds of each scope holds of the last
 pub last_below : (n : ℕ) (os : List Own) (o : Own) → All (λ (x : Own). x.at < n) (os ++ o ∷ []) → o.at < n

@@ -6,12 +6,14 @@ pub mod Stacked
 pub mod Catching
 pub mod Moves
 pub mod Enters
+pub mod Setting
 pub mod Cancels
 pub mod Leaves
 pub mod Exits
 pub mod FrameLemmas
 pub mod Starts
 pub mod Blocks
+pub mod Loops
 pub mod Others
 pub mod Fits
 pub mod Begins
@@ -33,6 +35,7 @@ pub mod StateLemmas
 pub mod Stopping
 pub mod Advances
 pub mod AdvancesSteps
+pub mod Waits
 pub mod Wakens
 pub mod Children
 pub mod TurnGoes

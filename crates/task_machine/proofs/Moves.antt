@@ -15,20 +15,20 @@ use Rattle.task_machine.specs.declared.stop.Moved.TheVariants.{Stops}
 use Rattle.task_machine.specs.declared.stop.Stop.TheVariants.{Sleep}
 use Rattle.task_machine.specs.declared.stop.TaskState.{TaskState}
 use Rattle.task_machine.specs.declared.stop.TaskState.TheVariants.{Asleep}
-use Rattle.task_machine.specs.Labels.{Labels}
+use Rattle.task_machine.specs.Labels.{Labels, Events}
 use Rattle.task_machine.specs.Stacked.{AreAt}
 use Rattle.task_machine.specs.Stops.{Numbers, MovesAs}
 use Rattle.task_machine.proofs.Stacked.{seen_at}
 
-module _ (clock : Clock) (labels : Labels) (froms : Table) (st : scopes.Stack) (ps : List Place) (paced : Bool) (n t : ℕ)
+module _ (clock : Clock) (labels : Labels) (events : Events) (froms : Table) (st : scopes.Stack) (ps : List Place) (paced : Bool) (n t : ℕ)
     (fs : List Frame) where
   -- a sleep goes by what is seen
-  sleeps_by : (b : Bool) → AreAt labels froms st ps → b ≡ seen st t → (P : Move → Type 0) → P (falls_asleep clock b paced n t fs ps) →
+  sleeps_by : (b : Bool) → AreAt labels events froms st ps → b ≡ seen st t → (P : Move → Type 0) → P (falls_asleep clock b paced n t fs ps) →
       P (sleeps clock froms paced n t fs ps)
-  sleeps_by b a e P p = subst (λ (x : Bool). P (falls_asleep clock x paced n t fs ps)) (e ∙ seen_at labels froms st ps t a) p
+  sleeps_by b a e P p = subst (λ (x : Bool). P (falls_asleep clock x paced n t fs ps)) (e ∙ seen_at labels events froms st ps t a) p
 
   -- where moments are ticks, it raises if a cancellation is seen
-  pub sleeps_seen : clock ≡ by_ticks → AreAt labels froms st ps → true ≡ seen st t →
+  pub sleeps_seen : clock ≡ by_ticks → AreAt labels events froms st ps → true ≡ seen st t →
       (let o = sleeps clock froms paced n t fs ps in (Some cancelled ≡ o.exc) × (o.stopped ≡ None))
   sleeps_seen is a e =
       sleeps_by true a e (λ (o : Move). (Some cancelled ≡ o.exc) × (o.stopped ≡ None))
@@ -36,7 +36,7 @@ module _ (clock : Clock) (labels : Labels) (froms : Table) (st : scopes.Stack) (
       (refl, refl))
 
   -- a sleep of no tick continues
-  pub sleeps_on : clock ≡ by_ticks → AreAt labels froms st ps → false ≡ seen st t → n ≡ 0 →
+  pub sleeps_on : clock ≡ by_ticks → AreAt labels events froms st ps → false ≡ seen st t → n ≡ 0 →
       (let o = sleeps clock froms paced n t fs ps in (None ≡ o.exc) × (o.stopped ≡ None))
   sleeps_on is a e none =
       sleeps_by false a e (λ (o : Move). (None ≡ o.exc) × (o.stopped ≡ None))
@@ -54,7 +54,7 @@ module _ (clock : Clock) (labels : Labels) (froms : Table) (st : scopes.Stack) (
         (subst (λ (s : TaskState). MovesAs clock numbers book part (Stops (Sleep (wakes_at clock n t))) s o) (sym state) h)
 
     -- and another one stops
-    pub sleeps_off : clock ≡ by_ticks → AreAt labels froms st ps → false ≡ seen st t → (n ≡ 0 → ⊥) →
+    pub sleeps_off : clock ≡ by_ticks → AreAt labels events froms st ps → false ≡ seen st t → (n ≡ 0 → ⊥) →
         MovesAs clock numbers book part goes task_state (sleeps clock froms paced n t fs ps)
     sleeps_off is a e some =
         stops_asleep (sleeps clock froms paced n t fs ps)

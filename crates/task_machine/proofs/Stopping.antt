@@ -12,7 +12,7 @@ use Rattle.turn_semantics.specs.Midway.{Move}
 use Rattle.task_machine.specs.declared.frame.Frame.{Frame}
 use Rattle.task_machine.specs.declared.frame.Frame.TheVariants as frames
 use Rattle.task_machine.specs.declared.stop.TaskState.{TaskState}
-use Rattle.task_machine.specs.declared.stop.TaskState.TheVariants.{ToBegin, Asked, Asleep, GivingUp, Awaits, Over}
+use Rattle.task_machine.specs.declared.stop.TaskState.TheVariants.{ToBegin, Asked, Asleep, Waiting, GivingUp, Awaits, Over}
 use Rattle.task_machine.specs.declared.stop.Moved.TheVariants.{Stops}
 use Rattle.task_machine.specs.declared.stop.Stop.{Stop}
 use Rattle.task_machine.specs.declared.stop.Wake.{Wake}
@@ -29,6 +29,7 @@ pub settled_from : (task_state : TaskState) (part : Part) (book : NurseryBook) (
 settled_from (ToBegin at) part book wake id h e = absurd (let f : None ≡ Some id = e in cc)
 settled_from (Asked kernel purpose) part book wake id h e = absurd (let f : None ≡ Some id = e in cc)
 settled_from (Asleep paced ticks since) part book wake id h e = absurd (let f : None ≡ Some id = e in cc)
+settled_from (Waiting event since) part book wake id h e = absurd (let f : None ≡ Some id = e in cc)
 settled_from (GivingUp since) part book wake id h e = absurd (let f : None ≡ Some id = e in cc)
 settled_from (Awaits key since) part book Begin id h e = absurd h
 settled_from (Awaits key since) part book Due id h e =
@@ -72,6 +73,7 @@ no_blocks_begun children (f ∷ []) body e = by_frame f e
     by_frame : (f : Frame) → frame_of children f ∷ [] ≡ rest.steps_left body ∷ [] → blocks_of (f ∷ []) ≡ []
     by_frame (frames.Steps steps) e = refl
     by_frame (frames.Scope fail) e = absurd (let g : rest.in_scope fail ≡ rest.steps_left body = cc in cc)
+    by_frame frames.Event e = absurd (let g : rest.in_event ≡ rest.steps_left body = cc in cc)
     by_frame (frames.Nursery id) e = absurd (let g : rest.in_nursery (children id) ≡ rest.steps_left body = cc in cc)
     by_frame (frames.Repeat pass left body) e = refl
     by_frame (frames.Try handler cleanup) e = refl

@@ -392,7 +392,8 @@ took_both s m u exc goes froms numbers o q first second part clock tick = (
   record {
     numbers_after = second.numbers_after;
     frames_after = second.frames_after;
-    places = subst (λ (f : Table). AreAt u.labels f (stack_in u) q.places) (sym (froms_append o.made q.made froms)) second.places;
+    places = subst (λ (f : Table). AreAt u.labels u.events f (stack_in u) q.places) (sym (froms_append o.made q.made froms)) second.places;
+    event = second.event;
     moves =
         moves_then s.clock second.numbers_after u.book s.part m.part goes u.task_state o q part
         (subst (λ (c : Clock). MovesAs c second.numbers_after u.book m.part goes u.task_state q) clock second.moves);
@@ -449,6 +450,7 @@ stands_where s u froms numbers ps now here stands count exc goes took =
     let names = step_stays_new froms now here m stands.new stands.own in
     record {
       places = took.places;
+      event = took.event;
       numbered = λ id has. took.nurseries.numbered id (inl has);
       placed = subst (λ (gs : List rest.Frame). PlacedAfter o.stopped gs o.places) (sym took.frames_after) step.placed;
       new = subst (λ (gs : List rest.Frame). NewIn gs (outer_places o.stopped o.places)) (sym took.frames_after) names.frames;
@@ -468,6 +470,7 @@ took_nothing s exc froms numbers now here ps count stands = (
     numbers_after = numbers;
     frames_after = refl;
     places = stands.places;
+    event = tt;
     moves = (refl, refl);
     entries = [];
     noted = sym (append-nil s.entries);

@@ -18,13 +18,14 @@ use Rattle.exc_groups.specs.Split.{named, keep, drop}
 use Rattle.turn_semantics.specs.Midway.{Place, Move}
 use Rattle.turn_semantics.specs.Steps.{onward, begins_passes, step_pass, handler_if, step_try}
 use Rattle.turn_semantics.specs.Bound.{turn_length, frames_length}
+use Rattle.turn_semantics.specs.Placed.{in_body}
 use Rattle.exc_groups.specs.Exceptions.{Label, Exc}
 use Rattle.nursery_book.specs.Nursery.{End, Nursery as Members, with_body}
 use Rattle.nursery_book.specs.Book.{nursery_at, HasNursery, Updates, Changes}
 use Rattle.nursery_book.specs.declared.book.NurseryBook.{NurseryBook}
 use Rattle.task_machine.specs.declared.entry.ScopeFrom.{ScopeFrom}
 use Rattle.task_machine.specs.declared.frame.Frame.{Frame}
-use Rattle.task_machine.specs.declared.frame.Frame.TheVariants.{Scope, Nursery}
+use Rattle.task_machine.specs.declared.frame.Frame.TheVariants.{Nursery}
 use Rattle.task_machine.specs.declared.stop.TaskState.{TaskState}
 use Rattle.task_machine.specs.declared.stop.TaskState.TheVariants.{Awaits}
 use Rattle.task_machine.specs.declared.stop.Wake.TheVariants.{Settled}
@@ -40,7 +41,7 @@ use Rattle.task_machine.specs.Standing.{with_frames}
 use Rattle.task_machine.specs.States.{State, scope_at}
 use Rattle.task_machine.specs.Waking.{WakesFrom}
 use Rattle.task_machine.proofs.Fits.{Ready, fits_frames}
-use Rattle.task_machine.proofs.Blocks.{blocks_append}
+use Rattle.task_machine.proofs.Blocks.{blocks_append, IsScope, scope_block, range_inner, starts_inner}
 use Rattle.task_machine.proofs.Bodies.{body_block}
 use Rattle.task_machine.proofs.FrameLemmas.{frames_push}
 use Rattle.task_machine.proofs.Kept.{fits_signed, fits_entered, fits_left, fits_awaits}
@@ -77,7 +78,7 @@ same_froms s u l = ap (λ (fs : List ScopeFrom). length fs) l.froms ∙ length-s
 pub settled_fits : (s u : State) (book : NurseryBook) (id since : ℕ) → Laws s.tree → s.task_state ≡ Awaits id since →
     WakesFrom s.task_state s.part s.book Settled → Fits s (waits_of s.task_state) → Updates s.book book id None →
     (l : Leaves (scoping_in s) (scoping_in u)) → OwnFirst u.tree (home_in s) u.own →
-    u ≡ record s { own = u.own; froms = u.froms; entries = u.entries; tree = u.tree; labels = u.labels; book = book } → Fits u None
+    u ≡ record s { own = u.own; froms = u.froms; entries = u.entries; tree = u.tree; labels = u.labels; events = u.events; book = book } → Fits u None
 settled_fits s u book id since laws is wake h ended l first stays =
     subst (λ (x : State). Fits x None) (sym stays)
     (subst (λ (n : ℕ). FitsIn s.frames s.part (home_in s) u.own n u.tree u.labels book None) (sym (same_froms s u l))
@@ -93,18 +94,18 @@ settled_fits s u book id since laws is wake h ended l first stays =
     last : last_or (home_in s) (ids s.own) ≡ Some l.scope.id
     last = last_pushed (home_in s) u.own s.own l.scope l.taken
 
--- what holds of a task is kept when it leaves the scope that is its innermost block
-pub exited_fits : (fail : Bool) (s u : State) → Laws s.tree → Fits (with_frames s (s.frames ++ Scope fail ∷ [])) None →
+-- what holds of a task is kept when it leaves the scope or event that is its innermost block
+pub exited_fits : (f : Frame) → IsScope f → (s u : State) → Laws s.tree → Fits (with_frames s (s.frames ++ f ∷ [])) None →
     (l : Leaves (scoping_in s) (scoping_in u)) → OwnFirst u.tree (home_in s) u.own →
-    u ≡ record s { own = u.own; froms = u.froms; entries = u.entries; tree = u.tree; labels = u.labels } → Fits u None
-exited_fits fail s u laws h l first stays =
+    u ≡ record s { own = u.own; froms = u.froms; entries = u.entries; tree = u.tree; labels = u.labels; events = u.events } → Fits u None
+exited_fits f is s u laws h l first stays =
     subst (λ (x : State). Fits x None) (sym stays)
     (subst (λ (n : ℕ). FitsIn s.frames s.part (home_in s) u.own n u.tree u.labels s.book None) (sym (same_froms s u l))
-    (fits_left s.frames fail s.part (home_in s) u.own l.scope (length s.froms) s.tree u.tree s.labels u.labels s.book laws.chain laws.own
+    (fits_left s.frames f is s.part (home_in s) u.own l.scope (length s.froms) s.tree u.tree s.labels u.labels s.book laws.chain laws.own
     laws.apart
     (top_of s.tree laws.chain laws.own (home_in s) s.own u.own l.scope l.taken (h.runs.scope l.scope.id last) h.runs.first last) l.closed l.others
     l.unlabelled first
-    (subst (λ (own : List Own). FitsIn (s.frames ++ Scope fail ∷ []) s.part (home_in s) own (length s.froms) s.tree s.labels s.book None)
+    (subst (λ (own : List Own). FitsIn (s.frames ++ f ∷ []) s.part (home_in s) own (length s.froms) s.tree s.labels s.book None)
     l.taken h)))
   where
     last : last_or (home_in s) (ids s.own) ≡ Some l.scope.id
@@ -135,6 +136,11 @@ cancelled_fits s u waits h same stays =
     subst (λ (x : State). Fits x waits) (sym stays)
     (fits_signed s.frames s.part (home_in s) s.own (length s.froms) s.tree u.tree s.labels s.book waits same h)
 
+-- an event was set by a task that keeps its label
+pub set_fits : (s u : State) (waits : Option ℕ) → Fits s waits → u ≡ record s { events = u.events; set = u.set; cancelled = u.cancelled } →
+    Fits u waits
+set_fits s u waits h stays = subst (λ (x : State). Fits x waits) (sym stays) h
+
 -- ---- frames alone
 
 -- what holds of a task is kept with other frames of the same blocks that can run
@@ -151,8 +157,8 @@ blocks_but fs f none = sym (blocks_append fs (f ∷ []) ∙ ap (λ (bs : List Bl
 -- ---- a scope that is entered
 
 -- what holds of a task is kept when it enters one more block, whatever that is
-pub entered_fits : (b : Block) (label : Label) (s u : State) → Laws s.tree → Fits s None → {deadline : Tick} →
-    (e : Enters (scope_at s) label deadline (scoping_in s) (scoping_in u)) →
+pub entered_fits : (b : Block) (label : Label) (s u : State) → Laws s.tree → Fits s None → {is_event : Bool} → {deadline : Tick} →
+    (e : Enters (scope_at s) label is_event deadline (scoping_in s) (scoping_in u)) →
     ((id : ℕ) (m : Members) → nursery_at s.book id ≡ Some m → nursery_at u.book id ≡ Some m) → IsBlockOf u.labels u.book b e.scope →
     blocks_of u.frames ≡ blocks_of s.frames ++ b ∷ [] → AreInRangeFrames (frames_of (λ id. []) u.frames) →
     StartsFit (frames_of (λ id. []) u.frames) → u.part ≡ s.part → u.home ≡ s.home → Fits u None
@@ -166,22 +172,23 @@ entered_fits b label s u laws h e stay block blocks in_range starts part home =
         ap (λ (fs : List ScopeFrom). length fs) e.froms
         ∙ (let f = length-append s.froms (record { label = label; seen = None } ∷ []) in omega (arith, f))
 
--- what holds of a task is kept when it enters a scope
-pub scope_fits : (fail : Bool) (body : Steps) (label : Label) (s u : State) → Laws s.tree → Fits s None → {deadline : Tick} →
-    Enters (scope_at s) label deadline (scoping_in s) (scoping_in u) → EntersBlock s.frames u.frames (Scope fail) body → AreInRange body →
-    StartsIn false body → u.book ≡ s.book → u.part ≡ s.part → u.home ≡ s.home → Fits u None
-scope_fits fail body label s u laws h e inside in_range starts book part home =
+-- what holds of a task is kept when it enters a scope or event
+pub scope_fits : (f : Frame) → IsScope f → (body : Steps) (label : Label) (s u : State) → Laws s.tree → Fits s None → {is_event : Bool} →
+    {deadline : Tick} → Enters (scope_at s) label is_event deadline (scoping_in s) (scoping_in u) → EntersBlock s.frames u.frames f body →
+    AreInRange body → StartsIn false body → u.book ≡ s.book → u.part ≡ s.part → u.home ≡ s.home → Fits u None
+scope_fits f is body label s u laws h e inside in_range starts book part home =
     entered_fits a_scope label s u laws h e (λ id m at. ap (λ (b : NurseryBook). nursery_at b id) book ∙ at)
     (subst IsSome (sym e.labelled.changed) refl)
-    (entered_blocks s.frames u.frames (Scope fail) inside.top body inside.block inside.frames)
-    (subst AreInRangeFrames (sym (entered_frames (λ id. []) s.frames u.frames (Scope fail) inside.top body inside.block inside.frames))
-    (in_range, h.runs.in_range))
-    (subst StartsFit (sym (entered_frames (λ id. []) s.frames u.frames (Scope fail) inside.top body inside.block inside.frames))
-    (starts, h.runs.starts)) part home
+    (entered_blocks s.frames u.frames f inside.top body inside.block inside.frames
+    ∙ ap (λ (bs : List Block). blocks_of s.frames ++ bs) (scope_block f is))
+    (subst AreInRangeFrames (sym (entered_frames (λ id. []) s.frames u.frames f inside.top body inside.block inside.frames))
+    (in_range, range_inner (λ id. []) f _ is h.runs.in_range))
+    (subst StartsFit (sym (entered_frames (λ id. []) s.frames u.frames f inside.top body inside.block inside.frames))
+    (starts_inner (λ id. []) f body _ is starts h.runs.starts)) part home
 
 -- what holds of a task is kept when it enters a nursery
-pub nursery_fits : (me : ℕ) (body : Steps) (label : Label) (s u : State) → Laws s.tree → Fits s None → {deadline : Tick} →
-    Enters (scope_at s) label deadline (scoping_in s) (scoping_in u) → EntersNursery me s u label body → AreInRange body →
+pub nursery_fits : (me : ℕ) (body : Steps) (label : Label) (s u : State) → Laws s.tree → Fits s None → {is_event : Bool} →
+    {deadline : Tick} → Enters (scope_at s) label is_event deadline (scoping_in s) (scoping_in u) → EntersNursery me s u label body → AreInRange body →
     StartsIn true body → u.part ≡ s.part → u.home ≡ s.home → Fits u None
 nursery_fits me body label s u laws h e n in_range starts part home =
     entered_fits (a_nursery n.id) label s u laws h e (λ id m at. n.stands.others id (differs id m at) ∙ at)
@@ -282,7 +289,7 @@ passes_in_range : (count : ℕ) (body : Steps) (fs : List rest.Frame) (ps : List
 passes_in_range zero body fs ps few b m = m
 passes_in_range (suc k) body fs ps few b m = (b, (b, (let e : 0 + k ≤ MAX_PASSES = omega (arith, few) in e), m))
 
-passes_starts : (count : ℕ) (body : Steps) (fs : List rest.Frame) (ps : List Place) → StartsIn false body → StartsFit fs →
+passes_starts : (count : ℕ) (body : Steps) (fs : List rest.Frame) (ps : List Place) → StartsIn (in_body fs) body → StartsFit fs →
     StartsFit (begins_passes count body fs ps).frames
 passes_starts zero body fs ps b m = m
 passes_starts (suc k) body fs ps b m = (b, (b, m))
@@ -293,7 +300,8 @@ passes_shorter zero body fs ps = omega arith
 passes_shorter (suc k) body fs ps = let e = suc-mul k (1 + turn_length body) in omega (arith, e)
 
 -- a `repeat` has begun: the task still fits
-pub repeat_fits : (count : ℕ) (body : Steps) (s u : State) → Fits s None → count ≤ MAX_PASSES → AreInRange body → StartsIn false body →
+pub repeat_fits : (count : ℕ) (body : Steps) (s u : State) → Fits s None → count ≤ MAX_PASSES → AreInRange body →
+    StartsIn (in_body (frames_of (λ id. []) s.frames)) body →
     blocks_of u.frames ≡ blocks_of s.frames →
     begins_passes count body (frames_of (λ id. []) s.frames) [] ≡ onward (frames_of (λ id. []) u.frames) [] None →
     u ≡ with_frames s u.frames → Fits u None
@@ -319,8 +327,8 @@ pass_in_range pass left body fs ps (Some e) b few m = m
 pass_in_range pass zero body fs ps None b few m = m
 pass_in_range pass (suc k) body fs ps None b few m = (b, (b, (let e : suc pass + k ≤ MAX_PASSES = omega (arith, few) in e), m))
 
-pass_starts : (pass left : ℕ) (body : Steps) (fs : List rest.Frame) (ps : List Place) (exc : Option Exc) → StartsIn false body →
-    StartsFit fs → StartsFit (step_pass pass left body fs ps exc).frames
+pass_starts : (pass left : ℕ) (body : Steps) (fs : List rest.Frame) (ps : List Place) (exc : Option Exc) →
+    StartsIn (in_body fs) body → StartsFit fs → StartsFit (step_pass pass left body fs ps exc).frames
 pass_starts pass left body fs ps (Some e) b m = m
 pass_starts pass zero body fs ps None b m = m
 pass_starts pass (suc k) body fs ps None b m = (b, (b, m))

@@ -7,7 +7,7 @@ use Rattle.std.proofs.lemmas.Option.{same_Some}
 use Rattle.std.specs.Option.{IsSomeAnd, option_map}
 use Rattle.buffer_parts.specs.Part.{buffer_of}
 use Rattle.cancel_scopes.specs.Sight.{catches}
-use Rattle.cancel_scopes.specs.Tree.{Tree}
+use Rattle.cancel_scopes.specs.Tree.{Tree, IsChain}
 use Rattle.exc_groups.specs.declared.exc.Exc as held
 use Rattle.exc_groups.specs.Held.{exc_of}
 use Rattle.exc_groups.specs.Exceptions.{Label, Exc}
@@ -20,12 +20,12 @@ use Rattle.job_meaning.specs.Walk.{left_with, from_for, stack_for}
 use Rattle.job_meaning.specs.Walk as meaning
 use Rattle.job_meaning.specs.Rest as rest
 use Rattle.job_meaning.specs.Rest.{Stopped, awaiting, at_end}
-use Rattle.turn_semantics.specs.Midway.{Place, Begun, Move, stack_at}
+use Rattle.turn_semantics.specs.Midway.{Place, Begun, Move, label_among, stack_at}
 use Rattle.turn_semantics.specs.Placed.{Placed}
-use Rattle.turn_semantics.specs.Steps.{onward, makes, sleeps, falls_asleep, label_among, signs_to, signs_home, leaves, ends_as, froms_after, step_frames}
+use Rattle.turn_semantics.specs.Steps.{onward, makes, sleeps, falls_asleep, waits_on, home_among, signs_to, signs_home, leaves, ends_as, froms_after, step_frames}
 use Rattle.task_machine.specs.declared.entry.Entry.{Entry}
 use Rattle.task_machine.specs.declared.frame.Frame.{Frame}
-use Rattle.task_machine.specs.declared.frame.Frame.TheVariants.{Scope, Nursery}
+use Rattle.task_machine.specs.declared.frame.Frame.TheVariants.{Scope, Event, Nursery}
 use Rattle.block_exits.specs.declared.kind.Kind.TheVariants as kind
 use Rattle.task_machine.specs.declared.stop.TaskState.{TaskState}
 use Rattle.task_machine.specs.declared.stop.TaskState.TheVariants.{Awaits, Over}
@@ -33,17 +33,19 @@ use Rattle.task_machine.specs.declared.stop.Moved.{Moved}
 use Rattle.task_machine.specs.declared.stop.Moved.TheVariants.{On, Stops}
 use Rattle.task_machine.specs.declared.stop.Stop.TheVariants.{Wait, Ended}
 use Rattle.task_machine.specs.Acts.{Acts, Leaves, scoping_in}
-use Rattle.task_machine.specs.Entered.{CancelsAt}
-use Rattle.task_machine.specs.Exits.{ExitsFrom, ExitsAt, FailsAt}
+use Rattle.task_machine.specs.Entered.{CancelsAt, SetsAt}
+use Rattle.task_machine.specs.Exits.{ExitsFrom, ExitsAt, LeavesEventAt, FailsAt}
 use Rattle.task_machine.specs.Fitting.{Block, a_scope, a_nursery, blocks_of}
 use Rattle.task_machine.specs.Frames.{frames_of}
 use Rattle.task_machine.specs.Noted.{IsSlice, shown_made, AreNoted}
-use Rattle.task_machine.specs.Stacked.{AreAt}
+use Rattle.task_machine.specs.Labels.{Events, scope_named}
+use Rattle.task_machine.specs.Stacked.{AreAt, AwaitsEvent}
 use Rattle.task_machine.specs.Standing.{HasBlock, HasNurseryOf, waits_by, Stands, AreBegun, ChangesNurseries, Took, with_frames}
-use Rattle.task_machine.specs.States.{State, here_at, now_at, stack_in}
+use Rattle.task_machine.specs.States.{State, here_at, now_at, scope_at, stack_in}
 use Rattle.task_machine.specs.Stops.{Numbers, MovesAs, OwnAfter}
-use Rattle.task_machine.proofs.Acting.{WaitsNot, waits_not, no_acts, found_signed, home_signed, left_acts}
+use Rattle.task_machine.proofs.Acting.{WaitsNot, waits_not, WaitsElse, waits_else, no_acts, found_signed, home_signed, found_set, closed_acts, left_acts}
 use Rattle.task_machine.proofs.Cancelled.{own_same, own_signed, ends_none}
+use Rattle.task_machine.proofs.Cancels.{found_open}
 use Rattle.task_machine.proofs.FrameLemmas.{frames_pushed}
 use Rattle.task_machine.proofs.Nurseries.{has_more, has_last, has_either, blocks_pushed, change_of, nurseries_same, nurseries_put, body_grown}
 use Rattle.task_machine.proofs.Stacked.{named_at}
@@ -59,8 +61,7 @@ quiet_signs clock input (Some l) t = refl
 quiet_home : (clock : Clock) (input : List ℕ) (exc : Option Exc) (ps : List Place) (t : ℕ) →
     shown_made clock input (signs_home exc ps t) ≡ []
 quiet_home clock input None ps t = refl
-quiet_home clock input (Some e) [] t = refl
-quiet_home clock input (Some e) (p ∷ ps) t = refl
+quiet_home clock input (Some e) ps t = quiet_signs clock input (home_among ps) t
 
 -- nothing was noted for these events
 pub none_noted : (clock : Clock) (input : List ℕ) (made : List rest.Event) → shown_made clock input made ≡ [] → AreNoted clock input [] made
@@ -102,12 +103,31 @@ falls_alone by_ticks false paced zero t fs ps = record { frames = refl; places =
 falls_alone by_ticks false paced (suc n) t fs ps = record { frames = refl; places = refl; made = refl; begun = refl; waits = tt }
 falls_alone by_rounds b paced n t fs ps = record { frames = refl; places = refl; made = refl; begun = refl; waits = tt }
 
--- a scope frame has a place, so the list of places is not empty
+-- a sleep waits for no event
+falls_else : (clock : Clock) (b paced : Bool) (n t : ℕ) (fs : List rest.Frame) (ps : List Place) →
+    WaitsElse (falls_asleep clock b paced n t fs ps).stopped
+falls_else by_ticks true paced n t fs ps = tt
+falls_else by_ticks false paced zero t fs ps = tt
+falls_else by_ticks false paced (suc n) t fs ps = tt
+falls_else by_rounds b paced n t fs ps = tt
+
+-- and a wait for an event leaves as much as it is
+waits_alone : (o : Option Label) (name : List ℕ) (t : ℕ) (fs : List rest.Frame) (ps : List Place) →
+    LeavesAlone (waits_on o name t fs ps) fs ps
+waits_alone None name t fs ps = record { frames = refl; places = refl; made = refl; begun = refl; waits = tt }
+waits_alone (Some l) name t fs ps = record { frames = refl; places = refl; made = refl; begun = refl; waits = tt }
+
+-- a scope frame has a place, which is no event, so the list of places is not empty
 by_place : (P : List Place → Type 0) (fail : Bool) (gs : List rest.Frame) (ps : List Place) → Placed (rest.in_scope fail ∷ gs) ps →
-    ((p : Place) (qs : List Place) → ps ≡ p ∷ qs →
-    P (p ∷ qs)) → P ps
+    ((p : Place) (qs : List Place) → ps ≡ p ∷ qs → p.is_event ≡ false → P (p ∷ qs)) → P ps
 by_place P fail gs [] placed go = absurd placed
-by_place P fail gs (p ∷ ps) placed go = go p ps refl
+by_place P fail gs (p ∷ ps) placed go = go p ps refl placed.0
+
+-- an event frame has a place
+by_event_place : (P : List Place → Type 0) (gs : List rest.Frame) (ps : List Place) → Placed (rest.in_event ∷ gs) ps →
+    ((p : Place) (qs : List Place) → ps ≡ p ∷ qs → P (p ∷ qs)) → P ps
+by_event_place P gs [] placed go = absurd placed
+by_event_place P gs (p ∷ ps) placed go = go p ps refl
 
 -- a nursery frame has a place, so the list of places is not empty
 by_nursery_place : (P : List Place → Type 0) (kids : List ℕ) (gs : List rest.Frame) (ps : List Place) →
@@ -123,15 +143,17 @@ module _ (b : State) (whole : List Frame) (froms : Table) (numbers : Numbers) (s
   -- any move that leaves the book as it is, and starts nothing, is a move of the definitions if its parts correspond
   pub took_quiet : (u : State) (goes : Moved) (o : Move) (entries : List Entry) → IsQuiet b whole u entries →
       AreNoted b.clock (buffer_of b.part) entries o.made → o.begun ≡ [] → frames_of numbers u.frames ≡ o.frames →
-      AreAt u.labels (froms_after froms o.made) (stack_in u) o.places → MovesAs b.clock numbers u.book b.part goes u.task_state o →
+      AreAt u.labels u.events (froms_after froms o.made) (stack_in u) o.places →
+      AwaitsEvent u.labels (stack_in u) o.stopped u.task_state o.places → MovesAs b.clock numbers u.book b.part goes u.task_state o →
       waits_by goes u.task_state ≡ None → Acts b.tick (scoping_in b) o.made (scoping_in u) →
       OwnAfter b.clock b.cancelled u.cancelled o.made o.stopped →
       Took (with_frames b whole) u goes froms numbers o
-  took_quiet u goes o entries quiet shown none gs at moves waits acts own =
+  took_quiet u goes o entries quiet shown none gs at event moves waits acts own =
       record {
         numbers_after = numbers;
         frames_after = gs;
         places = at;
+        event = event;
         moves = moves;
         entries = entries;
         noted = quiet.noted;
@@ -154,20 +176,20 @@ module _ (b : State) (whole : List Frame) (froms : Table) (numbers : Numbers) (s
   -- the task stops, or continues, with other frames of the same blocks and another blocked state
   pub took_task_states : (fs : List Frame) (h : TaskState) (goes : Moved) (o : Move) → blocks_of fs ≡ blocks_of whole →
       o.frames ≡ frames_of numbers fs → o.places ≡ ps → o.made ≡ [] → o.begun ≡ [] → WaitsNot o.stopped →
-      MovesAs b.clock numbers b.book b.part goes h o →
+      MovesAs b.clock numbers b.book b.part goes h o → AwaitsEvent b.labels (stack_in b) o.stopped h o.places →
       Took (with_frames b whole) (record b { frames = fs; task_state = h }) goes froms numbers o
-  took_task_states fs h goes o same gs around made none not moves =
+  took_task_states fs h goes o same gs around made none not moves event =
       let u : State = record b { frames = fs; task_state = h } in
       took_quiet u goes o [] (quiet_by b whole u refl refl refl same)
       (none_noted b.clock (buffer_of b.part) o.made (ap (λ (es : List rest.Event). shown_made b.clock (buffer_of b.part) es) made)) none
-      (sym gs) at moves
+      (sym gs) at event moves
       (waits_not b.clock numbers b.book b.part goes h o not moves) (no_acts b.tick (scoping_in b) (scoping_in b) o.made made refl)
       (own_same b.clock b.cancelled b.cancelled o.made o.stopped made refl)
     where
-      at : AreAt b.labels (froms_after froms o.made) (stack_in b) o.places
+      at : AreAt b.labels b.events (froms_after froms o.made) (stack_in b) o.places
       at =
-          subst (λ (es : List rest.Event). AreAt b.labels (froms_after froms es) (stack_in b) o.places) (sym made)
-          (subst (λ (qs : List Place). AreAt b.labels froms (stack_in b) qs) (sym around) stands.places)
+          subst (λ (es : List rest.Event). AreAt b.labels b.events (froms_after froms es) (stack_in b) o.places) (sym made)
+          (subst (λ (qs : List Place). AreAt b.labels b.events froms (stack_in b) qs) (sym around) stands.places)
 
   -- the task continues: at the end of a block, at a `try`, its handler or its cleanup, and where it raises
   pub took_onward : (fs : List Frame) (exc : Option held.Exc) (o : Move) → blocks_of fs ≡ blocks_of whole →
@@ -176,11 +198,11 @@ module _ (b : State) (whole : List Frame) (froms : Table) (numbers : Numbers) (s
   took_onward fs exc o same is =
       subst (λ (m : Move). Took (with_frames b whole) (with_frames b fs) (On exc) froms numbers m) (sym is)
       (took_task_states fs b.task_state (On exc) (onward (frames_of numbers fs) ps (option_map exc_of exc)) same refl refl refl refl tt
-      (refl, refl))
+      (refl, refl) tt)
 
   -- a task that stops or continues as the sleep of the definitions does makes that move
   pub took_sleep : (h : TaskState) (goes : Moved) (paced : Bool) (ticks : ℕ) → blocks_of b.frames ≡ blocks_of whole →
-      (AreAt b.labels froms (stack_in b) ps →
+      (AreAt b.labels b.events froms (stack_in b) ps →
       MovesAs b.clock numbers b.book b.part goes h (sleeps b.clock froms paced ticks b.tick (frames_of numbers b.frames) ps)) →
       Took (with_frames b whole) (record b { task_state = h }) goes froms numbers
       (sleeps b.clock froms paced ticks b.tick (frames_of numbers b.frames) ps)
@@ -190,21 +212,55 @@ module _ (b : State) (whole : List Frame) (froms : Table) (numbers : Numbers) (s
       took_task_states b.frames h goes
       (sleeps b.clock froms paced ticks b.tick gs ps) same alone.frames alone.places alone.made alone.begun alone.waits
       (sleep stands.places)
+      (waits_else b.labels (stack_in b) (sleeps b.clock froms paced ticks b.tick gs ps).stopped h
+      (sleeps b.clock froms paced ticks b.tick gs ps).places (falls_else b.clock _ paced ticks b.tick gs ps))
+
+  -- a task that stops or continues as the wait of the definitions does makes that move
+  pub took_wait : (h : TaskState) (goes : Moved) (name : List ℕ) → blocks_of b.frames ≡ blocks_of whole →
+      (AreAt b.labels b.events froms (stack_in b) ps →
+      MovesAs b.clock numbers b.book b.part goes h (waits_on (label_among true name ps) name b.tick (frames_of numbers b.frames) ps)
+      × AwaitsEvent b.labels (stack_in b) (waits_on (label_among true name ps) name b.tick (frames_of numbers b.frames) ps).stopped h ps) →
+      Took (with_frames b whole) (record b { task_state = h }) goes froms numbers
+      (waits_on (label_among true name ps) name b.tick (frames_of numbers b.frames) ps)
+  took_wait h goes name same wait =
+      let gs = frames_of numbers b.frames in
+      let o : Move = waits_on (label_among true name ps) name b.tick gs ps in
+      let alone : LeavesAlone o gs ps = waits_alone (label_among true name ps) name b.tick gs ps in
+      let both = wait stands.places in
+      took_task_states b.frames h goes o same alone.frames alone.places alone.made alone.begun alone.waits both.0
+      (subst (λ (qs : List Place). AwaitsEvent b.labels (stack_in b) o.stopped h qs) (sym alone.places) both.1)
 
   -- a scope of a name is cancelled
   pub took_cancel : (tree : Tree) (cancelled : List Label) (name : List ℕ) → blocks_of b.frames ≡ blocks_of whole →
       CancelsAt b (record b { tree = tree; cancelled = cancelled }) name →
       Took (with_frames b whole) (record b { tree = tree; cancelled = cancelled }) (On None) froms numbers
-      (makes (signs_to (label_among name ps) b.tick) (frames_of numbers b.frames) ps)
+      (makes (signs_to (label_among false name ps) b.tick) (frames_of numbers b.frames) ps)
   took_cancel tree cancelled name same cancels =
-      let made = signs_to (label_among name ps) b.tick in
+      let made = signs_to (label_among false name ps) b.tick in
       let u : State = record b { tree = tree; cancelled = cancelled } in
       let at = cancels.1 froms ps stands.own stands.places in
       took_quiet u (On None) (makes made (frames_of numbers b.frames) ps) [] (quiet_by b whole u refl refl refl same)
-      (none_noted b.clock (buffer_of b.part) made (quiet_signs b.clock (buffer_of b.part) (label_among name ps) b.tick)) refl refl
-      at.0 (refl, refl) refl
-      (found_signed b.tick (scoping_in b) tree _ (label_among name ps) (named_at b.labels froms name (stack_in b) ps stands.places) cancels.0)
-      (at.1 ∙ own_signed b.clock b.cancelled (label_among name ps) b.tick)
+      (none_noted b.clock (buffer_of b.part) made (quiet_signs b.clock (buffer_of b.part) (label_among false name ps) b.tick)) refl refl
+      at.0 tt (refl, refl) refl
+      (found_signed b.tick (scoping_in b) tree name froms (stack_in b) ps stands.places cancels.0)
+      (at.1 ∙ own_signed b.clock b.cancelled (label_among false name ps) b.tick)
+
+  -- an event of a name is set
+  pub took_set : (events : Events) (set : List ℕ) (cancelled : List Label) (name : List ℕ) → IsChain b.tree →
+      blocks_of b.frames ≡ blocks_of whole → SetsAt b (record b { events = events; set = set; cancelled = cancelled }) name →
+      Took (with_frames b whole) (record b { events = events; set = set; cancelled = cancelled }) (On None) froms numbers
+      (makes (signs_to (label_among true name ps) b.tick) (frames_of numbers b.frames) ps)
+  took_set events set cancelled name chain same sets =
+      let made = signs_to (label_among true name ps) b.tick in
+      let u : State = record b { events = events; set = set; cancelled = cancelled } in
+      let at = sets.1 froms ps stands.own stands.places in
+      took_quiet u (On None) (makes made (frames_of numbers b.frames) ps) [] (quiet_by b whole u refl refl refl same)
+      (none_noted b.clock (buffer_of b.part) made (quiet_signs b.clock (buffer_of b.part) (label_among true name ps) b.tick)) refl refl
+      at.0 tt (refl, refl) refl
+      (found_set b events set cancelled (scope_named true b.labels b.events name (stack_in b)) (label_among true name ps)
+      (named_at true b.labels b.events froms name (stack_in b) ps stands.places)
+      (λ key e. found_open true b.labels b.events b.tree name (scope_at b) key chain e) sets.0)
+      (at.1 ∙ own_signed b.clock b.cancelled (label_among true name ps) b.tick)
 
   -- the task ends, with no frame left
   pub took_end : (tree : Tree) (exc : Option held.Exc) → whole ≡ [] → b.frames ≡ [] →
@@ -218,7 +274,7 @@ module _ (b : State) (whole : List Frame) (froms : Table) (numbers : Numbers) (s
       (quiet_by b whole u refl refl refl (ap blocks_of (left ∙ sym empty)))
       (none_noted b.clock (buffer_of b.part) (signs_home e ps b.tick) (quiet_home b.clock (buffer_of b.part) e ps b.tick)) refl
       (ap (frames_of numbers) left)
-      (fails.1 froms ps stands.own stands.places) (refl, (tt, refl)) refl
+      (fails.1 froms ps stands.own stands.places) tt (refl, (tt, refl)) refl
       (home_signed b.tick (scoping_in b) tree e froms (stack_in b) ps stands.places fails.0) tt
 
   -- ---- blocks that are left
@@ -227,7 +283,7 @@ module _ (b : State) (whole : List Frame) (froms : Table) (numbers : Numbers) (s
   pub took_leaves : (u : State) (book : NurseryBook) (k : meaning.Kind) (exc : Option Exc) (goes : Option held.Exc) (p : Place)
       (qs : List Place) →
       ExitsFrom (record b { book = book }) u k (left_with (catches (from_for b.cancelled b.tick p.label (froms p.label)) p.shield
-      (stack_for b.cancelled b.tick (stack_at froms qs)) b.tick) exc)
+      (stack_for b.cancelled b.tick (stack_at froms qs).scopes) b.tick) exc)
       (option_map exc_of goes) froms p qs →
       u.started ≡ b.started → u.cancelled ≡ b.cancelled → ChangesNurseries (with_frames b whole) u None numbers numbers [] [] →
       Leaves (scoping_in b) (scoping_in u) →
@@ -237,6 +293,7 @@ module _ (b : State) (whole : List Frame) (froms : Table) (numbers : Numbers) (s
         numbers_after = numbers;
         frames_after = refl;
         places = x.around;
+        event = tt;
         moves = (x.exc, refl);
         entries = x.entry ∷ [];
         noted = x.entries;
@@ -286,14 +343,64 @@ module _ (b : State) (whole : List Frame) (froms : Table) (numbers : Numbers) (p
           subst (λ (bs : List Block). HasBlock id bs) (sym same)
           (has_more id (blocks_of b.frames) (a_scope ∷ []) (subst (λ (fs : List Frame). HasBlock id (blocks_of fs)) left has))
 
-      at_place : (p : Place) (qs : List Place) → ps ≡ p ∷ qs → Took (with_frames b whole) u (On goes) froms numbers
+      at_place : (p : Place) (qs : List Place) → ps ≡ p ∷ qs → p.is_event ≡ false →
+          Took (with_frames b whole) u (On goes) froms numbers
           (leaves b.clock froms (now_at b) (meaning.a_scope fail) gs p qs e)
-      at_place p qs is =
+      at_place p qs is scope =
           subst (λ (fs : List Frame). Took (with_frames b whole) u (On goes) froms numbers
           (leaves b.clock froms (now_at b) (meaning.a_scope fail) (frames_of numbers fs) p qs e)) left
           (took_leaves b whole froms numbers None ps stands u b.book (meaning.a_scope fail) e goes p qs
-          (exits froms p qs (subst (λ (rs : List Place). AreAt b.labels froms (stack_in b) rs) is stands.places)) started cancelled
+          (exits froms p qs scope (subst (λ (rs : List Place). AreAt b.labels b.events froms (stack_in b) rs) is stands.places)) started cancelled
           (nurseries_same (with_frames b whole) u None numbers refl book kept back stands.numbered) one)
+
+  -- the innermost event is left
+  pub took_event_left : (u : State) (exc : Option held.Exc) (count : ℕ) → whole ≡ b.frames ++ Event ∷ [] →
+      u ≡ record b { own = u.own; froms = u.froms; tree = u.tree; labels = u.labels; events = u.events } →
+      LeavesEventAt b u → Leaves (scoping_in b) (scoping_in u) →
+      Took (with_frames b whole) u (On exc) froms numbers
+      (step_frames froms (now_at b) (here_at b) (rest.in_event ∷ frames_of numbers b.frames) ps (option_map exc_of exc) count)
+  took_event_left u exc count popped stays left one =
+      by_event_place (λ (qs : List Place). Took (with_frames b whole) u (On exc) froms numbers
+      (step_frames froms (now_at b) (here_at b) (rest.in_event ∷ gs) qs e count)) gs ps
+      (subst (λ (hs : List rest.Frame). Placed hs ps) (frames_pushed numbers b.frames whole Event popped) stands.placed) at_place
+    where
+      e : Option Exc
+      e = option_map exc_of exc
+
+      gs : List rest.Frame
+      gs = frames_of numbers b.frames
+
+      same : u.frames ≡ b.frames
+      same = ap (λ (s : State). s.frames) stays
+
+      blocks : blocks_of whole ≡ blocks_of b.frames ++ a_scope ∷ []
+      blocks = blocks_pushed b.frames whole Event popped
+
+      kept : (id : ℕ) → HasBlock id (blocks_of whole) → HasBlock id (blocks_of u.frames)
+      kept id has = by_either (has_either id (blocks_of b.frames) (a_scope ∷ []) (subst (λ (bs : List Block). HasBlock id bs) blocks has))
+        where
+          by_either : HasBlock id (blocks_of b.frames) ⊎ ⊥ → HasBlock id (blocks_of u.frames)
+          by_either (inl h) = subst (λ (fs : List Frame). HasBlock id (blocks_of fs)) (sym same) h
+          by_either (inr h) = absurd h
+
+      back : (id : ℕ) → HasBlock id (blocks_of u.frames) → HasBlock id (blocks_of whole)
+      back id has =
+          subst (λ (bs : List Block). HasBlock id bs) (sym blocks)
+          (has_more id (blocks_of b.frames) (a_scope ∷ []) (subst (λ (fs : List Frame). HasBlock id (blocks_of fs)) same has))
+
+      at_place : (p : Place) (qs : List Place) → ps ≡ p ∷ qs → Took (with_frames b whole) u (On exc) froms numbers (onward gs qs e)
+      at_place p qs is =
+          took_quiet b whole froms numbers None ps stands u (On exc) (onward gs qs e) []
+          (record {
+            book = ap (λ (s : State). s.book) stays;
+            started = ap (λ (s : State). s.started) stays;
+            noted = ap (λ (s : State). s.entries) stays ∙ sym (append-nil b.entries);
+            kept = kept;
+            back = back;
+          })
+          (none_noted b.clock (buffer_of b.part) [] refl) refl (ap (frames_of numbers) same)
+          (left froms p qs (subst (λ (rs : List Place). AreAt b.labels b.events froms (stack_in b) rs) is stands.places)) tt (refl, refl) refl
+          (closed_acts b.tick (scoping_in b) (scoping_in u) one) (ap (λ (s : State). s.cancelled) stays)
 
   -- the body of the innermost nursery has ended
   pub took_body : (id : ℕ) (exc : Option held.Exc) (tree : Tree) (book : NurseryBook) (count : ℕ) →
@@ -352,8 +459,9 @@ module _ (b : State) (whole : List Frame) (froms : Table) (numbers : Numbers) (p
             numbers_after = numbers;
             frames_after = refl;
             places =
-                subst (λ (rs : List Place). AreAt b.labels (froms_after froms (signs_home e rs b.tick)) (stack_in u) rs) is
+                subst (λ (rs : List Place). AreAt b.labels b.events (froms_after froms (signs_home e rs b.tick)) (stack_in u) rs) is
                 (fails.1 froms ps stands.own stands.places);
+            event = tt;
             moves = (refl, ((refl, refl, subst (λ (o : Option Members). IsSomeAnd o (λ n. n.body ≡ Some e)) (sym c.2.changed) refl), refl));
             entries = [];
             noted = sym (append-nil b.entries);

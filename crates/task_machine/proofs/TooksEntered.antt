@@ -1,4 +1,4 @@
--- A task that enters a scope or a nursery, as a move of the definitions. The state is the one in which the steps that come after were put
+-- A task that enters a scope, a nursery or an event, as a move of the definitions. The state is the one in which the steps that come after were put
 -- back.
 use Rattle.std.proofs.Common.{◌≡◌, ◌≢◌, ◌⊎◌, inl, inr, ℕ, ◌==◌, ◌≤◌, arith, Bool, true, false, Option, Some, None, List, [], ◌∷◌, ◌++◌, length, refl, ap, sym, ◌∙◌, subst, append_assoc}
 use Rattle.std.proofs.lemmas.Bool.{eqb-true, eq-eqb}
@@ -8,7 +8,6 @@ use Rattle.std.specs.Option.{IsSomeAnd}
 use Rattle.std.specs.List.{slice_get}
 use Rattle.buffer_parts.specs.Part.{buffer_of}
 use Rattle.cancel_scopes.specs.Sight.{Tick}
-use Rattle.exc_groups.specs.Exceptions.{Label}
 use Rattle.job_tree.specs.Tree as tree
 use Rattle.job_meaning.specs.Log.{Table}
 use Rattle.job_meaning.specs.Rest as rest
@@ -17,9 +16,9 @@ use Rattle.nursery_book.specs.Nursery.{Nursery as Members, new_nursery}
 use Rattle.nursery_book.specs.Book.{nursery_at, HasNursery}
 use Rattle.turn_semantics.specs.Midway.{Place}
 use Rattle.turn_semantics.specs.Names.{IsName, names_at}
-use Rattle.turn_semantics.specs.Steps.{enters_block}
+use Rattle.turn_semantics.specs.Steps.{makes}
 use Rattle.task_machine.specs.declared.frame.Frame.{Frame}
-use Rattle.task_machine.specs.declared.frame.Frame.TheVariants.{Steps, Scope, Nursery, Repeat, Try, Handler, Cleanup}
+use Rattle.task_machine.specs.declared.frame.Frame.TheVariants.{Steps, Scope, Event, Nursery, Repeat, Try, Handler, Cleanup}
 use Rattle.task_machine.specs.declared.stop.Moved.TheVariants.{On}
 use Rattle.task_machine.specs.Acts.{Enters, scoping_in}
 use Rattle.task_machine.specs.Entered.{EntersAt, IsBlock, EntersBlock, EntersNursery}
@@ -29,7 +28,7 @@ use Rattle.task_machine.specs.Standing.{HasBlock, HasNurseryOf, Stands, Grown, I
 use Rattle.task_machine.specs.States.{State, scope_at}
 use Rattle.task_machine.specs.Stops.{Numbers}
 use Rattle.task_machine.proofs.Acting.{block_of, entered_acts}
-use Rattle.task_machine.proofs.Blocks.{blocks_append}
+use Rattle.task_machine.proofs.Blocks.{blocks_append, IsScope, scope_block}
 use Rattle.task_machine.proofs.FrameLemmas.{frames_push}
 use Rattle.task_machine.proofs.Nurseries.{has_more, has_either, not_grown, updated_has, is_at}
 use Rattle.task_machine.proofs.Tooks.{none_noted, took_quiet}
@@ -40,6 +39,7 @@ use Rattle.task_machine.proofs.Tooks.{none_noted, took_quiet}
 block_frame : (numbers : Numbers) (top : Frame) (body : tree.Steps) → IsBlock top body → frame_of numbers top ≡ rest.steps_left body
 block_frame numbers (Steps steps) body e = ap (λ (ss : tree.Steps). rest.steps_left ss) e
 block_frame numbers (Scope fail) body e = absurd e
+block_frame numbers Event body e = absurd e
 block_frame numbers (Nursery id) body e = absurd e
 block_frame numbers (Repeat pass left block) body e = absurd e
 block_frame numbers (Try handler cleanup) body e = absurd e
@@ -49,6 +49,7 @@ block_frame numbers (Cleanup outcome) body e = absurd e
 no_block : (top : Frame) (body : tree.Steps) → IsBlock top body → blocks_of (top ∷ []) ≡ []
 no_block (Steps steps) body e = refl
 no_block (Scope fail) body e = absurd e
+no_block Event body e = absurd e
 no_block (Nursery id) body e = absurd e
 no_block (Repeat pass left block) body e = absurd e
 no_block (Try handler cleanup) body e = absurd e
@@ -101,6 +102,7 @@ onto_others : (numbers more : Numbers) (fs : List Frame) (outer : List rest.Fram
 onto_others numbers more [] outer same = refl
 onto_others numbers more (Steps steps ∷ fs) outer same = onto_others numbers more fs (frame_of numbers (Steps steps) ∷ outer) same
 onto_others numbers more (Scope fail ∷ fs) outer same = onto_others numbers more fs (rest.in_scope fail ∷ outer) same
+onto_others numbers more (Event ∷ fs) outer same = onto_others numbers more fs (rest.in_event ∷ outer) same
 onto_others numbers more (Nursery id ∷ fs) outer same =
     ap (λ (ns : List ℕ). frames_onto more fs (rest.in_nursery ns ∷ outer)) (same id (inl refl))
     ∙ onto_others numbers more fs (rest.in_nursery (numbers id) ∷ outer)
@@ -118,30 +120,31 @@ pub frames_others : (numbers more : Numbers) (fs : List Frame) → ((key : ℕ) 
     frames_of more fs ≡ frames_of numbers fs
 frames_others numbers more fs same = onto_others numbers more fs [] same
 
--- ---- a scope or nursery is entered, whose name no enclosing one has
+-- ---- a scope, nursery or event is entered, whose name no enclosing one has
 
 module _ (b : State) (whole : List Frame) (froms : Table) (numbers : Numbers) (stopped : Option Stopped) (ps : List Place)
-    (stands : Stands (with_frames b whole) froms numbers stopped ps) (u : State) (label : Label) (shield : Bool) (deadline : Tick)
-    (body : tree.Steps) (same : blocks_of b.frames ≡ blocks_of whole) (fresh : IsName label.name (names_at ps) → ⊥)
+    (stands : Stands (with_frames b whole) froms numbers stopped ps) (u : State) (p : Place) (deadline : Tick)
+    (body : tree.Steps) (same : blocks_of b.frames ≡ blocks_of whole) (fresh : IsName p.label.name (names_at ps) → ⊥)
     (started : u.started ≡ b.started) (entries : u.entries ≡ b.entries) (cancelled : u.cancelled ≡ b.cancelled)
-    (enters : EntersAt b u label shield deadline)
-    (one : Enters (scope_at b) label deadline (scoping_in b) (scoping_in u)) where
-  -- a scope
-  pub took_scope : (fail : Bool) → u.book ≡ b.book → EntersBlock b.frames u.frames (Scope fail) body →
+    (enters : EntersAt b u p deadline)
+    (one : Enters (scope_at b) p.label p.is_event deadline (scoping_in b) (scoping_in u)) where
+  -- a scope or event
+  pub took_scope : (f : Frame) → IsScope f → u.book ≡ b.book → EntersBlock b.frames u.frames f body →
       Took (with_frames b whole) u (On None) froms numbers
-      (enters_block label shield deadline b.tick body (rest.in_scope fail) (frames_of numbers b.frames) ps)
-  took_scope fail book block =
+      (makes (rest.enters p.label b.tick deadline ∷ []) (rest.steps_left body ∷ frame_of numbers f ∷ frames_of numbers b.frames) (p ∷ ps))
+  took_scope f is book block =
       took_quiet b whole froms numbers stopped ps stands u (On None)
-      (enters_block label shield deadline b.tick body (rest.in_scope fail) (frames_of numbers b.frames) ps) []
+      (makes (rest.enters p.label b.tick deadline ∷ []) (rest.steps_left body ∷ frame_of numbers f ∷ frames_of numbers b.frames) (p ∷ ps)) []
       (record { book = book; started = started; noted = entries ∙ sym (append-nil b.entries); kept = kept; back = back })
-      (none_noted b.clock (buffer_of b.part) (rest.enters label b.tick deadline ∷ []) refl) refl
-      (entered_frames numbers b.frames u.frames (Scope fail) block.top body block.block block.frames)
-      (enters froms ps fresh stands.places) (refl, refl) refl
-      (entered_acts b.tick (scope_at b) (scoping_in b) (scoping_in u) label deadline one) cancelled
+      (none_noted b.clock (buffer_of b.part) (rest.enters p.label b.tick deadline ∷ []) refl) refl
+      (entered_frames numbers b.frames u.frames f block.top body block.block block.frames)
+      (enters froms ps fresh stands.places) tt (refl, refl) refl
+      (entered_acts b.tick (scope_at b) p.is_event (scoping_in b) (scoping_in u) p.label deadline one) cancelled
     where
       blocks : blocks_of u.frames ≡ blocks_of whole ++ a_scope ∷ []
       blocks =
-          entered_blocks b.frames u.frames (Scope fail) block.top body block.block block.frames
+          entered_blocks b.frames u.frames f block.top body block.block block.frames
+          ∙ ap (λ (bs : List Block). blocks_of b.frames ++ bs) (scope_block f is)
           ∙ ap (λ (bs : List Block). bs ++ a_scope ∷ []) same
 
       kept : (id : ℕ) → HasBlock id (blocks_of whole) → HasBlock id (blocks_of u.frames)
@@ -155,9 +158,9 @@ module _ (b : State) (whole : List Frame) (froms : Table) (numbers : Numbers) (s
           by_either (inr h) = absurd h
 
   -- a nursery, in which no child was started
-  pub took_nursery : (me : ℕ) → EntersNursery me b u label body →
+  pub took_nursery : (me : ℕ) → EntersNursery me b u p.label body →
       Took (with_frames b whole) u (On None) froms numbers
-      (enters_block label shield deadline b.tick body (rest.in_nursery []) (frames_of numbers b.frames) ps)
+      (makes (rest.enters p.label b.tick deadline ∷ []) (rest.steps_left body ∷ rest.in_nursery [] ∷ frames_of numbers b.frames) (p ∷ ps))
   took_nursery me n =
       record {
         numbers_after = more;
@@ -167,16 +170,17 @@ module _ (b : State) (whole : List Frame) (froms : Table) (numbers : Numbers) (s
             ∙ ap (λ (gs : List rest.Frame). rest.steps_left body ∷ rest.in_nursery [] ∷ gs)
             (frames_others numbers more b.frames (λ key has. else_where key (subst (λ (bs : List Block). HasBlock key bs) same has)));
         places = enters froms ps fresh stands.places;
+        event = tt;
         moves = (refl, refl);
         entries = [];
         noted = entries ∙ sym (append-nil b.entries);
-        shown = none_noted b.clock (buffer_of b.part) (rest.enters label b.tick deadline ∷ []) refl;
+        shown = none_noted b.clock (buffer_of b.part) (rest.enters p.label b.tick deadline ∷ []) refl;
         tasks = [];
         started = started ∙ sym (append-nil b.started);
         begun = tt;
         last = tt;
         nurseries = nurseries;
-        acts = entered_acts b.tick (scope_at b) (scoping_in b) (scoping_in u) label deadline one;
+        acts = entered_acts b.tick (scope_at b) p.is_event (scoping_in b) (scoping_in u) p.label deadline one;
         own = cancelled;
       }
     where
@@ -225,7 +229,7 @@ module _ (b : State) (whole : List Frame) (froms : Table) (numbers : Numbers) (s
 
       by_either : (key : ℕ) → HasBlock key (blocks_of whole) ⊎ ((key ≡ n.id) ⊎ ⊥) → HasNursery u.book key (Numbered key)
       by_either key (inl has) =
-          updated_has b.book u.book n.id (Some (new_nursery n.scope me label)) key (λ x. length (numbers key) ≡ length x.children)
+          updated_has b.book u.book n.id (Some (new_nursery n.scope me p.label)) key (λ x. length (numbers key) ≡ length x.children)
           (Numbered key) n.stands
           (λ is x found long. absurd (closed key x is found)) (λ differs x found long. ap (λ (ns : List ℕ). length ns) (else_where key has)
           ∙ long) (stands.numbered key has)
@@ -247,7 +251,7 @@ module _ (b : State) (whole : List Frame) (froms : Table) (numbers : Numbers) (s
       nurseries =
           record {
             grow = λ key has m at.
-                updated_has b.book u.book n.id (Some (new_nursery n.scope me label)) key (λ x. x ≡ m)
+                updated_has b.book u.book n.id (Some (new_nursery n.scope me p.label)) key (λ x. x ≡ m)
                 (λ x. Grown b.tick m x (numbers key) (more key)) n.stands
                 (λ is x found one. absurd (closed key x is found))
                 (λ differs x found one.

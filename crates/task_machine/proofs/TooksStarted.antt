@@ -27,7 +27,7 @@ use Rattle.nursery_book.specs.Book.{nursery_at, HasNursery, Updates}
 use Rattle.nursery_book.specs.declared.book.NurseryBook.{NurseryBook}
 use Rattle.task_machine.specs.Noted.{shown_made}
 use Rattle.turn_semantics.specs.Midway.{Place, Begun, own_after}
-use Rattle.turn_semantics.specs.Steps.{begun_one, begun_over, froms_after, step_on}
+use Rattle.turn_semantics.specs.Steps.{with_started, begun_one, begun_over, froms_after, step_on}
 use Rattle.turn_semantics.proofs.Events.{froms_append}
 use Rattle.task_machine.specs.declared.frame.Frame.{Frame}
 use Rattle.task_machine.specs.declared.frame.Frame.TheVariants.{Steps, Nursery}
@@ -35,8 +35,8 @@ use Rattle.task_machine.specs.declared.stop.Moved.TheVariants.{On}
 use Rattle.task_machine.specs.declared.task.Home.{Home}
 use Rattle.task_machine.specs.declared.task.Task.{Task}
 use Rattle.task_machine.specs.Acts.{Acts, scoping_in}
-use Rattle.task_machine.specs.Fitting.{Block, a_nursery, blocks_of}
-use Rattle.task_machine.specs.Frames.{frames_of}
+use Rattle.task_machine.specs.Fitting.{Block, a_nursery, blocks_of, AreLoops}
+use Rattle.task_machine.specs.Frames.{frames_onto, frames_of}
 use Rattle.task_machine.specs.Stacked.{AreAt}
 use Rattle.task_machine.specs.Standing.{HasBlock, HasNurseryOf, Stands, IsBegun, AreBegun, BeginsAt, Took, with_frames}
 use Rattle.task_machine.specs.Started.{IsChild, running_children, home_at, begins_in, StartsOne, AreChildren, StartsOver}
@@ -46,10 +46,12 @@ use Rattle.task_machine.proofs.Acting.{block_of, start_acts, starts_acts}
 use Rattle.task_machine.proofs.Begins.{begins_more}
 use Rattle.task_machine.proofs.Cancelled.{own_started}
 use Rattle.task_machine.proofs.Lists.{got_after, got_first, GotAfter, got_either}
-use Rattle.task_machine.proofs.Nurseries.{has_last, nurseries_put}
+use Rattle.task_machine.proofs.FrameLemmas.{frames_pushed}
+use Rattle.task_machine.proofs.Loops.{body_blocks, onto_append, started_onto, loops_onto}
+use Rattle.task_machine.proofs.Nurseries.{has_last, blocks_pushed, nurseries_put}
 use Rattle.task_machine.proofs.Taking.{shown_append}
 use Rattle.task_machine.proofs.Tooks.{none_noted}
-use Rattle.task_machine.proofs.TooksEntered.{entered_frames, entered_blocks, with_numbers, numbers_put, numbers_else, frames_others}
+use Rattle.task_machine.proofs.TooksEntered.{with_numbers, numbers_put, numbers_else, frames_others}
 
 -- where a task is inside its passes, as its steps see it
 abbrev pub here_inside : State → Here
@@ -100,24 +102,42 @@ all_running (suc k) = All-append (λ (e : End). e ≡ None) (running_children k)
     (All-cons (λ (e : End). e ≡ None) None [] refl (All-nil (λ (e : End). e ≡ None)))
 
 -- the innermost nursery is among the blocks
-has_innermost : (fs gs : List Frame) (id : ℕ) (left : Bor (List Step)) → gs ≡ fs ++ Nursery id ∷ Steps left ∷ [] →
-    HasBlock id (blocks_of gs)
-has_innermost fs gs id left e =
-    subst (λ (bs : List Block). HasBlock id bs) (sym (entered_blocks fs gs (Nursery id) (Steps left) (steps_of left.now) refl e))
-    (has_last id (blocks_of fs) (a_nursery id ∷ [])
-    (inl refl))
+has_innermost : (fs ls outer gs : List Frame) (id : ℕ) (left : Bor (List Step)) → AreLoops ls → outer ≡ fs ++ Nursery id ∷ ls →
+    gs ≡ outer ++ Steps left ∷ [] → HasBlock id (blocks_of gs)
+has_innermost fs ls outer gs id left are within held =
+    subst (λ (bs : List Block). HasBlock id bs)
+    (sym (blocks_pushed outer gs (Steps left) held ∙ append-nil (blocks_of outer) ∙ ap blocks_of within ∙ body_blocks fs ls id are))
+    (has_last id (blocks_of fs) (a_nursery id ∷ []) (inl refl))
+
+-- the frames that enclose the steps, once the nursery has more children with these numbers
+started_frames : (numbers : Numbers) (fs ls outer : List Frame) (id : ℕ) (added : List ℕ) → AreLoops ls → outer ≡ fs ++ Nursery id ∷ ls →
+    (HasBlock id (blocks_of fs) → ⊥) →
+    frames_of (with_numbers numbers id (numbers id ++ added)) outer ≡ with_started added (frames_of numbers outer)
+started_frames numbers fs ls outer id added are within apart =
+    ap (frames_of more) within ∙ onto_append more fs (Nursery id ∷ ls) []
+    ∙ ap (λ (ns : List ℕ). frames_onto more ls (rest.in_nursery ns ∷ frames_of more fs))
+    (numbers_put numbers id (numbers id ++ added) id refl)
+    ∙ ap (λ (gs : List rest.Frame). frames_onto more ls (rest.in_nursery (numbers id ++ added) ∷ gs))
+    (frames_others numbers more fs (λ key has. numbers_else numbers id (numbers id ++ added) key
+    (λ is. apart (subst (λ (k : ℕ). HasBlock k (blocks_of fs)) is has))))
+    ∙ loops_onto numbers more ls (rest.in_nursery (numbers id ++ added) ∷ frames_of numbers fs) are
+    ∙ sym (started_onto numbers added ls (rest.in_nursery (numbers id) ∷ frames_of numbers fs) are)
+    ∙ sym (ap (with_started added) (ap (frames_of numbers) within ∙ onto_append numbers fs (Nursery id ∷ ls) []))
+  where
+    more : Numbers
+    more = with_numbers numbers id (numbers id ++ added)
 
 -- ---- any children that are started in the innermost nursery
 
 -- What is known of a task before it starts children in the nursery in whose body it is: the frames before the move, those inside which
 -- the nursery's body is, and the steps that are left of the body.
-module _ (b : State) (whole fs : List Frame) (id : ℕ) (left : Bor (List Step)) (u : State) (froms : Table) (numbers : Numbers)
+module _ (b : State) (whole fs ls outer : List Frame) (id : ℕ) (left : Bor (List Step)) (u : State) (froms : Table) (numbers : Numbers)
     (stopped : Option Stopped) (ps : List Place) (stands : Stands (with_frames b whole) froms numbers stopped ps)
-    (held : b.frames ≡ fs ++ Nursery id ∷ Steps left ∷ []) (same : blocks_of b.frames ≡ blocks_of whole)
+    (are : AreLoops ls) (within : outer ≡ fs ++ Nursery id ∷ ls) (held : b.frames ≡ outer ++ Steps left ∷ []) (same : blocks_of b.frames ≡ blocks_of whole)
     (apart : HasBlock id (blocks_of fs) → ⊥) (world : u ≡ record b { book = u.book; started = u.started }) where
   -- its nursery is among its blocks
   mine : HasBlock id (blocks_of b.frames)
-  mine = has_innermost fs b.frames id left held
+  mine = has_innermost fs ls outer b.frames id left are within held
 
   innermost : HasBlock id (blocks_of whole)
   innermost = subst (λ (cs : List Block). HasBlock id cs) same mine
@@ -140,7 +160,7 @@ module _ (b : State) (whole fs : List Frame) (id : ℕ) (left : Bor (List Step))
       b.cancelled ≡ own_after b.clock b.cancelled made →
       Took (with_frames b whole) u (On None) froms numbers
       (record {
-        frames = rest.steps_left (steps_of left.now) ∷ rest.in_nursery (numbers id ++ added) ∷ frames_of numbers fs;
+        frames = rest.steps_left (steps_of left.now) ∷ with_started added (frames_of numbers outer);
         places = ps;
         exc = None;
         made = made;
@@ -151,16 +171,13 @@ module _ (b : State) (whole fs : List Frame) (id : ℕ) (left : Bor (List Step))
       record {
         numbers_after = more;
         frames_after =
-            ap (frames_of more) frames_after
-            ∙ entered_frames more fs b.frames (Nursery id) (Steps left) (steps_of left.now) refl held
-            ∙ ap (λ (ns : List ℕ). rest.steps_left (steps_of left.now) ∷ rest.in_nursery ns ∷ frames_of more fs)
-            (numbers_put numbers id (numbers id ++ added) id refl)
-            ∙ ap (λ (gs : List rest.Frame). rest.steps_left (steps_of left.now) ∷ rest.in_nursery (numbers id ++ added) ∷ gs)
-            (frames_others numbers more fs (λ key has. numbers_else numbers id (numbers id ++ added) key
-            (λ is. apart (subst (λ (k : ℕ). HasBlock k (blocks_of fs)) is has))));
+            ap (frames_of more) frames_after ∙ frames_pushed more outer b.frames (Steps left) held
+            ∙ ap (λ (gs : List rest.Frame). rest.steps_left (steps_of left.now) ∷ gs)
+            (started_frames numbers fs ls outer id added are within apart);
         places =
-            subst (λ (f : Table). AreAt u.labels f (stack_in u) ps) (sym quiet)
-            (subst (λ (s : State). AreAt s.labels froms (stack_in s) ps) (sym world) stands.places);
+            subst (λ (f : Table). AreAt u.labels u.events f (stack_in u) ps) (sym quiet)
+            (subst (λ (s : State). AreAt s.labels s.events froms (stack_in s) ps) (sym world) stands.places);
+        event = tt;
         moves = (refl, refl);
         entries = [];
         noted = ap (λ (s : State). s.entries) world ∙ sym (append-nil b.entries);
@@ -401,18 +418,18 @@ begins_over self id n name k body ps first (suc i) tasks c at number e =
 
 -- ---- the children of a `start`
 
-module _ (b : State) (whole fs : List Frame) (id : ℕ) (left : Bor (List Step)) (u : State) (froms : Table) (numbers : Numbers)
+module _ (b : State) (whole fs ls outer : List Frame) (id : ℕ) (left : Bor (List Step)) (u : State) (froms : Table) (numbers : Numbers)
     (stopped : Option Stopped) (ps : List Place) (stands : Stands (with_frames b whole) froms numbers stopped ps)
-    (held : b.frames ≡ fs ++ Nursery id ∷ Steps left ∷ []) (same : blocks_of b.frames ≡ blocks_of whole)
+    (are : AreLoops ls) (within : outer ≡ fs ++ Nursery id ∷ ls) (held : b.frames ≡ outer ++ Steps left ∷ []) (same : blocks_of b.frames ≡ blocks_of whole)
     (apart : HasBlock id (blocks_of fs) → ⊥) (world : u ≡ record b { book = u.book; started = u.started }) (name : List ℕ)
     (body : tree.Steps) (count : ℕ) (in_range : AreInRange body) where
   -- one child is started
   pub took_start : StartsOne b u id (record { name = name; indices = path_at b }) b.part body →
       Took (with_frames b whole) u (On None) froms numbers
       (step_on froms (now_at b) (here_inside b) (tree.start name None body) (steps_of left.now)
-      (rest.in_nursery (numbers id) ∷ frames_of numbers fs) ps count)
+      (frames_of numbers outer) ps count)
   took_start s =
-      took_starts b whole fs id left u froms numbers stopped ps stands held same apart world s.nursery (None ∷ []) (count ∷ []) (s.task ∷ [])
+      took_starts b whole fs ls outer id left u froms numbers stopped ps stands are within held same apart world s.nursery (None ∷ []) (count ∷ []) (s.task ∷ [])
       (begun_one count (here_in (label_here name (here_inside b)) (range_of b.part) (here_inside b)) body ps ∷ [])
       (starts count (label_here name (here_inside b)) (begins_in b) ∷ [])
       s.was s.book (All-cons (λ (e : End). e ≡ None) None [] refl (All-nil (λ (e : End). e ≡ None))) refl
@@ -422,7 +439,7 @@ module _ (b : State) (whole fs : List Frame) (id : ℕ) (left : Bor (List Step))
             (subst (λ (o : Option Members). IsSomeAnd o (λ m. (m.scope ≡ s.nursery.scope)
             × (slice_get m.children (length s.nursery.children + 0) ≡ Some None)))
             (sym s.book.changed) (refl, got_after s.nursery.children (None ∷ []) 0 (length s.nursery.children + 0) refl))
-            (mine b whole fs id left u froms numbers stopped ps stands held same apart world) in_range,
+            (mine b whole fs ls outer id left u froms numbers stopped ps stands are within held same apart world) in_range,
         tt,
       ) refl refl (start_acts b.tick count (label_here name (here_inside b)) (begins_in b) (scoping_in b) (scoping_in b) refl) begins refl
     where
@@ -439,15 +456,15 @@ module _ (b : State) (whole fs : List Frame) (id : ℕ) (left : Bor (List Step))
       got =
           ap (λ (ns : List ℕ). slice_get ns (length s.nursery.children + 0)) (numbers_put numbers id (numbers id ++ count ∷ []) id refl)
           ∙ got_after (numbers id) (count ∷ []) 0 (length s.nursery.children + 0)
-          (ap (λ (x : ℕ). x + 0) (sym (have_numbers b whole fs id left u froms numbers stopped ps stands held same apart world s.nursery s.was)))
+          (ap (λ (x : ℕ). x + 0) (sym (have_numbers b whole fs ls outer id left u froms numbers stopped ps stands are within held same apart world s.nursery s.was)))
 
   -- the given number of children are started
   pub took_start_over : (k : ℕ) → StartsOver b u id name k body k →
       Took (with_frames b whole) u (On None) froms numbers
       (step_on froms (now_at b) (here_inside b) (tree.start name (Some k) body) (steps_of left.now)
-      (rest.in_nursery (numbers id) ∷ frames_of numbers fs) ps count)
+      (frames_of numbers outer) ps count)
   took_start_over k s =
-      took_starts b whole fs id left u froms numbers stopped ps stands held same apart world s.nursery (running_children k)
+      took_starts b whole fs ls outer id left u froms numbers stopped ps stands are within held same apart world s.nursery (running_children k)
       (consecutive count k) s.tasks (begun_over name (here_inside b) k body ps count k)
       (starts_over name (here_inside b) (begins_in b) count k) s.was s.book (all_running k)
       (numbered_length count k ∙ sym (running_length k)) s.started
@@ -456,7 +473,7 @@ module _ (b : State) (whole fs : List Frame) (id : ℕ) (left : Bor (List Step))
       subst (λ (o : Option Members). IsSomeAnd o (λ m. (m.scope ≡ s.nursery.scope)
       × (slice_get m.children (length s.nursery.children + i) ≡ Some None)))
       (sym s.book.changed) (refl, got_after s.nursery.children (running_children k) i (length s.nursery.children + i) refl ∙ running_at k i less))
-      (mine b whole fs id left u froms numbers stopped ps stands held same apart world) in_range k (omega arith) s.tasks s.children)
+      (mine b whole fs ls outer id left u froms numbers stopped ps stands are within held same apart world) in_range k (omega arith) s.tasks s.children)
       (over_froms name (here_inside b) (begins_in b) count k froms)
       (over_unshown b.clock (buffer_of b.part) name (here_inside b) (begins_in b) count k)
       (starts_acts b.tick name (here_inside b) (begins_in b) count k (scoping_in b) (scoping_in b) refl)
@@ -470,5 +487,5 @@ module _ (b : State) (whole fs : List Frame) (id : ℕ) (left : Bor (List Step))
       got i less =
           ap (λ (ns : List ℕ). slice_get ns (length s.nursery.children + i)) (numbers_put numbers id (numbers id ++ consecutive count k) id refl)
           ∙ got_after (numbers id) (consecutive count k) i (length s.nursery.children + i)
-          (ap (λ (x : ℕ). x + i) (sym (have_numbers b whole fs id left u froms numbers stopped ps stands held same apart world s.nursery s.was)))
+          (ap (λ (x : ℕ). x + i) (sym (have_numbers b whole fs ls outer id left u froms numbers stopped ps stands are within held same apart world s.nursery s.was)))
           ∙ numbered_at count k i less

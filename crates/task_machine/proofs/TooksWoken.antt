@@ -1,5 +1,6 @@
 -- A task that continues from where it stopped, as a move of the definitions.
-use Rattle.std.proofs.Common.{◌≡◌, ℕ, Option, Some, None, List, [], ◌∷◌, ◌++◌, map, refl, ap, sym, ◌∙◌, subst}
+use Rattle.std.proofs.Common.{◌≡◌, ℕ, false, Option, Some, None, List, [], ◌∷◌, ◌++◌, map, refl, ap, sym, ◌∙◌, subst}
+use Rattle.std.proofs.lemmas.List.{append-nil}
 use Rattle.std.proofs.lemmas.List.Elements.{All-nil, All-cons, All-head, All-tail}
 use Rattle.std.specs.Prelude.{All}
 use Rattle.std.specs.Option.{option_map}
@@ -8,27 +9,30 @@ use Rattle.buffer_parts.specs.Part.{buffer_of, span_of, IsLineOf}
 use Rattle.buffer_parts.specs.declared.line.Line.{Line}
 use Rattle.exc_groups.specs.declared.exc.Exc as held
 use Rattle.exc_groups.specs.Held.{exc_of}
-use Rattle.exc_groups.specs.Exceptions.{Exc}
+use Rattle.cancel_scopes.specs.Sight.{Level}
+use Rattle.exc_groups.specs.Exceptions.{Label, Exc}
 use Rattle.line_kernels.specs.Answers.{AreLinesAt}
-use Rattle.job_meaning.specs.Log.{Table}
-use Rattle.job_meaning.specs.Moments.{Clock}
+use Rattle.job_meaning.specs.Log.{Table, waited}
+use Rattle.job_meaning.specs.Moments.{Clock, tick_of}
 use Rattle.job_meaning.specs.Walk as meaning
 use Rattle.job_meaning.specs.Rest as rest
 use Rattle.job_meaning.specs.Rest.{Stopped, awaiting}
-use Rattle.job_meaning.specs.Shown.{Shown, line_shown}
+use Rattle.job_meaning.specs.Shown.{Shown, line_shown, wait_shown}
 use Rattle.nursery_book.specs.Nursery.{Nursery as Members}
 use Rattle.nursery_book.specs.Book.{nursery_at, Updates}
 use Rattle.nursery_book.specs.declared.book.NurseryBook.{NurseryBook}
+use Rattle.task_machine.specs.declared.entry.Entry.{Entry}
 use Rattle.task_machine.specs.declared.entry.Entry.TheVariants as entries
 use Rattle.task_machine.specs.Noted.{entry_of, IsSlice, shown_made}
 use Rattle.turn_semantics.specs.Midway.{Place}
 use Rattle.turn_semantics.specs.Placed.{PlacedStop}
-use Rattle.turn_semantics.specs.Steps.{makes, leaves, froms_after}
-use Rattle.turn_semantics.specs.Wakes.{lines_made, leaves_settled}
+use Rattle.turn_semantics.specs.Steps.{onward, makes, leaves, froms_after}
+use Rattle.turn_semantics.specs.Wakes.{lines_made, leaves_settled, notes_wait}
+use Rattle.turn_semantics.proofs.Agreeing.{label_of}
 use Rattle.task_machine.specs.declared.frame.Frame.{Frame}
 use Rattle.block_exits.specs.declared.kind.Kind.TheVariants as kind
 use Rattle.task_machine.specs.declared.stop.Moved.TheVariants.{On}
-use Rattle.task_machine.specs.Acts.{Leaves, scoping_in}
+use Rattle.task_machine.specs.Acts.{Leaves, no_act, act_noted, scoping_in}
 use Rattle.task_machine.specs.Exits.{ExitsAt}
 use Rattle.task_machine.specs.Fitting.{blocks_of}
 use Rattle.task_machine.specs.Frames.{frames_of}
@@ -36,25 +40,26 @@ use Rattle.task_machine.specs.Stacked.{AreAt}
 use Rattle.task_machine.specs.Standing.{HasBlock, Stands, IsOfOther, Took}
 use Rattle.task_machine.specs.States.{State, now_at, stack_in}
 use Rattle.task_machine.specs.Stops.{Numbers}
+use Rattle.task_machine.specs.Worlds.{NotesWait}
 use Rattle.task_machine.proofs.Acting.{lines_acts}
 use Rattle.task_machine.proofs.Cancelled.{own_lines}
 use Rattle.task_machine.proofs.Nurseries.{nurseries_closed}
-use Rattle.task_machine.proofs.Tooks.{took_quiet, took_leaves}
+use Rattle.task_machine.proofs.Tooks.{none_noted, took_quiet, took_leaves}
 
 -- ---- a nursery that is settled
 
 -- a nursery that is waited for has a place, so the list of places is not empty
 by_wait : (P : List Place → Type 0) (kids : List ℕ) (ended : ℕ) (exc : Option Exc) (gs : List rest.Frame) (ps : List Place) →
     PlacedStop (awaiting kids ended exc) gs ps →
-    ((p : Place) (qs : List Place) → ps ≡ p ∷ qs → P (p ∷ qs)) → P ps
+    ((p : Place) (qs : List Place) → ps ≡ p ∷ qs → p.is_event ≡ false → P (p ∷ qs)) → P ps
 by_wait P kids ended exc gs [] placed go = absurd placed
-by_wait P kids ended exc gs (p ∷ ps) placed go = go p ps refl
+by_wait P kids ended exc gs (p ∷ ps) placed go = go p ps refl placed.0
 
 -- the nursery that the task waits for was removed from the book, and is left
 pub took_settled : (b u : State) (book : NurseryBook) (id : ℕ) (kids : List ℕ) (ended : ℕ) (earlier : Option Exc) (exc goes : Option held.Exc)
     (froms : Table) (numbers : Numbers) (ps : List Place) → Stands b froms numbers (Some (awaiting kids ended earlier)) ps →
     (HasBlock id (blocks_of b.frames) → ⊥) → Updates b.book book id None →
-    u ≡ record b { own = u.own; froms = u.froms; entries = u.entries; tree = u.tree; labels = u.labels; book = book } →
+    u ≡ record b { own = u.own; froms = u.froms; entries = u.entries; tree = u.tree; labels = u.labels; events = u.events; book = book } →
     ExitsAt (record b { book = book }) u kind.Nursery (option_map exc_of exc) (option_map exc_of goes) →
     Leaves (scoping_in b) (scoping_in u) → ((n : Members) → nursery_at b.book id ≡ Some n → IsOfOther b.own b.tree n → ⊥) →
     Took b u (On goes) froms numbers (leaves_settled b.clock froms (now_at b) (option_map exc_of exc) (frames_of numbers b.frames) ps)
@@ -75,13 +80,13 @@ took_settled b u book id kids ended earlier exc goes froms numbers ps stands apa
     ended_there : Updates b.book u.book id None
     ended_there = subst (λ (x : NurseryBook). Updates b.book x id None) (sym (ap (λ (s : State). s.book) stays)) closed
 
-    at_place : (p : Place) (qs : List Place) → ps ≡ p ∷ qs → Took b u (On goes) froms numbers
+    at_place : (p : Place) (qs : List Place) → ps ≡ p ∷ qs → p.is_event ≡ false → Took b u (On goes) froms numbers
         (leaves b.clock froms (now_at b) meaning.a_nursery gs p qs e)
-    at_place p qs is =
+    at_place p qs is scope =
         subst (λ (fs : List Frame). Took b u (On goes) froms numbers
         (leaves b.clock froms (now_at b) meaning.a_nursery (frames_of numbers fs) p qs e)) left
         (took_leaves b b.frames froms numbers (Some (awaiting kids ended earlier)) ps stands u book meaning.a_nursery e goes p qs
-        (exits froms p qs (subst (λ (rs : List Place). AreAt b.labels froms (stack_in b) rs) is stands.places))
+        (exits froms p qs scope (subst (λ (rs : List Place). AreAt b.labels b.events froms (stack_in b) rs) is stands.places))
         (ap (λ (s : State). s.started) stays) (ap (λ (s : State). s.cancelled) stays)
         (nurseries_closed b u numbers id ended_there apart mine left stands.numbered) one)
 
@@ -121,5 +126,32 @@ took_lines b froms numbers stopped ps spans lines stands at =
           ∙ ap (λ (ss : List Span). shown_made b.clock (buffer_of b.part) (lines_made b.tick ss)) at.places;
       slices = lines_slices (buffer_of b.part) lines at.texts;
     })
-    refl refl (subst (λ (f : Table). AreAt b.labels f (stack_in b) ps) (sym (lines_quiet b.tick spans froms)) stands.places) (refl, refl) refl
+    refl refl (subst (λ (f : Table). AreAt b.labels b.events f (stack_in b) ps) (sym (lines_quiet b.tick spans froms)) stands.places) tt
+    (refl, refl) refl
     (lines_acts b.tick b.tick spans (scoping_in b) (scoping_in b) refl) (own_lines b.clock b.cancelled b.tick spans)
+
+-- ---- a wait that ended
+
+-- the task notes it, if there is such an event, and continues
+pub took_noted : (b : State) (froms : Table) (numbers : Numbers) (stopped : Option Stopped) (ps : List Place) →
+    Stands b froms numbers stopped ps → (entries : List Entry) (level : Option (Level Label)) →
+    NotesWait (label_of level) (tick_of b.clock b.tick) b.entries entries →
+    Took b (record b { entries = entries }) (On None) froms numbers (notes_wait level b.tick (frames_of numbers b.frames) ps)
+took_noted b froms numbers stopped ps stands es None notes =
+    let u : State = record b { entries = es } in
+    took_quiet b b.frames froms numbers stopped ps stands u (On None) (onward (frames_of numbers b.frames) ps None) []
+    (record { book = refl; started = refl; noted = notes ∙ sym (append-nil b.entries); kept = λ id has. has; back = λ id has. has })
+    (none_noted b.clock (buffer_of b.part) [] refl) refl refl stands.places tt (refl, refl) refl (no_act (scoping_in b)) refl
+took_noted b froms numbers stopped ps stands es (Some l) notes =
+    let u : State = record b { entries = es } in
+    let tick : ℕ = tick_of b.clock b.tick in
+    let one : Entry = entries.Wait notes.0 tick in
+    took_quiet b b.frames froms numbers stopped ps stands u (On None)
+    (makes (rest.noted b.tick (waited l.label) ∷ []) (frames_of numbers b.frames) ps) (one ∷ [])
+    (record { book = refl; started = refl; noted = notes.2; kept = λ id has. has; back = λ id has. has })
+    (record {
+      shown = ap (λ (x : Label). wait_shown x tick ∷ []) notes.1;
+      slices = All-cons (IsSlice (buffer_of b.part)) one [] tt (All-nil (IsSlice (buffer_of b.part)));
+    })
+    refl refl stands.places tt (refl, refl) refl
+    (act_noted (scoping_in b) (scoping_in b) b.tick (waited l.label) [] (no_act (scoping_in b))) refl

@@ -120,7 +120,14 @@ keeps_then me before mid after old w new h k =
           }) h.task;
       world =
           k.world
-          ∙ ap (λ (x : World). record x { scopes = new.scopes; labels = new.labels; book = new.book; started = new.started }) h.world;
+          ∙ ap (λ (x : World). record x {
+            scopes = new.scopes;
+            labels = new.labels;
+            events = new.events;
+            set = new.set;
+            book = new.book;
+            started = new.started;
+          }) h.world;
       in_range = k.in_range;
       waiters = opened_then me old.book w.book new.book h.waiters k.waiters;
     }
@@ -128,7 +135,7 @@ keeps_then me before mid after old w new h k =
 -- what a wake leaves as it was, after what the task had cancelled itself was forgotten
 pub keeps_woken : (me : ℕ) (before mid after : Task) (old new : World) → mid ≡ record before { cancelled = mid.cancelled } →
     after ≡ record mid { own = after.own; task_state = after.task_state; entries = after.entries; froms = after.froms } →
-    new ≡ record old { scopes = new.scopes; labels = new.labels; book = new.book } → IsInRangeTaskState after.task_state →
+    new ≡ record old { scopes = new.scopes; labels = new.labels; events = new.events; book = new.book } → IsInRangeTaskState after.task_state →
     SameWaiters old.book new.book → KeepsRest me before after old new
 keeps_woken me before mid after old new forgot task world in_range waiters =
     let whole =
@@ -147,7 +154,18 @@ keeps_woken me before mid after old new forgot task world in_range waiters =
             froms = after.froms;
             cancelled = t.cancelled;
           }) (sym whole);
-      world = world ∙ ap (λ (w : World). record old { scopes = new.scopes; labels = new.labels; book = new.book; started = w.started }) (sym world);
+      world =
+          world
+          ∙ ap
+          (λ (w : World).
+          record old {
+            scopes = new.scopes;
+            labels = new.labels;
+            events = new.events;
+            set = w.set;
+            book = new.book;
+            started = w.started;
+          }) (sym world);
       in_range = in_range;
       waiters = opened_none me old.book new.book waiters;
     }
@@ -175,10 +193,10 @@ keeps_task me before after world task in_range =
       waiters = opened_still me world.book;
     }
 
--- what a task that entered a scope or nursery left as it was
+-- what a task that entered a scope, nursery or event left as it was
 pub keeps_entered : (me : ℕ) (before after : Task) (old new : World) →
     after ≡ record before { frames = after.frames; own = after.own; froms = after.froms } →
-    new ≡ record old { scopes = new.scopes; labels = new.labels; book = new.book } → IsInRangeTaskState before.task_state →
+    new ≡ record old { scopes = new.scopes; labels = new.labels; events = new.events; book = new.book } → IsInRangeTaskState before.task_state →
     OpenedBy me old.book new.book → KeepsRest me before after old new
 keeps_entered me before after old new task world in_range waiters =
     record {
@@ -194,15 +212,26 @@ keeps_entered me before after old new task world in_range waiters =
             froms = after.froms;
             cancelled = t.cancelled;
           }) (sym task);
-      world = world ∙ ap (λ (w : World). record old { scopes = new.scopes; labels = new.labels; book = new.book; started = w.started }) (sym world);
+      world =
+          world
+          ∙ ap
+          (λ (w : World).
+          record old {
+            scopes = new.scopes;
+            labels = new.labels;
+            events = new.events;
+            set = w.set;
+            book = new.book;
+            started = w.started;
+          }) (sym world);
       in_range = subst IsInRangeTaskState (sym (ap (λ (t : Task). t.task_state) task)) in_range;
       waiters = waiters;
     }
 
--- what a task that cancelled a scope left as it was
-pub keeps_cancelled : (me : ℕ) (before after : Task) (old new : World) → after ≡ record before { cancelled = after.cancelled } →
-    new ≡ record old { scopes = new.scopes } → IsInRangeTaskState before.task_state → KeepsRest me before after old new
-keeps_cancelled me before after old new task world in_range =
+-- what a task that cancelled a scope or set an event left as it was
+keeps_signed : (me : ℕ) (before after : Task) (old new : World) → after ≡ record before { cancelled = after.cancelled } →
+    new ≡ record old { scopes = new.scopes; events = new.events; set = new.set } → IsInRangeTaskState before.task_state → KeepsRest me before after old new
+keeps_signed me before after old new task world in_range =
     record {
       task =
           task
@@ -218,7 +247,28 @@ keeps_cancelled me before after old new task world in_range =
           }) (sym task);
       world =
           world
-          ∙ ap (λ (w : World). record old { scopes = new.scopes; labels = w.labels; book = w.book; started = w.started }) (sym world);
+          ∙ ap
+          (λ (w : World).
+          record old {
+            scopes = new.scopes;
+            labels = w.labels;
+            events = new.events;
+            set = new.set;
+            book = w.book;
+            started = w.started;
+          }) (sym world);
       in_range = subst IsInRangeTaskState (sym (ap (λ (t : Task). t.task_state) task)) in_range;
       waiters = subst (OpenedBy me old.book) (sym (ap (λ (w : World). w.book) world)) (opened_still me old.book);
     }
+
+pub keeps_cancelled : (me : ℕ) (before after : Task) (old new : World) → after ≡ record before { cancelled = after.cancelled } →
+    new ≡ record old { scopes = new.scopes } → IsInRangeTaskState before.task_state → KeepsRest me before after old new
+keeps_cancelled me before after old new task world in_range =
+    keeps_signed me before after old new task
+    (world ∙ ap (λ (w : World). record old { scopes = new.scopes; events = w.events; set = w.set }) (sym world)) in_range
+
+pub keeps_set : (me : ℕ) (before after : Task) (old new : World) → after ≡ record before { cancelled = after.cancelled } →
+    new ≡ record old { events = new.events; set = new.set } → IsInRangeTaskState before.task_state → KeepsRest me before after old new
+keeps_set me before after old new task world in_range =
+    keeps_signed me before after old new task
+    (world ∙ ap (λ (w : World). record old { scopes = w.scopes; events = new.events; set = new.set }) (sym world)) in_range

@@ -1,44 +1,50 @@
 -- What the code does first for a task that wakes, as the definitions' wake: one lemma for each way.
-use Rattle.std.proofs.Common.{◌≡◌, ◌⊎◌, inl, inr, ℕ, zero, suc, Bool, true, false, Option, Some, None, List, ◌++◌, map, refl, ap, sym, ◌∙◌, subst}
+use Rattle.std.proofs.Common.{◌≡◌, ℕ, suc, Bool, true, false, Option, Some, None, List, ◌++◌, map, refl, ap, sym, ◌∙◌, subst}
 use Rattle.std.specs.Option.{option_map}
 use Rattle.buffer_parts.specs.Lines.{Span}
 use Rattle.buffer_parts.specs.Part.{buffer_of}
 use Rattle.buffer_parts.specs.declared.line.Line.{Line}
 use Rattle.exc_groups.specs.declared.exc.Exc as held
 use Rattle.exc_groups.specs.Held.{exc_of}
-use Rattle.exc_groups.specs.Exceptions.{Exc, cancelled, raised}
+use Rattle.exc_groups.specs.Exceptions.{Label, Exc, cancelled, raised}
 use Rattle.line_kernels.specs.Answers.{AreLinesAt}
 use Rattle.line_kernels.specs.declared.kernel.Kernel.{Kernel}
 use Rattle.job_meaning.specs.Log.{Table}
 use Rattle.job_meaning.specs.Moments.{tick_of}
-use Rattle.job_meaning.specs.Walk.{pace_ticks}
+use Rattle.job_meaning.specs.Walk.{event_on, pace_ticks}
 use Rattle.job_meaning.specs.Rest as rest
-use Rattle.job_meaning.specs.Rest.{Stopped, to_begin, asking, asleep, giving_up, awaiting, at_end}
+use Rattle.job_meaning.specs.Rest.{Stopped, to_begin, asking, asleep, waiting_for, giving_up, awaiting, at_end}
 use Rattle.job_meaning.specs.Asking as ask
 use Rattle.nursery_book.specs.Nursery.{Nursery}
 use Rattle.nursery_book.specs.Book.{nursery_at, HasNursery, Updates}
 use Rattle.nursery_book.specs.declared.book.NurseryBook.{NurseryBook}
 use Rattle.task_machine.specs.declared.entry.Entry.TheVariants as entries
-use Rattle.turn_semantics.specs.Midway.{Place, Move}
+use Rattle.turn_semantics.specs.Midway.{Place, label_among, stack_at, Move}
 use Rattle.turn_semantics.specs.Steps.{onward, blocks_on, sleeps}
-use Rattle.turn_semantics.specs.Wakes.{Wake, begins, sees, gives_up, is_due, has_answer, settles, goes_on_with, sees_from, wake_of}
+use Rattle.turn_semantics.specs.Wakes.{Wake, begins, sees, gives_up, is_due, has_answer, settles, goes_on_with, gives_up_if, is_due_from, wake_of}
+use Rattle.turn_semantics.proofs.Agreeing.{event_found}
 use Rattle.block_exits.specs.declared.kind.Kind.TheVariants as kind
 use Rattle.task_machine.specs.declared.stop.TaskState.{TaskState}
-use Rattle.task_machine.specs.declared.stop.TaskState.TheVariants.{Asked, Asleep, GivingUp, Awaits}
+use Rattle.task_machine.specs.declared.stop.TaskState.TheVariants.{Asked, Asleep, Waiting, GivingUp, Awaits}
 use Rattle.task_machine.specs.declared.stop.Moved.{Moved}
 use Rattle.task_machine.specs.declared.stop.Moved.TheVariants.{On, Stops}
 use Rattle.task_machine.specs.declared.stop.Stop.TheVariants.{GiveUp}
 use Rattle.task_machine.specs.declared.stop.Purpose.{Purpose}
+use Rattle.task_machine.specs.declared.stop.Wake.TheVariants.{Seen}
 use Rattle.task_machine.specs.Acts.{Leaves, scoping_in}
+use Rattle.task_machine.specs.Events.{at_checkpoint}
 use Rattle.task_machine.specs.Exits.{ExitsAt}
 use Rattle.task_machine.specs.Fitting.{blocks_of}
 use Rattle.task_machine.specs.Frames.{frames_of}
-use Rattle.task_machine.specs.Stacked.{AreAt}
+use Rattle.task_machine.specs.Stacked.{AreAt, IsKey, AwaitsEvent}
 use Rattle.task_machine.specs.Standing.{Wakens, wake_at, HasBlock, Stands, IsOfOther, Took}
 use Rattle.task_machine.specs.States.{State, here_at, now_at, stack_in}
 use Rattle.task_machine.specs.Stops.{Numbers, kernel_in, purpose_in, IsTaskState, MovesAs}
+use Rattle.task_machine.specs.Waking.{WakesFrom}
+use Rattle.task_machine.specs.Worlds.{NotesWait}
 use Rattle.task_machine.proofs.Tooks.{took_task_states, took_sleep}
-use Rattle.task_machine.proofs.TooksWoken.{took_settled, took_lines}
+use Rattle.task_machine.proofs.TooksWoken.{took_settled, took_lines, took_noted}
+use Rattle.task_machine.proofs.Waits.{sees_as}
 
 -- ---- where a task stopped, by its blocked state
 
@@ -50,6 +56,7 @@ task_states_asked numbers book kernel purpose to_begin h = absurd h
 task_states_asked numbers book kernel purpose (asking k p) h =
     sym (ap (λ (x : ask.Kernel). asking x (purpose_in purpose)) h.0 ∙ ap (λ (x : ask.Purpose). asking k x) h.1)
 task_states_asked numbers book kernel purpose (asleep p n u) h = absurd h
+task_states_asked numbers book kernel purpose (waiting_for name u) h = absurd h
 task_states_asked numbers book kernel purpose (giving_up u) h = absurd h
 task_states_asked numbers book kernel purpose (awaiting kids u exc) h = absurd h
 task_states_asked numbers book kernel purpose (at_end u e) h = absurd h
@@ -61,9 +68,26 @@ task_states_asleep numbers book paced ticks since to_begin h = absurd h
 task_states_asleep numbers book paced ticks since (asking k p) h = absurd h
 task_states_asleep numbers book paced ticks since (asleep p n u) h =
     sym (ap (λ (b : Bool). asleep b ticks since) h.0 ∙ ap (λ (m : ℕ). asleep p m since) h.1 ∙ ap (λ (v : ℕ). asleep p n v) h.2)
+task_states_asleep numbers book paced ticks since (waiting_for name u) h = absurd h
 task_states_asleep numbers book paced ticks since (giving_up u) h = absurd h
 task_states_asleep numbers book paced ticks since (awaiting kids u exc) h = absurd h
 task_states_asleep numbers book paced ticks since (at_end u e) h = absurd h
+
+-- a task that waits for an event stopped to do so, by some name
+pub record WaitsSo (since : ℕ) (stopped : Stopped) : Type 0 where
+  pub name : List ℕ
+  pub is : stopped ≡ waiting_for name since
+
+pub task_states_waiting : (numbers : Numbers) (book : NurseryBook) (event since : ℕ) (stopped : Stopped) →
+    IsTaskState numbers book (Waiting event since) stopped → WaitsSo since stopped
+task_states_waiting numbers book event since to_begin h = absurd h
+task_states_waiting numbers book event since (asking k p) h = absurd h
+task_states_waiting numbers book event since (asleep p n u) h = absurd h
+task_states_waiting numbers book event since (waiting_for name u) h =
+    record { name = name; is = ap (λ (v : ℕ). waiting_for name v) (sym h) }
+task_states_waiting numbers book event since (giving_up u) h = absurd h
+task_states_waiting numbers book event since (awaiting kids u exc) h = absurd h
+task_states_waiting numbers book event since (at_end u e) h = absurd h
 
 -- a wait is for the nursery's children, as they are numbered, and its body ended so
 pub record AwaitsSo (numbers : Numbers) (book : NurseryBook) (id since : ℕ) (stopped : Stopped) : Type 0 where
@@ -77,6 +101,7 @@ pub task_states_awaits : (numbers : Numbers) (book : NurseryBook) (id since : �
 task_states_awaits numbers book id since to_begin h = absurd h
 task_states_awaits numbers book id since (asking k p) h = absurd h
 task_states_awaits numbers book id since (asleep p n u) h = absurd h
+task_states_awaits numbers book id since (waiting_for name u) h = absurd h
 task_states_awaits numbers book id since (giving_up u) h = absurd h
 task_states_awaits numbers book id since (awaiting kids u exc) h =
     record { exc = exc; is = sym (ap (λ (ns : List ℕ). awaiting ns since exc) h.0 ∙ ap (λ (n : ℕ). awaiting kids n exc) h.1); body = h.2 }
@@ -93,60 +118,83 @@ wakes_onward : (s : State) (exc : Option held.Exc) (w : Wake) →
 wakes_onward s exc w is froms numbers stopped ps stands task_state =
     subst (λ (o : Move). Took s s (On exc) froms numbers o) (sym (is froms numbers stopped (frames_of numbers s.frames) ps task_state))
     (took_task_states s s.frames froms numbers (Some stopped) ps stands s.frames s.task_state (On exc)
-    (onward (frames_of numbers s.frames) ps (option_map exc_of exc)) refl refl refl refl refl tt (refl, refl))
+    (onward (frames_of numbers s.frames) ps (option_map exc_of exc)) refl refl refl refl refl tt (refl, refl) tt)
 
 -- it begins
 pub wakes_begin : (s : State) → Wakens s s (On None) begins
 wakes_begin s = wakes_onward s None begins (λ froms numbers stopped fs ps h. refl)
 
--- its sleep is over
-pub wakes_due : (s : State) → Wakens s s (On None) is_due
-wakes_due s = wakes_onward s None is_due (λ froms numbers stopped fs ps h. refl)
-
 -- a round ago it was cancelled at a checkpoint
 pub wakes_gives_up : (s : State) (exc : Option held.Exc) → option_map exc_of exc ≡ Some cancelled → Wakens s s (On exc) gives_up
 wakes_gives_up s exc is = wakes_onward s exc gives_up (λ froms numbers stopped fs ps h. ap (λ (e : Option Exc). onward fs ps e) (sym is))
 
--- a task that sleeps
-module _ (s : State) (paced : Bool) (ticks since : ℕ) (sleeps_so : s.task_state ≡ Asleep paced ticks since) where
-  slept : (numbers : Numbers) (stopped : Stopped) → IsTaskState numbers s.book s.task_state stopped → stopped ≡ asleep paced ticks since
-  slept numbers stopped h =
-      task_states_asleep numbers s.book paced ticks since stopped
-      (subst (λ (x : TaskState). IsTaskState numbers s.book x stopped) sleeps_so h)
+-- its sleep is over
+pub wakes_due : (s : State) (paced : Bool) (ticks since : ℕ) → s.task_state ≡ Asleep paced ticks since → Wakens s s (On None) is_due
+wakes_due s paced ticks since sleeps_so =
+    wakes_onward s None is_due
+    (λ froms numbers stopped fs ps h.
+    ap (λ (x : Stopped). is_due_from froms s.tick x fs ps)
+    (task_states_asleep numbers s.book paced ticks since stopped
+    (subst (λ (x : TaskState). IsTaskState numbers s.book x stopped) sleeps_so h)))
 
-  -- it sees a cancellation, and raises if it is not at a checkpoint
-  pub wakes_seen : (exc : Option held.Exc) → option_map exc_of exc ≡ Some cancelled → (paced ≡ true) ⊎ (ticks ≡ 0 → ⊥) →
+-- ---- a task that sees a cancellation
+
+module _ (s : State) (fits : WakesFrom s.task_state s.part s.book Seen) where
+  -- what the definitions do
+  seen_so : (froms : Table) (numbers : Numbers) (stopped : Stopped) (ps : List Place) → Stands s froms numbers (Some stopped) ps →
+      IsTaskState numbers s.book s.task_state stopped →
+      wake_of froms (now_at s) (here_at s) sees stopped (frames_of numbers s.frames) ps
+      ≡ gives_up_if (at_checkpoint s.clock s.events s.task_state) s.tick (frames_of numbers s.frames) ps
+  seen_so froms numbers stopped ps stands h =
+      sees_as s.clock s.labels s.events froms (stack_in s) ps numbers s.book s.part s.tick stands.places stands.own s.task_state stopped
+      stands.event fits h (frames_of numbers s.frames)
+
+  -- it raises if it is not at a checkpoint
+  pub wakes_seen : (exc : Option held.Exc) → option_map exc_of exc ≡ Some cancelled → at_checkpoint s.clock s.events s.task_state ≡ false →
       Wakens s s (On exc) sees
-  wakes_seen exc is some =
-      wakes_onward s exc sees
-      (λ froms numbers stopped fs ps h.
-      ap (λ (x : Stopped). sees_from s.tick x fs ps) (slept numbers stopped h) ∙ by_sleep paced ticks some fs ps
-      ∙ ap (λ (e : Option Exc). onward fs ps e) (sym is))
-    where
-      by_sleep : (b : Bool) (n : ℕ) → (b ≡ true) ⊎ (n ≡ 0 → ⊥) → (fs : List rest.Frame) (ps : List Place) →
-          sees_from s.tick (asleep b n since) fs ps ≡ onward fs ps (Some cancelled)
-      by_sleep true n some fs ps = refl
-      by_sleep false zero (inl e) fs ps = absurd (let f : false ≡ true = e in cc)
-      by_sleep false zero (inr e) fs ps = absurd (e refl)
-      by_sleep false (suc n) some fs ps = refl
+  wakes_seen exc is not_at froms numbers stopped ps stands task_state =
+      let gs = frames_of numbers s.frames in
+      subst (λ (o : Move). Took s s (On exc) froms numbers o)
+      (sym (seen_so froms numbers stopped ps stands task_state ∙ ap (λ (b : Bool). gives_up_if b s.tick gs ps) not_at
+      ∙ ap (λ (e : Option Exc). onward gs ps e) (sym is)))
+      (took_task_states s s.frames froms numbers (Some stopped) ps stands s.frames s.task_state (On exc) (onward gs ps (option_map exc_of exc))
+      refl refl refl refl refl tt (refl, refl) tt)
 
   -- at a checkpoint it gives up, and raises a round later
-  pub wakes_at_checkpoint : (u : State) (goes : Moved) (due : ℕ) → paced ≡ false → ticks ≡ 0 → due ≡ suc s.tick →
+  pub wakes_at_checkpoint : (u : State) (goes : Moved) (due : ℕ) → at_checkpoint s.clock s.events s.task_state ≡ true → due ≡ suc s.tick →
       u ≡ record s { task_state = GivingUp s.tick } → goes ≡ Stops (GiveUp due) → Wakens s u goes sees
-  wakes_at_checkpoint u goes due is none later stays stops froms numbers stopped ps stands task_state =
+  wakes_at_checkpoint u goes due at later stays stops froms numbers stopped ps stands task_state =
       let gs = frames_of numbers s.frames in
-      subst (λ (g : Moved). Took s u g froms numbers (sees_from s.tick stopped gs ps)) (sym stops)
-      (subst (λ (v : State). Took s v (Stops (GiveUp due)) froms numbers (sees_from s.tick stopped gs ps)) (sym stays)
-      (subst (λ (o : Move). Took s (record s { task_state = GivingUp s.tick }) (Stops (GiveUp due)) froms numbers o)
-      (sym (ap (λ (x : Stopped). sees_from s.tick x gs ps) (slept numbers stopped task_state) ∙ by_sleep paced ticks is none gs))
+      let o : Move = wake_of froms (now_at s) (here_at s) sees stopped gs ps in
+      subst (λ (g : Moved). Took s u g froms numbers o) (sym stops)
+      (subst (λ (v : State). Took s v (Stops (GiveUp due)) froms numbers o) (sym stays)
+      (subst (λ (m : Move). Took s (record s { task_state = GivingUp s.tick }) (Stops (GiveUp due)) froms numbers m)
+      (sym (seen_so froms numbers stopped ps stands task_state ∙ ap (λ (b : Bool). gives_up_if b s.tick gs ps) at))
       (took_task_states s s.frames froms numbers (Some stopped) ps stands s.frames (GivingUp s.tick) (Stops (GiveUp due))
-      (blocks_on (giving_up s.tick) gs ps) refl refl refl refl refl tt (refl, (refl, later)))))
-    where
-      by_sleep : (b : Bool) (n : ℕ) → b ≡ false → n ≡ 0 → (fs : List rest.Frame) →
-          sees_from s.tick (asleep b n since) fs ps ≡ blocks_on (giving_up s.tick) fs ps
-      by_sleep true n e f fs = absurd (let g : true ≡ false = e in cc)
-      by_sleep false zero e f fs = refl
-      by_sleep false (suc n) e f fs = absurd (let g : suc n ≡ 0 = f in cc)
+      (blocks_on (giving_up s.tick) gs ps) refl refl refl refl refl tt (refl, (refl, later)) tt)))
+
+-- ---- an event that is set
+
+-- the task notes that it waited
+pub wakes_noted : (s u : State) (key since : ℕ) → s.task_state ≡ Waiting key since → u ≡ record s { entries = u.entries } →
+    NotesWait (s.labels key) (tick_of s.clock s.tick) s.entries u.entries → Wakens s u (On None) is_due
+wakes_noted s u key since waits stays notes froms numbers stopped ps stands task_state =
+    subst (λ (v : State). Took s v (On None) froms numbers (wake_at s is_due stopped froms numbers ps)) (sym stays)
+    (subst (λ (x : Stopped). Took s (record s { entries = u.entries }) (On None) froms numbers (wake_at s is_due x froms numbers ps))
+    (sym w.is)
+    (took_noted s froms numbers (Some stopped) ps stands u.entries (event_on w.name (stack_at froms ps).events)
+    (subst (λ (o : Option Label). NotesWait o (tick_of s.clock s.tick) s.entries u.entries)
+    (event.1 ∙ sym (event_found froms w.name ps)) notes)))
+  where
+    w : WaitsSo since stopped
+    w =
+        task_states_waiting numbers s.book key since stopped
+        (subst (λ (x : TaskState). IsTaskState numbers s.book x stopped) waits task_state)
+
+    event : IsKey key (stack_in s) × (s.labels key ≡ label_among true w.name ps)
+    event =
+        subst (λ (x : TaskState). AwaitsEvent s.labels (stack_in s) (Some (waiting_for w.name since)) x ps) waits
+        (subst (λ (x : Stopped). AwaitsEvent s.labels (stack_in s) (Some x) s.task_state ps) w.is stands.event)
 
 -- ---- a kernel's answer
 
@@ -182,13 +230,13 @@ module _ (s : State) (kernel : Kernel) (purpose : Purpose) (asked : s.task_state
       (sym (answered_as froms numbers stopped gs ps ask.missing task_state
       ∙ ap (λ (p : ask.Purpose). goes_on_with froms s.tick (here_at s) ask.missing p gs ps) for_name))
       (took_task_states s s.frames froms numbers (Some stopped) ps stands s.frames s.task_state goes
-      (onward gs ps (Some (raised name s.label (tick_of s.clock s.tick)))) refl refl refl refl refl tt (raises numbers s.book gs ps))
+      (onward gs ps (Some (raised name s.label (tick_of s.clock s.tick)))) refl refl refl refl refl tt (raises numbers s.book gs ps) tt)
 
   -- lines were counted to sleep by
   pub wakes_counted : (u : State) (goes : Moved) (k n ticks : ℕ) → purpose_in purpose ≡ ask.paces k → ticks ≡ pace_ticks n k →
       u ≡ record s { task_state = u.task_state } →
       ((froms : Table) (numbers : Numbers) (book : NurseryBook) (fs : List rest.Frame) (ps : List Place) →
-      AreAt s.labels froms (stack_in s) ps →
+      AreAt s.labels s.events froms (stack_in s) ps →
       MovesAs s.clock numbers book s.part goes u.task_state (sleeps s.clock froms true ticks s.tick fs ps)) →
       Wakens s u goes (has_answer (ask.counted n))
   wakes_counted u goes k n ticks by_count long stays sleep froms numbers stopped ps stands task_state =
@@ -215,7 +263,7 @@ module _ (s : State) (kernel : Kernel) (purpose : Purpose) (asked : s.task_state
 -- the nursery that it waits for is closed and left; none of its blocks has it
 pub wakes_settled : (s u : State) (book : NurseryBook) (id since : ℕ) (exc goes : Option held.Exc) → s.task_state ≡ Awaits id since →
     (HasBlock id (blocks_of s.frames) → ⊥) → Updates s.book book id None →
-    u ≡ record s { own = u.own; froms = u.froms; entries = u.entries; tree = u.tree; labels = u.labels; book = book } →
+    u ≡ record s { own = u.own; froms = u.froms; entries = u.entries; tree = u.tree; labels = u.labels; events = u.events; book = book } →
     ExitsAt (record s { book = book }) u kind.Nursery (option_map exc_of exc) (option_map exc_of goes) →
     Leaves (scoping_in s) (scoping_in u) →
     ((n : Nursery) → nursery_at s.book id ≡ Some n → IsOfOther s.own s.tree n → ⊥) →

@@ -8,19 +8,19 @@ use Rattle.job_meaning.specs.Log.{Table}
 use Rattle.job_meaning.specs.Moments.{Now}
 use Rattle.job_meaning.specs.Walk.{Here}
 use Rattle.job_meaning.specs.Rest as rest
-use Rattle.job_meaning.specs.Rest.{Stopped, to_begin, asking, asleep, giving_up, awaiting, at_end}
+use Rattle.job_meaning.specs.Rest.{Stopped, to_begin, asking, asleep, waiting_for, giving_up, awaiting, at_end}
 use Rattle.buffer_parts.specs.declared.part.Part.{Part}
 use Rattle.nursery_book.specs.declared.book.NurseryBook.{NurseryBook}
 use Rattle.turn_semantics.specs.Midway.{Place, Midway, Move, then_move, own_after, now_after}
 use Rattle.turn_semantics.specs.Placed.{PlacedAfter}
 use Rattle.turn_semantics.specs.Names.{NewIn, OwnNames, names_at, StaysNew}
 use Rattle.turn_semantics.specs.Steps.{froms_after, turn_of}
-use Rattle.turn_semantics.specs.Wakes.{CanWake, from_start, from_asking, from_sleep, from_due, from_giving_up, from_wait, turn_from}
+use Rattle.turn_semantics.specs.Wakes.{CanWake, from_start, from_asking, from_sleep, from_due, from_seen_waiting, from_set, from_giving_up, from_wait, turn_from}
 use Rattle.turn_semantics.specs.Wakes as wakes
 use Rattle.turn_semantics.proofs.Waking.{turned_from}
 use Rattle.turn_semantics.proofs.Names.{turn_stays_new}
 use Rattle.task_machine.specs.declared.stop.TaskState.{TaskState}
-use Rattle.task_machine.specs.declared.stop.TaskState.TheVariants.{ToBegin, Asked, Asleep, GivingUp, Awaits, Over}
+use Rattle.task_machine.specs.declared.stop.TaskState.TheVariants.{ToBegin, Asked, Asleep, Waiting, GivingUp, Awaits, Over}
 use Rattle.task_machine.specs.declared.stop.Moved.TheVariants.{On, Stops}
 use Rattle.task_machine.specs.declared.stop.Stop.{Stop}
 use Rattle.task_machine.specs.declared.stop.Wake.{Wake}
@@ -40,12 +40,14 @@ pub can_wake : (task_state : TaskState) (part : Part) (book : NurseryBook) (numb
 can_wake (ToBegin x) part book numbers Begin to_begin f h = from_start
 can_wake (ToBegin x) part book numbers Begin (asking l q) f h = absurd h
 can_wake (ToBegin x) part book numbers Begin (asleep r2 m v) f h = absurd h
+can_wake (ToBegin x) part book numbers Begin (waiting_for name v) f h = absurd h
 can_wake (ToBegin x) part book numbers Begin (giving_up v) f h = absurd h
 can_wake (ToBegin x) part book numbers Begin (awaiting cs v e) f h = absurd h
 can_wake (ToBegin x) part book numbers Begin (at_end v e) f h = absurd h
 can_wake (ToBegin x) part book numbers Due to_begin f h = from_start
 can_wake (ToBegin x) part book numbers Due (asking l q) f h = absurd h
 can_wake (ToBegin x) part book numbers Due (asleep r2 m v) f h = absurd h
+can_wake (ToBegin x) part book numbers Due (waiting_for name v) f h = absurd h
 can_wake (ToBegin x) part book numbers Due (giving_up v) f h = absurd h
 can_wake (ToBegin x) part book numbers Due (awaiting cs v e) f h = absurd h
 can_wake (ToBegin x) part book numbers Due (at_end v e) f h = absurd h
@@ -58,6 +60,7 @@ can_wake (Asked k p) part book numbers Seen s f h = absurd f
 can_wake (Asked k p) part book numbers (Answer a) to_begin f h = absurd h
 can_wake (Asked k p) part book numbers (Answer a) (asking l q) f h = from_asking
 can_wake (Asked k p) part book numbers (Answer a) (asleep r2 m v) f h = absurd h
+can_wake (Asked k p) part book numbers (Answer a) (waiting_for name v) f h = absurd h
 can_wake (Asked k p) part book numbers (Answer a) (giving_up v) f h = absurd h
 can_wake (Asked k p) part book numbers (Answer a) (awaiting cs v e) f h = absurd h
 can_wake (Asked k p) part book numbers (Answer a) (at_end v e) f h = absurd h
@@ -66,21 +69,41 @@ can_wake (Asleep r n u) part book numbers Begin s f h = absurd f
 can_wake (Asleep r n u) part book numbers Due to_begin f h = absurd h
 can_wake (Asleep r n u) part book numbers Due (asking l q) f h = absurd h
 can_wake (Asleep r n u) part book numbers Due (asleep r2 m v) f h = from_due
+can_wake (Asleep r n u) part book numbers Due (waiting_for name v) f h = absurd h
 can_wake (Asleep r n u) part book numbers Due (giving_up v) f h = absurd h
 can_wake (Asleep r n u) part book numbers Due (awaiting cs v e) f h = absurd h
 can_wake (Asleep r n u) part book numbers Due (at_end v e) f h = absurd h
 can_wake (Asleep r n u) part book numbers Seen to_begin f h = absurd h
 can_wake (Asleep r n u) part book numbers Seen (asking l q) f h = absurd h
 can_wake (Asleep r n u) part book numbers Seen (asleep r2 m v) f h = from_sleep
+can_wake (Asleep r n u) part book numbers Seen (waiting_for name v) f h = absurd h
 can_wake (Asleep r n u) part book numbers Seen (giving_up v) f h = absurd h
 can_wake (Asleep r n u) part book numbers Seen (awaiting cs v e) f h = absurd h
 can_wake (Asleep r n u) part book numbers Seen (at_end v e) f h = absurd h
 can_wake (Asleep r n u) part book numbers (Answer a) s f h = absurd f
 can_wake (Asleep r n u) part book numbers Settled s f h = absurd f
+can_wake (Waiting event u) part book numbers Begin s f h = absurd f
+can_wake (Waiting event u) part book numbers Due to_begin f h = absurd h
+can_wake (Waiting event u) part book numbers Due (asking l q) f h = absurd h
+can_wake (Waiting event u) part book numbers Due (asleep r2 m v) f h = absurd h
+can_wake (Waiting event u) part book numbers Due (waiting_for name v) f h = from_set
+can_wake (Waiting event u) part book numbers Due (giving_up v) f h = absurd h
+can_wake (Waiting event u) part book numbers Due (awaiting cs v e) f h = absurd h
+can_wake (Waiting event u) part book numbers Due (at_end v e) f h = absurd h
+can_wake (Waiting event u) part book numbers Seen to_begin f h = absurd h
+can_wake (Waiting event u) part book numbers Seen (asking l q) f h = absurd h
+can_wake (Waiting event u) part book numbers Seen (asleep r2 m v) f h = absurd h
+can_wake (Waiting event u) part book numbers Seen (waiting_for name v) f h = from_seen_waiting
+can_wake (Waiting event u) part book numbers Seen (giving_up v) f h = absurd h
+can_wake (Waiting event u) part book numbers Seen (awaiting cs v e) f h = absurd h
+can_wake (Waiting event u) part book numbers Seen (at_end v e) f h = absurd h
+can_wake (Waiting event u) part book numbers (Answer a) s f h = absurd f
+can_wake (Waiting event u) part book numbers Settled s f h = absurd f
 can_wake (GivingUp u) part book numbers Begin s f h = absurd f
 can_wake (GivingUp u) part book numbers Due to_begin f h = absurd h
 can_wake (GivingUp u) part book numbers Due (asking l q) f h = absurd h
 can_wake (GivingUp u) part book numbers Due (asleep r2 m v) f h = absurd h
+can_wake (GivingUp u) part book numbers Due (waiting_for name v) f h = absurd h
 can_wake (GivingUp u) part book numbers Due (giving_up v) f h = from_giving_up
 can_wake (GivingUp u) part book numbers Due (awaiting cs v e) f h = absurd h
 can_wake (GivingUp u) part book numbers Due (at_end v e) f h = absurd h
@@ -91,6 +114,7 @@ can_wake (Awaits id u) part book numbers Begin s f h = absurd f
 can_wake (Awaits id u) part book numbers Due to_begin f h = absurd h
 can_wake (Awaits id u) part book numbers Due (asking l q) f h = absurd h
 can_wake (Awaits id u) part book numbers Due (asleep r2 m v) f h = absurd h
+can_wake (Awaits id u) part book numbers Due (waiting_for name v) f h = absurd h
 can_wake (Awaits id u) part book numbers Due (giving_up v) f h = absurd h
 can_wake (Awaits id u) part book numbers Due (awaiting cs v e) f h = from_wait
 can_wake (Awaits id u) part book numbers Due (at_end v e) f h = absurd h
@@ -99,6 +123,7 @@ can_wake (Awaits id u) part book numbers (Answer a) s f h = absurd f
 can_wake (Awaits id u) part book numbers Settled to_begin f h = absurd h
 can_wake (Awaits id u) part book numbers Settled (asking l q) f h = absurd h
 can_wake (Awaits id u) part book numbers Settled (asleep r2 m v) f h = absurd h
+can_wake (Awaits id u) part book numbers Settled (waiting_for name v) f h = absurd h
 can_wake (Awaits id u) part book numbers Settled (giving_up v) f h = absurd h
 can_wake (Awaits id u) part book numbers Settled (awaiting cs v e) f h = from_wait
 can_wake (Awaits id u) part book numbers Settled (at_end v e) f h = absurd h
@@ -151,6 +176,7 @@ wake_stands s u exc froms numbers ps count stopped w can stands took =
           (placed_on o _ (now_after s.clock (now_at s) o.made) (here_at s) _ none kept);
       new = subst (λ (fs : List rest.Frame). NewIn fs o.places) (sym took.frames_after) names.0;
       own = names.1;
+      event = tt;
     }
 
 -- ---- the whole turn
@@ -234,7 +260,14 @@ now_woken Settled s = refl
 pub woken_stands : (wake : Wake) (s : State) (froms : Table) (numbers : Numbers) (stopped : Option Stopped) (ps : List Place) →
     Stands s froms numbers stopped ps → Stands (woken_at wake s) froms numbers stopped ps
 woken_stands wake s froms numbers stopped ps stands =
-    record { places = stands.places; numbered = stands.numbered; placed = stands.placed; new = stands.new; own = stands.own }
+    record {
+      places = stands.places;
+      numbered = stands.numbered;
+      placed = stands.placed;
+      new = stands.new;
+      own = stands.own;
+      event = stands.event;
+    }
 
 turns_woken : (s u : State) (wake : Wake) (stop : Stop) (froms : Table) (numbers : Numbers) (ps : List Place) (count : ℕ)
     (stopped : Stopped) → TurnsIn (woken_at wake s) u (wake_in s.book s.task_state wake) stop froms numbers stopped ps count →

@@ -1,5 +1,5 @@
--- A task that enters a scope or a nursery, and one that cancels a scope.
-use Rattle.std.specs.Prelude.{◌≡◌, ℕ, Bool, Some, None, List, [], ◌∷◌, ◌++◌}
+-- A task that enters a scope, a nursery or an event, and one that cancels a scope or sets an event.
+use Rattle.std.specs.Prelude.{◌≡◌, ℕ, Bool, true, false, Option, Some, None, List, [], ◌∷◌, ◌++◌}
 use Rattle.job_tree.specs.Tree.{Steps}
 use Rattle.job_tree.specs.Blocks.{steps_of}
 use Rattle.nursery_book.specs.Nursery.{new_nursery}
@@ -9,24 +9,32 @@ use Rattle.exc_groups.specs.Exceptions.{Label}
 use Rattle.cancel_scopes.specs.Sight.{Tick}
 use Rattle.job_meaning.specs.Log.{Table}
 use Rattle.job_meaning.specs.Walk.{with_own}
-use Rattle.turn_semantics.specs.Midway.{Place}
+use Rattle.turn_semantics.specs.Midway.{Place, label_among}
 use Rattle.turn_semantics.specs.Names.{IsName, names_at, OwnNames}
-use Rattle.turn_semantics.specs.Steps.{froms_after_entry, label_among, signs_to, froms_after}
+use Rattle.turn_semantics.specs.Steps.{froms_after_entry, signs_to, froms_after}
 use Rattle.task_machine.specs.declared.frame.Frame.{Frame}
 use Rattle.task_machine.specs.declared.frame.Frame.TheVariants as frame
 use Rattle.task_machine.specs.declared.task.Task.{Task}
 use Rattle.task_machine.specs.Labels.{scope_named}
-use Rattle.task_machine.specs.Acts.{Signed}
+use Rattle.task_machine.specs.Acts.{Signed, SetsKey}
 use Rattle.task_machine.specs.Stacked.{AreAt}
 use Rattle.task_machine.specs.States.{State, scope_at, stack_in}
 use Rattle.task_machine.specs.Tasks.{path_of}
 
--- The places of the task (the scopes and nurseries that enclose it) were those of its scopes, and are so with one more: its
+-- The places of the task (the scopes, nurseries and events that enclose it) were those of its scopes, and are so with one more: its
 -- label is entered, with this deadline. No enclosing one has its name.
-abbrev pub EntersAt : State → State → Label → Bool → Tick → Type 0
-EntersAt before after label shield deadline =
-    (froms : Table) (ps : List Place) → (IsName label.name (names_at ps) → ⊥) → AreAt before.labels froms (stack_in before) ps →
-    AreAt after.labels (froms_after_entry froms label deadline) (stack_in after) (record { label = label; shield = shield } ∷ ps)
+abbrev pub EntersAt : State → State → Place → Tick → Type 0
+EntersAt before after p deadline =
+    (froms : Table) (ps : List Place) → (IsName p.label.name (names_at ps) → ⊥) →
+    AreAt before.labels before.events froms (stack_in before) ps →
+    AreAt after.labels after.events (froms_after_entry froms p.label deadline) (stack_in after) (p ∷ ps)
+
+-- a scope or nursery that encloses a task, and an event
+abbrev pub a_scope_at : Label → (shield : Bool) → Place
+a_scope_at label shield = record { label = label; shield = shield; is_event = false }
+
+abbrev pub an_event_at : Label → Place
+an_event_at label = record { label = label; shield = false; is_event = true }
 
 -- the label of a scope that a task enters: its own indices, followed by the numbers of the passes that it is in
 abbrev pub label_in : Task → List ℕ → Label
@@ -56,7 +64,21 @@ pub record EntersNursery (me : ℕ) (before after : State) (label : Label) (body
 -- lowered by that sign. The task itself sees it in this moment, where there are rounds.
 abbrev pub CancelsAt : State → State → List ℕ → Type 0
 CancelsAt before after name =
-    Signed before.tick before.tree after.tree (scope_named before.labels name (stack_in before))
-    × ((froms : Table) (ps : List Place) → OwnNames (names_at ps) → AreAt before.labels froms (stack_in before) ps →
-    AreAt after.labels (froms_after froms (signs_to (label_among name ps) before.tick)) (stack_in after) ps
-    × (after.cancelled ≡ with_own before.clock (label_among name ps) before.cancelled))
+    Signed before.tick before.tree after.tree (scope_named false before.labels before.events name (stack_in before))
+    × ((froms : Table) (ps : List Place) → OwnNames (names_at ps) → AreAt before.labels before.events froms (stack_in before) ps →
+    AreAt after.labels after.events (froms_after froms (signs_to (label_among false name ps) before.tick)) (stack_in after) ps
+    × (after.cancelled ≡ with_own before.clock (label_among false name ps) before.cancelled))
+
+-- the event with this key is set, or none is
+abbrev pub SetAt : State → State → Option ℕ → Type 0
+SetAt before after None = (after.events ≡ before.events) × (after.set ≡ before.set)
+SetAt before after (Some key) = SetsKey key before.tick before.events after.events before.set after.set
+
+-- The innermost event of this name is set, if there is one, and its from is lowered by that sign, which is kept with what the task has
+-- cancelled in this moment.
+abbrev pub SetsAt : State → State → List ℕ → Type 0
+SetsAt before after name =
+    SetAt before after (scope_named true before.labels before.events name (stack_in before))
+    × ((froms : Table) (ps : List Place) → OwnNames (names_at ps) → AreAt before.labels before.events froms (stack_in before) ps →
+    AreAt after.labels after.events (froms_after froms (signs_to (label_among true name ps) before.tick)) (stack_in after) ps
+    × (after.cancelled ≡ with_own before.clock (label_among true name ps) before.cancelled))

@@ -1,5 +1,5 @@
 -- Leaving a block, and the cancellation by a task or body that fails.
-use Rattle.std.specs.Prelude.{◌≡◌, List, [], ◌∷◌, ◌++◌, Option}
+use Rattle.std.specs.Prelude.{◌≡◌, false, List, [], ◌∷◌, ◌++◌, Option}
 use Rattle.buffer_parts.specs.Part.{buffer_of}
 use Rattle.exc_groups.specs.Exceptions.{Exc}
 use Rattle.cancel_scopes.specs.Sight.{catches}
@@ -29,20 +29,26 @@ pub record ExitsFrom
     pub entry : Entry
     pub entries : after.entries ≡ before.entries ++ entry ∷ []
     pub shown : AreNoted before.clock (buffer_of before.part) (entry ∷ []) (noted before.tick (left_as kind p.label left.caught) ∷ [])
-    pub around : AreAt after.labels froms (stack_in after) ps
+    pub around : AreAt after.labels after.events froms (stack_in after) ps
 
 abbrev pub ExitsAt : State → State → Kind → Option Exc → Option Exc → Type 0
 ExitsAt before after kind exc goes_on =
-    (froms : Table) (p : Place) (ps : List Place) → AreAt before.labels froms (stack_in before) (p ∷ ps) →
+    (froms : Table) (p : Place) (ps : List Place) → p.is_event ≡ false → AreAt before.labels before.events froms (stack_in before) (p ∷ ps) →
     ExitsFrom before after (kind_of kind)
     (left_with (catches (from_for before.cancelled before.tick p.label (froms p.label)) p.shield
-    (stack_for before.cancelled before.tick (stack_at froms ps)) before.tick) exc)
+    (stack_for before.cancelled before.tick (stack_at froms ps).scopes) before.tick) exc)
     goes_on
     froms p ps
 
--- A task or body that ends with an exception signs for the innermost scope, if there is one, and so lowers its from.
+-- the innermost event is left: the task is enclosed by the others, with the same froms
+abbrev pub LeavesEventAt : State → State → Type 0
+LeavesEventAt before after =
+    (froms : Table) (p : Place) (ps : List Place) → AreAt before.labels before.events froms (stack_in before) (p ∷ ps) →
+    AreAt after.labels after.events froms (stack_in after) ps
+
+-- A task or body that ends with an exception signs for the innermost scope that is no event, if there is one, and so lowers its from.
 abbrev pub FailsAt : State → State → Option Exc → Type 0
 FailsAt before after exc =
-    Signed before.tick before.tree after.tree (key_failed exc (stack_in before))
-    × ((froms : Table) (ps : List Place) → OwnNames (names_at ps) → AreAt before.labels froms (stack_in before) ps →
-    AreAt after.labels (froms_after froms (signs_home exc ps before.tick)) (stack_in after) ps)
+    Signed before.tick before.tree after.tree (key_failed exc before.events (stack_in before))
+    × ((froms : Table) (ps : List Place) → OwnNames (names_at ps) → AreAt before.labels before.events froms (stack_in before) ps →
+    AreAt after.labels after.events (froms_after froms (signs_home exc ps before.tick)) (stack_in after) ps)

@@ -1,5 +1,5 @@
 -- What holds of a task and its world between moves: the remaining steps can run, and its scopes and nurseries are open.
-use Rattle.std.specs.Prelude.{◌≡◌, ◌≢◌, ◌⊎◌, ℕ, zero, suc, ◌+◌, ◌<◌, ◌≤◌, false, List, [], ◌∷◌, ◌++◌, Option, Some, None, IsSome, All, length, map, slice_get}
+use Rattle.std.specs.Prelude.{◌≡◌, ◌≢◌, ◌⊎◌, ℕ, zero, suc, ◌+◌, ◌<◌, ◌≤◌, List, [], ◌∷◌, ◌++◌, Option, Some, None, IsSome, All, length, map, slice_get}
 use Rattle.std.specs.Option.{ForSome, option_map}
 use Rattle.std.specs.List.{last_or}
 use Rattle.job_tree.specs.Starting.{StartsIn, HandlerStarts, CleanupStarts}
@@ -17,9 +17,9 @@ use Rattle.nursery_book.specs.declared.book.NurseryBook.{NurseryBook}
 use Rattle.job_meaning.specs.Rest as rest
 use Rattle.job_meaning.specs.declared.limits.TheConstants.{MAX_INPUT}
 use Rattle.task_machine.specs.declared.frame.Frame.{Frame}
-use Rattle.task_machine.specs.declared.frame.Frame.TheVariants.{Steps, Scope, Nursery, Repeat, Try, Handler, Cleanup}
+use Rattle.task_machine.specs.declared.frame.Frame.TheVariants.{Steps, Scope, Event, Nursery, Repeat, Try, Handler, Cleanup}
 use Rattle.task_machine.specs.declared.stop.TaskState.{TaskState}
-use Rattle.task_machine.specs.declared.stop.TaskState.TheVariants.{ToBegin, Asked, Asleep, GivingUp, Awaits, Over}
+use Rattle.task_machine.specs.declared.stop.TaskState.TheVariants.{ToBegin, Asked, Asleep, Waiting, GivingUp, Awaits, Over}
 use Rattle.task_machine.specs.declared.task.Home.{Home}
 use Rattle.task_machine.specs.declared.task.Own.{Own}
 use Rattle.task_machine.specs.Frames.{frames_of}
@@ -33,19 +33,21 @@ abbrev pub AreInRangeFrames : List rest.Frame → Type 0
 AreInRangeFrames [] = Unit {0}
 AreInRangeFrames (rest.steps_left ss ∷ fs) = AreInRange ss × AreInRangeFrames fs
 AreInRangeFrames (rest.in_scope fail ∷ fs) = AreInRangeFrames fs
+AreInRangeFrames (rest.in_event ∷ fs) = AreInRangeFrames fs
 AreInRangeFrames (rest.in_nursery children ∷ fs) = AreInRangeFrames fs
 AreInRangeFrames (rest.in_repeat pass left body ∷ fs) = AreInRange body × (pass + left ≤ MAX_PASSES) × AreInRangeFrames fs
 AreInRangeFrames (rest.in_try handler cleanup ∷ fs) = IsInRangeHandler handler × IsInRangeCleanup cleanup × AreInRangeFrames fs
 AreInRangeFrames (rest.in_handler others cleanup ∷ fs) = IsInRangeCleanup cleanup × AreInRangeFrames fs
 AreInRangeFrames (rest.in_cleanup outcome ∷ fs) = AreInRangeFrames fs
 
--- each `start` that is left is directly in a nursery
+-- each `start` that is left is directly in a nursery, or in a `repeat` there
 abbrev pub StartsFit : List rest.Frame → Type 0
 StartsFit [] = Unit {0}
 StartsFit (rest.steps_left ss ∷ fs) = StartsIn (in_body fs) ss × StartsFit fs
 StartsFit (rest.in_scope fail ∷ fs) = StartsFit fs
+StartsFit (rest.in_event ∷ fs) = StartsFit fs
 StartsFit (rest.in_nursery children ∷ fs) = StartsFit fs
-StartsFit (rest.in_repeat pass left body ∷ fs) = StartsIn false body × StartsFit fs
+StartsFit (rest.in_repeat pass left body ∷ fs) = StartsIn (in_body fs) body × StartsFit fs
 StartsFit (rest.in_try handler cleanup ∷ fs) = HandlerStarts handler × CleanupStarts cleanup × StartsFit fs
 StartsFit (rest.in_handler others cleanup ∷ fs) = CleanupStarts cleanup × StartsFit fs
 StartsFit (rest.in_cleanup outcome ∷ fs) = StartsFit fs
@@ -54,17 +56,13 @@ StartsFit (rest.in_cleanup outcome ∷ fs) = StartsFit fs
 abbrev pub HasBody : tree.Step → Type 0
 HasBody (tree.scope name deadline shield fail body) = Unit {0}
 HasBody (tree.nursery name deadline shield body) = Unit {0}
+HasBody (tree.event name body) = Unit {0}
 HasBody (tree.start name over body) = Unit {0}
 HasBody (tree.repeat count body) = Unit {0}
 HasBody (tree.attempt body handler cleanup) = Unit {0}
 HasBody _ = ⊥
 
--- the frames that enclose the innermost one
-abbrev pub outer_frames : List rest.Frame → List rest.Frame
-outer_frames [] = []
-outer_frames (f ∷ fs) = fs
-
--- a block with a scope of its own: a scope, or a nursery with its key
+-- a block with a scope of its own: a scope or an event, or a nursery with its key
 pub data Block : Type 0 where
   a_scope : Block
   a_nursery : (id : ℕ) → Block
@@ -74,22 +72,32 @@ abbrev pub blocks_of : List Frame → List Block
 blocks_of [] = []
 blocks_of (Steps steps ∷ fs) = blocks_of fs
 blocks_of (Scope fail ∷ fs) = a_scope ∷ blocks_of fs
+blocks_of (Event ∷ fs) = a_scope ∷ blocks_of fs
 blocks_of (Nursery id ∷ fs) = a_nursery id ∷ blocks_of fs
 blocks_of (Repeat pass left body ∷ fs) = blocks_of fs
 blocks_of (Try handler cleanup ∷ fs) = blocks_of fs
 blocks_of (Handler others cleanup ∷ fs) = blocks_of fs
 blocks_of (Cleanup outcome ∷ fs) = blocks_of fs
 
--- the innermost frame is in the body of this nursery
+-- frames of steps and of passes
+abbrev pub AreLoops : List Frame → Type 0
+AreLoops [] = Unit {0}
+AreLoops (Steps steps ∷ fs) = AreLoops fs
+AreLoops (Repeat pass left body ∷ fs) = AreLoops fs
+AreLoops (_ ∷ fs) = ⊥
+
+-- the innermost frame is in the body of this nursery, perhaps in a `repeat` there
 pub record InBody (fs : List Frame) (id : ℕ) : Type 0 where
   pub outer : List Frame
-  pub top : Frame
-  pub is : fs ≡ outer ++ Nursery id ∷ top ∷ []
+  pub loops : List Frame
+  pub are : AreLoops loops
+  pub is : fs ≡ outer ++ Nursery id ∷ loops
 
 -- and with one more frame inside them
 abbrev pub block_in : Frame → List Block → List Block
 block_in (Steps steps) bs = bs
 block_in (Scope fail) bs = bs ++ a_scope ∷ []
+block_in Event bs = bs ++ a_scope ∷ []
 block_in (Nursery id) bs = bs ++ a_nursery id ∷ []
 block_in (Repeat pass left body) bs = bs
 block_in (Try handler cleanup) bs = bs
@@ -145,6 +153,7 @@ abbrev pub waits_of : TaskState → Option ℕ
 waits_of (ToBegin at) = None
 waits_of (Asked kernel purpose) = None
 waits_of (Asleep paced ticks since) = None
+waits_of (Waiting event since) = None
 waits_of (GivingUp since) = None
 waits_of (Awaits id since) = Some id
 waits_of Over = None

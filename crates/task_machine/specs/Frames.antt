@@ -7,7 +7,7 @@ use Rattle.exc_groups.specs.Held.{exc_of}
 use Rattle.exc_groups.specs.declared.exc.Exc as held
 use Rattle.job_meaning.specs.Rest as rest
 use Rattle.task_machine.specs.declared.frame.Frame.{Frame}
-use Rattle.task_machine.specs.declared.frame.Frame.TheVariants.{Steps, Scope, Nursery, Repeat, Try, Handler, Cleanup}
+use Rattle.task_machine.specs.declared.frame.Frame.TheVariants.{Steps, Scope, Event, Nursery, Repeat, Try, Handler, Cleanup}
 
 -- the exception in an optional box
 abbrev pub unboxed_exc : Option (Box held.Exc) → Option held.Exc
@@ -18,6 +18,7 @@ unboxed_exc (Some in_box) = Some in_box.value
 abbrev pub frame_of : (ℕ → List ℕ) → Frame → rest.Frame
 frame_of children (Steps steps) = rest.steps_left (steps_of steps.now)
 frame_of children (Scope fail) = rest.in_scope fail
+frame_of children Event = rest.in_event
 frame_of children (Nursery id) = rest.in_nursery (children id)
 frame_of children (Repeat pass left body) = rest.in_repeat pass left body.now
 frame_of children (Try handler cleanup) = rest.in_try (handled_of (option_copied handler)) (cleaned_of cleanup.now)
@@ -37,6 +38,7 @@ abbrev pub passes_onto : List Frame → List ℕ → List ℕ
 passes_onto [] path = path
 passes_onto (Steps steps ∷ fs) path = passes_onto fs path
 passes_onto (Scope fail ∷ fs) path = passes_onto fs path
+passes_onto (Event ∷ fs) path = passes_onto fs path
 passes_onto (Nursery id ∷ fs) path = passes_onto fs path
 passes_onto (Repeat pass left body ∷ fs) path = passes_onto fs (path ++ pass ∷ [])
 passes_onto (Try handler cleanup ∷ fs) path = passes_onto fs path

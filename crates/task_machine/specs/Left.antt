@@ -1,5 +1,5 @@
 -- A task that leaves the innermost of its scopes.
-use Rattle.std.specs.Prelude.{◌≡◌, ℕ, Option, List, [], ◌∷◌, ◌++◌, map}
+use Rattle.std.specs.Prelude.{◌≡◌, ℕ, false, Option, List, [], ◌∷◌, ◌++◌, map}
 use Rattle.std.specs.List.{last_or}
 use Rattle.cancel_scopes.specs.Sight.{Level, catches}
 use Rattle.cancel_scopes.specs.Tree.{Tree, Stack, outer_of}
@@ -29,11 +29,11 @@ OwnFirst tree home own = keys_of (outer_of tree (last_or home (map (λ (o : Own)
 pub record LeavesFrom (before after : State) (closed : Closed) (froms : Table) (p : Place) (ps : List Place) : Type 0 where
   pub label : closed.label ≡ p.label
   pub caught :
-      closed.catches ≡ catches (from_for before.cancelled before.tick p.label (froms p.label)) p.shield
-      (stack_for before.cancelled before.tick (stack_at froms ps)) before.tick
-  pub around : AreAt after.labels froms (stack_in after) ps
+      p.is_event ≡ false → closed.catches ≡ catches (from_for before.cancelled before.tick p.label (froms p.label)) p.shield
+      (stack_for before.cancelled before.tick (stack_at froms ps).scopes) before.tick
+  pub around : AreAt after.labels after.events froms (stack_in after) ps
 
 abbrev pub LeavesAt : State → State → Closed → Type 0
 LeavesAt before after closed =
-    (froms : Table) (p : Place) (ps : List Place) → AreAt before.labels froms (stack_in before) (p ∷ ps) →
+    (froms : Table) (p : Place) (ps : List Place) → AreAt before.labels before.events froms (stack_in before) (p ∷ ps) →
     LeavesFrom before after closed froms p ps

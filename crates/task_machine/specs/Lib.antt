@@ -2,6 +2,7 @@ pub mod Labels
 pub mod Frames
 pub mod Tasks
 pub mod Worlds
+pub mod Events
 pub mod States
 pub mod Waiters
 pub mod Lending

@@ -4,9 +4,9 @@ use Rattle.buffer_parts.specs.Part.{span_of, line_text, IsLineOf}
 use Rattle.job_meaning.specs.Moments.{Clock, tick_of}
 use Rattle.job_meaning.specs.Meaning.{From}
 use Rattle.job_meaning.specs.Rest.{Event, noted, signs, enters, starts}
-use Rattle.job_meaning.specs.Shown.{Shown, line_shown, scope_shown, nursery_shown, shown_at}
+use Rattle.job_meaning.specs.Shown.{Shown, line_shown, scope_shown, nursery_shown, wait_shown, shown_at}
 use Rattle.task_machine.specs.declared.entry.Entry.{Entry}
-use Rattle.task_machine.specs.declared.entry.Entry.TheVariants.{Line, Scope, Nursery}
+use Rattle.task_machine.specs.declared.entry.Entry.TheVariants.{Line, Scope, Nursery, Wait}
 use Rattle.task_machine.specs.declared.entry.ScopeFrom.{ScopeFrom}
 
 -- an entry as it is shown
@@ -14,12 +14,14 @@ abbrev pub entry_of : Entry → Shown
 entry_of (Line line) = line_shown (span_of line).at (line_text line)
 entry_of (Scope label tick caught) = scope_shown label.value tick caught
 entry_of (Nursery label tick caught) = nursery_shown label.value tick caught
+entry_of (Wait label tick) = wait_shown label.value tick
 
 -- an entry's line, if it is one, is the slice of the input at its place
 abbrev pub IsSlice : List ℕ → Entry → Type 0
 IsSlice input (Line shown_line) = IsLineOf input shown_line
 IsSlice input (Scope label tick caught) = Unit {0}
 IsSlice input (Nursery label tick caught) = Unit {0}
+IsSlice input (Wait label tick) = Unit {0}
 
 -- a scope or nursery with the moment from which it was cancelled
 abbrev pub from_of : ScopeFrom → From

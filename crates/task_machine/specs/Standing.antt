@@ -25,7 +25,7 @@ use Rattle.turn_semantics.specs.Wakes.{wake_of, turn_from}
 use Rattle.task_machine.specs.declared.frame.Frame.{Frame}
 use Rattle.task_machine.specs.declared.frame.Frame.TheVariants as code
 use Rattle.task_machine.specs.declared.stop.TaskState.{TaskState}
-use Rattle.task_machine.specs.declared.stop.TaskState.TheVariants.{ToBegin, Asked, Asleep, GivingUp, Awaits, Over}
+use Rattle.task_machine.specs.declared.stop.TaskState.TheVariants.{ToBegin, Asked, Asleep, Waiting, GivingUp, Awaits, Over}
 use Rattle.task_machine.specs.declared.stop.Moved.TheVariants.{On, Stops}
 use Rattle.task_machine.specs.declared.stop.Moved.{Moved}
 use Rattle.task_machine.specs.declared.stop.Stop.{Stop}
@@ -37,7 +37,7 @@ use Rattle.task_machine.specs.declared.task.Task.{Task}
 use Rattle.task_machine.specs.Acts.{Acts, scoping_in}
 use Rattle.task_machine.specs.Fitting.{Block, a_scope, a_nursery, blocks_of, waits_of, AreOthers}
 use Rattle.task_machine.specs.Frames.{frames_of}
-use Rattle.task_machine.specs.Stacked.{AreAt}
+use Rattle.task_machine.specs.Stacked.{AreAt, AwaitsEvent}
 use Rattle.task_machine.specs.Stops.{Numbers, IsTaskState, MovesAs, OwnAfter}
 use Rattle.task_machine.specs.States.{State, here_at, now_at, stack_in}
 use Rattle.task_machine.specs.Tasks.{home_of}
@@ -77,14 +77,16 @@ abbrev pub AllNumbered : Numbers → NurseryBook → List Frame → Option ℕ �
 AllNumbered numbers book fs waits = (id : ℕ) → HasNurseryOf id (blocks_of fs) waits →
     HasNursery book id (λ n. length (numbers id) ≡ length n.children)
 
--- A task in the middle of a turn or where it stopped is in these places (the scopes and nurseries that enclose it) with the froms
--- of a table, and numbered its children so. Each scope and nursery has its place, and nested ones have different names.
+-- A task in the middle of a turn or where it stopped is in these places (the scopes, nurseries and events that enclose it) with the froms
+-- of a table, and numbered its children so. Each scope, nursery and event has its place, and nested ones have different names. An event
+-- for which it waits is one of them.
 pub record Stands (s : State) (froms : Table) (numbers : Numbers) (stopped : Option Stopped) (ps : List Place) : Type 0 where
-  pub places : AreAt s.labels froms (stack_in s) ps
+  pub places : AreAt s.labels s.events froms (stack_in s) ps
   pub numbered : AreNumbered numbers s.book s.frames
   pub placed : PlacedAfter stopped (frames_of numbers s.frames) ps
   pub new : NewIn (frames_of numbers s.frames) (outer_places stopped ps)
   pub own : OwnNames (names_at ps)
+  pub event : AwaitsEvent s.labels (stack_in s) stopped s.task_state ps
 
 -- A task that was started is this child: it has not begun its steps, and runs at its place of its nursery, which has its
 -- number there.
@@ -146,6 +148,7 @@ abbrev pub BodyEnds : TaskState → NurseryBook → Type 0
 BodyEnds (ToBegin at) book = Unit {0}
 BodyEnds (Asked kernel purpose) book = Unit {0}
 BodyEnds (Asleep paced ticks since) book = Unit {0}
+BodyEnds (Waiting event since) book = Unit {0}
 BodyEnds (GivingUp since) book = Unit {0}
 BodyEnds (Awaits id since) book = HasNursery book id (λ n. n.last ≡ since)
 BodyEnds Over book = Unit {0}
@@ -194,7 +197,8 @@ pub record ChangesNurseries
 pub record Took (before after : State) (moved : Moved) (froms : Table) (numbers : Numbers) (o : Move) : Type 0 where
   pub numbers_after : Numbers
   pub frames_after : frames_of numbers_after after.frames ≡ o.frames
-  pub places : AreAt after.labels (froms_after froms o.made) (stack_in after) o.places
+  pub places : AreAt after.labels after.events (froms_after froms o.made) (stack_in after) o.places
+  pub event : AwaitsEvent after.labels (stack_in after) o.stopped after.task_state o.places
   pub moves : MovesAs before.clock numbers_after after.book before.part moved after.task_state o
   pub entries : List Entry
   pub noted : after.entries ≡ before.entries ++ entries

@@ -18,13 +18,13 @@ use Rattle.task_machine.specs.declared.task.Own.{Own}
 use Rattle.task_machine.specs.declared.task.Task.{Task}
 use Rattle.task_machine.specs.declared.world.World.{World}
 use Rattle.task_machine.specs.Frames.{passes_onto}
-use Rattle.task_machine.specs.Labels.{Labels}
-use Rattle.task_machine.specs.Worlds.{label_at}
+use Rattle.task_machine.specs.Labels.{Labels, Events}
+use Rattle.task_machine.specs.Worlds.{label_at, event_at}
 
 -- Of the task: its label and part, where it was started, its unfinished blocks and the scopes that it opened (the innermost
 -- last), why it is blocked, what it noted, and what it has cancelled itself in this moment. Of the world: the clock, the moment, the open
--- scopes with their labels, the nurseries, and the
--- started tasks that were not taken yet.
+-- scopes with their labels and which of them are events, the events that were set and not taken yet, the nurseries, and the started
+-- tasks that were not taken yet.
 pub record State : Type 0 where
   pub label : Label
   pub part : Part
@@ -39,6 +39,8 @@ pub record State : Type 0 where
   pub tick : ℕ
   pub tree : Tree
   pub labels : Labels
+  pub events : Events
+  pub set : List ℕ
   pub book : NurseryBook
   pub started : List Task
 
@@ -58,6 +60,8 @@ state_of task world =
       tick = world.tick;
       tree = world.scopes;
       labels = label_at world;
+      events = event_at world;
+      set = world.set.items;
       book = world.book;
       started = world.started.items;
     }

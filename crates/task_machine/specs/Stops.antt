@@ -9,14 +9,14 @@ use Rattle.nursery_book.specs.declared.book.NurseryBook.{NurseryBook}
 use Rattle.nursery_book.specs.Book.{HasNursery}
 use Rattle.job_meaning.specs.Moments.{Clock, wakes_at}
 use Rattle.job_meaning.specs.Asking as ask
-use Rattle.job_meaning.specs.Rest.{Stopped, to_begin, asking, asleep, giving_up, awaiting, at_end}
+use Rattle.job_meaning.specs.Rest.{Stopped, to_begin, asking, asleep, waiting_for, giving_up, awaiting, at_end}
 use Rattle.exc_groups.specs.Exceptions.{Label}
 use Rattle.job_meaning.specs.Rest.{Event}
 use Rattle.turn_semantics.specs.Midway.{Move, own_after}
 use Rattle.task_machine.specs.declared.stop.Stop.{Stop}
-use Rattle.task_machine.specs.declared.stop.Stop.TheVariants.{Ask, Sleep, GiveUp, Wait, Ended}
+use Rattle.task_machine.specs.declared.stop.Stop.TheVariants.{Ask, Sleep, WaitFor, GiveUp, Wait, Ended}
 use Rattle.task_machine.specs.declared.stop.TaskState.{TaskState}
-use Rattle.task_machine.specs.declared.stop.TaskState.TheVariants.{ToBegin, Asked, Asleep, GivingUp, Awaits, Over}
+use Rattle.task_machine.specs.declared.stop.TaskState.TheVariants.{ToBegin, Asked, Asleep, Waiting, GivingUp, Awaits, Over}
 use Rattle.task_machine.specs.declared.stop.Purpose.{Purpose}
 use Rattle.task_machine.specs.declared.stop.Purpose.TheVariants.{Shows, Needs, Paces}
 use Rattle.task_machine.specs.declared.stop.Moved.{Moved}
@@ -44,6 +44,7 @@ abbrev pub IsTaskState : Numbers → NurseryBook → TaskState → Stopped → T
 IsTaskState numbers book (ToBegin at) to_begin = Unit {0}
 IsTaskState numbers book (Asked kernel purpose) (asking k p) = (kernel_in kernel ≡ k) × (purpose_in purpose ≡ p)
 IsTaskState numbers book (Asleep paced ticks since) (asleep p n u) = (paced ≡ p) × (ticks ≡ n) × (since ≡ u)
+IsTaskState numbers book (Waiting event since) (waiting_for name u) = since ≡ u
 IsTaskState numbers book (GivingUp since) (giving_up u) = since ≡ u
 IsTaskState numbers book (Awaits nursery since) (awaiting children u exc) =
     (numbers nursery ≡ children) × (since ≡ u) × HasNursery book nursery (λ n. n.body ≡ Some exc)
@@ -54,6 +55,7 @@ IsTaskState numbers book _ _ = ⊥
 abbrev pub IsTold : Clock → Part → Stop → TaskState → Stopped → Type 0
 IsTold clock part (Ask request) (Asked kernel purpose) stopped = (request.kernel ≡ kernel) × (request.part ≡ part)
 IsTold clock part (Sleep due) (Asleep paced ticks since) stopped = due ≡ wakes_at clock ticks since
+IsTold clock part (WaitFor event) (Waiting key since) stopped = event ≡ key
 IsTold clock part (GiveUp due) (GivingUp since) stopped = due ≡ suc since
 IsTold clock part (Wait id) (Awaits nursery since) stopped = id ≡ nursery
 IsTold clock part (Ended exc) Over (at_end u e) = option_map exc_of exc ≡ e

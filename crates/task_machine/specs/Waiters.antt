@@ -35,6 +35,14 @@ pub record KeepsRest (me : ℕ) (before after : Task) (old new : World) : Type 0
         froms = after.froms;
         cancelled = after.cancelled;
       }
-  pub world : new ≡ record old { scopes = new.scopes; labels = new.labels; book = new.book; started = new.started }
+  pub world :
+      new ≡ record old {
+        scopes = new.scopes;
+        labels = new.labels;
+        events = new.events;
+        set = new.set;
+        book = new.book;
+        started = new.started;
+      }
   pub in_range : IsInRangeTaskState after.task_state
   pub waiters : OpenedBy me old.book new.book

@@ -13,19 +13,22 @@ use Rattle.nursery_book.specs.declared.book.NurseryBook.{NurseryBook}
 use Rattle.job_meaning.specs.Asking as ask
 use Rattle.turn_semantics.specs.Wakes as wakes
 use Rattle.task_machine.specs.declared.stop.TaskState.{TaskState}
-use Rattle.task_machine.specs.declared.stop.TaskState.TheVariants.{ToBegin, Asked, Asleep, GivingUp, Awaits, Over}
+use Rattle.task_machine.specs.declared.stop.TaskState.TheVariants.{ToBegin, Asked, Asleep, Waiting, GivingUp, Awaits, Over}
 use Rattle.task_machine.specs.declared.stop.Purpose.{Purpose}
 use Rattle.task_machine.specs.declared.stop.Purpose.TheVariants.{Shows, Needs, Paces}
 use Rattle.task_machine.specs.declared.stop.Wake.{Wake}
 use Rattle.task_machine.specs.declared.stop.Wake.TheVariants.{Begin, Due, Seen, Answer, Settled}
 
 -- A wake fits what a task on this part stopped at: it begins once, an answer is that of the kernel asked, and a nursery that is
--- waited for is settled. The moment of a task comes by which it has to wait: to begin, for its sleep, to give up, or for its nursery.
+-- waited for is settled. The moment of a task comes by which it has to wait: to begin, for its sleep, for its event, to give up, or for
+-- its nursery.
 abbrev pub WakesFrom : TaskState → Part → NurseryBook → Wake → Type 0
 WakesFrom (ToBegin at) part book Begin = Unit {0}
 WakesFrom (ToBegin at) part book Due = Unit {0}
 WakesFrom (Asleep paced ticks since) part book Due = Unit {0}
 WakesFrom (Asleep paced ticks since) part book Seen = Unit {0}
+WakesFrom (Waiting event since) part book Due = Unit {0}
+WakesFrom (Waiting event since) part book Seen = Unit {0}
 WakesFrom (GivingUp since) part book Due = Unit {0}
 WakesFrom (Awaits id since) part book Due = HasNursery book id (λ n. is_settled n ≡ true)
 WakesFrom (Asked kernel purpose) part book (Answer answer) = IsAnswer kernel part answer
@@ -38,11 +41,12 @@ IsInRangePurpose Shows = Unit {0}
 IsInRangePurpose (Needs name) = Unit {0}
 IsInRangePurpose (Paces k) = (1 ≤ k) × (k ≤ MAX_PACE)
 
--- and no sleep is of more than 2 to the 40 ticks
+-- and no sleep is of more than 2 to the 40 ticks, and no wait since a moment after 2 to the 62
 abbrev pub IsInRangeTaskState : TaskState → Type 0
 IsInRangeTaskState (ToBegin at) = Unit {0}
 IsInRangeTaskState (Asked kernel purpose) = IsInRangePurpose purpose
 IsInRangeTaskState (Asleep paced ticks since) = ticks ≤ 2 ^ 40
+IsInRangeTaskState (Waiting event since) = since ≤ 2 ^ 62
 IsInRangeTaskState (GivingUp since) = Unit {0}
 IsInRangeTaskState (Awaits id since) = Unit {0}
 IsInRangeTaskState Over = Unit {0}
@@ -62,6 +66,7 @@ abbrev pub settled_exc : NurseryBook → TaskState → Option Exc
 settled_exc book (ToBegin at) = None
 settled_exc book (Asked kernel purpose) = None
 settled_exc book (Asleep paced ticks since) = None
+settled_exc book (Waiting event since) = None
 settled_exc book (GivingUp since) = None
 settled_exc book (Awaits id since) = raised_in (nursery_at book id)
 settled_exc book Over = None
@@ -71,6 +76,7 @@ abbrev pub due_wake : NurseryBook → TaskState → wakes.Wake
 due_wake book (ToBegin at) = wakes.begins
 due_wake book (Asked kernel purpose) = wakes.is_due
 due_wake book (Asleep paced ticks since) = wakes.is_due
+due_wake book (Waiting event since) = wakes.is_due
 due_wake book (GivingUp since) = wakes.gives_up
 due_wake book (Awaits id since) = wakes.settles (raised_in (nursery_at book id))
 due_wake book Over = wakes.is_due

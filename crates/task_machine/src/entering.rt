@@ -1,11 +1,11 @@
-ghost use Rattle.std.specs.Prelude.{◌≡◌, ◌<◌, ◌≤◌, ◌^◌, Some, IfOk, OnOk};
+ghost use Rattle.std.specs.Prelude.{◌≡◌, ◌<◌, ◌≤◌, ◌^◌, true, false, None, Some, IfOk, OnOk};
 ghost use Rattle.std.specs.Option.{ForSome};
 ghost use Rattle.cancel_scopes.specs.Tree.{IsOpen};
 ghost use Rattle.task_machine.specs.Tasks.{scope_of};
 ghost use Rattle.task_machine.specs.Acts.{Enters, scoping_of};
-ghost use Rattle.task_machine.specs.Entered.{EntersAt, EntersBlock, EntersNursery, label_in};
+ghost use Rattle.task_machine.specs.Entered.{EntersAt, EntersBlock, EntersNursery, a_scope_at, an_event_at, label_in};
 ghost use Rattle.task_machine.specs.States.{state_of};
-ghost use Rattle.task_machine.specs.declared.frame.Frame.TheVariants.{Scope};
+ghost use Rattle.task_machine.specs.declared.frame.Frame.TheVariants.{Event, Scope};
 ghost use Rattle.job_tree.specs.InRange.{IsInRangeDeadline};
 ghost use Rattle.moments.specs.Moments.{due};
 
@@ -33,9 +33,10 @@ impl<'a> Task<'a> {
         requires deadline { ForSome deadline (λ tick. tick < 2 ^ 63) }
         ensures stays { OnOk result (self.new ≡ record self.old { own = self.new.own; froms = self.new.froms }) }
         ensures inner { IfOk result (λ id. scope_of self.new ≡ Some id) }
-        ensures own { OnOk result (Enters (scope_of self.old) label deadline (scoping_of self.old world.old) (scoping_of self.new world.new)) }
-        ensures world { OnOk result (world.new ≡ record world.old { scopes = world.new.scopes; labels = world.new.labels }) }
-        ensures at { OnOk result (EntersAt (state_of self.old world.old) (state_of self.new world.new) label shield deadline) }
+        ensures own { OnOk result (Enters (scope_of self.old) label false deadline (scoping_of self.old world.old) (scoping_of self.new world.new)) }
+        ensures world { OnOk result (world.new
+            ≡ record world.old { scopes = world.new.scopes; labels = world.new.labels; events = world.new.events }) }
+        ensures at { OnOk result (EntersAt (state_of self.old world.old) (state_of self.new world.new) (a_scope_at label shield) deadline) }
     {
         stacks_are_chains(&world.scopes);
         let kept = label.copy(self.alloc)?;
@@ -65,17 +66,51 @@ impl<'a> Task<'a> {
         ensures stays { OnOk result (self.new
             ≡ record self.old { frames = self.new.frames; own = self.new.own; froms = self.new.froms }) }
         ensures frames { OnOk result (EntersBlock self.old.frames.items self.new.frames.items (Scope fail) body.now) }
-        ensures own { OnOk result (Enters (scope_of self.old) (label_in self.old name)
+        ensures own { OnOk result (Enters (scope_of self.old) (label_in self.old name) false
             (due world.old.clock deadline world.old.tick) (scoping_of self.old world.old) (scoping_of self.new world.new)) }
-        ensures world { OnOk result (world.new ≡ record world.old { scopes = world.new.scopes; labels = world.new.labels }) }
+        ensures world { OnOk result (world.new
+            ≡ record world.old { scopes = world.new.scopes; labels = world.new.labels; events = world.new.events }) }
         ensures at { OnOk result (EntersAt (state_of self.old world.old) (state_of self.new world.new)
-            (label_in self.old name) shield (due world.old.clock deadline world.old.tick)) }
+            (a_scope_at (label_in self.old name) shield) (due world.old.clock deadline world.old.tick)) }
     {
         let until = world.clock().due(deadline, world.now());
         let label = self.label_here(name)?;
         self.enter(label, shield, until, world)?;
         self.push(Frame::Scope { fail })?;
         self.push(Frame::Steps(body.as_slice()))
+    }
+
+    // Enters an event and begins its body. After an error the task and the world can only be dropped.
+    pub(crate) fn enter_event(
+        &mut self,
+        name: Name,
+        body: &'a Body,
+        world: &mut World<'a>,
+    ) -> Result<(), AllocError>
+        requires scope { ForSome (scope_of self.old) (IsOpen world.old.scopes) }
+        ensures stays { OnOk result (self.new
+            ≡ record self.old { frames = self.new.frames; own = self.new.own; froms = self.new.froms }) }
+        ensures frames { OnOk result (EntersBlock self.old.frames.items self.new.frames.items Event body.now) }
+        ensures own { OnOk result (Enters (scope_of self.old) (label_in self.old name) true None
+            (scoping_of self.old world.old) (scoping_of self.new world.new)) }
+        ensures world { OnOk result (world.new
+            ≡ record world.old { scopes = world.new.scopes; labels = world.new.labels; events = world.new.events }) }
+        ensures at { OnOk result (EntersAt (state_of self.old world.old) (state_of self.new world.new)
+            (an_event_at (label_in self.old name)) None) }
+    {
+        stacks_are_chains(&world.scopes);
+        let label = self.label_here(name)?;
+        let kept = label.copy(self.alloc)?;
+        let id = world.enter_event(self.scope(), label)?;
+        let at = self.froms.len();
+        self.froms.push(ScopeFrom {
+            label: kept,
+            seen: None,
+        })?;
+        self.own.push(Own { id, at })?;
+        self.push(Frame::Event)?;
+        self.push(Frame::Steps(body.as_slice()))?;
+        Ok(())
     }
 
     // Enters a nursery, which is added to the book, and begins its body. After an error the task and the world can
@@ -96,12 +131,12 @@ impl<'a> Task<'a> {
             ≡ record self.old { frames = self.new.frames; own = self.new.own; froms = self.new.froms }) }
         ensures nursery { OnOk result (EntersNursery me (state_of self.old world.old) (state_of self.new world.new)
             (label_in self.old name) body.now) }
-        ensures own { OnOk result (Enters (scope_of self.old) (label_in self.old name)
+        ensures own { OnOk result (Enters (scope_of self.old) (label_in self.old name) false
             (due world.old.clock deadline world.old.tick) (scoping_of self.old world.old) (scoping_of self.new world.new)) }
         ensures world { OnOk result (world.new
-            ≡ record world.old { scopes = world.new.scopes; labels = world.new.labels; book = world.new.book }) }
+            ≡ record world.old { scopes = world.new.scopes; labels = world.new.labels; events = world.new.events; book = world.new.book }) }
         ensures at { OnOk result (EntersAt (state_of self.old world.old) (state_of self.new world.new)
-            (label_in self.old name) shield (due world.old.clock deadline world.old.tick)) }
+            (a_scope_at (label_in self.old name) shield) (due world.old.clock deadline world.old.tick)) }
     {
         let until = world.clock().due(deadline, world.now());
         let label = self.label_here(name)?;

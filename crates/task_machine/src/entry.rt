@@ -25,15 +25,23 @@ pub enum Entry<'a> {
         /// Whether the nursery caught a `Cancelled`.
         caught: bool,
     },
+    /// An event for which the task waited until it was set.
+    Wait {
+        /// The event's label, boxed as a scope's is.
+        label: Box<Label>,
+        /// The tick in which the task went on.
+        tick: u64,
+    },
 }
 
-/// A cancel scope or nursery, and the moment from which it was cancelled.
+/// A cancel scope or nursery, and the moment from which it was cancelled; or an event, and the moment from which it was set.
 #[derive(Drop)]
 pub struct ScopeFrom {
-    /// The label of the scope or nursery.
+    /// The label of the scope, nursery or event.
     pub label: Label,
     /// The moment from which the scope or nursery itself was cancelled, by its deadline or by a
     /// `cancel` or a failed member. It is not an effective deadline: cancellations of enclosing
-    /// scopes do not count. `None` if it never was cancelled, and until it is left.
+    /// scopes do not count. Of an event, the moment from which it was set. `None` if it never was cancelled, or set, and until it
+    /// is left.
     pub seen: Option<u64>,
 }

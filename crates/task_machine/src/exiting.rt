@@ -44,7 +44,8 @@ impl<'a> Task<'a> {
         requires own { OwnFirst world.old.scopes (home_scope self.old) self.old.own.items }
         ensures stays { OnOk result (self.new
             ≡ record self.old { own = self.new.own; froms = self.new.froms; entries = self.new.entries }) }
-        ensures world { OnOk result (world.new ≡ record world.old { scopes = world.new.scopes; labels = world.new.labels }) }
+        ensures world { OnOk result (world.new
+            ≡ record world.old { scopes = world.new.scopes; labels = world.new.labels; events = world.new.events }) }
         ensures left { OnOk result (Leaves (scoping_of self.old world.old) (scoping_of self.new world.new)) }
         ensures own { OnOk result (OwnFirst world.new.scopes (home_scope self.old) self.new.own.items) }
         ensures at { IfOk result (λ after. ExitsAt (state_of self.old world.old) (state_of self.new world.new) kind (option_map exc_of exc)
@@ -59,8 +60,8 @@ impl<'a> Task<'a> {
         Ok(exc)
     }
 
-    // A task or body that ends with an exception cancels the innermost enclosing scope, if there is one, from the next
-    // moment on.
+    // A task or body that ends with an exception cancels the innermost enclosing scope that is no event, if there is one, from the
+    // next moment on.
     fn fail(&self, exc: &Option<Exc>, world: &mut World<'a>)
         requires scope { ForSome (scope_of self.now) (IsOpen world.old.scopes) }
         requires tick { world.old.tick + 1 < 2 ^ 63 }
@@ -72,7 +73,7 @@ impl<'a> Task<'a> {
         if exc.is_none() {
             return;
         }
-        if let Some(id) = self.scope() {
+        if let Some(id) = world.home(self.scope()) {
             world.sign(id);
         }
     }

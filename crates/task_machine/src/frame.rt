@@ -12,6 +12,8 @@ pub(crate) enum Frame<'a> {
         /// Whether it raises `TooSlow` if it caught a cancellation and nothing else is left.
         fail: bool,
     },
+    /// An event.
+    Event,
     /// The body of a nursery.
     Nursery {
         /// The nursery.

@@ -13,7 +13,7 @@ use crate::world::World;
 use cancel_scopes::stacks_are_chains;
 use exc_groups::Label;
 
-// A scope that was left: its label, and whether it catches a cancellation that leaves it.
+// A scope or event that was left: its label, and whether it catches a cancellation that leaves it, which an event never does.
 #[derive(Drop)]
 pub(crate) struct Closed {
     pub(crate) label: Label,
@@ -21,7 +21,7 @@ pub(crate) struct Closed {
 }
 
 impl<'a> Task<'a> {
-    // Leaves the innermost of the scopes that the task opened.
+    // Leaves the innermost of the scopes and events that the task opened.
     pub(crate) fn leave(&mut self, world: &mut World<'a>) -> Closed
         requires some { 0 < length self.old.own.items }
         requires open { ForSome (scope_of self.old) (IsOpen world.old.scopes) }
@@ -30,7 +30,7 @@ impl<'a> Task<'a> {
         requires froms { All (λ own. own.at < length self.old.froms.items) self.old.own.items }
         requires own { OwnFirst world.old.scopes (home_scope self.old) self.old.own.items }
         ensures stays { self.new ≡ record self.old { own = self.new.own; froms = self.new.froms } }
-        ensures world { world.new ≡ record world.old { scopes = world.new.scopes; labels = world.new.labels } }
+        ensures world { world.new ≡ record world.old { scopes = world.new.scopes; labels = world.new.labels; events = world.new.events } }
         ensures left { Leaves (scoping_of self.old world.old) (scoping_of self.new world.new) }
         ensures own { OwnFirst world.new.scopes (home_scope self.old) self.new.own.items }
         ensures at { LeavesAt (state_of self.old world.old) (state_of self.new world.new) result }

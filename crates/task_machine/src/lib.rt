@@ -1,11 +1,11 @@
 //! Tasks and what they share, and a task's turn.
 //!
-//! A `Task` holds its unfinished blocks, the cancel scopes that it opened, innermost last, and what it noted. A `World`
-//! holds the clock, the moment, the cancel scopes with their labels, the nurseries, and the started tasks that were not taken
-//! yet. A task that is woken (`Wake`) has a turn: it runs until it blocks or ends (`Stop`).
+//! A `Task` holds its unfinished blocks, the cancel scopes and events that it opened, innermost last, and what it noted. A
+//! `World` holds the clock, the moment, the cancel scopes with their labels, the events, the nurseries, and the started tasks
+//! that were not taken yet. A task that is woken (`Wake`) has a turn: it runs until it blocks or ends (`Stop`).
 //!
-//! The layer promises that a label belongs to the scope that was entered with it until that scope is left, that a name finds
-//! the innermost scope of that name, that a call of the world changes only the parts that it names, and that a turn does to
+//! The layer promises that a label belongs to the scope or event that was entered with it until that is left, that a name finds
+//! the innermost scope, or event, of that name, that a call of the world changes only the parts that it names, and that a turn does to
 //! the task and the world what a turn of the definitions does (`turn_semantics`). It uses the scope tree, the book of nurseries,
 //! and the jobs whose steps it borrows.
 #![tactic(auto)]
@@ -15,6 +15,7 @@ mod boxing;
 mod cancelling;
 mod entering;
 mod entry;
+mod events;
 mod exiting;
 mod frame;
 mod labels;
@@ -28,6 +29,7 @@ mod stop;
 mod task;
 mod trying;
 mod turning;
+mod waiting;
 mod waking;
 mod world;
 

@@ -10,7 +10,7 @@ ghost use Rattle.turn_semantics.specs.Steps.{sleeps, onward, blocks_on};
 ghost use Rattle.task_machine.specs.Standing.{waits_by};
 ghost use Rattle.task_machine.specs.Tasks.{scope_of};
 ghost use Rattle.task_machine.specs.Waking.{IsInRangeTaskState, IsInRangePurpose};
-ghost use Rattle.task_machine.specs.Worlds.{label_at};
+ghost use Rattle.task_machine.specs.Worlds.{label_at, event_at};
 ghost use Rattle.task_machine.specs.Stacked.{AreAt};
 ghost use Rattle.task_machine.specs.Stops.{Numbers, MovesAs, kernel_in, purpose_in};
 ghost use Rattle.task_machine.specs.declared.stop.Moved.TheVariants.{Stops};
@@ -39,7 +39,7 @@ impl<'a> Task<'a> {
         ensures task_state { IsInRangeTaskState self.old.task_state → IsInRangeTaskState self.new.task_state }
         ensures waits { waits_by result self.new.task_state ≡ None }
         ensures sleeps { (froms : Table) (numbers : Numbers) (book : Book) (fs : List Left) (ps : List Place) →
-            AreAt (label_at world.now) froms (outer_of world.now.scopes (scope_of self.old)) ps →
+            AreAt (label_at world.now) (event_at world.now) froms (outer_of world.now.scopes (scope_of self.old)) ps →
             MovesAs world.now.clock numbers book self.old.part result self.new.task_state
             (sleeps world.now.clock froms paced ticks world.now.tick fs ps) }
     {

@@ -4,7 +4,7 @@ ghost use Rattle.job_tree.specs.InRange.{IsInRangeStep};
 ghost use Rattle.job_tree.specs.Starting.{StartsAt};
 ghost use Rattle.turn_semantics.specs.Placed.{in_body};
 ghost use Rattle.turn_semantics.specs.Bound.{step_length, frames_length};
-ghost use Rattle.task_machine.specs.Fitting.{Fits, HasBody, outer_frames};
+ghost use Rattle.task_machine.specs.Fitting.{Fits, HasBody};
 ghost use Rattle.task_machine.specs.Frames.{frames_of};
 ghost use Rattle.task_machine.specs.Standing.{waits_by, RunsAs};
 ghost use Rattle.task_machine.specs.States.{state_of};
@@ -18,10 +18,8 @@ use autojump_clock::TaskId;
 use cancel_scopes::stacks_are_chains;
 use job_tree::Step;
 use line_kernels::Kernel;
+use moments::FAR;
 use std::alloc::AllocError;
-
-// The tick to which `forever` sleeps.
-const FAR: u64 = 1_099_511_627_776;
 
 impl<'a> Task<'a> {
     // One step of a block, the others of which are the innermost frame.
@@ -35,7 +33,7 @@ impl<'a> Task<'a> {
         requires tick { world.old.tick ≤ 2 ^ 62 }
         requires task_state { IsInRangeTaskState self.old.task_state }
         requires in_range { IsInRangeStep (step_of step.now) }
-        requires starts { StartsAt (in_body (outer_frames (frames_of (λ id. []) self.old.frames.items))) (step_of step.now) }
+        requires starts { StartsAt (in_body (frames_of (λ id. []) self.old.frames.items)) (step_of step.now) }
         ensures keeps { OnOk result (KeepsRest me self.old self.new world.old world.new) }
         ensures fits { OnOk result (Fits (state_of self.new world.new) None) }
         ensures waits { IfOk result (λ moved. waits_by moved self.new.task_state ≡ None) }
@@ -63,6 +61,11 @@ impl<'a> Task<'a> {
                 self.cancel(*name, world)?;
                 Ok(Moved::On(None))
             }
+            Step::Set(name) => {
+                self.set(*name, world)?;
+                Ok(Moved::On(None))
+            }
+            Step::Wait(name) => Ok(self.wait_for(*name, world)),
             _ => {
                 let moved = self.run_block(me, step, world)?;
                 Ok(moved)
@@ -82,7 +85,7 @@ impl<'a> Task<'a> {
         requires task_state { IsInRangeTaskState self.old.task_state }
         requires has_block { HasBody (step_of step.now) }
         requires in_range { IsInRangeStep (step_of step.now) }
-        requires starts { StartsAt (in_body (outer_frames (frames_of (λ id. []) self.old.frames.items))) (step_of step.now) }
+        requires starts { StartsAt (in_body (frames_of (λ id. []) self.old.frames.items)) (step_of step.now) }
         ensures keeps { OnOk result (KeepsRest me self.old self.new world.old world.new) }
         ensures fits { OnOk result (Fits (state_of self.new world.new) None) }
         ensures waits { IfOk result (λ moved. waits_by moved self.new.task_state ≡ None) }
@@ -109,6 +112,10 @@ impl<'a> Task<'a> {
                 body,
             } => {
                 self.enter_nursery(me, *name, *deadline, *shield, body, world)?;
+                Ok(Moved::On(None))
+            }
+            Step::Event { name, body } => {
+                self.enter_event(*name, body, world)?;
                 Ok(Moved::On(None))
             }
             Step::Start { name, over, body } => {

@@ -6,7 +6,7 @@ ghost use Rattle.nursery_book.specs.Book.{HasNursery};
 ghost use Rattle.task_machine.specs.declared.stop.TaskState.TheVariants.{ToBegin};
 ghost use Rattle.job_tree.specs.InRange.{IsInRangeOver};
 ghost use Rattle.turn_semantics.specs.Placed.{in_body};
-ghost use Rattle.task_machine.specs.Fitting.{Fits, outer_frames, InBody};
+ghost use Rattle.task_machine.specs.Fitting.{Fits, InBody};
 ghost use Rattle.task_machine.specs.Frames.{frames_of};
 ghost use Rattle.task_machine.specs.Stops.{Numbers};
 ghost use Rattle.task_machine.specs.Started.{StartsOne, StartsOver, StartsChildren};
@@ -125,7 +125,7 @@ impl<'a> Task<'a> {
         requires fits { Fits (state_of self.now world.old) None }
         requires over { IsInRangeOver over }
         requires tick { world.old.tick ≤ 2 ^ 62 }
-        requires body { IsTrue (in_body (outer_frames (frames_of (λ id. []) self.now.frames.items))) }
+        requires body { IsTrue (in_body (frames_of (λ id. []) self.now.frames.items)) }
         ensures rest { OnOk result (world.new ≡ record world.old { book = world.new.book; started = world.new.started }) }
         ensures fits { OnOk result (Fits (state_of self.now world.new) None) }
         ensures children { OnOk result (StartsChildren (state_of self.now world.old) (state_of self.now world.new) name over body.now) }
@@ -141,18 +141,19 @@ impl<'a> Task<'a> {
         Ok(())
     }
 
-    // The nursery in whose body the task is: the frame that encloses the steps that it is in.
+    // The nursery in whose body the task is, perhaps in passes of a `repeat` there.
     fn nursery(&self) -> NurseryId
-        requires { IsTrue (in_body (outer_frames (frames_of (λ id. []) self.now.frames.items))) }
+        requires { IsTrue (in_body (frames_of (λ id. []) self.now.frames.items)) }
         ensures { InBody self.now.frames.items result }
     {
         let frames = self.frames.as_slice();
-        let Some(frame) = frames.get(frames.len() - 2) else {
-            unreachable!()
-        };
-        let Frame::Nursery { id } = frame else {
-            unreachable!()
-        };
-        *id
+        let mut at = frames.len();
+        'outwards: while at > 0 {
+            at -= 1;
+            if let Frame::Nursery { id } = &frames[at] {
+                return *id;
+            }
+        }
+        unreachable!()
     }
 }

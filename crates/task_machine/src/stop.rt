@@ -1,3 +1,4 @@
+use cancel_scopes::ScopeId;
 use exc_groups::Exc;
 use job_tree::Name;
 use line_kernels::{Answer, Kernel, Request};
@@ -8,10 +9,10 @@ use nursery_book::NurseryId;
 pub enum Wake<'a> {
     /// It was started, and has its first turn.
     Begin,
-    /// Its moment has come: its sleep is due, and it sees no cancellation; or, a round later than something else, it begins, it
-    /// raises `Cancelled` after a checkpoint, or the nursery that it waits for is left.
+    /// Its moment has come: its sleep is due, and it sees no cancellation; the event that it waits for is set; or, a round later than
+    /// something else, it begins, it raises `Cancelled` after a checkpoint, or the nursery that it waits for is left.
     Due,
-    /// It sees a cancellation while it sleeps.
+    /// It sees a cancellation while it sleeps, or while it waits for an event.
     Seen,
     /// A kernel answered its request.
     Answer(Answer<'a>),
@@ -26,6 +27,8 @@ pub enum Stop<'a> {
     Ask(Request<'a>),
     /// It sleeps until this moment. It continues with `Wake::Due` or `Wake::Seen`.
     Sleep(u64),
+    /// It waits for this open event, from the present moment on. It continues with `Wake::Due` or `Wake::Seen`.
+    WaitFor(ScopeId),
     /// It was cancelled at a checkpoint, and raises `Cancelled` in this moment, a round later. It continues with `Wake::Due`.
     GiveUp(u64),
     /// It waits for the children of this nursery. It continues with `Wake::Settled`.
@@ -55,6 +58,13 @@ pub(crate) enum TaskState<'a> {
         paced: bool,
         /// The number of ticks.
         ticks: u64,
+        /// From this moment on.
+        since: u64,
+    },
+    /// It waits for an event.
+    Waiting {
+        /// The event.
+        event: ScopeId,
         /// From this moment on.
         since: u64,
     },

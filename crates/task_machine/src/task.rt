@@ -20,7 +20,7 @@ use smallvec::SmallVec;
 use std::alloc::{AllocError, Global};
 use std::collections::VecDeque;
 
-/// A cancel scope that a task opened.
+/// A cancel scope or event that a task opened.
 #[derive(Clone, Copy)]
 pub(crate) struct Own {
     /// The scope.
@@ -100,8 +100,8 @@ impl<'a> Task<'a> {
         &self.label
     }
 
-    /// Returns the innermost cancel scope that encloses the task: the last one that it opened and did not leave, or
-    /// else that of its home nursery; `None` for a root that is in no scope.
+    /// Returns the innermost cancel scope or event that encloses the task: the last one that it opened and did not leave, or
+    /// else the scope of its home nursery; `None` for a root that is in none.
     pub fn scope(&self) -> Option<ScopeId>
         ensures { result ≡ scope_of self.now }
     {
@@ -139,15 +139,15 @@ impl<'a> Task<'a> {
         self.entries.as_slice()
     }
 
-    /// Returns the scopes and nurseries that the task opened, in that order, each with the moment from which it was
-    /// cancelled. It is `None` until the scope or nursery is left.
+    /// Returns the scopes, nurseries and events that the task opened, in that order, each with the moment from which it was
+    /// cancelled, or set. It is `None` until it is left.
     pub fn froms(&self) -> &[ScopeFrom]
         ensures { result.now ≡ self.now.froms.items }
     {
         self.froms.as_slice()
     }
 
-    /// Returns the label of a task that has ended, what it noted, and the scopes and nurseries that it opened, as
+    /// Returns the label of a task that has ended, what it noted, and the scopes, nurseries and events that it opened, as
     /// `label`, `entries` and `froms` do. Takes no memory.
     pub fn into_parts(self) -> (Label, Vec<Entry<'a>>, Vec<ScopeFrom>)
         ensures label { result.0 ≡ self.entry.label }

@@ -28,8 +28,8 @@ impl<'a> Task<'a> {
     /// which each nursery that it opens keeps as that of its waiter. Children that it starts are left in the world
     /// (`take_started`).
     ///
-    /// The caller must ensure that the wake fits the last stop: `Begin` for the first turn, `Due` or `Seen` after `Sleep`, `Due`
-    /// after `GiveUp`, the answer to the request after `Ask`, and `Settled` after `Wait` once that nursery is settled (`Due` may
+    /// The caller must ensure that the wake fits the last stop: `Begin` for the first turn, `Due` or `Seen` after `Sleep` and
+    /// `WaitFor`, `Due` after `GiveUp`, the answer to the request after `Ask`, and `Settled` after `Wait` once that nursery is settled (`Due` may
     /// stand for `Begin` and `Settled`); that there is no turn after `Ended`; that the scopes and nurseries of the task are open in
     /// the world; and that the moment is at most 2 to the 62. The only error is that memory was refused, after which the task and
     /// the world can only be dropped.
@@ -123,6 +123,10 @@ impl<'a> Task<'a> {
             }
             Frame::Scope { fail } => {
                 let exc = self.exit(Kind::Scope { fail }, exc, world)?;
+                Ok(Moved::On(exc))
+            }
+            Frame::Event => {
+                self.leave(world);
                 Ok(Moved::On(exc))
             }
             Frame::Nursery { id } => Ok(self.end_body(id, exc, world)),

@@ -41,7 +41,7 @@ impl<'a> Task<'a> {
         ensures stays { OnOk result (self.new
             ≡ record self.old { own = self.new.own; task_state = self.new.task_state; entries = self.new.entries; froms = self.new.froms }) }
         ensures world { OnOk result (world.new
-            ≡ record world.old { scopes = world.new.scopes; labels = world.new.labels; book = world.new.book }) }
+            ≡ record world.old { scopes = world.new.scopes; labels = world.new.labels; events = world.new.events; book = world.new.book }) }
         ensures task_state { OnOk result (IsInRangeTaskState self.new.task_state) }
         ensures fits { IfOk result (λ moved. Fits (state_of self.new world.new) (waits_by moved self.new.task_state)) }
         ensures waiters { OnOk result (SameWaiters world.old.book world.new.book) }
@@ -73,7 +73,7 @@ impl<'a> Task<'a> {
         ensures stays { OnOk result (self.new
             ≡ record self.old { own = self.new.own; entries = self.new.entries; froms = self.new.froms }) }
         ensures world { OnOk result (world.new
-            ≡ record world.old { scopes = world.new.scopes; labels = world.new.labels; book = world.new.book }) }
+            ≡ record world.old { scopes = world.new.scopes; labels = world.new.labels; events = world.new.events; book = world.new.book }) }
         ensures fits { IfOk result (λ moved. Fits (state_of self.new world.new) (waits_by moved self.new.task_state)) }
         ensures waiters { OnOk result (SameWaiters world.old.book world.new.book) }
         ensures wakes { IfOk result (λ moved. Wakens (state_of self.old world.old) (state_of self.new world.new) moved
@@ -82,6 +82,11 @@ impl<'a> Task<'a> {
         match &self.task_state {
             TaskState::ToBegin { .. } => Ok(Moved::On(None)),
             TaskState::Asleep { .. } => Ok(Moved::On(None)),
+            TaskState::Waiting { event, .. } => {
+                let event = *event;
+                self.note_wait(event, world)?;
+                Ok(Moved::On(None))
+            }
             TaskState::GivingUp { .. } => Ok(Moved::On(Some(Exc::Cancelled))),
             TaskState::Awaits { .. } => {
                 let moved = self.settle(world)?;
@@ -95,19 +100,14 @@ impl<'a> Task<'a> {
     // The task sees a cancellation: it raises, but for one at a checkpoint where there are rounds, which raises a round later.
     fn see(&mut self, world: &World<'a>) -> Moved<'a>
         requires tick { world.now.tick ≤ 2 ^ 62 }
+        requires task_state { IsInRangeTaskState self.old.task_state }
         requires wake { WakesFrom self.old.task_state self.old.part world.now.book wakes.Seen }
         ensures stays { self.new ≡ record self.old { task_state = self.new.task_state } }
-        ensures task_state { IsInRangeTaskState self.old.task_state → IsInRangeTaskState self.new.task_state }
+        ensures task_state { IsInRangeTaskState self.new.task_state }
         ensures waits { waits_by result self.new.task_state ≡ None }
         ensures wakes { Wakens (state_of self.old world.now) (state_of self.new world.now) result sees }
     {
-        let TaskState::Asleep { paced, ticks, .. } = &self.task_state else {
-            unreachable!()
-        };
-        if *paced {
-            return Moved::On(Some(Exc::Cancelled));
-        }
-        if *ticks != 0 {
+        if !self.is_at_checkpoint(world) {
             return Moved::On(Some(Exc::Cancelled));
         }
         let since = world.now();
@@ -194,7 +194,7 @@ impl<'a> Task<'a> {
         ensures stays { OnOk result (self.new
             ≡ record self.old { own = self.new.own; entries = self.new.entries; froms = self.new.froms }) }
         ensures world { OnOk result (world.new
-            ≡ record world.old { scopes = world.new.scopes; labels = world.new.labels; book = world.new.book }) }
+            ≡ record world.old { scopes = world.new.scopes; labels = world.new.labels; events = world.new.events; book = world.new.book }) }
         ensures fits { IfOk result (λ moved. Fits (state_of self.new world.new) (waits_by moved self.new.task_state)) }
         ensures waiters { OnOk result (SameWaiters world.old.book world.new.book) }
         ensures wakes { IfOk result (λ moved. Wakens (state_of self.old world.old) (state_of self.new world.new) moved

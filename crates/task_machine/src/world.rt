@@ -1,4 +1,4 @@
-ghost use Rattle.std.specs.Prelude.{◌≡◌, ℕ, ◌+◌, ◌<◌, ◌≤◌, ◌^◌, ◌||◌, false, [], ◌∷◌, Some, None, IsSome, IfOk, OnOk};
+ghost use Rattle.std.specs.Prelude.{◌≡◌, ℕ, ◌+◌, ◌<◌, ◌≤◌, ◌^◌, ◌||◌, ◌&&◌, true, false, [], ◌∷◌, Some, None, IsSome, IfOk, OnOk};
 ghost use Rattle.std.specs.Option.{ForSome, option_map};
 ghost use Rattle.std.specs.Borrow.{sem};
 ghost use Rattle.cancel_scopes.specs.Sight.{before, is_reached, seen, sight};
@@ -8,18 +8,22 @@ ghost use Rattle.nursery_book.specs.Book.{nursery_at};
 ghost use Rattle.moments.specs.Moments.{tick_of};
 ghost use Rattle.task_machine.specs.Labels.{Updates};
 
+use crate::events::{EventState, event_of, lower_event, put_event, take_event};
 use crate::labels::{put_label, take_label};
 use crate::task::Task;
 use cancel_scopes::{ScopeId, ScopeTree, stacks_are_chains};
 use exc_groups::Label;
 use job_tree::Name;
-use moments::Clock;
+use moments::{Clock, FAR};
 use nursery_book::NurseryBook;
 use std::alloc::{AllocError, Global};
 use std::collections::VecDeque;
 
-/// What all tasks of a run share: the clock, the moment, the cancel scopes, each with its label, the nurseries, and the
-/// started tasks that were not taken yet.
+/// What all tasks of a run share: the clock, the moment, the cancel scopes, each with its label, the events, the nurseries, and
+/// the started tasks that were not taken yet.
+///
+/// An event is an open scope of the tree too, which is never cancelled and is no shield: so names are found, and blocks are left, as
+/// those of scopes are.
 ///
 /// Moments are at most 4,611,686,018,427,387,904 (2 to the 62).
 #[derive(Drop)]
@@ -30,13 +34,19 @@ pub struct World<'a> {
     pub(crate) scopes: ScopeTree,
     // Indexed by the keys of the scopes.
     pub(crate) labels: Vec<Option<Label>>,
+    // Indexed by the keys of the scopes, as far as there is one that is an event.
+    pub(crate) events: Vec<Option<EventState>>,
+    // The events that were set and not taken yet.
+    pub(crate) set: VecDeque<ScopeId>,
     pub(crate) book: NurseryBook,
     pub(crate) started: VecDeque<Task<'a>>,
 }
 
 impl<'a> World<'a> {
-    ghost use Rattle.task_machine.specs.Labels.{is_named, scope_named, has_label_among, seen_levels};
-    ghost use Rattle.task_machine.specs.Worlds.{label_at, TakesFirst};
+    ghost use Rattle.task_machine.specs.Acts.{SetsKey, kept_from};
+    ghost use Rattle.task_machine.specs.Events.{set_by, set_of, wait_ends};
+    ghost use Rattle.task_machine.specs.Labels.{is_sought, is_named, scope_named, home_key, has_label_among, seen_levels};
+    ghost use Rattle.task_machine.specs.Worlds.{label_at, event_at, TakesFirst};
     ghost use Rattle.task_machine.specs.Lending.{lends_scopes, lends_book};
 
     /// Returns a world in moment 0 of a clock, in which nothing is open and nothing was started. Takes no memory.
@@ -45,6 +55,8 @@ impl<'a> World<'a> {
         ensures tick { result.tick ≡ 0 }
         ensures scopes { (key : ℕ) → stack_of result.scopes key ≡ None }
         ensures labels { (key : ℕ) → label_at result key ≡ None }
+        ensures events { (key : ℕ) → event_at result key ≡ None }
+        ensures set { result.set.items ≡ [] }
         ensures book { (key : ℕ) → nursery_at result.book key ≡ None }
         ensures unchanged { (key : ℕ) → is_changed result.scopes key ≡ false }
         ensures started { result.started.items ≡ [] }
@@ -54,6 +66,8 @@ impl<'a> World<'a> {
             tick: 0,
             scopes: ScopeTree::new(alloc),
             labels: Vec::new(alloc),
+            events: Vec::new(alloc),
+            set: VecDeque::new(alloc),
             book: NurseryBook::new(alloc),
             started: VecDeque::new(alloc),
         }
@@ -128,6 +142,32 @@ impl<'a> World<'a> {
         self.started.pop_front()
     }
 
+    /// Takes the first of the events that were set and not taken yet, in the order in which they were set. An event that was set
+    /// twice is among them twice. Returns `None` exactly if there is none.
+    pub fn take_set(&mut self) -> Option<ScopeId>
+        ensures event { TakesFirst self.old.set.items result self.new.set.items }
+        ensures rest { self.new ≡ record self.old { set = self.new.set } }
+    {
+        self.set.pop_front()
+    }
+
+    /// Returns the moment from which an open event is set, or `None` while nothing has set it, and for a scope that is no event.
+    pub fn set_from(&self, id: ScopeId) -> Option<u64>
+        ensures { result ≡ set_of (event_at self.now id) }
+    {
+        event_of(&self.events, id.key())?
+    }
+
+    /// Returns the moment in which a wait for an open event ends that begins now: when the event is set, but a round later at the
+    /// earliest, and no later than a `forever` that begins now.
+    pub fn wait_ends(&self, event: ScopeId) -> u64
+        requires { self.now.tick ≤ 2 ^ 62 }
+        ensures { result ≡ wait_ends self.now.clock (event_at self.now event) self.now.tick }
+    {
+        let set = self.set_by(event, self.tick);
+        self.clock.a_round_after(self.tick).max(set)
+    }
+
     // Opens a cancel scope with that label inside another, or as an outermost one. After an error the world can only be
     // dropped.
     pub(crate) fn enter(
@@ -145,30 +185,57 @@ impl<'a> World<'a> {
         ensures others { IfOk result (OthersKeep self.old.scopes self.new.scopes) }
         ensures marks { SameMarks self.old.scopes self.new.scopes }
         ensures label { IfOk result (λ id. Updates (label_at self.old) (label_at self.new) id (Some label)) }
-        ensures rest { self.new ≡ record self.old { scopes = self.new.scopes; labels = self.new.labels } }
+        ensures no_event { IfOk result (λ id. Updates (event_at self.old) (event_at self.new) id None) }
+        ensures rest { self.new ≡ record self.old { scopes = self.new.scopes; labels = self.new.labels; events = self.new.events } }
     {
         let id = self.scopes.open(outer, shield, deadline)?;
         put_label(&mut self.labels, id.key(), label)?;
+        // A key is used again after its scope was left.
+        take_event(&mut self.events, id.key());
         Ok(id)
     }
 
-    // Closes a cancel scope that has no open children. Returns its label and the moment from which it was cancelled, or
-    // `None` if it never was.
+    // Opens an event with that label inside a scope, or as an outermost one. Nothing has set it. After an error the world can only be
+    // dropped.
+    pub(crate) fn enter_event(
+        &mut self,
+        outer: Option<ScopeId>,
+        label: Label,
+    ) -> Result<ScopeId, AllocError>
+        requires outer { ForSome outer (IsOpen self.old.scopes) }
+        ensures fresh { IfOk result (λ id. stack_of self.old.scopes id ≡ None) }
+        ensures opened { IfOk result (λ id. stack_of self.new.scopes id ≡
+            Some (record { label = id; shield = false; from = None } ∷ outer_of self.old.scopes outer)) }
+        ensures others { IfOk result (OthersKeep self.old.scopes self.new.scopes) }
+        ensures marks { SameMarks self.old.scopes self.new.scopes }
+        ensures label { IfOk result (λ id. Updates (label_at self.old) (label_at self.new) id (Some label)) }
+        ensures event { IfOk result (λ id. Updates (event_at self.old) (event_at self.new) id (Some None)) }
+        ensures rest { self.new ≡ record self.old { scopes = self.new.scopes; labels = self.new.labels; events = self.new.events } }
+    {
+        let id = self.enter(outer, label, false, None)?;
+        put_event(&mut self.events, id.key())?;
+        Ok(id)
+    }
+
+    // Closes a cancel scope or event that has no open children. Returns its label and the moment from which it was cancelled, or an
+    // event set, or `None` if it never was.
     pub(crate) fn leave(&mut self, id: ScopeId) -> (Label, Option<u64>)
         requires id { IsOpen self.old.scopes id }
         requires innermost { IsInnermost self.old.scopes id }
         requires label { IsSome (label_at self.old id) }
         ensures label { label_at self.old id ≡ Some result.0 }
-        ensures from { ForSome (stack_of self.old.scopes id) (λ stack. result.1 ≡ own_from stack) }
+        ensures from { ForSome (stack_of self.old.scopes id) (λ stack. result.1 ≡ kept_from (event_at self.old id) stack) }
         ensures closed { stack_of self.new.scopes id ≡ None }
         ensures others { OthersKeep self.old.scopes self.new.scopes id }
         ensures marks { OtherMarksKeep self.old.scopes self.new.scopes id }
         ensures taken { Updates (label_at self.old) (label_at self.new) id None }
-        ensures rest { self.new ≡ record self.old { scopes = self.new.scopes; labels = self.new.labels } }
+        ensures no_event { Updates (event_at self.old) (event_at self.new) id None }
+        ensures rest { self.new ≡ record self.old { scopes = self.new.scopes; labels = self.new.labels; events = self.new.events } }
     {
         let from = self.scopes.close(id);
         let label = take_label(&mut self.labels, id.key());
-        (label, from)
+        let set = take_event(&mut self.events, id.key());
+        (label, set.unwrap_or(from))
     }
 
     // Cancels a scope in the present moment, which is seen from the next one on.
@@ -184,20 +251,82 @@ impl<'a> World<'a> {
         self.scopes.cancel(id, self.tick);
     }
 
-    // The innermost scope of that name, from this one outwards.
-    pub(crate) fn find(&self, scope: Option<ScopeId>, name: Name) -> Option<ScopeId>
+    // Sets an open event in the present moment, which is seen from the next one on. After an error the world can only be dropped.
+    pub(crate) fn set(&mut self, id: ScopeId) -> Result<(), AllocError>
+        requires event { IsSome (event_at self.old id) }
+        requires tick { self.old.tick + 1 < 2 ^ 63 }
+        ensures sets { OnOk result (SetsKey id self.old.tick (event_at self.old) (event_at self.new) self.old.set.items self.new.set.items) }
+        ensures rest { OnOk result (self.new ≡ record self.old { events = self.new.events; set = self.new.set }) }
+    {
+        lower_event(&mut self.events, id.key(), self.tick);
+        self.set.push_back(id)?;
+        Ok(())
+    }
+
+    // The innermost scope or nursery of that name, or the innermost event, from this scope outwards.
+    pub(crate) fn find(&self, scope: Option<ScopeId>, name: Name, events: bool) -> Option<ScopeId>
         requires { ForSome scope (IsOpen self.now.scopes) }
-        ensures { result ≡ scope_named (label_at self.now) name (outer_of self.now.scopes scope) }
+        ensures { result ≡ scope_named events (label_at self.now) (event_at self.now) name (outer_of self.now.scopes scope) }
     {
         stacks_are_chains(&self.scopes);
         let mut at = scope;
         'outwards: while let Some(id) = at {
-            if self.has_name(id, name) {
+            if self.is_sought(id, name, events) {
                 return Some(id);
             }
             at = self.scopes.parent(id);
         }
         None
+    }
+
+    // Whether an open scope has that name, and is an event, or is none.
+    fn is_sought(&self, id: ScopeId, name: Name, events: bool) -> bool
+        ensures { result ≡ (is_sought events (event_at self.now id) && is_named name (label_at self.now id)) }
+    {
+        if self.is_event(id) != events {
+            return false;
+        }
+        self.has_name(id, name)
+    }
+
+    // The innermost scope that is no event, from this one outwards.
+    pub(crate) fn home(&self, scope: Option<ScopeId>) -> Option<ScopeId>
+        requires { ForSome scope (IsOpen self.now.scopes) }
+        ensures { result ≡ home_key (event_at self.now) (outer_of self.now.scopes scope) }
+    {
+        stacks_are_chains(&self.scopes);
+        let mut at = scope;
+        'outwards: while let Some(id) = at {
+            if !self.is_event(id) {
+                return Some(id);
+            }
+            at = self.scopes.parent(id);
+        }
+        None
+    }
+
+    // Whether an open scope is an event.
+    fn is_event(&self, id: ScopeId) -> bool
+        ensures { result ≡ is_sought true (event_at self.now id) }
+    {
+        event_of(&self.events, id.key()).is_some()
+    }
+
+    // Returns the moment in which a wait for an event ends that began in moment `since`; nothing waits longer than `forever`.
+    pub(crate) fn set_by(&self, id: ScopeId, since: u64) -> u64
+        requires { since ≤ 2 ^ 62 }
+        ensures { result ≡ set_by self.now.clock (event_at self.now id) since }
+    {
+        let Some(set) = event_of(&self.events, id.key()) else {
+            return since;
+        };
+        let last = self
+            .clock
+            .wakes_at(FAR.saturating_sub(self.clock.tick_of(since)), since);
+        match set {
+            Some(from) => from.min(last),
+            None => last,
+        }
     }
 
     // Whether the scope's label has that name.
@@ -233,11 +362,18 @@ impl<'a> World<'a> {
         }
     }
 
+    // The label of the scope with this key, if it has one.
+    pub(crate) fn label_of(&self, id: ScopeId) -> Option<&Label>
+        ensures { option_map (λ label. label.now) result ≡ label_at self.now id }
+    {
+        self.labels.get(id.key())?.as_ref()
+    }
+
     // Whether the scope catches a cancellation that leaves it now, for a task that has itself cancelled some labels in this moment.
     pub(crate) fn catches(&self, id: ScopeId, cancelled: &VecDeque<Label>) -> bool
         requires { IsOpen self.now.scopes id }
         ensures { ForSome (stack_of self.now.scopes id) (λ stack.
-            result ≡ tree.catches (seen_levels (label_at self.now) cancelled.now.items self.now.tick stack) self.now.tick) }
+            result ≡ tree.catches (seen_levels (label_at self.now) (event_at self.now) cancelled.now.items self.now.tick stack) self.now.tick) }
     {
         if cancelled.front().is_none() {
             return self.scopes.may_catch(id, self.tick);
@@ -255,13 +391,13 @@ impl<'a> World<'a> {
     fn is_cancelled(&self, id: ScopeId, cancelled: &VecDeque<Label>) -> bool
         requires { IsOpen self.now.scopes id }
         ensures { ForSome (stack_of self.now.scopes id) (λ stack.
-            result ≡ is_reached (own_from (seen_levels (label_at self.now) cancelled.now.items self.now.tick stack)) self.now.tick) }
+            result ≡ is_reached (own_from (seen_levels (label_at self.now) (event_at self.now) cancelled.now.items self.now.tick stack)) self.now.tick) }
     {
         stacks_are_chains(&self.scopes);
         if self.scopes.is_cancelled(id, self.tick) {
             return true;
         }
-        self.is_among(id, cancelled)
+        !self.is_event(id) && self.is_among(id, cancelled)
     }
 
     // Whether a scope has one of these labels.
@@ -280,7 +416,7 @@ impl<'a> World<'a> {
     fn sees_with(&self, scope: Option<ScopeId>, cancelled: &VecDeque<Label>) -> bool
         requires { ForSome scope (IsOpen self.now.scopes) }
         ensures { result
-            ≡ seen (seen_levels (label_at self.now) cancelled.now.items self.now.tick (outer_of self.now.scopes scope)) self.now.tick }
+            ≡ seen (seen_levels (label_at self.now) (event_at self.now) cancelled.now.items self.now.tick (outer_of self.now.scopes scope)) self.now.tick }
     {
         stacks_are_chains(&self.scopes);
         let mut inside = scope;

@@ -1,7 +1,9 @@
 //! The tasks of a run: those that have not ended by their ids, and a row for each that was ever started.
 ghost use Rattle.std.specs.Prelude.{◌≡◌, ◌<◌, ◌≤◌, ◌^◌, ◌↔◌, IsSome, IsTrue, IfOk, OnOk, OnErr, length};
 ghost use Rattle.std.specs.Option.{ForSome};
+ghost use Rattle.task_machine.specs.Events.{WaitsWithin, is_wait_over};
 ghost use Rattle.task_machine.specs.Tasks.{scope_of, home_of};
+ghost use Rattle.task_machine.specs.Worlds.{event_at};
 ghost use Rattle.task_table.specs.Rows.{IsNewRow};
 ghost use Rattle.task_table.specs.TaskTable.{running_at, task_count, row_at, gone_of, id_of, parent_of, IsTaskTable, HasRoot, Starts, MayTurn, HasTurn, Ends};
 
@@ -128,6 +130,19 @@ impl<'a> TaskTable<'a> {
     {
         match self.live.get(id) {
             Some(running) => running.task.scope(),
+            None => unreachable!(),
+        }
+    }
+
+    /// Returns whether a task that has not ended waits for an event, not at a checkpoint, that is set by the present moment. It then
+    /// goes on, also if it sees a cancellation.
+    pub fn is_wait_over(&self, id: TaskId, world: &World<'a>) -> bool
+        requires lives { IsSome (running_at self.now id) }
+        requires within { ForSome (running_at self.now id) (λ x. WaitsWithin x.task.task_state) }
+        ensures { ForSome (running_at self.now id) (λ x. result ≡ is_wait_over world.now.clock (event_at world.now) x.task.task_state world.now.tick) }
+    {
+        match self.live.get(id) {
+            Some(running) => running.task.is_wait_over(world),
             None => unreachable!(),
         }
     }

@@ -1,20 +1,17 @@
-use Rattle.job_runner.proofs.Stopped.{not_timed, stopping_scope, sleeps_alone, sleeps_within}
+use Rattle.job_runner.proofs.Stopped.{not_timed, not_sleeping, stopping_lives, stopping_scope, asleep_going}
 use Rattle.job_runner.proofs.runner.Runner.handle_sleep.Goals as goal
 
-pub sleep_until-requires-clause-awake : goal.sleep_until-requires-clause-awake
-sleep_until-requires-clause-awake c = not_timed c.requires
+pub put_to_sleep-requires-clause-awake : goal.put_to_sleep-requires-clause-awake
+put_to_sleep-requires-clause-awake c = not_timed c.requires
 
-pub seen_from-sight-requires : goal.seen_from-sight-requires
-seen_from-sight-requires c =
-    rw c.scopes.ensures (stopping_scope c.requires c.scope.result c.scope.ensures c.in-Some.scope c.in-Some.is)
+pub put_to_sleep-requires-clause-asleep : goal.put_to_sleep-requires-clause-asleep
+put_to_sleep-requires-clause-asleep c = not_sleeping c.requires
 
-pub returns-in_ok-add-clause-going : goal.returns-in_ok-add-clause-going
-returns-in_ok-add-clause-going c =
-    let sees = rw c.scopes.ensures at c.seen_from-sight.ensures in
-    sleeps_within c.requires c.in_ok-sleep_until.ensures.timers c.in_ok-sleep_until.ensures.time c.scope.result c.scope.ensures
-    c.in-Some.scope c.in-Some.is c.seen_from-sight.result sees c.add.new.self c.in_ok-add.ensures.scopes c.in_ok-add.ensures.sights
+pub put_to_sleep-requires-clause-lives : goal.put_to_sleep-requires-clause-lives
+put_to_sleep-requires-clause-lives c = stopping_lives c.requires
 
-pub returns-in_default-clause-going : goal.returns-in_default-clause-going
-returns-in_default-clause-going c =
-    sleeps_alone c.requires c.in_ok-sleep_until.ensures.timers c.in_ok-sleep_until.ensures.time c.scope.result c.scope.ensures
-    c.in_default.is
+pub put_to_sleep-requires-clause-opened : goal.put_to_sleep-requires-clause-opened
+put_to_sleep-requires-clause-opened c = stopping_scope c.requires
+
+pub returns-clause-going : goal.returns-clause-going
+returns-clause-going c = asleep_going c.requires c.in_ok-put_to_sleep.ensures

@@ -1,5 +1,5 @@
 use Rattle.job_runner.proofs.States.{moment_bounded}
-use Rattle.job_runner.proofs.Stopped.{not_timed, settles_going, waits_going, waits_there}
+use Rattle.job_runner.proofs.Stopped.{not_timed, settles_going, awaits_going, waits_there}
 use Rattle.job_runner.proofs.runner.Runner.handle_wait.Goals as goal
 
 pub settled-requires : goal.settled-requires
@@ -19,4 +19,4 @@ returns-in_ok-ready-clause-going c =
 pub returns-else-settled-clause-going : goal.returns-else-settled-clause-going
 returns-else-settled-clause-going c =
     let tells = rw c.book.ensures at c.settled.ensures in
-    waits_going c.requires c.settled.result tells c.if-settled.false
+    awaits_going c.requires c.settled.result tells c.if-settled.false

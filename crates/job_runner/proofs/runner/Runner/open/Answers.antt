@@ -22,6 +22,8 @@ returns-clause-underway c =
       tick = c.new.ensures.tick;
       scopes = c.new.ensures.scopes;
       labels = c.new.ensures.labels;
+      events = c.new.ensures.events;
+      set = c.new.ensures.set;
       book = c.new.ensures.book;
       started =
           c.new.ensures.started;
@@ -39,6 +41,6 @@ returns-clause-underway c =
       cancelled = c.in_ok-task.ensures.cancelled;
     })
     c.in_ok-task_table.ensures.root refl c.in_ok-task_table.ensures.agree c.new-2.ensures.now limit c.requires.bounded
-    c.new-2.ensures.timers c.new-3.ensures c.new.ensures.unchanged c.new-batch.result.next
+    c.new-2.ensures.timers c.new-3.ensures c.new-4.ensures c.new.ensures.unchanged c.new-batch.result.next
     c.add.new.self.next c.new-batch.ensures.next c.in_ok-add.ensures.added c.turn_over.ensures.current c.turn_over.ensures.next
     c.turn_over.ensures.unplaced

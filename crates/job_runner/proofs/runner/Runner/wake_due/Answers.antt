@@ -5,7 +5,12 @@ use Rattle.job_runner.proofs.Waking.{WakesOne, due_first, due_next, due_fewer, d
 use Rattle.job_runner.proofs.runner.Runner.wake_due.Goals as goal
 
 abbrev after_wake : goal.In_ok-add → Runner
-after_wake c = record (c.due.self) { clock = c.take_due.new.self; sleepers = c.remove.new.self; batch = c.add.new.self }
+after_wake c = record (c.due.self) {
+  clock = c.take_due.new.self;
+  sleepers = c.remove.new.self;
+  waiters = c.remove-in-Some.new.self;
+  batch = c.add.new.self;
+}
 
 wakes_one : (c : goal.In_ok-add) → WakesOne c.due.self (after_wake c) c.in-Some.id Due
 wakes_one c = record {
@@ -13,6 +18,7 @@ wakes_one c = record {
   time = c.in-Some.ensures.time;
   scopes = c.remove.ensures.scopes;
   sights = c.remove.ensures.sights;
+  waiters = c.remove-in-Some.ensures;
   current = c.in_ok-add.ensures.current;
   next = c.in_ok-add.ensures.added;
   only = refl;

@@ -6,7 +6,7 @@ use Rattle.job_tree.specs.Blocks.{handled_of, cleaned_of}
 use Rattle.job_meaning.specs.Walk.{outcome_after}
 use Rattle.turn_semantics.specs.Bound.{frames_length}
 use Rattle.turn_semantics.specs.Midway.{Move}
-use Rattle.task_machine.specs.declared.frame.Frame.TheVariants.{Scope, Nursery, Repeat, Try, Handler, Cleanup}
+use Rattle.task_machine.specs.declared.frame.Frame.TheVariants.{Scope, Event, Nursery, Repeat, Try, Handler, Cleanup}
 use Rattle.task_machine.specs.declared.frame.Frame.{Frame}
 use Rattle.task_machine.specs.declared.stop.TaskState.{TaskState}
 use Rattle.task_machine.specs.declared.stop.Moved.{Moved}
@@ -20,14 +20,14 @@ use Rattle.task_machine.specs.Worlds.{label_at}
 use Rattle.task_machine.proofs.Fits.{ready_scope}
 use Rattle.task_machine.proofs.StateLemmas.{state_eq}
 use Rattle.task_machine.proofs.TaskFits.{exited_fits, waits_fits, frame_off, in_range_with, starts_with, popped_fits, popped_length, popped_body, pass_shorter, passed_fits, try_shorter, tried_fits, handled_fits}
-use Rattle.task_machine.proofs.Advances.{takes_end, takes_exit, takes_body, takes_pass, takes_try, takes_handler, takes_cleanup}
+use Rattle.task_machine.proofs.Advances.{takes_end, takes_exit, takes_event_left, takes_body, takes_pass, takes_try, takes_handler, takes_cleanup}
 use Rattle.task_machine.proofs.task.Task.advance.Goals as goal
 
 pub exit-requires-clause-some : goal.exit-requires-clause-some
 exit-requires-clause-some c =
     let self = c.args.self.now in
     let laws = c.stacks_are_chains.ensures in
-    (ready_scope c.pop.new.self.items c.in-Scope.fail self.part (home_scope self) self.own.items _ c.args.world.now.scopes
+    (ready_scope c.pop.new.self.items (Scope c.in-Scope.fail) tt self.part (home_scope self) self.own.items _ c.args.world.now.scopes
     (label_at c.args.world.now) c.args.world.now.book laws.chain laws.own laws.apart
     (popped_fits (state_of (record c.args.self.now { frames = c.pop.new.self }) c.args.world.now) c.args.self.now.frames.items c.in-Some.frame (Scope c.in-Scope.fail) c.in-Some.ensures.items c.in-Scope.is c.requires.fits)).some
 
@@ -35,7 +35,7 @@ pub exit-requires-clause-innermost : goal.exit-requires-clause-innermost
 exit-requires-clause-innermost c =
     let self = c.args.self.now in
     let laws = c.stacks_are_chains.ensures in
-    (ready_scope c.pop.new.self.items c.in-Scope.fail self.part (home_scope self) self.own.items _ c.args.world.now.scopes
+    (ready_scope c.pop.new.self.items (Scope c.in-Scope.fail) tt self.part (home_scope self) self.own.items _ c.args.world.now.scopes
     (label_at c.args.world.now) c.args.world.now.book laws.chain laws.own laws.apart
     (popped_fits (state_of (record c.args.self.now { frames = c.pop.new.self }) c.args.world.now) c.args.self.now.frames.items c.in-Some.frame (Scope c.in-Scope.fail) c.in-Some.ensures.items c.in-Scope.is c.requires.fits)).innermost
 
@@ -43,9 +43,61 @@ pub exit-requires-clause-labelled : goal.exit-requires-clause-labelled
 exit-requires-clause-labelled c =
     let self = c.args.self.now in
     let laws = c.stacks_are_chains.ensures in
-    (ready_scope c.pop.new.self.items c.in-Scope.fail self.part (home_scope self) self.own.items _ c.args.world.now.scopes
+    (ready_scope c.pop.new.self.items (Scope c.in-Scope.fail) tt self.part (home_scope self) self.own.items _ c.args.world.now.scopes
     (label_at c.args.world.now) c.args.world.now.book laws.chain laws.own laws.apart
     (popped_fits (state_of (record c.args.self.now { frames = c.pop.new.self }) c.args.world.now) c.args.self.now.frames.items c.in-Some.frame (Scope c.in-Scope.fail) c.in-Some.ensures.items c.in-Scope.is c.requires.fits)).labelled
+
+pub leave-requires-clause-some : goal.leave-requires-clause-some
+leave-requires-clause-some c =
+    let self = c.args.self.now in
+    let laws = c.stacks_are_chains.ensures in
+    (ready_scope c.pop.new.self.items Event tt self.part (home_scope self) self.own.items _ c.args.world.now.scopes
+    (label_at c.args.world.now) c.args.world.now.book laws.chain laws.own laws.apart
+    (popped_fits (state_of (record c.args.self.now { frames = c.pop.new.self }) c.args.world.now) c.args.self.now.frames.items c.in-Some.frame Event c.in-Some.ensures.items c.in-Event.is c.requires.fits)).some
+
+pub leave-requires-clause-innermost : goal.leave-requires-clause-innermost
+leave-requires-clause-innermost c =
+    let self = c.args.self.now in
+    let laws = c.stacks_are_chains.ensures in
+    (ready_scope c.pop.new.self.items Event tt self.part (home_scope self) self.own.items _ c.args.world.now.scopes
+    (label_at c.args.world.now) c.args.world.now.book laws.chain laws.own laws.apart
+    (popped_fits (state_of (record c.args.self.now { frames = c.pop.new.self }) c.args.world.now) c.args.self.now.frames.items c.in-Some.frame Event c.in-Some.ensures.items c.in-Event.is c.requires.fits)).innermost
+
+pub leave-requires-clause-labelled : goal.leave-requires-clause-labelled
+leave-requires-clause-labelled c =
+    let self = c.args.self.now in
+    let laws = c.stacks_are_chains.ensures in
+    (ready_scope c.pop.new.self.items Event tt self.part (home_scope self) self.own.items _ c.args.world.now.scopes
+    (label_at c.args.world.now) c.args.world.now.book laws.chain laws.own laws.apart
+    (popped_fits (state_of (record c.args.self.now { frames = c.pop.new.self }) c.args.world.now) c.args.self.now.frames.items c.in-Some.frame Event c.in-Some.ensures.items c.in-Event.is c.requires.fits)).labelled
+
+pub returns-in-Event-clause-fits : goal.returns-in-Event-clause-fits
+returns-in-Event-clause-fits c =
+    let laws = c.stacks_are_chains.ensures in
+    let e = c.leave.ensures in
+    exited_fits Event tt (state_of (record c.args.self.now { frames = c.pop.new.self }) c.args.world.now) (state_of c.leave.new.self c.leave.new.world)
+    (record { chain = laws.chain; own = laws.own; apart = laws.apart })
+    (popped_fits (state_of (record c.args.self.now { frames = c.pop.new.self }) c.args.world.now) c.args.self.now.frames.items c.in-Some.frame Event c.in-Some.ensures.items c.in-Event.is c.requires.fits) e.left e.own
+    (state_eq _ _ _ _ (e.stays ∙ ap (λ (t : Task). record c.args.self.now {
+      frames = c.pop.new.self;
+      own = c.leave.new.self.own;
+      froms = c.leave.new.self.froms;
+      entries = t.entries;
+    }) (sym e.stays)) e.world)
+
+pub returns-in-Event-clause-shorter : goal.returns-in-Event-clause-shorter
+returns-in-Event-clause-shorter c =
+    λ u.
+    let before = popped_length c.args.self.now.frames.items c.pop.new.self.items c.in-Some.frame Event c.in-Some.ensures.items c.in-Event.is in
+    let after = ap (λ (t : Task). frames_length (frames_of (λ id. []) t.frames.items)) c.leave.ensures.stays in
+    omega (arith, before, after)
+
+pub returns-in-Event-clause-step : goal.returns-in-Event-clause-step
+returns-in-Event-clause-step c =
+    let e = c.leave.ensures in
+    takes_event_left (state_of (record c.args.self.now { frames = c.pop.new.self }) c.args.world.now) (state_of c.leave.new.self c.leave.new.world) c.args.self.now.frames.items c.args.exc
+    (c.in-Some.ensures.items ∙ ap (λ (f : Frame). c.pop.new.self.items ++ f ∷ []) c.in-Event.is) (state_eq _ _ _ _ e.stays e.world)
+    (λ froms p ps at. (e.at froms p ps at).around) e.left
 
 pub end_body-requires-clause-nursery : goal.end_body-requires-clause-nursery
 end_body-requires-clause-nursery c =
@@ -57,7 +109,7 @@ pub returns-in_ok-exc-in-Scope-clause-fits : goal.returns-in_ok-exc-in-Scope-cla
 returns-in_ok-exc-in-Scope-clause-fits c =
     let laws = c.stacks_are_chains.ensures in
     let e = c.in_ok-exc-in-Scope.ensures in
-    exited_fits c.in-Scope.fail (state_of (record c.args.self.now { frames = c.pop.new.self }) c.args.world.now) (state_of c.exit.new.self c.exit.new.world)
+    exited_fits (Scope c.in-Scope.fail) tt (state_of (record c.args.self.now { frames = c.pop.new.self }) c.args.world.now) (state_of c.exit.new.self c.exit.new.world)
     (record { chain = laws.chain; own = laws.own; apart = laws.apart })
     (popped_fits (state_of (record c.args.self.now { frames = c.pop.new.self }) c.args.world.now) c.args.self.now.frames.items c.in-Some.frame (Scope c.in-Scope.fail) c.in-Some.ensures.items c.in-Scope.is c.requires.fits) e.left e.own (state_eq _ _ _ _ e.stays e.world)
 

@@ -1,12 +1,14 @@
-use Rattle.std.proofs.Common.{Some, None, refl, sym, subst}
+use Rattle.std.proofs.Common.{Some, None, refl, ap, sym, subst}
 use Rattle.exc_groups.specs.declared.exc.Exc.TheVariants.{Cancelled}
 use Rattle.turn_semantics.specs.Wakes.{settles}
 use Rattle.task_machine.specs.declared.stop.Moved.TheVariants.{On}
 use Rattle.task_machine.specs.declared.stop.TaskState.{TaskState}
+use Rattle.task_machine.specs.declared.task.Task.{Task}
+use Rattle.task_machine.specs.Fitting.{Fits, waits_of}
 use Rattle.task_machine.specs.Standing.{Wakens}
 use Rattle.task_machine.specs.States.{state_of}
 use Rattle.task_machine.specs.Waking.{due_wake, settled_exc}
-use Rattle.task_machine.proofs.Wakens.{wakes_begin, wakes_due, wakes_gives_up}
+use Rattle.task_machine.proofs.Wakens.{wakes_begin, wakes_due, wakes_noted, wakes_gives_up}
 use Rattle.task_machine.proofs.task.Task.come_due.Goals as goal
 
 pub returns-in-ToBegin-clause-wakes : goal.returns-in-ToBegin-clause-wakes
@@ -17,7 +19,22 @@ returns-in-ToBegin-clause-wakes c =
 pub returns-in-Asleep-clause-wakes : goal.returns-in-Asleep-clause-wakes
 returns-in-Asleep-clause-wakes c =
     let s = state_of c.args.self.now c.args.world.now in
-    subst (λ (x : TaskState). Wakens s s (On None) (due_wake c.args.world.now.book x)) (sym c.in-Asleep.is) (wakes_due s)
+    subst (λ (x : TaskState). Wakens s s (On None) (due_wake c.args.world.now.book x)) (sym c.in-Asleep.is)
+    (wakes_due s _ _ _ c.in-Asleep.is)
+
+pub returns-in_ok-note_wait-in-Waiting-clause-wakes : goal.returns-in_ok-note_wait-in-Waiting-clause-wakes
+returns-in_ok-note_wait-in-Waiting-clause-wakes c =
+    let s = state_of c.args.self.now c.args.world.now in
+    let u = state_of c.note_wait.new.self c.args.world.now in
+    let e = c.in_ok-note_wait-in-Waiting.ensures in
+    subst (λ (x : TaskState). Wakens s u (On None) (due_wake c.args.world.now.book x)) (sym c.in-Waiting.is)
+    (wakes_noted s u c.in-Waiting.event _ c.in-Waiting.is (ap (λ (t : Task). state_of t c.args.world.now) e.stays) e.noted)
+
+pub returns-in_ok-note_wait-in-Waiting-clause-fits : goal.returns-in_ok-note_wait-in-Waiting-clause-fits
+returns-in_ok-note_wait-in-Waiting-clause-fits c =
+    let s = state_of c.args.self.now c.args.world.now in
+    subst (λ (t : Task). Fits (state_of t c.args.world.now) None) (sym c.in_ok-note_wait-in-Waiting.ensures.stays)
+    (subst (λ (x : TaskState). Fits s (waits_of x)) c.in-Waiting.is c.requires.fits)
 
 pub returns-in-GivingUp-clause-wakes : goal.returns-in-GivingUp-clause-wakes
 returns-in-GivingUp-clause-wakes c =

@@ -6,7 +6,7 @@ use Rattle.job_meaning.specs.Moments.{Clock, due}
 use Rattle.turn_semantics.specs.Midway.{Place}
 use Rattle.turn_semantics.specs.Steps.{froms_after_entry}
 use Rattle.task_machine.specs.Stacked.{AreAt}
-use Rattle.task_machine.specs.Worlds.{label_at}
+use Rattle.task_machine.specs.Worlds.{label_at, event_at}
 use Rattle.nursery_book.specs.Nursery.{new_nursery as opens}
 use Rattle.nursery_book.specs.Book.{nursery_at, Updates}
 use Rattle.nursery_book.specs.declared.book.NurseryBook.{NurseryBook}
@@ -14,7 +14,7 @@ use Rattle.task_machine.specs.declared.frame.Frame.{Frame}
 use Rattle.task_machine.specs.declared.frame.Frame.TheVariants.{Nursery, Steps}
 use Rattle.task_machine.specs.declared.task.Task.{Task}
 use Rattle.task_machine.specs.declared.world.World.{World}
-use Rattle.task_machine.specs.Entered.{EntersAt, label_in}
+use Rattle.task_machine.specs.Entered.{EntersAt, a_scope_at, label_in}
 use Rattle.task_machine.specs.States.{state_of}
 use Rattle.task_machine.specs.Tasks.{scope_of}
 use Rattle.task_machine.proofs.task.Task.enter_nursery.Goals as goal
@@ -50,7 +50,8 @@ returns-clause-at c =
     let scopes = c.enter.new.world.scopes in
     let labels = label_at c.enter.new.world in
     let label : Label = label_in c.args.self.now c.args.name in
-    let place : Place = record { label = label; shield = c.args.shield } in
+    let events = event_at c.enter.new.world in
+    let place : Place = a_scope_at label c.args.shield in
     let scope : scope_of c.push-2.new.self ≡ scope_of c.enter.new.self =
     ap scope_of c.in_ok-push-2.ensures.stays ∙ ap scope_of c.in_ok-push.ensures.stays in
     let world = c.args.world.now in
@@ -58,10 +59,10 @@ returns-clause-at c =
     c.due-until.ensures.due ∙ ap (λ (k : Clock). due k c.args.deadline c.now.result) c.clock.ensures
     ∙ ap (λ (t : ℕ). due world.clock c.args.deadline t) c.now.ensures in
     let entered =
-    subst (λ (l : Label). EntersAt (state_of c.args.self.now c.args.world.now) (state_of c.enter.new.self c.enter.new.world) l
-    c.args.shield c.due-until.result) (c.in_ok-kept.ensures ∙ c.in_ok-label.ensures) c.in_ok-scope.ensures.at in
+    subst (λ (l : Label). EntersAt (state_of c.args.self.now c.args.world.now) (state_of c.enter.new.self c.enter.new.world)
+    (a_scope_at l c.args.shield) c.due-until.result) (c.in_ok-kept.ensures ∙ c.in_ok-label.ensures) c.in_ok-scope.ensures.at in
     λ froms ps new at.
-    subst (λ (s : Option ℕ). AreAt labels (froms_after_entry froms label (due world.clock c.args.deadline world.tick)) (outer_of scopes s)
+    subst (λ (s : Option ℕ). AreAt labels events (froms_after_entry froms label (due world.clock c.args.deadline world.tick)) (outer_of scopes s)
     (place ∷ ps)) (sym scope)
-    (subst (λ (d : Tick). AreAt labels (froms_after_entry froms label d) (outer_of scopes (scope_of c.enter.new.self)) (place ∷ ps)) deadline
+    (subst (λ (d : Tick). AreAt labels events (froms_after_entry froms label d) (outer_of scopes (scope_of c.enter.new.self)) (place ∷ ps)) deadline
     (entered froms ps new at))

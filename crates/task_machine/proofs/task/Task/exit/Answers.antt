@@ -15,13 +15,13 @@ returns-clause-at c =
     let left = c.leave-label in
     let tick : tick_of left.new.world.clock left.new.world.tick ≡ tick_of world.clock world.tick =
     ap (λ (w : World). tick_of w.clock w.tick) left.ensures.world in
-    λ froms p ps a.
+    λ froms p ps scope a.
     let at = left.ensures.at froms p ps a in
     record {
       exc =
           exc_goes_on (kind_of c.args.kind) left.result.label p.label c.tick.result (tick_of world.clock world.tick) left.result.catches _
           (left_of c.in_ok-left.left) (option_map exc_of c.args.exc) _
-          c.in_ok-exc.ensures c.in_ok-left.ensures at.label at.caught (c.tick.ensures ∙ tick);
+          c.in_ok-exc.ensures c.in_ok-left.ensures at.label (at.caught scope) (c.tick.ensures ∙ tick);
       entry = c.in_ok-entry.entry;
       entries = c.in_ok-push.ensures.items ∙ ap (λ (t : Task). t.entries.items ++ c.in_ok-entry.entry ∷ []) left.ensures.stays;
       shown =
@@ -30,6 +30,6 @@ returns-clause-at c =
           world.tick left.result.catches _
           (left_of c.in_ok-left.left) (option_map exc_of c.args.exc) ((c.in_ok-entry.ensures (buffer_of c.args.self.now.part)).1)
           (c.in_ok-entry.ensures (buffer_of c.args.self.now.part)).0
-          c.in_ok-left.ensures at.label at.caught (c.tick-2.ensures ∙ tick);
+          c.in_ok-left.ensures at.label (at.caught scope) (c.tick-2.ensures ∙ tick);
       around = at.around;
     }

@@ -9,7 +9,6 @@ use Rattle.turn_semantics.specs.Bound.{turn_length, frames_length}
 use Rattle.turn_semantics.specs.Placed.{in_body}
 use Rattle.task_machine.specs.declared.frame.Frame.TheVariants.{Steps}
 use Rattle.task_machine.specs.declared.task.Task.{Task}
-use Rattle.task_machine.specs.Fitting.{outer_frames}
 use Rattle.task_machine.specs.Frames.{frames_of}
 use Rattle.task_machine.specs.Standing.{StepsAs, with_frames}
 use Rattle.task_machine.specs.States.{State, state_of}
@@ -49,7 +48,7 @@ run-requires-clause-starts c =
     let fs = c.args.self.now.frames.items in
     let all : StartsIn (in_body (frames_of (λ id. []) fs)) (steps_of c.args.steps.now) =
     (starts_with (state_of c.args.self.now c.args.world.now) (Steps c.args.steps) c.requires.fits).0 in
-    subst (λ (xs : List rest.Frame). StartsAt (in_body (outer_frames xs)) (step_of c.in-Some-split_first.step.now))
+    subst (λ (xs : List rest.Frame). StartsAt (in_body xs) (step_of c.in-Some-split_first.step.now))
     (sym (c.in_ok-push.ensures.frames (λ id. [])))
     (subst (λ (ss : List Step). StartsIn (in_body (frames_of (λ id. []) fs)) (steps_of ss)) c.in-Some-split_first.ensures.cases.0 all).0
 

@@ -1,12 +1,13 @@
-use Rattle.std.proofs.Common.{◌≡◌, ◌<◌, Some, None, List, ◌∷◌, length, refl, ap, sym, ◌∙◌, subst}
+use Rattle.std.proofs.Common.{◌≡◌, ◌<◌, Some, List, ◌∷◌, length, refl, ap, sym, ◌∙◌, subst}
 use Rattle.task_machine.specs.Tasks.{home_scope}
-use Rattle.task_machine.specs.Worlds.{label_at}
+use Rattle.task_machine.specs.Worlds.{label_at, event_at}
 use Rattle.task_machine.specs.Stacked.{AreAt}
 use Rattle.task_machine.proofs.Stacked.{one_of, catches_for}
 use Rattle.std.proofs.lemmas.Option.{slice_get-get_or}
 use Rattle.std.specs.List.{All}
 use Rattle.task_machine.specs.declared.entry.ScopeFrom.{ScopeFrom}
 use Rattle.task_machine.specs.declared.task.Own.{Own}
+use Rattle.task_machine.specs.declared.world.World.{World}
 use Rattle.task_machine.proofs.OwnLemmas.{last_pushed}
 use Rattle.task_machine.proofs.Leaves.{last_below, Top, top_of, first_after, places_after, left_from}
 use Rattle.task_machine.proofs.task.Task.leave.Goals as goal
@@ -42,6 +43,8 @@ returns-clause-left c =
       others = c.leave-label.ensures.others;
       marks = c.leave-label.ensures.marks;
       unlabelled = c.leave-label.ensures.taken;
+      no_event = c.leave-label.ensures.no_event;
+      set = ap (λ (w : World). w.set.items) c.leave-label.ensures.rest;
     }
 
 pub returns-clause-own : goal.returns-clause-own
@@ -64,16 +67,17 @@ returns-clause-at c =
     c.pop.new.self.items c.in-Some.own
     c.in-Some.ensures.items (c.requires.«open» c.in-Some.own.id last) c.requires.own last in
     λ froms p ps a.
-    let at : AreAt (label_at world) froms (top.level ∷ top.following) (p ∷ ps) =
-    left_from (label_at world) froms world.scopes (home_scope self) _ c.pop.new.self.items c.in-Some.own p ps top last a in
+    let at : AreAt (label_at world) (event_at world) froms (top.level ∷ top.following) (p ∷ ps) =
+    left_from (label_at world) (event_at world) froms world.scopes (home_scope self) _ c.pop.new.self.items c.in-Some.own p ps top last a in
     let named : top.level.label ≡ c.in-Some.own.id =
     one_of _ _ (c.stacks_are_chains.ensures.own c.in-Some.own.id (top.level ∷ top.following) top.at) in
     record {
       label = one_of _ _ (sym c.leave-label.ensures.label ∙ ap (label_at world) (sym named) ∙ at.0);
-      caught = c.catches-catches.ensures (top.level ∷ top.following) top.at
-          ∙ catches_for (label_at world) self.cancelled.items froms top.level top.following p ps world.tick at;
+      caught = λ scope.
+          c.catches-catches.ensures (top.level ∷ top.following) top.at
+          ∙ catches_for (label_at world) (event_at world) self.cancelled.items froms top.level top.following p ps world.tick scope at;
       around =
-          places_after (label_at world) (label_at c.leave-label.new.self) world.scopes c.leave-label.new.self.scopes (home_scope self)
-          c.pop.new.self.items c.in-Some.own None
-          c.stacks_are_chains.ensures.chain c.leave-label.ensures.others c.leave-label.ensures.taken top froms ps at.3;
+          places_after (label_at world) (label_at c.leave-label.new.self) (event_at world) (event_at c.leave-label.new.self) world.scopes
+          c.leave-label.new.self.scopes (home_scope self) c.pop.new.self.items c.in-Some.own c.stacks_are_chains.ensures.chain
+          c.leave-label.ensures.others c.leave-label.ensures.taken c.leave-label.ensures.no_event top froms ps at.3;
     }

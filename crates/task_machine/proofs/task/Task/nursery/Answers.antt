@@ -1,24 +1,13 @@
-use Rattle.std.proofs.Common.{List, length, ap, arith}
+use Rattle.std.proofs.Common.{◌≡◌, ℕ, suc, ◌-◌, List, ap, subst, ◌∙◌, arith}
+use Rattle.std.specs.Prelude.{get_or}
 use Rattle.task_machine.specs.declared.frame.Frame.{Frame}
-use Rattle.task_machine.proofs.Bodies.{IsBody, is_body, body_long, body_frame, body_id}
+use Rattle.task_machine.proofs.Bodies.{Searches, searches_next}
 use Rattle.task_machine.proofs.task.Task.nursery.Goals as goal
 
-pub overflow_sub-frames : goal.overflow_sub-frames
-overflow_sub-frames c =
+pub outwards-preserved : goal.outwards-preserved
+outwards-preserved c =
     let fs = c.args.self.now.frames.items in
-    let b : IsBody fs = is_body fs c.requires in
-    omega (arith, body_long fs b.id b.at, ap (λ (xs : List Frame). length xs) c.as_slice-frames.ensures)
-
-pub unreachable-requires-in_default-frame : goal.unreachable-requires-in_default-frame
-unreachable-requires-in_default-frame c =
-    let fs = c.args.self.now.frames.items in
-    let b : IsBody fs = is_body fs c.requires in
-    c.in_default-frame.not-Nursery b.id (body_frame fs c.as_slice-frames.result.now b c.in-Some.frame.now c.as_slice-frames.ensures
-    c.in-Some.ensures.lookup.1)
-
-pub returns : goal.returns
-returns c =
-    let fs = c.args.self.now.frames.items in
-    let b : IsBody fs = is_body fs c.requires in
-    body_id fs b c.in-Some.frame.now c.in-Nursery.id (body_frame fs c.as_slice-frames.result.now b c.in-Some.frame.now
-    c.as_slice-frames.ensures c.in-Some.ensures.lookup.1) c.in-Nursery.is
+    let at : c.outwards.at ≡ suc (c.outwards.at - 1) = omega (arith, c.outwards-test.true) in
+    searches_next fs (c.outwards.at - 1) (subst (λ (n : ℕ). Searches fs n) at c.outwards.invariant) c.index-frames-at.result
+    (c.index-frames-at.is
+    ∙ ap (λ (xs : List Frame). get_or xs (c.outwards.at - 1) c.index-frames-at.result) c.as_slice-frames.ensures) c.in_default.not-Nursery

@@ -8,10 +8,10 @@ use Rattle.job_meaning.specs.Rest as rest
 use Rattle.turn_semantics.specs.Steps.{onward, blocks_on, sleeps}
 use Rattle.task_machine.specs.declared.task.Task.{Task}
 use Rattle.task_machine.specs.States.{state_of}
-use Rattle.task_machine.proofs.AdvancesSteps.{takes_sleeps, takes_alone, takes_cancel}
+use Rattle.task_machine.proofs.AdvancesSteps.{takes_sleeps, takes_alone, takes_wait, takes_cancel, takes_set}
 use Rattle.task_machine.proofs.StateLemmas.{state_eq}
-use Rattle.task_machine.proofs.TaskFits.{cancelled_fits}
-use Rattle.task_machine.proofs.Waiters.{opened_still, keeps_cancelled}
+use Rattle.task_machine.proofs.TaskFits.{cancelled_fits, set_fits}
+use Rattle.task_machine.proofs.Waiters.{opened_still, keeps_cancelled, keeps_set}
 use Rattle.task_machine.proofs.task.Task.run.Goals as goal
 
 pub returns-in-Sleep-clause-step : goal.returns-in-Sleep-clause-step
@@ -36,35 +36,35 @@ pub returns-in-Pace-clause-step : goal.returns-in-Pace-clause-step
 returns-in-Pace-clause-step c = λ a.
     takes_alone (state_of c.args.self.now c.args.world.now) c.args.step.now a (code.Pace c.in-Pace.per_tick) (state_of c.ask.new.self c.args.world.now) c.ask.result
     (λ fs ps. blocks_on (asking ask.count (ask.paces c.in-Pace.per_tick)) fs ps) c.in-Pace.is (λ froms ss fs ps count. refl)
-    (λ fs ps. record { frames = refl; places = refl; made = refl; begun = refl; waits = tt })
+    (λ fs ps. record { frames = refl; places = refl; made = refl; begun = refl; waits = tt }) (λ fs ps. tt)
     (ap (λ (t : Task). state_of t c.args.world.now) c.ask.ensures.stays) (c.ask.ensures.asks c.args.world.now.clock)
 
 pub returns-in-Find-clause-step : goal.returns-in-Find-clause-step
 returns-in-Find-clause-step c = λ a.
     takes_alone (state_of c.args.self.now c.args.world.now) c.args.step.now a (code.Find c.in-Find.text) (state_of c.ask-in-Find.new.self c.args.world.now) c.ask-in-Find.result
     (λ fs ps. blocks_on (asking (ask.find c.bytes.result.now) ask.shows) fs ps) c.in-Find.is (λ froms ss fs ps count. ap (λ (bytes : List ℕ). blocks_on (asking (ask.find bytes) ask.shows) (rest.steps_left ss ∷ fs) ps) (sym c.bytes.ensures))
-    (λ fs ps. record { frames = refl; places = refl; made = refl; begun = refl; waits = tt })
+    (λ fs ps. record { frames = refl; places = refl; made = refl; begun = refl; waits = tt }) (λ fs ps. tt)
     (ap (λ (t : Task). state_of t c.args.world.now) c.ask-in-Find.ensures.stays) (c.ask-in-Find.ensures.asks c.args.world.now.clock)
 
 pub returns-in-Head-clause-step : goal.returns-in-Head-clause-step
 returns-in-Head-clause-step c = λ a.
     takes_alone (state_of c.args.self.now c.args.world.now) c.args.step.now a (code.Head c.in-Head.count) (state_of c.ask-in-Head.new.self c.args.world.now) c.ask-in-Head.result
     (λ fs ps. blocks_on (asking (ask.head c.in-Head.count) ask.shows) fs ps) c.in-Head.is (λ froms ss fs ps count. refl)
-    (λ fs ps. record { frames = refl; places = refl; made = refl; begun = refl; waits = tt })
+    (λ fs ps. record { frames = refl; places = refl; made = refl; begun = refl; waits = tt }) (λ fs ps. tt)
     (ap (λ (t : Task). state_of t c.args.world.now) c.ask-in-Head.ensures.stays) (c.ask-in-Head.ensures.asks c.args.world.now.clock)
 
 pub returns-in-Longest-clause-step : goal.returns-in-Longest-clause-step
 returns-in-Longest-clause-step c = λ a.
     takes_alone (state_of c.args.self.now c.args.world.now) c.args.step.now a (code.Longest) (state_of c.ask-in-Longest.new.self c.args.world.now) c.ask-in-Longest.result
     (λ fs ps. blocks_on (asking ask.longest ask.shows) fs ps) c.in-Longest.is (λ froms ss fs ps count. refl)
-    (λ fs ps. record { frames = refl; places = refl; made = refl; begun = refl; waits = tt })
+    (λ fs ps. record { frames = refl; places = refl; made = refl; begun = refl; waits = tt }) (λ fs ps. tt)
     (ap (λ (t : Task). state_of t c.args.world.now) c.ask-in-Longest.ensures.stays) (c.ask-in-Longest.ensures.asks c.args.world.now.clock)
 
 pub returns-in-Need-clause-step : goal.returns-in-Need-clause-step
 returns-in-Need-clause-step c = λ a.
     takes_alone (state_of c.args.self.now c.args.world.now) c.args.step.now a (code.Need c.in-Need.text c.in-Need.name) (state_of c.ask-in-Need.new.self c.args.world.now) c.ask-in-Need.result
     (λ fs ps. blocks_on (asking (ask.need c.bytes-in-Need.result.now) (ask.needs c.in-Need.name)) fs ps) c.in-Need.is (λ froms ss fs ps count. ap (λ (bytes : List ℕ). blocks_on (asking (ask.need bytes) (ask.needs c.in-Need.name)) (rest.steps_left ss ∷ fs) ps) (sym c.bytes-in-Need.ensures))
-    (λ fs ps. record { frames = refl; places = refl; made = refl; begun = refl; waits = tt })
+    (λ fs ps. record { frames = refl; places = refl; made = refl; begun = refl; waits = tt }) (λ fs ps. tt)
     (ap (λ (t : Task). state_of t c.args.world.now) c.ask-in-Need.ensures.stays) (c.ask-in-Need.ensures.asks c.args.world.now.clock)
 
 pub returns-in_ok-moved-in-Raise-clause-step : goal.returns-in_ok-moved-in-Raise-clause-step
@@ -72,7 +72,7 @@ returns-in_ok-moved-in-Raise-clause-step c = λ a.
     takes_alone (state_of c.args.self.now c.args.world.now) c.args.step.now a (code.Raise c.in-Raise.name) (state_of c.args.self.now c.args.world.now) c.in_ok-moved-in-Raise.moved
     (λ fs ps. onward fs ps
     (Some (raised c.in-Raise.name c.args.self.now.label (tick_of c.args.world.now.clock c.args.world.now.tick)))) c.in-Raise.is
-    (λ froms ss fs ps count. refl) (λ fs ps. record { frames = refl; places = refl; made = refl; begun = refl; waits = tt }) refl
+    (λ froms ss fs ps count. refl) (λ fs ps. record { frames = refl; places = refl; made = refl; begun = refl; waits = tt }) (λ fs ps. tt) refl
     c.in_ok-moved-in-Raise.ensures.raises
 
 pub returns-in_ok-cancel-in-Cancel-clause-step : goal.returns-in_ok-cancel-in-Cancel-clause-step
@@ -92,6 +92,43 @@ pub returns-in_ok-cancel-in-Cancel-clause-keeps : goal.returns-in_ok-cancel-in-C
 returns-in_ok-cancel-in-Cancel-clause-keeps c =
     let e = c.in_ok-cancel-in-Cancel.ensures in
     keeps_cancelled c.args.me c.args.self.now c.cancel.new.self c.args.world.now c.cancel.new.world e.stays e.rest c.requires.task_state
+
+pub returns-in_ok-set-in-Set-clause-step : goal.returns-in_ok-set-in-Set-clause-step
+returns-in_ok-set-in-Set-clause-step c = λ a.
+    let e = c.in_ok-set-in-Set.ensures in
+    takes_set (state_of c.args.self.now c.args.world.now) c.args.step.now a (state_of c.set.new.self c.set.new.world) c.in-Set.name
+    c.stacks_are_chains.ensures.chain c.in-Set.is (state_eq _ _ _ _ e.stays e.rest) e.at
+
+pub returns-in_ok-set-in-Set-clause-fits : goal.returns-in_ok-set-in-Set-clause-fits
+returns-in_ok-set-in-Set-clause-fits c =
+    let e = c.in_ok-set-in-Set.ensures in
+    set_fits (state_of c.args.self.now c.args.world.now) (state_of c.set.new.self c.set.new.world) None c.requires.fits
+    (state_eq _ _ _ _ e.stays e.rest)
+
+pub returns-in_ok-set-in-Set-clause-keeps : goal.returns-in_ok-set-in-Set-clause-keeps
+returns-in_ok-set-in-Set-clause-keeps c =
+    let e = c.in_ok-set-in-Set.ensures in
+    keeps_set c.args.me c.args.self.now c.set.new.self c.args.world.now c.set.new.world e.stays e.rest c.requires.task_state
+
+pub returns-in-Wait-clause-step : goal.returns-in-Wait-clause-step
+returns-in-Wait-clause-step c = λ a.
+    takes_wait (state_of c.args.self.now c.args.world.now) c.args.step.now a (state_of c.wait_for.new.self c.args.world.now) c.wait_for.result
+    c.in-Wait.name c.in-Wait.is (ap (λ (t : Task). state_of t c.args.world.now) c.wait_for.ensures.stays) c.wait_for.ensures.moves
+
+pub returns-in-Wait-clause-keeps : goal.returns-in-Wait-clause-keeps
+returns-in-Wait-clause-keeps c = record {
+  task = c.wait_for.ensures.stays ∙ ap (λ (t : Task). record c.args.self.now {
+    frames = t.frames;
+    own = t.own;
+    task_state = c.wait_for.new.self.task_state;
+    entries = t.entries;
+    froms = t.froms;
+    cancelled = t.cancelled;
+  }) (sym c.wait_for.ensures.stays);
+  world = refl;
+  in_range = c.wait_for.ensures.task_state c.requires.task_state;
+  waiters = opened_still c.args.me c.args.world.now.book;
+}
 
 pub returns-in-Sleep-clause-keeps : goal.returns-in-Sleep-clause-keeps
 returns-in-Sleep-clause-keeps c = record {

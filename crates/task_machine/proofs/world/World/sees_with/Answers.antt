@@ -1,6 +1,6 @@
 use Rattle.std.proofs.Common.{ℕ, ◌<◌, Option, length, sym, ap, subst, ◌∙◌}
 use Rattle.cancel_scopes.specs.Tree.{outer_of}
-use Rattle.task_machine.specs.Worlds.{label_at}
+use Rattle.task_machine.specs.Worlds.{label_at, event_at}
 use Rattle.task_machine.proofs.Catching.{seen_in, seen_here, seen_nowhere, seen_outwards}
 use Rattle.task_machine.proofs.FindLemmas.{shorter}
 use Rattle.task_machine.proofs.world.World.sees_with.Goals as goal
@@ -11,8 +11,8 @@ returns-then-is_cancelled c =
     let own = c.args.cancelled.now.items in
     sym (c.outwards.invariant.same
     ∙ ap (λ (o : Option ℕ). seen_in
-    (label_at world) own world.tick world.scopes c.stacks_are_chains.ensures.own c.in-Some.id o) c.in-Some.is
-    ∙ seen_here (label_at world) own world.tick world.scopes c.stacks_are_chains.ensures.own c.in-Some.id
+    (label_at world) (event_at world) own world.tick world.scopes c.stacks_are_chains.ensures.own c.in-Some.id o) c.in-Some.is
+    ∙ seen_here (label_at world) (event_at world) own world.tick world.scopes c.stacks_are_chains.ensures.own c.in-Some.id
     (c.outwards.invariant.lives c.in-Some.id c.in-Some.is)
     (λ st e. sym c.if-is_cancelled.true ∙ c.is_cancelled.ensures st e))
 
@@ -22,8 +22,8 @@ returns-then-is_shielded c =
     let own = c.args.cancelled.now.items in
     sym (c.outwards.invariant.same
     ∙ ap (λ (o : Option ℕ). seen_in
-    (label_at world) own world.tick world.scopes c.stacks_are_chains.ensures.own c.in-Some.id o) c.in-Some.is
-    ∙ seen_nowhere (label_at world) own world.tick world.scopes c.stacks_are_chains.ensures.own c.in-Some.id
+    (label_at world) (event_at world) own world.tick world.scopes c.stacks_are_chains.ensures.own c.in-Some.id o) c.in-Some.is
+    ∙ seen_nowhere (label_at world) (event_at world) own world.tick world.scopes c.stacks_are_chains.ensures.own c.in-Some.id
     (c.outwards.invariant.lives c.in-Some.id c.in-Some.is)
     (λ st e. sym c.if-is_cancelled.false ∙ c.is_cancelled.ensures st e)
     (λ st e. sym c.if-is_shielded.true ∙ c.is_shielded.ensures st e))
@@ -43,9 +43,9 @@ outwards-preserved c =
       lives = c.parent-inside.ensures.parent_open;
       same =
           c.outwards.invariant.same
-          ∙ ap (λ (o : Option ℕ). seen_in (label_at world) own world.tick world.scopes c.stacks_are_chains.ensures.own c.in-Some.id o)
+          ∙ ap (λ (o : Option ℕ). seen_in (label_at world) (event_at world) own world.tick world.scopes c.stacks_are_chains.ensures.own c.in-Some.id o)
           c.in-Some.is
-          ∙ seen_outwards (label_at world) own world.tick world.scopes c.stacks_are_chains.ensures.own c.in-Some.id
+          ∙ seen_outwards (label_at world) (event_at world) own world.tick world.scopes c.stacks_are_chains.ensures.own c.in-Some.id
           (c.outwards.invariant.lives c.in-Some.id c.in-Some.is) c.parent-inside.result
           (λ st e. sym c.if-is_cancelled.false ∙ c.is_cancelled.ensures st e)
           (λ st e. sym c.if-is_shielded.false ∙ c.is_shielded.ensures st e) c.parent-inside.ensures.around;
