@@ -61,7 +61,7 @@ abbrev pub block_bar : Clock → Table → Tick → List Event → Label → Eve
 block_bar clock table until all l e =
     record { first = e; last = left_in l all; own = []; cancelled = moment_between clock until e (left_in l all) (table l) }
 
--- the bar of the scope or nursery that is entered with this event, if one is
+-- The bar of the scope or nursery that is entered with this event, if one is. An event of the job is no scope, and has no bar.
 abbrev pub with_block : Clock → Table → Tick → List Event → Event → What → List Bar → List Bar
 with_block clock table until all e (happens (enters kind label deadline shield)) others =
     block_bar clock table until all label e ∷ others

@@ -2,9 +2,11 @@
 use Rattle.std.proofs.Common.{◌≡◌, ℕ, ◌+◌, ◌*◌, length, take, List, [], ◌∷◌, true, refl, ◌∙◌, inl, inr}
 use Rattle.std.proofs.lemmas.Bool.{cases_Bool, and_from}
 use Rattle.std.specs.Prelude.{Option, Some, None, ◌&&◌}
+use Rattle.exc_groups.specs.Exceptions.{Label}
 use Rattle.cancel_scopes.specs.Sight.{Tick}
 use Rattle.job_meaning.specs.Log.{same_label}
-use Rattle.job_story.specs.Story.{enters, sleeps, is_cancelled, finds, misses, raises, cancels, handles, cleans, replaces, waits, leaves}
+use Rattle.job_story.specs.Story.{enters, enters_event, sleeps, is_cancelled, finds, misses, raises, cancels, sets, awaits, was_set, handles, cleans, replaces, waits, leaves}
+use Rattle.job_story.specs.Tell.{is_from}
 use Rattle.job_story.specs.Events.{What, starts, happens, ends, Event}
 use Rattle.job_story.specs.Limit.{is_start}
 use Rattle.job_story.specs.Causes.{cause_of}
@@ -13,9 +15,9 @@ use Rattle.chart_columns.specs.Columns.{Column}
 use Rattle.chart_text.specs.Marks.{is_cross, is_dot}
 use Rattle.svg_text.specs.Content.{Content, nothing, content_text, is_well_formed, IsDocument}
 use Rattle.svg_text.specs.declared.names.Tag.TheVariants as tags
-use Rattle.chart_svg.specs.Sheets.{Sheet}
+use Rattle.chart_svg.specs.Sheets.{Sheet, x_of, x_by}
 use Rattle.chart_svg.specs.Rows.{cancelled_part, mark, marks, row, rows}
-use Rattle.chart_svg.specs.Arrows.{Source, source_of, arrow_from, arrow_by, arrow_at, arrows}
+use Rattle.chart_svg.specs.Arrows.{Source, source_of, arrow_from, arrow_by, arrow_at, event_set, beside, wait_arrow, wait_arrows, arrows}
 use Rattle.chart_svg.specs.declared.layout.TheConstants.{ROW, MAX_ROWS}
 use Rattle.chart_svg.specs.Drawing.{tick_lines, note, limit_note, columns_note, rows_note, notes, bottom_of, svg_attributes, inside_of, document, width_of, height_of}
 
@@ -50,31 +52,35 @@ rows_well sheet i (b ∷ bs) rest = row_well sheet i b (rows sheet (i + 1) bs re
 
 -- ---- arrows
 
-arrow_from_well : (sheet : Sheet) (i t : ℕ) (source : Source) (j : ℕ) (bars : List Bar) (rest : Content) →
-    is_well_formed (arrow_from sheet i t source j bars rest) ≡ is_well_formed rest
-arrow_from_well sheet i t source j [] rest = refl
-arrow_from_well sheet i t source j (b ∷ bs) rest =
+arrow_from_well : (sheet : Sheet) (i x : ℕ) (source : Source) (j : ℕ) (bars : List Bar) (rest : Content) →
+    is_well_formed (arrow_from sheet i x source j bars rest) ≡ is_well_formed rest
+arrow_from_well sheet i x source j [] rest = refl
+arrow_from_well sheet i x source j (b ∷ bs) rest =
     elim (cases_Bool (is_start b.first.what && same_label source.task b.first.task)) [
       | inl here ↦ rw here refl
-      | inr here ↦ rw here (arrow_from_well sheet i t source (j + 1) bs rest)
+      | inr here ↦ rw here (arrow_from_well sheet i x source (j + 1) bs rest)
     ]
 
-arrow_by_well : (sheet : Sheet) (all : List Bar) (i t : ℕ) (source : Option Source) (rest : Content) →
-    is_well_formed (arrow_by sheet all i t source rest) ≡ is_well_formed rest
-arrow_by_well sheet all i t None rest = refl
-arrow_by_well sheet all i t (Some source) rest = arrow_from_well sheet i t source 0 all rest
+arrow_by_well : (sheet : Sheet) (all : List Bar) (i x : ℕ) (source : Option Source) (rest : Content) →
+    is_well_formed (arrow_by sheet all i x source rest) ≡ is_well_formed rest
+arrow_by_well sheet all i x None rest = refl
+arrow_by_well sheet all i x (Some source) rest = arrow_from_well sheet i x source 0 all rest
 
 arrow_at_well : (sheet : Sheet) (all : List Bar) (i : ℕ) (what : What) (from : Option ℕ) (rest : Content) →
     is_well_formed (arrow_at sheet all i what from rest) ≡ is_well_formed rest
-arrow_at_well sheet all i (happens (enters kind label deadline shield)) (Some t) rest =
-    arrow_by_well sheet all i t (source_of (cause_of sheet.table sheet.events label)) rest
+arrow_at_well sheet all i (happens (enters kind label deadline shield)) (Some m) rest =
+    arrow_by_well sheet all i (x_by sheet m) (source_of (cause_of sheet.table sheet.events label)) rest
 arrow_at_well sheet all i (happens (enters kind label deadline shield)) None rest = refl
+arrow_at_well sheet all i (happens (enters_event label)) from rest = refl
 arrow_at_well sheet all i (happens (sleeps until)) from rest = refl
-arrow_at_well sheet all i (happens (is_cancelled by since in_cleanup)) from rest = refl
+arrow_at_well sheet all i (happens (is_cancelled by during in_cleanup)) from rest = refl
 arrow_at_well sheet all i (happens (finds lines)) from rest = refl
 arrow_at_well sheet all i (happens (misses name)) from rest = refl
 arrow_at_well sheet all i (happens (raises name)) from rest = refl
 arrow_at_well sheet all i (happens (cancels label)) from rest = refl
+arrow_at_well sheet all i (happens (sets label)) from rest = refl
+arrow_at_well sheet all i (happens (awaits event)) from rest = refl
+arrow_at_well sheet all i (happens (was_set event)) from rest = refl
 arrow_at_well sheet all i (happens (handles matched left)) from rest = refl
 arrow_at_well sheet all i (happens (cleans exc)) from rest = refl
 arrow_at_well sheet all i (happens (replaces lost fresh)) from rest = refl
@@ -83,11 +89,31 @@ arrow_at_well sheet all i (happens (leaves kind label inside caught outside)) fr
 arrow_at_well sheet all i (starts home lent) from rest = refl
 arrow_at_well sheet all i (ends home exc) from rest = refl
 
+wait_arrow_well : (sheet : Sheet) (all : List Bar) (i : ℕ) (task : Label) (m : ℕ) (event : Option Label) (rest : Content) →
+    is_well_formed (wait_arrow sheet all i task m event rest) ≡ is_well_formed rest
+wait_arrow_well sheet all i task m None rest = refl
+wait_arrow_well sheet all i task m (Some event) rest =
+    elim (cases_Bool (is_from (sheet.table event) m)) [
+      | inl now ↦
+          rw now
+          (arrow_by_well sheet all i (x_of sheet m) (beside task (source_of (cause_of sheet.table sheet.events event))) rest)
+      | inr now ↦ rw now refl
+    ]
+
+wait_arrows_well : (sheet : Sheet) (all : List Bar) (i : ℕ) (es : List Event) (rest : Content) →
+    is_well_formed (wait_arrows sheet all i es rest) ≡ is_well_formed rest
+wait_arrows_well sheet all i [] rest = refl
+wait_arrows_well sheet all i (e ∷ es) rest =
+    wait_arrow_well sheet all i e.task e.tick (event_set e.what) (wait_arrows sheet all i es rest)
+    ∙ wait_arrows_well sheet all i es rest
+
 arrows_well : (sheet : Sheet) (all : List Bar) (i : ℕ) (bars : List Bar) (rest : Content) →
     is_well_formed (arrows sheet all i bars rest) ≡ is_well_formed rest
 arrows_well sheet all i [] rest = refl
 arrows_well sheet all i (b ∷ bs) rest =
-    arrow_at_well sheet all i b.first.what b.cancelled (arrows sheet all (i + 1) bs rest) ∙ arrows_well sheet all (i + 1) bs rest
+    arrow_at_well sheet all i b.first.what b.cancelled (wait_arrows sheet all i b.own (arrows sheet all (i + 1) bs rest))
+    ∙ wait_arrows_well sheet all i b.own (arrows sheet all (i + 1) bs rest)
+    ∙ arrows_well sheet all (i + 1) bs rest
 
 -- ---- the document
 

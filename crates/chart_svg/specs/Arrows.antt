@@ -1,18 +1,19 @@
--- Arrows from the task that cancelled something to what it cancelled.
+-- Arrows from the task that cancelled something to what it cancelled, and from the task that set an event to the waits that end then.
 use Rattle.std.specs.Prelude.{ℕ, ◌+◌, ◌==◌, ◌&&◌, Option, Some, None, List, [], ◌∷◌, codes, decimal, if◌then◌else◌}
 use Rattle.exc_groups.specs.Exceptions.{Label}
 use Rattle.job_meaning.specs.Log.{same_label}
-use Rattle.job_story.specs.Story.{enters}
+use Rattle.job_story.specs.Story.{enters, was_set}
+use Rattle.job_story.specs.Tell.{is_from}
 use Rattle.job_story.specs.Events.{What, happens, Event}
 use Rattle.job_story.specs.Limit.{is_start}
-use Rattle.job_story.specs.Causes.{Cause, by_deadline, by_task, by_failure, by_cancellation, cause_of}
+use Rattle.job_story.specs.Causes.{Cause, by_deadline, by_task, by_set, by_failure, by_cancellation, cause_of}
 use Rattle.chart_bars.specs.Bars.{Bar}
 use Rattle.svg_text.specs.Content.{Content, element, Attribute, attribute}
 use Rattle.svg_text.specs.declared.names.Tag.TheVariants as tags
 use Rattle.svg_text.specs.declared.names.Attr.TheVariants as attrs
 use Rattle.chart_svg.specs.Sheets.{Sheet, x_of, x_by, middle_of, events_title}
 
--- the task that cancelled something, and the moment in which it did
+-- the task that cancelled or set something, and the moment in which it did
 pub record Source : Type 0 where
   pub task : Label
   pub tick : ℕ
@@ -22,6 +23,7 @@ abbrev pub source_of : Option Cause → Option Source
 source_of None = None
 source_of (Some by_deadline) = None
 source_of (Some (by_task task m)) = Some (record { task = task; tick = m })
+source_of (Some (by_set task m)) = Some (record { task = task; tick = m })
 source_of (Some (by_failure task m)) = Some (record { task = task; tick = m })
 source_of (Some (by_cancellation task m)) = Some (record { task = task; tick = m })
 
@@ -40,29 +42,62 @@ segment class x1 y1 x2 y2 =
     ∷ attribute attrs.Y2 (decimal y2)
     ∷ []
 
--- an arrow from the row of a task to row i, from the moment in which the task cancelled it to the one from which it is cancelled
+-- an arrow from row j, whose task has these events, to this x coordinate of row i; it begins where the source acted
 abbrev pub arrow : Sheet → ℕ → ℕ → Source → ℕ → List Event → Content → Content
-arrow sheet i m source j own rest =
-    element tags.Line (segment (codes "arrow") (x_of sheet source.tick) (middle_of j) (x_by sheet m) (middle_of i))
+arrow sheet i x source j own rest =
+    element tags.Line (segment (codes "arrow") (x_of sheet source.tick) (middle_of j) x (middle_of i))
     (events_title sheet (at_moment source.tick own)) rest
 
 -- an arrow from the first of these rows that is the task's, if there is one
 abbrev pub arrow_from : Sheet → ℕ → ℕ → Source → ℕ → List Bar → Content → Content
-arrow_from sheet i m source j [] rest = rest
-arrow_from sheet i m source j (b ∷ bs) rest =
-    if is_start b.first.what && same_label source.task b.first.task then arrow sheet i m source j b.own rest
-    else arrow_from sheet i m source (j + 1) bs rest
+arrow_from sheet i x source j [] rest = rest
+arrow_from sheet i x source j (b ∷ bs) rest =
+    if is_start b.first.what && same_label source.task b.first.task then arrow sheet i x source j b.own rest
+    else arrow_from sheet i x source (j + 1) bs rest
 
 abbrev pub arrow_by : Sheet → List Bar → ℕ → ℕ → Option Source → Content → Content
-arrow_by sheet all i m None rest = rest
-arrow_by sheet all i m (Some source) rest = arrow_from sheet i m source 0 all rest
+arrow_by sheet all i x None rest = rest
+arrow_by sheet all i x (Some source) rest = arrow_from sheet i x source 0 all rest
 
+-- ---- to what is cancelled
+
+-- an arrow to a scope or nursery, where it is cancelled from this moment on and a task cancelled it
 abbrev pub arrow_at : Sheet → List Bar → ℕ → What → Option ℕ → Content → Content
 arrow_at sheet all i (happens (enters kind label deadline shield)) (Some m) rest =
-    arrow_by sheet all i m (source_of (cause_of sheet.table sheet.events label)) rest
+    arrow_by sheet all i (x_by sheet m) (source_of (cause_of sheet.table sheet.events label)) rest
 arrow_at sheet all i _ _ rest = rest
 
--- an arrow to each scope and nursery that a task cancelled
+-- ---- to waits
+
+-- the event of the job that is set, where a task goes on because of that
+abbrev pub event_set : What → Option Label
+event_set (happens (was_set event)) = Some event
+event_set _ = None
+
+-- a source that is another task than this one
+abbrev pub beside : Label → Option Source → Option Source
+beside task None = None
+beside task (Some source) = if same_label task source.task then None else Some source
+
+-- An arrow to the wait of a task that ends in moment m, from the task that set the event, where it is set from that very moment on. A
+-- task that waits for what it has set itself has no arrow.
+abbrev pub wait_arrow : Sheet → List Bar → ℕ → Label → ℕ → Option Label → Content → Content
+wait_arrow sheet all i task m None rest = rest
+wait_arrow sheet all i task m (Some event) rest =
+    if is_from (sheet.table event) m
+    then arrow_by sheet all i (x_of sheet m) (beside task (source_of (cause_of sheet.table sheet.events event))) rest
+    else rest
+
+abbrev pub wait_arrows : Sheet → List Bar → ℕ → List Event → Content → Content
+wait_arrows sheet all i [] rest = rest
+wait_arrows sheet all i (e ∷ es) rest = wait_arrow sheet all i e.task e.tick (event_set e.what) (wait_arrows sheet all i es rest)
+
+-- ---- all of them
+
+-- the arrows to a row: to its scope or nursery, or to the waits of its task
+abbrev pub arrows_to : Sheet → List Bar → ℕ → Bar → Content → Content
+arrows_to sheet all i b rest = arrow_at sheet all i b.first.what b.cancelled (wait_arrows sheet all i b.own rest)
+
 abbrev pub arrows : Sheet → List Bar → ℕ → List Bar → Content → Content
 arrows sheet all i [] rest = rest
-arrows sheet all i (b ∷ bs) rest = arrow_at sheet all i b.first.what b.cancelled (arrows sheet all (i + 1) bs rest)
+arrows sheet all i (b ∷ bs) rest = arrows_to sheet all i b (arrows sheet all (i + 1) bs rest)

@@ -10,7 +10,7 @@ use Rattle.svg_text.specs.declared.names.Tag.TheVariants as tags
 use Rattle.chart_svg.specs.declared.layout.TheConstants.{LEFT, TOP, ROW, LETTER, PLACE, FARTHEST, MAX_NAME, MAX_ROWS}
 
 -- What all parts of a drawing depend on: the length of the longest name of a row, the columns, the clock of the story's moments,
--- the moments from which scopes and nurseries are cancelled, and the events in order.
+-- the moments from which scopes and nurseries are cancelled and events of the job set, and the events of the story in order.
 pub record Sheet : Type 0 where
   pub names : ℕ
   pub columns : List Column

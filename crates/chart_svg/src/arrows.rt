@@ -11,12 +11,13 @@ ghost use Rattle.story_causes.specs.Seen.{event_in};
 ghost use Rattle.story_text.specs.Told.{events_in, froms_in};
 ghost use Rattle.chart_bars.specs.Held.{bar_of};
 ghost use Rattle.svg_text.specs.Content.{Content, content_text};
-ghost use Rattle.chart_svg.specs.Arrows.{source_of, at_moment, arrow, arrow_from, arrow_by, arrow_at, arrows};
+ghost use Rattle.chart_svg.specs.Arrows.{source_of, at_moment, arrow, arrow_from, arrow_by, arrow_at, arrows_to, arrows};
 ghost use Rattle.chart_svg.specs.Held.{sheet_held, source_held};
 
 use crate::shapes::begin_line;
 use crate::sheet::{Sheet, middle_of};
 use crate::titles::push_told;
+use crate::waits::push_wait_arrows;
 use chart_bars::Bar;
 use exc_groups::Label;
 use job_story::{Event, Happening, What};
@@ -24,14 +25,15 @@ use std::alloc::{AllocError, Global};
 use story_causes::{Cause, Causes};
 use svg_text::{Tag, end};
 
-// The task that cancelled a scope or nursery, and the moment in which it did.
+// The task that cancelled a scope or nursery, or set an event, and the moment in which it did.
 #[derive(Clone, Copy)]
 pub(crate) struct Source<'e> {
     pub task: &'e Label,
     pub tick: u64,
 }
 
-// Appends an arrow to each of these bars that a task cancelled, from the first bar that is that task's.
+// Appends an arrow to each of these bars that a task cancelled, and to each wait that ends because a task set the event, from the first
+// bar that is that task's.
 pub(crate) fn push_arrows(
     alloc: Global,
     out: &mut Vec<u8>,
@@ -45,10 +47,28 @@ pub(crate) fn push_arrows(
 {
     let mut row = 0;
     'bars: for bar in bars {
-        push_arrow_to(alloc, out, sheet, causes, bars, row, bar)?;
+        push_arrows_to(alloc, out, sheet, causes, bars, row, bar)?;
         row += 1;
     }
     Ok(())
+}
+
+// Appends the arrows to a bar: one if it is that of a scope or nursery and a task cancelled it, and one to each wait of its task.
+fn push_arrows_to(
+    alloc: Global,
+    out: &mut Vec<u8>,
+    sheet: &Sheet<'_, '_, '_>,
+    causes: &Causes<'_>,
+    bars: &[Bar<'_, '_>],
+    row: usize,
+    bar: &Bar<'_, '_>,
+) -> Result<(), AllocError>
+    requires { Knows causes.now (froms_in sheet.now.known.now) (events_in sheet.now.known.now) }
+    ensures { OnOk result ((rest : Content) → out.new.items ++ content_text rest
+        ≡ out.old.items ++ content_text (arrows_to (sheet_held sheet.now) (map bar_of bars.now) row (bar_of bar.now) rest)) }
+{
+    push_arrow_to(alloc, out, sheet, causes, bars, row, bar)?;
+    push_wait_arrows(alloc, out, sheet, causes, bars, row, bar.own)
 }
 
 // Appends an arrow to a bar, if a task cancelled it.
@@ -74,11 +94,11 @@ fn push_arrow_to(
     let Some(source) = source_of(causes.cause(label)) else {
         return Ok(());
     };
-    push_arrow_from(alloc, out, sheet, bars, row, moment, source)
+    push_arrow_from(alloc, out, sheet, bars, row, sheet.x_by(moment), source)
 }
 
-// Returns the task that cancelled something, from the cause of the cancellation, or `None` if it was the deadline.
-fn source_of<'e>(cause: Option<Cause<'e>>) -> Option<Source<'e>>
+// Returns the task that cancelled or set something, from the cause of that, or `None` if it was the deadline.
+pub(crate) fn source_of<'e>(cause: Option<Cause<'e>>) -> Option<Source<'e>>
     ensures { option_map source_held result ≡ source_of (option_map cause_in_code cause.entry) }
 {
     let Some(cause) = cause else {
@@ -87,28 +107,29 @@ fn source_of<'e>(cause: Option<Cause<'e>>) -> Option<Source<'e>>
     match cause {
         Cause::Deadline => None,
         Cause::Task { task, tick } => Some(Source { task, tick }),
+        Cause::Set { task, tick } => Some(Source { task, tick }),
         Cause::Failure { task, tick } => Some(Source { task, tick }),
         Cause::Cancellation { task, tick } => Some(Source { task, tick }),
     }
 }
 
-// Appends an arrow to a row, which is cancelled from this moment on, from the first of these that is the task's, if there is one.
-fn push_arrow_from(
+// Appends an arrow to this x coordinate of a row, from the first of these that is the task's, if there is one.
+pub(crate) fn push_arrow_from(
     alloc: Global,
     out: &mut Vec<u8>,
     sheet: &Sheet<'_, '_, '_>,
     bars: &[Bar<'_, '_>],
     row: usize,
-    moment: u64,
+    x: u64,
     source: Source<'_>,
 ) -> Result<(), AllocError>
     ensures { OnOk result ((rest : Content) → out.new.items ++ content_text rest ≡ out.old.items
-        ++ content_text (arrow_from (sheet_held sheet.now) row moment (source_held source.entry) 0 (map bar_of bars.now) rest)) }
+        ++ content_text (arrow_from (sheet_held sheet.now) row x (source_held source.entry) 0 (map bar_of bars.now) rest)) }
 {
     let mut from = 0;
     'bars: for bar in bars {
         if is_of_task(bar, source.task) {
-            return push_arrow(alloc, out, sheet, row, moment, source, from, bar.own);
+            return push_arrow(alloc, out, sheet, row, x, source, from, bar.own);
         }
         from += 1;
     }
@@ -122,23 +143,23 @@ fn is_of_task(bar: &Bar<'_, '_>, task: &Label) -> bool
     bar.first.what.is_start() && *task == bar.first.task
 }
 
-// Appends an arrow to a row from that of a task with these events.
+// Appends an arrow to this x coordinate of a row, from the row of a task with these events.
 fn push_arrow(
     alloc: Global,
     out: &mut Vec<u8>,
     sheet: &Sheet<'_, '_, '_>,
     row: usize,
-    moment: u64,
+    x: u64,
     source: Source<'_>,
     from: usize,
     own: &[&Event],
 ) -> Result<(), AllocError>
     ensures { OnOk result ((rest : Content) → out.new.items ++ content_text rest ≡ out.old.items
-        ++ content_text (arrow (sheet_held sheet.now) row moment (source_held source.entry) from (map event_in own.now) rest)) }
+        ++ content_text (arrow (sheet_held sheet.now) row x (source_held source.entry) from (map event_in own.now) rest)) }
 {
     let events = at_moment(alloc, source.tick, own)?;
-    let (x1, x2) = (sheet.x_of(source.tick), sheet.x_by(moment));
-    begin_line(out, b"arrow", x1, middle_of(from), x2, middle_of(row))?;
+    let start = sheet.x_of(source.tick);
+    begin_line(out, b"arrow", start, middle_of(from), x, middle_of(row))?;
     push_told(alloc, out, sheet, events.as_slice())?;
     end(out, Tag::Line)
 }

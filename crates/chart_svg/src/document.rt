@@ -33,8 +33,8 @@ use svg_text::{Attr, Tag, attribute, begin, end, inside, number, text};
 
 /// Returns a chart as an SVG document, which is always well formed. The story is given by the clock of its moments, its events in
 /// the order of the walk (`walked`), the same events in order (`sorted`), the table with the moments from which scopes and
-/// nurseries are cancelled (`froms`), the index of the sorted events and this table (`causes`), and the bars of the events. The
-/// caller must ensure that `sorted` is `in_order` of `walked`, and that `causes` is that index.
+/// nurseries are cancelled and events of the job set (`froms`), the index of the sorted events and this table (`causes`), and the
+/// bars of the events. The caller must ensure that `sorted` is `in_order` of `walked`, and that `causes` is that index.
 ///
 /// There is room for as many columns as in a text chart of `width` characters. `until` is the limit at which the story is cut
 /// off, or `None` for a whole story. At most 2,000 rows are drawn, and a note says how many are left out. Returns `AllocError` if

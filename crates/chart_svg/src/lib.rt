@@ -1,9 +1,10 @@
-//! A chart as an SVG document: when each task ran, which task cancelled which scope or nursery, and which exceptions were raised.
+//! A chart as an SVG document: when each task ran, which task cancelled which scope or nursery, which task ended the wait of another
+//! by setting an event, and which exceptions were raised.
 //!
 //! The layer promises that `chart_svg` returns the document of `specs/Drawing.antt`, and that this is well formed for every
 //! story. It has a row for each bar, whose title is what the story says of it, a cross where a task is cancelled, a dot where it
-//! raises an exception, and an arrow from each task that cancelled something. It uses `chart_text` for names, outcomes and
-//! columns, `svg_text` for the document, and `story_causes` for the arrows.
+//! raises an exception, and an arrow from each task that cancelled something, or ended the wait of another task. It uses `chart_text`
+//! for names, outcomes and columns, `svg_text` for the document, and `story_causes` for the arrows.
 #![tactic(auto)]
 
 mod arrows;
@@ -19,5 +20,6 @@ mod sheet;
 mod style;
 mod ticks;
 mod titles;
+mod waits;
 
 pub use document::chart_svg;

@@ -15,4 +15,5 @@ row_held row =
       closed = row.closed;
       crosses = row.crosses.items;
       dots = row.dots.items;
+      pluses = row.pluses.items;
     }

@@ -2,7 +2,7 @@
 use Rattle.std.specs.Prelude.{ℕ, ◌-◌, ◌==◌, Bool, true, false, ◌&&◌, ◌||◌, Option, Some, None, List, [], ◌∷◌, ◌++◌, nat_le, nat_lt, is_some, replicate, if◌then◌else◌}
 use Rattle.moments.specs.Moments.{tick_of}
 use Rattle.moments.specs.declared.clock.Clock.{Clock}
-use Rattle.job_story.specs.Story.{is_cancelled, misses, raises}
+use Rattle.job_story.specs.Story.{is_cancelled, misses, raises, sets}
 use Rattle.job_story.specs.Events.{What, starts, happens, Event}
 use Rattle.chart_bars.specs.Bars.{Bar}
 use Rattle.chart_columns.specs.Columns.{Column, column_at, last_tick, gap_to}
@@ -24,7 +24,7 @@ strokes_of _ = record { start = 40; line = 61; end = 41 }
 
 -- whether the event is that a task is cancelled
 abbrev pub is_cross : What → Bool
-is_cross (happens (is_cancelled by since in_cleanup)) = true
+is_cross (happens (is_cancelled by during in_cleanup)) = true
 is_cross _ = false
 
 -- whether the event is that a task raises an exception, by `raise` or by a `need` that finds no line
@@ -32,6 +32,11 @@ abbrev pub is_dot : What → Bool
 is_dot (happens (misses name)) = true
 is_dot (happens (raises name)) = true
 is_dot _ = false
+
+-- whether the event is that a task sets an event of the job
+abbrev pub is_plus : What → Bool
+is_plus (happens (sets label)) = true
+is_plus _ = false
 
 -- the columns of the events of a kind
 abbrev pub columns_where : Clock → (What → Bool) → List Column → List Event → List ℕ
@@ -50,8 +55,8 @@ abbrev pub end_column : Clock → List Column → Option Event → ℕ
 end_column clock cols None = last_tick cols
 end_column clock cols (Some e) = column_at cols (tick_of clock e.tick)
 
--- A bar on the columns, which are given by their ticks: where it starts and ends, whether it has an end, and its crosses and
--- dots.
+-- A bar on the columns, which are given by their ticks: where it starts and ends, whether it has an end, and its crosses, dots
+-- and pluses.
 pub record Row : Type 0 where
   pub strokes : Strokes
   pub start : ℕ
@@ -59,6 +64,7 @@ pub record Row : Type 0 where
   pub closed : Bool
   pub crosses : List ℕ
   pub dots : List ℕ
+  pub pluses : List ℕ
 
 abbrev pub row_of : Clock → List Column → Bar → Row
 row_of clock cols bar =
@@ -69,6 +75,7 @@ row_of clock cols bar =
       closed = is_some bar.last;
       crosses = with_cancelled clock bar.cancelled (columns_where clock is_cross cols bar.own);
       dots = columns_where clock is_dot cols bar.own;
+      pluses = columns_where clock is_plus cols bar.own;
     }
 
 -- ---- marks
@@ -77,15 +84,16 @@ abbrev pub has : ℕ → List ℕ → Bool
 has t [] = false
 has t (u ∷ us) = (t == u) || has t us
 
--- The mark of a row at a column: `x` for a cancellation, `!` for an exception that is raised, the start, the end, or the line
--- between.
+-- The mark of a row at a column: `x` for a cancellation, `!` for an exception that is raised, `+` for an event of the job that is set,
+-- the start, the end, or the line between.
 abbrev pub mark_at : Row → ℕ → ℕ
 mark_at row t =
     if has t row.crosses then 120
     else (if has t row.dots then 33
+    else (if has t row.pluses then 43
     else (if t == row.start then row.strokes.start
     else (if row.closed && t == row.end then row.strokes.end
-    else row.strokes.line)))
+    else row.strokes.line))))
 
 -- Spaces up to the column where a row starts, then a mark at each column, with the line to the next, and nothing after the column
 -- where it ends.

@@ -41,6 +41,8 @@ impl Row {
             b'x'
         } else if has(tick, self.dots.as_slice()) {
             b'!'
+        } else if has(tick, self.pluses.as_slice()) {
+            b'+'
         } else if tick == self.start {
             self.strokes.start
         } else if self.closed && tick == self.end {

@@ -1,6 +1,6 @@
 ghost use Rattle.std.specs.Prelude.{◌≡◌};
 ghost use Rattle.job_story.specs.Held.{what_of};
-ghost use Rattle.chart_text.specs.Marks.{is_cross, is_dot};
+ghost use Rattle.chart_text.specs.Marks.{is_cross, is_dot, is_plus};
 
 use job_story::{Happening, What};
 
@@ -20,4 +20,11 @@ pub fn is_dot(what: &What) -> bool
         what,
         What::Happens(Happening::Misses { .. } | Happening::Raises { .. })
     )
+}
+
+// Returns whether the event is that a task sets an event of the job. In text a `+` is drawn on its bar.
+pub(crate) fn is_plus(what: &What) -> bool
+    ensures { result ≡ is_plus (what_of what.now) }
+{
+    matches!(what, What::Happens(Happening::Sets { .. }))
 }

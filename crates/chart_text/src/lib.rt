@@ -1,4 +1,4 @@
-//! The text of a chart: when each task ran, which tasks were cancelled, and which exceptions were raised.
+//! The text of a chart: when each task ran, which tasks were cancelled, which exceptions were raised, and which events were set.
 //!
 //! The layer promises that `chart_text` returns the text of `specs/Text.antt`: a line for each bar, with the mark at each column
 //! that `specs/Marks.antt` defines, and no line longer than the width, if that is at least 2. It uses `chart_bars` for the rows,

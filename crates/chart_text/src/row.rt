@@ -3,10 +3,10 @@ ghost use Rattle.job_story.specs.Held.{what_of};
 ghost use Rattle.story_causes.specs.Seen.{event_in};
 ghost use Rattle.chart_bars.specs.Held.{bar_of, event_seen};
 ghost use Rattle.chart_columns.specs.Held.{column_of};
-ghost use Rattle.chart_text.specs.Marks.{strokes_of, is_cross, is_dot, columns_where, with_cancelled, end_column, row_of};
+ghost use Rattle.chart_text.specs.Marks.{strokes_of, is_cross, is_dot, is_plus, columns_where, with_cancelled, end_column, row_of};
 ghost use Rattle.chart_text.specs.Held.{strokes_held, row_held};
 
-use crate::kinds::{is_cross, is_dot};
+use crate::kinds::{is_cross, is_dot, is_plus};
 use chart_bars::Bar;
 use chart_columns::{Column, column_at, last_tick};
 use job_story::{Event, What};
@@ -45,6 +45,8 @@ pub(crate) struct Row {
     pub crosses: Vec<u64>,
     // The columns at which it raises an exception.
     pub dots: Vec<u64>,
+    // The columns at which it sets an event of the job.
+    pub pluses: Vec<u64>,
 }
 
 // Returns the row of a bar on these columns.
@@ -61,6 +63,8 @@ pub(crate) fn row_of(
     push_crosses(&mut crosses, clock, columns, bar.own)?;
     let mut dots = Vec::new(alloc);
     push_dots(&mut dots, clock, columns, bar.own)?;
+    let mut pluses = Vec::new(alloc);
+    push_pluses(&mut pluses, clock, columns, bar.own)?;
     Ok(Row {
         strokes: strokes_of(&bar.first.what),
         start: column_at(columns, clock.tick_of(bar.first.tick)),
@@ -68,6 +72,7 @@ pub(crate) fn row_of(
         closed: bar.last.is_some(),
         crosses,
         dots,
+        pluses,
     })
 }
 
@@ -136,6 +141,23 @@ fn push_dots(
     'events: for event in events {
         let column = column_at(columns, clock.tick_of(event.tick));
         push_if(ticks, is_dot(&event.what), column)?;
+    }
+    Ok(())
+}
+
+// Appends the column of each event with which a task sets an event of the job.
+fn push_pluses(
+    ticks: &mut Vec<u64>,
+    clock: Clock,
+    columns: &[Column],
+    events: &[&Event],
+) -> Result<(), AllocError>
+    ensures { OnOk result (ticks.new.items
+        ≡ ticks.old.items ++ columns_where clock is_plus (map column_of columns.now) (map event_in events.now)) }
+{
+    'events: for event in events {
+        let column = column_at(columns, clock.tick_of(event.tick));
+        push_if(ticks, is_plus(&event.what), column)?;
     }
     Ok(())
 }

@@ -3,7 +3,7 @@ use Rattle.std.specs.Prelude.{ℕ, ◌/◌, ◌%◌, Bool, true, false, ◌&&◌
 use Rattle.std.specs.List.{flat_map}
 use Rattle.digits.specs.Hex.{hex_digit}
 use Rattle.exc_text.specs.Texts.{label_text, exc_text}
-use Rattle.job_meaning.specs.Shown.{Shown, line_shown, scope_shown, nursery_shown, Ending, well, by_cancellation, with_exception, Row}
+use Rattle.job_meaning.specs.Shown.{Shown, line_shown, scope_shown, nursery_shown, wait_shown, Ending, well, by_cancellation, with_exception, Row}
 
 abbrev pub ending_text : Ending → List ℕ
 ending_text well = codes "done"
@@ -30,6 +30,7 @@ shown_text (line_shown at text) =
     codes "  line " ++ decimal at ++ codes "+" ++ decimal (length text) ++ codes " " ++ flat_map byte_text text ++ codes "\n"
 shown_text (scope_shown label tick caught) = codes "  scope " ++ label_text label ++ codes " " ++ decimal tick ++ caught_text caught
 shown_text (nursery_shown label tick caught) = codes "  nursery " ++ label_text label ++ codes " " ++ decimal tick ++ caught_text caught
+shown_text (wait_shown label tick) = codes "  wait " ++ label_text label ++ codes " " ++ decimal tick ++ codes "\n"
 
 -- the lines of a report for a task
 abbrev pub row_text : Row → List ℕ

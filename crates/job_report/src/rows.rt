@@ -37,6 +37,11 @@ fn push_entry(out: &mut Vec<u8>, entry: &Entry<'_>) -> Result<(), AllocError>
             push_label(out, label)?;
             push_left(out, *tick, *caught)
         }
+        Entry::Wait { label, tick } => {
+            out.extend_from_slice(b"  wait ")?;
+            push_label(out, label)?;
+            push_tick(out, *tick)
+        }
     }
 }
 
@@ -64,6 +69,15 @@ fn push_left(out: &mut Vec<u8>, tick: u64, caught: bool) -> Result<(), AllocErro
     } else {
         out.extend_from_slice(b" passed\n")
     }
+}
+
+// Appends the tick at which a task went on that waited for an event.
+fn push_tick(out: &mut Vec<u8>, tick: u64) -> Result<(), AllocError>
+    ensures { OnOk result (out.new.items ≡ out.old.items ++ (codes " " ++ (decimal tick ++ codes "\n"))) }
+{
+    out.extend_from_slice(b" ")?;
+    push_number(out, tick)?;
+    out.extend_from_slice(b"\n")
 }
 
 // Appends the lines for a task's entries.
@@ -143,5 +157,6 @@ fn entry_room(entry: &Entry<'_>) -> usize {
         Entry::Line(line) => line.text().len().saturating_add(26),
         Entry::Scope { .. } => 128,
         Entry::Nursery { .. } => 128,
+        Entry::Wait { .. } => 128,
     }
 }

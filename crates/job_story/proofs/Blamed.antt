@@ -6,17 +6,12 @@ use Rattle.exc_groups.specs.Exceptions.{Label}
 use Rattle.cancel_scopes.specs.Sight.{Tick, earlier, sight}
 use Rattle.job_meaning.specs.Log.{Table}
 use Rattle.job_meaning.specs.Moments.{Clock, Now, only_at}
-use Rattle.job_meaning.specs.Walk.{Stack}
-use Rattle.job_story.specs.Story.{Happening, finds, misses, raises, handles, cleans, replaces, Story, happened, then_story}
+use Rattle.job_meaning.specs.Walk.{Levels, no_stack}
+use Rattle.job_story.specs.Story.{During, at_checkpoint, sleeping, waiting_for, Happening, enters_event, finds, misses, raises, handles, cleans, replaces, Story, happened, then_story}
 use Rattle.job_story.specs.Tell.{is_from, seer, story_of_one, root_scene, tale_by}
 use Rattle.job_story.specs.Blame.{IsInnermost, IsRaisedAt, IsBlamed, AllBlamed}
 use Rattle.job_story.specs.LawsOfCauses.{CancellationsAreSeen}
-use Rattle.job_story.proofs.Telling.{then_assoc, then_no_more, IsPlain, left_in, IsKept, kept_tell}
-
--- each level is cancelled as the table says
-abbrev pub IsOf : Table → Stack → Type 0
-IsOf table [] = Unit {0}
-IsOf table (l ∷ ls) = (l.from ≡ table l.label) × IsOf table ls
+use Rattle.job_story.proofs.Telling.{then_assoc, then_no_more, IsPlain, left_in, IsOf, IsKept, kept_tell}
 
 -- ---- the level that determines the effective deadline
 
@@ -41,10 +36,10 @@ earlier_is (Some x) (Some y) t e = by_test (nat_lt y x) e
     by_test false k = inl k
 
 -- what the walk names: the label, and what is known of it
-abbrev pub Named : Table → Stack → ℕ → Option Label → Type 0
+abbrev pub Named : Table → Levels → ℕ → Option Label → Type 0
 Named table st from o = (l : Label) × (o ≡ Some l) × (table l ≡ Some from) × IsInnermost l from st
 
-pub seer_is : (table : Table) (st : Stack) (from : ℕ) → IsOf table st → sight st ≡ Some from → Named table st from (seer st from)
+pub seer_is : (table : Table) (st : Levels) (from : ℕ) → IsOf table st → sight st ≡ Some from → Named table st from (seer st from)
 seer_is table [] from of e = absurd (cc)
 seer_is table (l ∷ ls) from of e = by_from (is_from l.from from) refl (seer_is table ls from of.1)
   where
@@ -66,19 +61,20 @@ seer_is table (l ∷ ls) from of e = by_from (is_from l.from from) refl (seer_is
         (l.label, refl, sym of.0 ∙ at, inl (refl, at))
     by_from false not_this others = outside l.shield refl not_this e others
 
-blamed : (table : Table) (st : Stack) (t from : ℕ) (since : Tick) → IsOf table st → sight st ≡ Some from → IsRaisedAt from t since →
-    IsBlamed table st t (seer st from) since
-blamed table st t from since of e when =
+blamed : (table : Table) (st : Levels) (t from : ℕ) (during : During) → IsOf table st → sight st ≡ Some from → IsRaisedAt from t during →
+    IsBlamed table st t (seer st from) during
+blamed table st t from during of e when =
     let named = seer_is table st from of e in
     record { label = named.0; from = from; named = named.1; told = named.2; seen = e; innermost = named.3; raised = when }
 
 -- ---- the stories of a walk
 
 -- a story whose cancellations name what they should, before any rest whose cancellations do
-abbrev Leads : Table → Stack → Now → Now → Story → Type 0
+abbrev Leads : Table → Levels → Now → Now → Story → Type 0
 Leads table st now last a = IsOf table st → (rest : Story) → AllBlamed table st rest → AllBlamed table st (then_story a rest)
 
-leads_plain : (table : Table) (st : Stack) (now : Now) (what : Happening) → IsPlain what → Leads table st now now (story_of_one now.at what)
+leads_plain : (table : Table) (st : Levels) (now : Now) (what : Happening) → IsPlain what → Leads table st now now (story_of_one now.at what)
+leads_plain table st now (enters_event label) plain of rest h = (tt, h)
 leads_plain table st now (finds lines) plain of rest h = (tt, h)
 leads_plain table st now (misses name) plain of rest h = (tt, h)
 leads_plain table st now (raises name) plain of rest h = (tt, h)
@@ -97,9 +93,13 @@ leads table clock =
       plain = leads_plain table;
       waited = λ st now u label exc le home of rest h. (tt, h);
       signed = λ st now name of rest h. (tt, h);
+      marked = λ st now label of rest h. (tt, h);
       slept = λ st now u until e le of rest h. (tt, h);
-      seen = λ st now from c e le of rest h. (blamed table st now.at from None of e le, h);
-      cut = λ st now from until c e lt le of rest h. (tt, (blamed table st from from (Some now.at) of e (lt, refl), h));
+      seen = λ st now from c e le of rest h. (blamed table st now.at from at_checkpoint of e le, h);
+      cut = λ st now from until c e lt le of rest h. (tt, (blamed table st from from (sleeping now.at) of e (lt, refl), h));
+      checked = λ st now label set of rest h. (tt, h);
+      expected = λ st now u label is le of rest h. (tt, (tt, h));
+      given_up = λ st now from label c e lt before of rest h. (tt, (blamed table st from from (waiting_for label now.at) of e (lt, refl), h));
       blocked = λ st now last kind label d shield inside a f of rest h. (
         tt,
         subst (AllBlamed table _) (sym (then_assoc a _ rest))
@@ -113,6 +113,6 @@ pub cancellations_are_seen : CancellationsAreSeen
 unfolding tale_by
 cancellations_are_seen table job input = (
   subst (AllBlamed table []) (then_no_more (tale_by table job input).story)
-      (kept_tell table (λ c. Leads table) (leads table) job.steps (root_scene job input) [] (only_at 0) tt _ tt),
+      (kept_tell table (λ c. Leads table) (leads table) job.steps (root_scene job input) no_stack (only_at 0) tt tt _ tt),
   tt,
 )

@@ -8,20 +8,20 @@ use Rattle.buffer_parts.specs.Lines.{Span}
 use Rattle.exc_groups.specs.Exceptions.{Label, Exc}
 use Rattle.cancel_scopes.specs.Sight.{Tick, earlier, next}
 use Rattle.job_meaning.specs.Log.{Result, Log, nil, entry, sign, entered, task, followed_by, tick_if, least_sign, either, deadline_if, deadline_of, entered_from, Table, same_label}
-use Rattle.job_meaning.specs.Walk.{Stack, Kind, by_table, log_of_lines, sign_if}
+use Rattle.job_meaning.specs.Walk.{Levels, Kind, by_table, log_of_lines, sign_if}
 use Rattle.job_meaning.specs.Meaning.{root_label}
 use Rattle.job_meaning.specs.Follow.{follow, IsSettled}
 use Rattle.job_meaning.proofs.Distinct.{same_label_equal, same_label_itself}
 use Rattle.job_meaning.proofs.Touched.{Gives, either_nothing, deadline_followed, least_followed, no_deadline}
 use Rattle.job_meaning.proofs.Once.{GivesOnce, job_gives_once}
-use Rattle.job_story.specs.Story.{Happening, enters, is_cancelled, finds, cancels, waits, Story, no_more, happened, started, erased_one, erased_log}
+use Rattle.job_story.specs.Story.{Happening, enters, enters_event, is_cancelled, finds, cancels, sets, waits, Story, no_more, happened, started, erased_one, erased_log}
 use Rattle.job_story.specs.Tell.{is_from, tale_by, story_by}
 use Rattle.job_story.specs.Events.{What, happens, ends, Event, event, events_of}
-use Rattle.job_story.specs.Causes.{Cause, by_deadline, by_task, Entering, entering_by, entering_of, is_label, cause_by, cause_if, cause_in, or_later, signed_by, cause_by_entering, cause_from, cause_of}
+use Rattle.job_story.specs.Causes.{Cause, by_deadline, by_task, by_set, Entering, entering_by, entering_of, is_label, cause_by, cause_if, cause_in, or_later, signed_by, cause_by_entering, cause_from, cause_of}
 use Rattle.job_story.specs.Sentences.{job_events}
 use Rattle.job_story.specs.Blame.{IsBlamedIn, AllBlamed, open_after}
 use Rattle.job_story.specs.Shown.{IsIn, IsEntered, HasACause}
-use Rattle.job_story.specs.LawsOfCauses.{CancellationsHaveCauses}
+use Rattle.job_story.specs.LawsOfCauses.{FromsHaveCauses, CancellationsHaveCauses}
 use Rattle.job_story.proofs.Erasing.{telling_is_following}
 use Rattle.job_story.proofs.Blamed.{is_from_itself, earlier_is, cancellations_are_seen}
 use Rattle.job_story.proofs.Found.{some_is, entering_is}
@@ -88,9 +88,12 @@ entered_deadline l d (task m s u e own rest) once (inr h) =
 
 entered_past : (l : Label) (d : Tick) (t : ℕ) (what : Happening) (r : Log) → EnteredIn l d r → EnteredIn l d (erased_one t what r)
 entered_past l d t (enters kind label deadline shield) r h = inr h
+entered_past l d t (enters_event label) r h = inr h
 entered_past l d t (finds lines) r h = entered_second l d (log_of_lines t lines) r h
 entered_past l d t (cancels None) r h = h
 entered_past l d t (cancels (Some m)) r h = h
+entered_past l d t (sets None) r h = h
+entered_past l d t (sets (Some m)) r h = h
 entered_past l d t (waits nursery None) r h = h
 entered_past l d t (waits nursery (Some e)) r h = h
 entered_past l d t _ r h = h
@@ -133,44 +136,53 @@ sign_deadline l (Some e) (Some m) t = refl
 abbrev EntersIt : Label → Tick → Happening → Type 0
 EntersIt l d what = (kind : Kind) × (shield : Bool) × (enters kind l d shield ≡ what)
 
-deadline_past : (l : Label) (d : Tick) (t : ℕ) (what : Happening) (r : Log) → deadline_of l (erased_one t what r) ≡ Some d →
-    EntersIt l d what ⊎ (deadline_of l r ≡ Some d)
-deadline_past l d t (enters kind label x shield) r h = by_test (same_label l label) refl h
+-- an event is entered with no deadline
+deadline_past : (l : Label) (f t : ℕ) (what : Happening) (r : Log) → deadline_of l (erased_one t what r) ≡ Some (Some f) →
+    EntersIt l (Some f) what ⊎ (deadline_of l r ≡ Some (Some f))
+deadline_past l f t (enters kind label x shield) r h = by_test (same_label l label) refl h
   where
-    by_test : (b : Bool) → same_label l label ≡ b → either (deadline_if b x) (deadline_of l r) ≡ Some d →
-        EntersIt l d (enters kind label x shield) ⊎ (deadline_of l r ≡ Some d)
+    by_test : (b : Bool) → same_label l label ≡ b → either (deadline_if b x) (deadline_of l r) ≡ Some (Some f) →
+        EntersIt l (Some f) (enters kind label x shield) ⊎ (deadline_of l r ≡ Some (Some f))
     by_test true same k =
         let m : l ≡ label = same_label_equal l label same in
-        let y : x ≡ d = some_is x d k in
+        let y : x ≡ Some f = some_is x (Some f) k in
         inl (kind, shield, cc)
     by_test false differs k = inr k
-deadline_past l d t (finds lines) r h =
+deadline_past l f t (enters_event label) r h = by_test (same_label l label) h
+  where
+    by_test : (b : Bool) → either (deadline_if b None) (deadline_of l r) ≡ Some (Some f) →
+        EntersIt l (Some f) (enters_event label) ⊎ (deadline_of l r ≡ Some (Some f))
+    by_test true k = absurd (cc)
+    by_test false k = inr k
+deadline_past l f t (finds lines) r h =
     inr (sym (deadline_followed l (log_of_lines t lines) r ∙ ap (λ (o : Option Tick). either o (deadline_of l r)) (lines_deadline l t lines)) ∙ h)
-deadline_past l d t (cancels None) r h = inr h
-deadline_past l d t (cancels (Some m)) r h = inr h
-deadline_past l d t (waits nursery None) r h = inr h
-deadline_past l d t (waits nursery (Some e)) r h = inr h
-deadline_past l d t _ r h = inr h
+deadline_past l f t (cancels None) r h = inr h
+deadline_past l f t (cancels (Some m)) r h = inr h
+deadline_past l f t (sets None) r h = inr h
+deadline_past l f t (sets (Some m)) r h = inr h
+deadline_past l f t (waits nursery None) r h = inr h
+deadline_past l f t (waits nursery (Some e)) r h = inr h
+deadline_past l f t _ r h = inr h
 
 entered_within : (l : Label) (d : Tick) (es fs : List Event) → ((x : Event) → IsIn x es → IsIn x fs) → IsEntered l d es → IsEntered l d fs
 entered_within l d es fs f h =
     record { tick = h.tick; task = h.task; kind = h.kind; shield = h.shield; entered = f _ h.entered }
 
--- an event of a story enters what its log has a deadline of
-deadline_event : (me : Label) (s : Story) (l : Label) (d : Tick) → deadline_of l (erased_log s) ≡ Some d → IsEntered l d (events_of me s)
-deadline_event me no_more l d h = absurd (cc)
-deadline_event me (happened t what rest) l d h =
-    by_first (deadline_past l d t what (erased_log rest) h) (deadline_event me rest l d)
+-- an event of a story enters what its log has a deadline of that cancels it
+deadline_event : (me : Label) (s : Story) (l : Label) (f : ℕ) → deadline_of l (erased_log s) ≡ Some (Some f) → IsEntered l (Some f) (events_of me s)
+deadline_event me no_more l f h = absurd (cc)
+deadline_event me (happened t what rest) l f h =
+    by_first (deadline_past l f t what (erased_log rest) h) (deadline_event me rest l f)
   where
-    by_first : EntersIt l d what ⊎ (deadline_of l (erased_log rest) ≡ Some d) →
-        (deadline_of l (erased_log rest) ≡ Some d → IsEntered l d (events_of me rest)) → IsEntered l d (events_of me (happened t what rest))
-    by_first (inl e) f =
+    by_first : EntersIt l (Some f) what ⊎ (deadline_of l (erased_log rest) ≡ Some (Some f)) →
+        (deadline_of l (erased_log rest) ≡ Some (Some f) → IsEntered l (Some f) (events_of me rest)) → IsEntered l (Some f) (events_of me (happened t what rest))
+    by_first (inl e) g =
         record { tick = t; task = me; kind = e.0; shield = e.1; entered = inl (ap (λ (w : Happening). event t me (happens w)) e.2) }
-    by_first (inr e) f = entered_within l d (events_of me rest) (events_of me (happened t what rest)) (λ x i. inr i) (f e)
-deadline_event me (started m home part s u exc own rest) l d h =
+    by_first (inr e) g = entered_within l (Some f) (events_of me rest) (events_of me (happened t what rest)) (λ x i. inr i) (g e)
+deadline_event me (started m home part s u exc own rest) l f h =
     by_own (deadline_of l (erased_log own)) refl
-    (sym (ap (λ (o : Option Tick). either o (deadline_of l (erased_log rest))) own_part) ∙ h) (deadline_event m own l d)
-    (deadline_event me rest l d)
+    (sym (ap (λ (o : Option Tick). either o (deadline_of l (erased_log rest))) own_part) ∙ h) (deadline_event m own l f)
+    (deadline_event me rest l f)
   where
     own_part : deadline_of l (followed_by (erased_log own) (sign_if exc home u)) ≡ deadline_of l (erased_log own)
     own_part =
@@ -178,16 +190,16 @@ deadline_event me (started m home part s u exc own rest) l d h =
         ∙ (ap (λ (o : Option Tick). either (deadline_of l (erased_log own)) o) (sign_deadline l exc home u)
         ∙ either_nothing (deadline_of l (erased_log own)))
 
-    by_own : (o : Option Tick) → deadline_of l (erased_log own) ≡ o → either o (deadline_of l (erased_log rest)) ≡ Some d →
-        (deadline_of l (erased_log own) ≡ Some d → IsEntered l d (events_of m own)) →
-        (deadline_of l (erased_log rest) ≡ Some d → IsEntered l d (events_of me rest)) →
-        IsEntered l d (events_of me (started m home part s u exc own rest))
-    by_own None is k f g =
-        entered_within l d (events_of me rest) (events_of me (started m home part s u exc own rest))
+    by_own : (o : Option Tick) → deadline_of l (erased_log own) ≡ o → either o (deadline_of l (erased_log rest)) ≡ Some (Some f) →
+        (deadline_of l (erased_log own) ≡ Some (Some f) → IsEntered l (Some f) (events_of m own)) →
+        (deadline_of l (erased_log rest) ≡ Some (Some f) → IsEntered l (Some f) (events_of me rest)) →
+        IsEntered l (Some f) (events_of me (started m home part s u exc own rest))
+    by_own None is k f_own g =
+        entered_within l (Some f) (events_of me rest) (events_of me (started m home part s u exc own rest))
         (λ x i. inr (append_right x (events_of m own) (event u m (ends home exc) ∷ events_of me rest) (inr i))) (g k)
-    by_own (Some x) is k f g =
-        entered_within l d (events_of m own) (events_of me (started m home part s u exc own rest))
-        (λ x i. inr (append_left x (events_of m own) (event u m (ends home exc) ∷ events_of me rest) i)) (f (is ∙ k))
+    by_own (Some x) is k f_own g =
+        entered_within l (Some f) (events_of m own) (events_of me (started m home part s u exc own rest))
+        (λ x i. inr (append_left x (events_of m own) (event u m (ends home exc) ∷ events_of me rest) i)) (f_own (is ∙ k))
 
 -- ---- the events of a sign
 
@@ -213,6 +225,18 @@ sign_past l u t me (cancels (Some m)) r h = by_test (same_label l m) h
         by_earlier : (Some t ≡ Some u) ⊎ (least_sign l r ≡ Some u) →
             ((t ≡ u) × (c : Cause) × (Some (by_task me t) ≡ Some c)) ⊎ (least_sign l r ≡ Some u)
         by_earlier (inl e) = inl (some_is t u e, by_task me t, refl)
+        by_earlier (inr e) = inr e
+    by_test false k = inr k
+sign_past l u t me (sets None) r h = inr h
+sign_past l u t me (sets (Some m)) r h = by_test (same_label l m) h
+  where
+    by_test : (b : Bool) → earlier (tick_if b t) (least_sign l r) ≡ Some u →
+        ((t ≡ u) × (c : Cause) × ((if b then Some (by_set me t) else None) ≡ Some c)) ⊎ (least_sign l r ≡ Some u)
+    by_test true k = by_earlier (earlier_is (Some t) (least_sign l r) u k)
+      where
+        by_earlier : (Some t ≡ Some u) ⊎ (least_sign l r ≡ Some u) →
+            ((t ≡ u) × (c : Cause) × (Some (by_set me t) ≡ Some c)) ⊎ (least_sign l r ≡ Some u)
+        by_earlier (inl e) = inl (some_is t u e, by_set me t, refl)
         by_earlier (inr e) = inr e
     by_test false k = inr k
 sign_past l u t me (waits nursery None) r h = inr h
@@ -428,21 +452,24 @@ module _ (table : Table) (job : Tree) (input : List ℕ) where
     cause_there l from told =
         cause_among (job_events table job input) (λ x i. from_order x walked i) l from told (λ x i at. to_order x walked i)
         (λ is.
-        let e = deadline_event (root_label job.name) (tale_by table job input).story l (Some from) is in
+        let e = deadline_event (root_label job.name) (tale_by table job input).story l from is in
         entering_found l (job_events table job input) _ e.kind (Some from) e.shield (to_order _ walked (from_own _ e.entered)) refl)
+
+pub froms_have_causes : FromsHaveCauses
+froms_have_causes table job input l from once settled told = cause_there table job input once settled l from told
 
 -- ---- the cancellations of a story
 
 -- a cancellation names a label that the table cancels
 abbrev IsNamed : Table → What → Type 0
-IsNamed table (happens (is_cancelled by since in_cleanup)) = (l : Label) × (by ≡ Some l) × (from : ℕ) × (table l ≡ Some from)
+IsNamed table (happens (is_cancelled by during in_cleanup)) = (l : Label) × (by ≡ Some l) × (from : ℕ) × (table l ≡ Some from)
 IsNamed table _ = Unit {0}
 
-one_named : (table : Table) (st : Stack) (t : ℕ) (what : Happening) → IsBlamedIn table st t what → IsNamed table (happens what)
-one_named table st t (is_cancelled by since in_cleanup) b = (b.label, b.named, b.from, b.told)
+one_named : (table : Table) (st : Levels) (t : ℕ) (what : Happening) → IsBlamedIn table st t what → IsNamed table (happens what)
+one_named table st t (is_cancelled by during in_cleanup) b = (b.label, b.named, b.from, b.told)
 one_named table st t _ b = tt
 
-all_named : (table : Table) (st : Stack) (me : Label) (s : Story) → AllBlamed table st s → (x : Event) → IsIn x (events_of me s) →
+all_named : (table : Table) (st : Levels) (me : Label) (s : Story) → AllBlamed table st s → (x : Event) → IsIn x (events_of me s) →
     IsNamed table x.what
 all_named table st me no_more h x i = absurd i
 all_named table st me (happened t what rest) h x (inl e) =
@@ -466,5 +493,5 @@ cancellations_have_causes table job input once settled e i =
     (from_order e (events_of (root_label job.name) (story_by table job input)) i))
   where
     by_what : (w : What) → IsNamed table w → HasACause table (job_events table job input) w
-    by_what (happens (is_cancelled by since in_cleanup)) h = (h.0, h.1, cause_there table job input once settled h.0 h.2 h.3)
+    by_what (happens (is_cancelled by during in_cleanup)) h = (h.0, h.1, cause_there table job input once settled h.0 h.2 h.3)
     by_what _ h = tt

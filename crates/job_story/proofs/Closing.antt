@@ -7,7 +7,7 @@ use Rattle.job_meaning.specs.Log.{Table, same_label}
 use Rattle.job_meaning.proofs.Distinct.{same_label_equal, same_label_itself}
 use Rattle.job_story.specs.Story.{is_cancelled}
 use Rattle.job_story.specs.Events.{What, happens, Event}
-use Rattle.job_story.specs.Causes.{Cause, by_deadline, by_task, by_failure, by_cancellation, cause_of}
+use Rattle.job_story.specs.Causes.{Cause, by_deadline, by_task, by_set, by_failure, by_cancellation, cause_of}
 use Rattle.job_story.specs.Focus.{task_of, cause_by, causer_of, is_some_label, is_causer_of, is_among, is_causer_of_some, add_if, with_causers, causers_in, concerned_tasks}
 use Rattle.job_story.specs.Shown.{IsIn, IsEndIn}
 use Rattle.job_story.specs.Closed.{IsClosed}
@@ -25,6 +25,9 @@ cause_has_task : (table : Table) (all : List Event) (k m : Label) (c : Cause) �
 cause_has_task table all k m by_deadline is h = absurd (cc)
 cause_has_task table all k m (by_task task t) is h =
     let shown = causes_are_shown table all k (by_task task t) is in
+    (_, shown.2.1, some_is task m h)
+cause_has_task table all k m (by_set task t) is h =
+    let shown = causes_are_shown table all k (by_set task t) is in
     (_, shown.2.1, some_is task m h)
 cause_has_task table all k m (by_failure task t) is h =
     let shown = causes_are_shown table all k (by_failure task t) is in
@@ -50,7 +53,7 @@ by_has_task table all m (Some k) h = by_cause (cause_of table all k) refl h
     by_cause (Some c) is e = cause_has_task table all k m c is e
 
 causer_has_task : (table : Table) (all : List Event) (m : Label) (w : What) → causer_of table all w ≡ Some m → HasTask m all
-causer_has_task table all m (happens (is_cancelled by since in_cleanup)) h = by_has_task table all m by h
+causer_has_task table all m (happens (is_cancelled by during in_cleanup)) h = by_has_task table all m by h
 causer_has_task table all m _ h = absurd (cc)
 
 -- ---- a round adds each task that caused a cancellation of one of the set

@@ -1,25 +1,25 @@
 -- A story with everything erased that a log does not contain is the log of following the table.
-use Rattle.std.proofs.Common.{◌≡◌, ℕ, zero, suc, ◌-◌, ◌≤◌, true≢false, Bool, true, false, Option, Some, None, List, [], refl, ap, sym, ◌∙◌, arith}
+use Rattle.std.proofs.Common.{◌≡◌, ℕ, zero, suc, ◌-◌, ◌≤◌, true≢false, Bool, true, false, Option, Some, None, List, refl, ap, sym, ◌∙◌, arith}
 use Rattle.std.proofs.lemmas.Bool.Decides.{nat_tests}
-use Rattle.std.specs.Prelude.{nat_le, if◌then◌else◌}
-use Rattle.job_tree.specs.Tree.{Step, sleep, checkpoint, forever, pace, find, head, longest, need, raise, cancel, scope, nursery, start, repeat, attempt, Steps, stop, step, Handled, unhandled, except, Cleaned, uncleaned, finally}
+use Rattle.std.specs.Prelude.{nat_le, nat_lt, max, if◌then◌else◌}
+use Rattle.job_tree.specs.Tree.{Step, sleep, checkpoint, forever, pace, find, head, longest, need, raise, cancel, set_event, wait_for, scope, nursery, event, start, repeat, attempt, Steps, stop, step, Handled, unhandled, except, Cleaned, uncleaned, finally}
 use Rattle.buffer_parts.specs.Lines.{Span}
 use Rattle.buffer_parts.specs.Cuts.{cut_of}
 use Rattle.exc_groups.specs.Exceptions.{Label, Exc, cancelled}
 use Rattle.exc_groups.specs.Split.{Wanted, named, keep, drop}
-use Rattle.cancel_scopes.specs.Sight.{Tick, sight, catches}
-use Rattle.job_meaning.specs.Log.{Log, nil, entered, task, followed_by, Result, Table}
+use Rattle.cancel_scopes.specs.Sight.{Tick, Level, sight, catches}
+use Rattle.job_meaning.specs.Log.{waited, Log, nil, entry, entered, task, followed_by, Result, Table}
 use Rattle.job_meaning.specs.Follow.{follow}
 use Rattle.job_meaning.specs.Meaning.{root_log, root_label}
 use Rattle.job_meaning.specs.Moments.{Clock, tick_of, a_round_after, wakes_at, gives_up_at, Now, only_at, far}
-use Rattle.job_meaning.specs.Walk.{Stack, by_table, Here, walk, walk_step, walk_handler, walk_cleanup, in_sequence, then_if, and_then, done_at, raised_at, wait_by_sight, sleep_result, pace_result, log_of_lines, lines_result, raise_result, need_result, sign_of, cancel_result, Kind, from_for, stack_for, exit_with_from, left_with, block, sign_if, home_of, with_sign, nursery_result, child, each, passes, handler_result, cleanup_result, with_outcome, handler_exc, label_here, label_over, stack_inside, here_in, in_pass}
+use Rattle.job_meaning.specs.Walk.{Levels, Stack, no_stack, by_table, Here, walk, walk_step, walk_handler, walk_cleanup, in_sequence, then_if, and_then, done_at, raised_at, wait_by_sight, wait_until, set_moment, with_line_if, event_wait, sleep_result, pace_result, log_of_lines, lines_result, raise_result, need_result, sign_of, cancel_result, set_result, Kind, from_for, stack_for, exit_with_from, left_with, block, event_block, event_result, sign_if, home_of, with_sign, nursery_result, child, each, passes, handler_result, cleanup_result, with_outcome, handler_exc, label_here, label_over, stack_inside, stack_in_event, here_in, in_pass}
 use Rattle.job_meaning.specs.Walk as walks
 use Rattle.job_meaning.proofs.MomentLemmas.{round_after}
 use Rattle.job_meaning.proofs.Finish.{followed_assoc}
 use Rattle.job_meaning.proofs.Clips.{followed_nil}
 use Rattle.job_meaning.proofs.Settled.{settled_is_meaning}
-use Rattle.job_story.specs.Story.{Happening, enters, sleeps, is_cancelled, finds, misses, raises, cancels, handles, cleans, replaces, waits, leaves, Story, no_more, happened, started, then_story, erased_one, erased_log, Tale, result_of}
-use Rattle.job_story.specs.Tell.{Scene, told_at, now_of, story_of_one, and_tale, tale_if, then_tale, failed_at, after_this, seer, asleep_for, slept_since, tell_slept, tell_sleep, tell_pace, tell_lines, tell_need, tell_raise, tell_cancel, tell_left, tell_block, tell_wait, tell_gathered, tell_child, tell_each, tell_passes, handled_if, handled_exc, tell_handled, replacement, cleaned_by, tell_cleaned, at_place, tell, tell_step, tell_handler, tell_cleanup, root_scene, tale_by}
+use Rattle.job_story.specs.Story.{at_checkpoint, waiting_for, Happening, enters, enters_event, sleeps, is_cancelled, finds, misses, raises, cancels, sets, awaits, was_set, handles, cleans, replaces, waits, leaves, Story, no_more, happened, started, then_story, erased_one, erased_log, Tale, result_of}
+use Rattle.job_story.specs.Tell.{Scene, told_at, now_of, story_of_one, and_tale, tale_if, then_tale, failed_at, after_this, seer, asleep_for, during_sleep, tell_slept, tell_sleep, tell_pace, tell_waiting, with_set_if, tell_event_wait, tell_lines, tell_need, tell_raise, tell_cancel, tell_set, tell_left, tell_block, tell_event, tell_wait, tell_gathered, tell_child, tell_each, tell_passes, handled_if, handled_exc, tell_handled, replacement, cleaned_by, tell_cleaned, at_place, tell, tell_step, tell_handler, tell_cleanup, root_scene, tale_by}
 use Rattle.job_story.specs.Laws.{TellingIsFollowing, StoriesAreTrue}
 
 -- ---- stories, one after another
@@ -27,12 +27,16 @@ use Rattle.job_story.specs.Laws.{TellingIsFollowing, StoriesAreTrue}
 -- what a log contains of a happening is before the rest
 erased_before : (t : ℕ) (what : Happening) (a b : Log) → followed_by (erased_one t what a) b ≡ erased_one t what (followed_by a b)
 erased_before t (enters kind label deadline shield) a b = refl
+erased_before t (enters_event label) a b = refl
 erased_before t (sleeps until) a b = refl
-erased_before t (is_cancelled by since in_cleanup) a b = refl
+erased_before t (is_cancelled by during in_cleanup) a b = refl
 erased_before t (finds lines) a b = followed_assoc (log_of_lines t lines) a b
 erased_before t (misses name) a b = refl
 erased_before t (raises name) a b = refl
 erased_before t (cancels label) a b = followed_assoc (sign_of label t) a b
+erased_before t (sets label) a b = followed_assoc (sign_of label t) a b
+erased_before t (awaits label) a b = refl
+erased_before t (was_set label) a b = refl
 erased_before t (handles matched left) a b = refl
 erased_before t (cleans exc) a b = refl
 erased_before t (replaces lost fresh) a b = refl
@@ -73,7 +77,7 @@ asleep_nothing : (n m : ℕ) (until : Tick) → erased_log (asleep_for n m until
 asleep_nothing zero m until = refl
 asleep_nothing (suc n) m until = refl
 
-slept_is : (from : Tick) (n m least gives_up end : ℕ) (st : Stack) (c : Bool) (until : Tick) → m ≤ least →
+slept_is : (from : Tick) (n m least gives_up end : ℕ) (st : Levels) (c : Bool) (until : Tick) → m ≤ least →
     result_of (tell_slept from n m least gives_up end st c until) ≡ wait_by_sight from least gives_up end
 slept_is None n m least gives_up end st c until le = with_log (told_at (only_at end) (asleep_for n m until)) nil (asleep_nothing n m until)
 slept_is (Some from) n m least gives_up end st c until le = by_now (nat_le from m) (nat_le from least) (nat_le from end) seen_by_then
@@ -84,14 +88,14 @@ slept_is (Some from) n m least gives_up end st c until le = by_now (nat_le from 
     while_asleep : ℕ → Tale
     while_asleep t =
         failed_at cancelled (only_at t)
-        (then_story (asleep_for n m until) (story_of_one t (is_cancelled (seer st from) (slept_since n m) c)))
+        (then_story (asleep_for n m until) (story_of_one t (is_cancelled (seer st from) (during_sleep n m) c)))
 
     asleep_is : (t : ℕ) → result_of (while_asleep t) ≡ raised_at cancelled (only_at t)
     asleep_is t =
-        with_log (while_asleep t) nil (asleep_erased n m until (story_of_one t (is_cancelled (seer st from) (slept_since n m) c)))
+        with_log (while_asleep t) nil (asleep_erased n m until (story_of_one t (is_cancelled (seer st from) (during_sleep n m) c)))
 
     by_now : (b d w : Bool) → (b ≡ true → d ≡ true) →
-        result_of (if b then failed_at cancelled (only_at gives_up) (story_of_one gives_up (is_cancelled (seer st from) None c))
+        result_of (if b then failed_at cancelled (only_at gives_up) (story_of_one gives_up (is_cancelled (seer st from) at_checkpoint c))
         else (if d then while_asleep gives_up
         else (if w then while_asleep from else told_at (only_at end) (asleep_for n m until))))
         ≡ (if d then raised_at cancelled (only_at gives_up)
@@ -103,16 +107,91 @@ slept_is (Some from) n m least gives_up end st c until le = by_now (nat_le from 
     by_now false false false least_too = with_log (told_at (only_at end) (asleep_for n m until)) nil (asleep_nothing n m until)
 
 sleep_is : (clock : Clock) (st : Stack) (c : Bool) (until : Tick) (n m : ℕ) →
-    result_of (tell_sleep clock st c until n m) ≡ sleep_result clock st n m
+    result_of (tell_sleep clock st.scopes c until n m) ≡ sleep_result clock st n m
 unfolding tell_sleep sleep_result
 sleep_is clock st c until n m =
-    slept_is (sight st) n m (a_round_after clock m) (gives_up_at clock n m) (wakes_at clock n m) st c until (round_after clock m)
+    slept_is (sight st.scopes) n m (a_round_after clock m) (gives_up_at clock n m) (wakes_at clock n m) st.scopes c until (round_after clock m)
 
 pace_is : (clock : Clock) (st : Stack) (c : Bool) (until : Tick) (n m : ℕ) →
-    result_of (tell_pace clock st c until n m) ≡ pace_result clock st n m
+    result_of (tell_pace clock st.scopes c until n m) ≡ pace_result clock st n m
 unfolding tell_pace pace_result
 pace_is clock st c until n m =
-    slept_is (sight st) n m (a_round_after clock m) (a_round_after clock m) (wakes_at clock n m) st c until (round_after clock m)
+    slept_is (sight st.scopes) n m (a_round_after clock m) (a_round_after clock m) (wakes_at clock n m) st.scopes c until (round_after clock m)
+
+-- ---- waits for events
+
+-- a sleep has no log
+no_log : (from : Tick) (least gives_up end : ℕ) → (wait_by_sight from least gives_up end).log ≡ nil
+no_log None least gives_up end = refl
+no_log (Some from) least gives_up end = by_now (nat_le from least) (nat_le from end)
+  where
+    by_now : (d w : Bool) → (if d then raised_at cancelled (only_at gives_up)
+        else (if w then raised_at cancelled (only_at from) else done_at (only_at end))).log ≡ nil
+    by_now true w = refl
+    by_now false true = refl
+    by_now false false = refl
+
+sleep_no_log : (clock : Clock) (st : Stack) (n m : ℕ) → (sleep_result clock st n m).log ≡ nil
+unfolding sleep_result
+sleep_no_log clock st n m = no_log (sight st.scopes) (a_round_after clock m) (gives_up_at clock n m) (wakes_at clock n m)
+
+-- a checkpoint after which an event is set
+set_is : (label : Label) (a : Tale) (r : Result) → result_of a ≡ r → r.log ≡ nil → result_of (with_set_if a.exc label a) ≡ with_line_if r.exc label r
+set_is label a r e none = by_exc a.exc ∙ ap (λ (x : Result). with_line_if x.exc label x) e
+  where
+    erased : erased_log a.story ≡ nil
+    erased = ap (λ (x : Result). x.log) e ∙ none
+
+    by_exc : (o : Option Exc) → result_of (with_set_if o label a) ≡ with_line_if o label (result_of a)
+    by_exc None =
+        with_log (with_set_if None label a) (entry a.end (waited label) nil)
+        (erased_then a.story (story_of_one a.end (was_set label))
+        ∙ ap (λ (x : Log). followed_by x (entry a.end (waited label) nil)) erased)
+    by_exc (Some x) = refl
+
+-- a wait that is no checkpoint
+waiting_is : (from : Tick) (m least end : ℕ) (st : Levels) (c : Bool) (label : Label) → m ≤ least → nat_le end least ≡ false →
+    result_of (tell_waiting from m least end st c label) ≡ (let r = wait_until from least end in with_line_if r.exc label r)
+waiting_is None m least end st c label le late = refl
+waiting_is (Some from) m least end st c label le late = by_now (nat_le from m) (nat_lt from end) seen_by_then
+  where
+    seen_by_then : nat_le from m ≡ true → nat_lt from end ≡ true
+    seen_by_then at = grind (arith, nat_tests)
+
+    t : ℕ
+    t = max least from
+
+    by_now : (b w : Bool) → (b ≡ true → w ≡ true) →
+        result_of (if b then failed_at cancelled (only_at t) (story_of_one t (is_cancelled (seer st from) at_checkpoint c))
+        else (if w then failed_at cancelled (only_at t)
+        (happened m (awaits label) (story_of_one t (is_cancelled (seer st from) (waiting_for label m) c)))
+        else told_at (only_at end) (happened m (awaits label) (story_of_one end (was_set label)))))
+        ≡ (let r = (if w then raised_at cancelled (only_at t) else done_at (only_at end)) in with_line_if r.exc label r)
+    by_now true true before = refl
+    by_now true false before = absurd (true≢false (sym (before refl)))
+    by_now false true before = refl
+    by_now false false before = refl
+
+event_wait_is : (clock : Clock) (st : Stack) (c : Bool) (level : Option (Level Label)) (now : Now) →
+    result_of (tell_event_wait clock st.scopes c level now) ≡ event_wait clock st level now
+unfolding tell_event_wait event_wait
+event_wait_is clock st c None now = refl
+event_wait_is clock st c (Some l) now = by_round (nat_le u (a_round_after clock now.at)) refl
+  where
+    u : ℕ
+    u = set_moment clock l.from now.at
+
+    by_round : (b : Bool) → nat_le u (a_round_after clock now.at) ≡ b →
+        result_of (if b then (let a = tell_sleep clock st.scopes c (Some now.at) 0 now.at in with_set_if a.exc l.label a)
+        else tell_waiting (sight st.scopes) now.at (a_round_after clock now.at) u st.scopes c l.label)
+        ≡ (let r = (if b then sleep_result clock st 0 now.at else wait_until (sight st.scopes) (a_round_after clock now.at) u) in
+        with_line_if r.exc l.label r)
+    by_round true soon =
+        set_is l.label (tell_sleep clock st.scopes c (Some now.at) 0 now.at) (sleep_result clock st 0 now.at)
+        (sleep_is clock st c (Some now.at) 0 now.at) (sleep_no_log clock st 0 now.at)
+    by_round false late = waiting_is (sight st.scopes) now.at (a_round_after clock now.at) u st.scopes c l.label (round_after clock now.at) late
+
+-- ---- other steps
 
 lines_is : (lines : List Span) (now : Now) → result_of (tell_lines lines now) ≡ lines_result lines now
 unfolding tell_lines lines_result
@@ -133,19 +212,29 @@ unfolding tell_cancel cancel_result
 cancel_is clock None now = refl
 cancel_is clock (Some l) now = refl
 
+set_step_is : (clock : Clock) (label : Option Label) (now : Now) → result_of (tell_set clock label now) ≡ set_result clock label now
+unfolding tell_set set_result
+set_step_is clock None now = refl
+set_step_is clock (Some l) now = refl
+
 -- ---- blocks
 
 block_is : (clock : Clock) (table : Table) (kind : Kind) (label : Label) (m : ℕ) (d : Tick) (shield : Bool) (st : Stack) (inside : Tick → Tale)
     (walked : Tick → Result) → ((f : Tick) → result_of (inside f) ≡ walked f) →
-    result_of (tell_block clock table kind label m d shield st inside) ≡ block clock (by_table table) kind label m d shield st walked
+    result_of (tell_block clock table kind label m d shield st.scopes inside) ≡ block clock (by_table table) kind label m d shield st walked
 unfolding tell_block block
 block_is clock table kind label m d shield st inside walked h =
     let a = inside (table label) in
     with_log
     (tell_left clock kind label m d shield
-    (left_with (catches (from_for a.own a.end label (table label)) shield (stack_for a.own a.end st) a.end) a.exc) a) _
+    (left_with (catches (from_for a.own a.end label (table label)) shield (stack_for a.own a.end st.scopes) a.end) a.exc) a) _
     (ap (λ (x : Log). entered label m d x) (erased_then a.story _))
     ∙ ap (λ (r : Result). exit_with_from clock kind label m d shield st (table label) r) (h (table label))
+
+event_is : (table : Table) (label : Label) (m : ℕ) (inside : Tick → Tale) (walked : Tick → Result) → ((f : Tick) → result_of (inside f) ≡ walked f) →
+    result_of (tell_event table label m inside) ≡ event_block (by_table table) label m walked
+unfolding tell_event event_block
+event_is table label m inside walked h = ap (λ (r : Result). event_result label m r) (h (table label))
 
 wait_is : (label : Label) (shield : Bool) (from : Tick) (st : Stack) (a : Tale) (r : Result) → result_of a ≡ r →
     result_of (tell_wait label a) ≡ with_sign (stack_inside label shield from st) r
@@ -162,7 +251,7 @@ unfolding tell_gathered nursery_result
 gathered_is clock label a r e = ap (λ (x : Result). nursery_result clock label x) e
 
 child_is : (label : Label) (st : Stack) (scene : Scene) (begins : ℕ) (a : Tale) (r : Result) (now : Now) → result_of a ≡ r →
-    result_of (tell_child label (home_of st) scene begins a now) ≡ child label begins (with_sign st r) now
+    result_of (tell_child label (home_of st.scopes) scene begins a now) ≡ child label begins (with_sign st r) now
 unfolding tell_child child with_sign
 child_is label st scene begins a r now e = ap (λ (x : Result). child label begins (with_sign st x) now) e
 
@@ -246,6 +335,8 @@ mutual
   step_is k (need text name) scene st now = need_is _ name scene.here now
   step_is k (raise name) scene st now = raise_is name scene.here now
   step_is k (cancel name) scene st now = cancel_is scene.here.clock _ now
+  step_is k (set_event name) scene st now = set_step_is scene.here.clock _ now
+  step_is k (wait_for name) scene st now = event_wait_is scene.here.clock st scene.in_cleanup _ now
   step_is k (scope name d shield fail body) scene st now =
       block_is scene.here.clock k _ (label_here name scene.here) now.at _ shield st _ _
       (λ f. tell_is k body scene (stack_inside (label_here name scene.here) shield f st) now)
@@ -254,6 +345,9 @@ mutual
       (λ f. gathered_is scene.here.clock (label_here name scene.here) _ _
       (wait_is (label_here name scene.here) shield f st _ _
       (tell_is k body scene (stack_inside (label_here name scene.here) shield f st) now)))
+  step_is k (event name body) scene st now =
+      event_is k (label_here name scene.here) now.at _ _
+      (λ f. tell_is k body scene (stack_in_event (label_here name scene.here) f st) now)
   step_is k (start name None body) scene st now =
       let inner = at_place (here_in (label_here name scene.here) scene.here.part scene.here) scene in
       let begins = a_round_after scene.here.clock now.at in
@@ -283,7 +377,7 @@ mutual
 
 pub telling_is_following : TellingIsFollowing
 unfolding tale_by follow
-telling_is_following table job input = tell_is table job.steps (root_scene job input) [] (only_at 0)
+telling_is_following table job input = tell_is table job.steps (root_scene job input) no_stack (only_at 0)
 
 -- so the story by a settled table is the log of the meaning
 pub stories_are_true : StoriesAreTrue

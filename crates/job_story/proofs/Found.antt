@@ -7,10 +7,10 @@ use Rattle.exc_groups.specs.Split.{is_cancelled as by_cancelled, drop}
 use Rattle.cancel_scopes.specs.Sight.{Tick}
 use Rattle.job_meaning.specs.Log.{Table, same_label}
 use Rattle.job_meaning.proofs.Distinct.{same_label_equal}
-use Rattle.job_story.specs.Story.{enters, cancels, waits}
+use Rattle.job_story.specs.Story.{enters, cancels, sets, waits}
 use Rattle.job_story.specs.Tell.{is_from}
 use Rattle.job_story.specs.Events.{What, happens, ends, Event, event}
-use Rattle.job_story.specs.Causes.{Cause, by_deadline, by_task, by_failure, by_cancellation, Entering, entering_by, entering_of, is_label, cause_if, cause_in, or_later, signed_by, cause_by_entering, cause_from}
+use Rattle.job_story.specs.Causes.{Cause, by_deadline, by_task, by_set, by_failure, by_cancellation, Entering, entering_by, entering_of, is_label, cause_if, cause_in, or_later, signed_by, cause_by_entering, cause_from}
 use Rattle.job_story.specs.Shown.{IsIn, IsEntered, IsEndIn, IsShownFrom, IsShown}
 use Rattle.job_story.specs.LawsOfCauses.{CausesAreShown}
 use Rattle.job_story.proofs.Blamed.{is_from_at}
@@ -47,6 +47,7 @@ entering_is l (e ∷ es) x h = entered_by l e es (entering_of l es) x e.what ref
 shown_more : (from : ℕ) (l : Label) (e : Event) (es : List Event) (c : Cause) → IsShownFrom from l es c → IsShownFrom from l (e ∷ es) c
 shown_more from l e es by_deadline h = entered_more l (Some from) e es h
 shown_more from l e es (by_task task t) h = (h.0, inr h.1)
+shown_more from l e es (by_set task t) h = (h.0, inr h.1)
 shown_more from l e es (by_failure task t) h = (h.0, h.1, h.2, either h.3)
   where
     either : IsEndIn l t task h.1 es → IsEndIn l t task h.1 (e ∷ es)
@@ -91,6 +92,17 @@ module _ (from t : ℕ) (l task : Label) (all : List Event) (at : from ≡ t + 1
           subst (IsShownFrom from l all) (some_is (by_task task t) c k)
           (at, subst (λ (x : Label). IsIn (event t task (happens (cancels (Some x)))) all) (sym (same_label_equal l m same)) i)
 
+  set_shown : (label : Option Label) (c : Cause) → IsIn (event t task (happens (sets label))) all →
+      (if is_label l label then Some (by_set task t) else None) ≡ Some c → IsShownFrom from l all c
+  set_shown None c i h = absurd (cc)
+  set_shown (Some m) c i h = by_test (same_label l m) refl h
+    where
+      by_test : (b : Bool) → same_label l m ≡ b → (if b then Some (by_set task t) else None) ≡ Some c → IsShownFrom from l all c
+      by_test false differs k = absurd (cc)
+      by_test true same k =
+          subst (IsShownFrom from l all) (some_is (by_set task t) c k)
+          (at, subst (λ (x : Label). IsIn (event t task (happens (sets (Some x)))) all) (sym (same_label_equal l m same)) i)
+
   -- the end of a member, by its home
   home_shown : (home : Option Label) (exc : Option Exc) (c : Cause) → IsIn (event t task (ends home exc)) all →
       cause_if (is_label l home) exc task t ≡ Some c → IsShownFrom from l all c
@@ -103,6 +115,7 @@ module _ (from t : ℕ) (l task : Label) (all : List Event) (at : from ≡ t + 1
   -- what an event is a cause of
   cause_shown : (w : What) (c : Cause) → IsIn (event t task w) all → cause_in l t task w ≡ Some c → IsShownFrom from l all c
   cause_shown (happens (cancels label)) c i h = step_shown label c i h
+  cause_shown (happens (sets label)) c i h = set_shown label c i h
   cause_shown (happens (waits label exc)) c i h =
       end_shown (same_label l label) exc c
       (λ e same is. inl (subst (λ (x : Label). IsIn (event t task (happens (waits x (Some e)))) all) (sym (same_label_equal l label same))

@@ -1,5 +1,5 @@
 -- Every cancellation of a job's story up to a limit, by a settled table, has a cause in the events up to the limit.
-use Rattle.std.proofs.Common.{◌≡◌, ℕ, ◌≤◌, true≢false, Bool, true, false, Some, None, List, [], ◌∷◌, ◌++◌, refl, ap, sym, ◌∙◌, subst, ◌⊎◌, inl, inr, arith}
+use Rattle.std.proofs.Common.{◌≡◌, ℕ, ◌≤◌, true≢false, Bool, true, false, Some, List, [], ◌∷◌, ◌++◌, refl, ap, sym, ◌∙◌, subst, ◌⊎◌, inl, inr, arith}
 use Rattle.std.proofs.lemmas.Bool.Decides.{nat_tests}
 use Rattle.std.specs.Prelude.{is_some, nat_le, if◌then◌else◌}
 use Rattle.job_tree.specs.Tree.{Tree}
@@ -7,20 +7,20 @@ use Rattle.exc_groups.specs.Exceptions.{Label}
 use Rattle.cancel_scopes.specs.Sight.{Tick, sight}
 use Rattle.job_meaning.specs.Log.{Table}
 use Rattle.job_meaning.specs.Moments.{Clock, by_ticks, by_rounds, clock_of, tick_of, a_round_after, Now, only_at}
-use Rattle.job_meaning.specs.Walk.{Stack, Kind, stack_inside}
+use Rattle.job_meaning.specs.Walk.{Levels, no_stack, Kind}
 use Rattle.job_meaning.specs.Meaning.{root_label}
-use Rattle.job_meaning.proofs.Distinct.{OnStack}
+use Rattle.job_meaning.proofs.Distinct.{OnLevels}
 use Rattle.job_meaning.proofs.MomentLemmas.{round_after}
-use Rattle.job_story.specs.Story.{Happening, enters, sleeps, is_cancelled, finds, misses, raises, handles, cleans, replaces, Story, no_more, happened, started, then_story}
+use Rattle.job_story.specs.Story.{During, at_checkpoint, sleeping, waiting_for, Happening, enters, enters_event, sleeps, is_cancelled, finds, misses, raises, awaits, was_set, handles, cleans, replaces, Story, no_more, happened, started, then_story}
 use Rattle.job_story.specs.Tell.{story_of_one, seer, root_scene, tale_by, story_by}
 use Rattle.job_story.specs.Events.{What, starts, happens, ends, Event, event, events_of, in_order}
 use Rattle.job_story.specs.Causes.{cause_of}
 use Rattle.job_story.specs.Limit.{by_limit, walked_to}
-use Rattle.job_story.specs.Blame.{IsInnermost}
+use Rattle.job_story.specs.Blame.{levels_inside, IsInnermost}
 use Rattle.job_story.specs.Shown.{IsIn, HasACause}
 use Rattle.job_story.specs.LawsOfCauses.{CancellationsHaveCausesByLimit}
-use Rattle.job_story.proofs.Telling.{IsPlain, left_in, Passes, IsKept, kept_tell}
-use Rattle.job_story.proofs.Blamed.{IsOf, seer_is}
+use Rattle.job_story.proofs.Telling.{IsPlain, left_in, Passes, IsOf, IsKept, kept_tell}
+use Rattle.job_story.proofs.Blamed.{seer_is}
 use Rattle.job_story.proofs.Members.{in_append, append_left, append_right, from_order, to_order}
 use Rattle.job_story.proofs.Caused.{walked, entering_found, cause_among}
 
@@ -103,14 +103,14 @@ later l t u all le h =
       entered = h.entered;
     }
 
-on_stack : (l : Label) (from : ℕ) (st : Stack) → IsInnermost l from st → OnStack l st
+on_stack : (l : Label) (from : ℕ) (st : Levels) → IsInnermost l from st → OnLevels l st
 on_stack l from [] h = h
 on_stack l from (k ∷ ks) (inl h) = inl h.0
 on_stack l from (k ∷ ks) (inr h) = inr (on_stack l from ks h.2)
 
 -- a cancellation in moment t names a label that is cancelled from then on or before, and was entered by then
 abbrev IsCovered : Table → List Event → ℕ → What → Type 0
-IsCovered table all t (happens (is_cancelled by since in_cleanup)) =
+IsCovered table all t (happens (is_cancelled by during in_cleanup)) =
     (l : Label) × (by ≡ Some l) × (from : ℕ) × (table l ≡ Some from) × (from ≤ t) × BeganBy l t all
 IsCovered table all t _ = Unit {0}
 
@@ -134,24 +134,24 @@ more_covered : (table : Table) (all : List Event) (t : ℕ) (who : Label) (w : W
 more_covered table all t who w es h k x (inl e) = one_covered table all t who w h x e
 more_covered table all t who w es h k x (inr i) = k x i
 
-abbrev Known : Stack → ℕ → List Event → Type 0
-Known st t all = (l : Label) → OnStack l st → BeganBy l t all
+abbrev Known : Levels → ℕ → List Event → Type 0
+Known st t all = (l : Label) → OnLevels l st → BeganBy l t all
 
-abbrev Covers : Table → Stack → Now → Now → Story → Type 0
+abbrev Covers : Table → Levels → Now → Now → Story → Type 0
 Covers table st now last a =
     (all : List Event) (me : Label) → IsOf table st → Known st now.at all → ((x : Event) → IsIn x (events_of me a) → IsIn x all) →
     (now.at ≤ last.at) × AllCovered table all (events_of me a)
 
-seen_covered : (table : Table) (all : List Event) (st : Stack) (t u from : ℕ) (since : Tick) (c : Bool) → IsOf table st → Known st t all →
-    t ≤ u → sight st ≡ Some from → from ≤ u → IsCovered table all u (happens (is_cancelled (seer st from) since c))
-seen_covered table all st t u from since c of known le e at =
+seen_covered : (table : Table) (all : List Event) (st : Levels) (t u from : ℕ) (during : During) (c : Bool) → IsOf table st → Known st t all →
+    t ≤ u → sight st ≡ Some from → from ≤ u → IsCovered table all u (happens (is_cancelled (seer st from) during c))
+seen_covered table all st t u from during c of known le e at =
     let named = seer_is table st from of e in
     (named.0, named.1, from, named.2, at, later named.0 t u all le (known named.0 (on_stack named.0 from st named.3)))
 
 none_covered : (table : Table) (all : List Event) → AllCovered table all []
 none_covered table all x i = absurd i
 
-covers_joined : (table : Table) (st : Stack) (now mid last : Now) (a b : Story) → Covers table st now mid a → Covers table st mid last b →
+covers_joined : (table : Table) (st : Levels) (now mid last : Now) (a b : Story) → Covers table st now mid a → Covers table st mid last b →
     Covers table st now last (then_story a b)
 covers_joined table st now mid last a b f g all me of known within =
     let le : now.at ≤ mid.at = first.0 in
@@ -172,7 +172,8 @@ covers_joined table st now mid last a b f g all me of known within =
         g all me of (λ l i. later l now.at mid.at all first.0 (known l i))
         (λ x i. within_both x (append_right x (events_of me a) (events_of me b) i))
 
-covers_plain : (table : Table) (st : Stack) (now : Now) (what : Happening) → IsPlain what → Covers table st now now (story_of_one now.at what)
+covers_plain : (table : Table) (st : Levels) (now : Now) (what : Happening) → IsPlain what → Covers table st now now (story_of_one now.at what)
+covers_plain table st now (enters_event label) plain all me of known within = (omega arith, more_covered table all now.at me _ [] tt (none_covered table all))
 covers_plain table st now (finds lines) plain all me of known within = (omega arith, more_covered table all now.at me _ [] tt (none_covered table all))
 covers_plain table st now (misses name) plain all me of known within = (omega arith, more_covered table all now.at me _ [] tt (none_covered table all))
 covers_plain table st now (raises name) plain all me of known within = (omega arith, more_covered table all now.at me _ [] tt (none_covered table all))
@@ -181,9 +182,9 @@ covers_plain table st now (cleans exc) plain all me of known within = (omega ari
 covers_plain table st now (replaces lost fresh) plain all me of known within = (omega arith, more_covered table all now.at me _ [] tt (none_covered table all))
 covers_plain table st now _ plain all me of known within = absurd plain
 
-covers_blocked : (table : Table) (st : Stack) (now last : Now) (kind : Kind) (label : Label) (d : Tick) (shield : Bool) (left : Happening)
+covers_blocked : (table : Table) (st : Levels) (now last : Now) (kind : Kind) (label : Label) (d : Tick) (shield : Bool) (left : Happening)
     (a : Story) → ((all : List Event) → IsCovered table all last.at (happens left)) →
-    Covers table (stack_inside label shield (table label) st) now last a →
+    Covers table (levels_inside label shield (table label) st) now last a →
     Covers table st now last (happened now.at (enters kind label d shield) (then_story a (story_of_one last.at left)))
 covers_blocked table st now last kind label d shield left a plain f all me of known within = (
   inner.0,
@@ -193,7 +194,7 @@ covers_blocked table st now last kind label d shield left a plain f all me of kn
       (more_covered table all last.at me (happens left) [] (plain all) (none_covered table all)))),
 )
   where
-    inside : (l : Label) → OnStack l (stack_inside label shield (table label) st) → BeganBy l now.at all
+    inside : (l : Label) → OnLevels l (levels_inside label shield (table label) st) → BeganBy l now.at all
     inside l (inl e) =
         subst (λ (m : Label). BeganBy m now.at all) (sym e)
         (record { tick = now.at; task = me; kind = kind; deadline = d; shield = shield; by = omega arith; entered = within _ (inl refl) })
@@ -223,19 +224,33 @@ covers table clock =
       waited = λ st now u label exc le home all me of known within.
           (after_a_round clock now.at u le, more_covered table all now.at me _ [] tt (none_covered table all));
       signed = λ st now name all me of known within. (omega arith, more_covered table all now.at me _ [] tt (none_covered table all));
+      marked = λ st now label all me of known within. (omega arith, more_covered table all now.at me _ [] tt (none_covered table all));
       slept = λ st now u until e le all me of known within.
           (after_a_round clock now.at u le, more_covered table all now.at me _ [] tt (none_covered table all));
       seen = λ st now from c e le all me of known within. (
         omega arith,
-        more_covered table all now.at me (happens (is_cancelled (seer st from) None c)) []
-            (seen_covered table all st now.at now.at from None c of known (omega arith) e le) (none_covered table all),
+        more_covered table all now.at me (happens (is_cancelled (seer st from) at_checkpoint c)) []
+            (seen_covered table all st now.at now.at from at_checkpoint c of known (omega arith) e le) (none_covered table all),
       );
       cut = λ st now from until c e lt le all me of known within. (
         omega arith,
         more_covered table all now.at me (happens (sleeps until))
-            (event from me (happens (is_cancelled (seer st from) (Some now.at) c)) ∷ []) tt
-            (more_covered table all from me (happens (is_cancelled (seer st from) (Some now.at) c)) []
-            (seen_covered table all st now.at from from (Some now.at) c of known (omega arith) e (omega arith)) (none_covered table all)),
+            (event from me (happens (is_cancelled (seer st from) (sleeping now.at) c)) ∷ []) tt
+            (more_covered table all from me (happens (is_cancelled (seer st from) (sleeping now.at) c)) []
+            (seen_covered table all st now.at from from (sleeping now.at) c of known (omega arith) e (omega arith)) (none_covered table all)),
+      );
+      checked = λ st now label set all me of known within. (omega arith, more_covered table all now.at me _ [] tt (none_covered table all));
+      expected = λ st now u label is le all me of known within. (
+        after_a_round clock now.at u (omega arith),
+        more_covered table all now.at me (happens (awaits label)) (event u me (happens (was_set label)) ∷ []) tt
+            (more_covered table all u me (happens (was_set label)) [] tt (none_covered table all)),
+      );
+      given_up = λ st now from label c e lt before all me of known within. (
+        omega arith,
+        more_covered table all now.at me (happens (awaits label))
+            (event from me (happens (is_cancelled (seer st from) (waiting_for label now.at) c)) ∷ []) tt
+            (more_covered table all from me (happens (is_cancelled (seer st from) (waiting_for label now.at) c)) []
+            (seen_covered table all st now.at from from (waiting_for label now.at) c of known (omega arith) e (omega arith)) (none_covered table all)),
       );
       blocked = λ st now last kind label d shield inside a f.
           covers_blocked table st now last kind label d shield (left_in clock table st last kind label shield inside) a (λ all. tt) f;
@@ -257,7 +272,7 @@ module _ (table : Table) (job : Tree) (input : List ℕ) where
   all_covered =
       let a = tale_by table job input in
       let own = events_of (root_label job.name) a.story in
-      let inner = kept_tell table (λ c. Covers table) (covers table) job.steps (root_scene job input) [] (only_at 0) (walked table job input)
+      let inner = kept_tell table (λ c. Covers table) (covers table) job.steps (root_scene job input) no_stack (only_at 0) tt (walked table job input)
       (root_label job.name) tt (λ l i. absurd i) (λ x i. inr (append_left x own _ i)) in
       more_covered table (walked table job input) 0 (root_label job.name) _ _ tt
       (both_covered table (walked table job input) own _ inner.1
@@ -287,5 +302,5 @@ cancellations_have_causes_by_limit table limit job input once settled e i =
 
     by_what : (w : What) → tick_of (clock_of job.format) e.tick ≤ limit → IsCovered table (events_of (root_label job.name) (story_by table job input)) e.tick w →
         HasACause table (in_order (walked_to table limit job input)) w
-    by_what (happens (is_cancelled by since in_cleanup)) most h = (h.0, h.1, there h.0 h.2 h.3 h.4 most h.5)
+    by_what (happens (is_cancelled by during in_cleanup)) most h = (h.0, h.1, there h.0 h.2 h.3 h.4 most h.5)
     by_what _ most h = tt

@@ -7,9 +7,10 @@ use Rattle.std.specs.Str.{bytes_eq}
 use Rattle.exc_groups.specs.Exceptions.{Label, Exc}
 use Rattle.job_meaning.specs.Log.{Table}
 use Rattle.job_meaning.specs.Moments.{Clock, by_ticks, by_rounds, clock_of, a_round_after, Now, only_at}
-use Rattle.job_meaning.specs.Walk.{Stack, Kind, label_if, label_on, with_own, stack_inside}
-use Rattle.job_story.specs.Story.{Happening, finds, misses, raises, handles, cleans, replaces, Story, happened, then_story}
+use Rattle.job_meaning.specs.Walk.{Levels, no_stack, Kind, label_if, label_on, with_own}
+use Rattle.job_story.specs.Story.{Happening, enters_event, finds, misses, raises, handles, cleans, replaces, Story, happened, then_story}
 use Rattle.job_story.specs.Tell.{story_of_one, root_scene, tale_by}
+use Rattle.job_story.specs.Blame.{levels_inside}
 use Rattle.job_story.specs.Nesting.{own_at, IsOpen, IsNestedIn, AllNested}
 use Rattle.job_story.specs.LawsOfCauses.{BlocksAreNested}
 use Rattle.job_story.proofs.Found.{some_is}
@@ -17,7 +18,7 @@ use Rattle.job_story.proofs.Telling.{then_assoc, then_no_more, IsPlain, left_in,
 
 -- ---- the innermost of a name
 
-named_on : (name : List ℕ) (st : Stack) (l : Label) → label_on name st ≡ Some l → name ≡ l.name
+named_on : (name : List ℕ) (st : Levels) (l : Label) → label_on name st ≡ Some l → name ≡ l.name
 named_on name [] l e = absurd (cc)
 named_on name (k ∷ ks) l e = by_test (bytes_eq name k.label.name) refl e (named_on name ks l)
   where
@@ -26,7 +27,7 @@ named_on name (k ∷ ks) l e = by_test (bytes_eq name k.label.name) refl e (name
     by_test true same h others = (bytes_eq-Decides name k.label.name).0 same ∙ ap (λ (x : Label). x.name) (some_is k.label l h)
     by_test false differs h others = others h
 
-on_is_open : (name : List ℕ) (st : Stack) → IsOpen st (label_on name st)
+on_is_open : (name : List ℕ) (st : Levels) → IsOpen st (label_on name st)
 on_is_open name st = by_found (label_on name st) refl
   where
     by_found : (o : Option Label) → label_on name st ≡ o → IsOpen st o
@@ -74,13 +75,13 @@ reads_later by_ticks read now t h passes = (h.0, refl)
 reads_later by_rounds read now t h (inl passes) = let le : read.at ≤ now.at = h.0 in (omega arith, own_later read t (omega arith))
 reads_later by_rounds read now t h (inr passes) = let le : read.at ≤ now.at = h.0 in (omega arith, own_later read t (omega arith))
 
--- after one more event, which is no `cancel`
+-- after one more event, which is no `cancel` and no `set`
 reads_event : (clock : Clock) (read now : Now) → Reads clock read now → Reads clock (let own = own_at read now.at in record { at = now.at; own = own }) now
 reads_event by_ticks read now h = (own_none read now.at h.0, h.1)
 reads_event by_rounds read now h =
     (omega arith, own_now (let own = own_at read now.at in record { at = now.at; own = own }) ∙ h.1)
 
--- after a `cancel`
+-- after a `cancel`, or a `set`
 reads_cancel : (clock : Clock) (read now : Now) (label : Option Label) → Reads clock read now →
     Reads clock (let own = with_own clock label (own_at read now.at) in record { at = now.at; own = own })
     (let own = with_own clock label now.own in record { at = now.at; own = own })
@@ -94,13 +95,14 @@ reads_cancel by_rounds read now label h = (
 -- ---- the stories of a walk
 
 -- a story that is nested, before any rest that is
-abbrev Leads : Table → Clock → Stack → Now → Now → Story → Type 0
+abbrev Leads : Table → Clock → Levels → Now → Now → Story → Type 0
 Leads table clock st now last a =
-    (outside : Stack) (read : Now) (rest : Story) → Reads clock read now →
+    (outside : Levels) (read : Now) (rest : Story) → Reads clock read now →
     ((later : Now) → Reads clock later last → AllNested clock table later outside st rest) → AllNested clock table read outside st (then_story a rest)
 
-leads_plain : (table : Table) (clock : Clock) (st : Stack) (now : Now) (what : Happening) → IsPlain what →
+leads_plain : (table : Table) (clock : Clock) (st : Levels) (now : Now) (what : Happening) → IsPlain what →
     Leads table clock st now now (story_of_one now.at what)
+leads_plain table clock st now (enters_event label) plain outside read rest r h = (tt, h _ (reads_event clock read now r))
 leads_plain table clock st now (finds lines) plain outside read rest r h = (tt, h _ (reads_event clock read now r))
 leads_plain table clock st now (misses name) plain outside read rest r h = (tt, h _ (reads_event clock read now r))
 leads_plain table clock st now (raises name) plain outside read rest r h = (tt, h _ (reads_event clock read now r))
@@ -110,11 +112,11 @@ leads_plain table clock st now (replaces lost fresh) plain outside read rest r h
 leads_plain table clock st now _ plain outside read rest r h = absurd plain
 
 -- a block is left as the story says
-left_as_told : (table : Table) (clock : Clock) (st : Stack) (last : Now) (kind : Kind) (label : Label) (shield : Bool) (inside : Option Exc)
+left_as_told : (table : Table) (clock : Clock) (st : Levels) (last : Now) (kind : Kind) (label : Label) (shield : Bool) (inside : Option Exc)
     (own : List Label) → own ≡ last.own →
-    IsNestedIn clock own (stack_inside label shield (table label) st) last.at (left_in clock table st last kind label shield inside)
+    IsNestedIn clock own (levels_inside label shield (table label) st) last.at (left_in clock table st last kind label shield inside)
 left_as_told table clock st last kind label shield inside own e =
-    subst (λ (o : List Label). IsNestedIn clock o (stack_inside label shield (table label) st) last.at (left_in clock table st last kind label shield inside))
+    subst (λ (o : List Label). IsNestedIn clock o (levels_inside label shield (table label) st) last.at (left_in clock table st last kind label shield inside))
     (sym e) (refl, refl, refl)
 
 leads : (table : Table) (clock : Clock) → IsKept clock table (Leads table clock)
@@ -129,6 +131,7 @@ leads table clock =
       waited = λ st now u label exc le home outside read rest r h.
           (home, h _ (reads_later clock _ now u (reads_event clock read now r) (inr le)));
       signed = λ st now name outside read rest r h. (on_is_open name st, h _ (reads_cancel clock read now (label_on name st) r));
+      marked = λ st now label outside read rest r h. (tt, h _ (reads_cancel clock read now label r));
       slept = λ st now u until e le outside read rest r h. (tt, h _ (reads_later clock _ now u (reads_event clock read now r) (inr le)));
       seen = λ st now from c e le outside read rest r h. (tt, h _ (reads_event clock read now r));
       cut = λ st now from until c e lt le outside read rest r h. (
@@ -139,9 +142,25 @@ leads table clock =
               (reads_later clock _ now from (reads_event clock read now r) (inr (round_before clock now.at from lt)))),
         ),
       );
+      checked = λ st now label set outside read rest r h. (tt, h _ (reads_event clock read now r));
+      expected = λ st now u label is le outside read rest r h. (
+        tt,
+        (
+          tt,
+          h _ (reads_event clock _ (only_at u) (reads_later clock _ now u (reads_event clock read now r) (inr (omega arith)))),
+        ),
+      );
+      given_up = λ st now from label c e lt before outside read rest r h. (
+        tt,
+        (
+          tt,
+          h _ (reads_event clock _ (only_at from)
+              (reads_later clock _ now from (reads_event clock read now r) (inr (round_before clock now.at from lt)))),
+        ),
+      );
       blocked = λ st now last kind label d shield inside a f outside read rest r h. (
         tt,
-        subst (AllNested clock table _ outside (stack_inside label shield (table label) st)) (sym (then_assoc a _ rest))
+        subst (AllNested clock table _ outside (levels_inside label shield (table label) st)) (sym (then_assoc a _ rest))
             (f outside _ (happened last.at (left_in clock table st last kind label shield inside) rest) (reads_event clock read now r)
             (λ next s. (
               left_as_told table clock st last kind label shield inside _ (reads_own clock next last s),
@@ -166,7 +185,7 @@ blocks_are_nested table job input =
     let clock = clock_of job.format in (
       refl,
       subst (AllNested clock table (only_at 0) [] []) (then_no_more (tale_by table job input).story)
-          (kept_tell table (Leads table) (leads table) job.steps (root_scene job input) [] (only_at 0) [] (only_at 0) _ (reads_start clock 0)
+          (kept_tell table (Leads table) (leads table) job.steps (root_scene job input) no_stack (only_at 0) tt [] (only_at 0) _ (reads_start clock 0)
           (λ next s. refl)),
       refl,
     )

@@ -4,9 +4,9 @@ use Rattle.std.specs.Fmt.{digits}
 use Rattle.job_tree.specs.declared.format.Format.TheVariants.{Two}
 use Rattle.job_tree.specs.Tree.{Step, sleep, forever, raise, Tree}
 use Rattle.job_meaning.specs.Meaning.{meaning, meaning_table}
-use Rattle.job_meaning.specs.Walk.{walk, and_then, sleep_result, lines_result, raise_result, need_result, cancel_result, block, with_sign, nursery_result, child, handler_result, cleanup_result}
+use Rattle.job_meaning.specs.Walk.{walk, and_then, sleep_result, lines_result, raise_result, need_result, cancel_result, set_result, event_wait, block, event_block, with_sign, nursery_result, child, handler_result, cleanup_result}
 use Rattle.job_meaning.specs.Examples.{block_of, nursery_of, start_of, timed_shield, try_finally}
-use Rattle.job_story.specs.Tell.{tell, then_tale, tell_sleep, tell_lines, tell_need, tell_raise, tell_cancel, tell_block, tell_wait, tell_gathered, tell_child, tell_handled, tell_cleaned, tale_by}
+use Rattle.job_story.specs.Tell.{tell, then_tale, tell_sleep, tell_lines, tell_need, tell_raise, tell_cancel, tell_set, tell_event_wait, tell_block, tell_event, tell_wait, tell_gathered, tell_child, tell_handled, tell_cleaned, tale_by}
 use Rattle.job_story.specs.Sentences.{story_text}
 
 -- a job with this name
@@ -20,7 +20,7 @@ lines_of (l ∷ ls) = l ++ codes "\n" ++ lines_of ls
 
 -- the story of the meaning
 unfoldable pub told_text : Tree → List ℕ → List ℕ
-unfolding meaning walk and_then sleep_result lines_result raise_result need_result cancel_result block with_sign nursery_result child handler_result cleanup_result tell then_tale tell_sleep tell_lines tell_need tell_raise tell_cancel tell_block tell_wait tell_gathered tell_child tell_handled tell_cleaned tale_by
+unfolding meaning walk and_then sleep_result lines_result raise_result need_result cancel_result set_result event_wait block event_block with_sign nursery_result child handler_result cleanup_result tell then_tale tell_sleep tell_lines tell_need tell_raise tell_cancel tell_set tell_event_wait tell_block tell_event tell_wait tell_gathered tell_child tell_handled tell_cleaned tale_by
 told_text job input = story_text (meaning_table job input) job input
 
 -- job supervisor { nursery workers {

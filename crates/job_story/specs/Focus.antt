@@ -7,7 +7,7 @@ use Rattle.job_meaning.specs.Log.{Table, same_label}
 use Rattle.job_meaning.specs.Moments.{clock_of}
 use Rattle.job_story.specs.Story.{is_cancelled}
 use Rattle.job_story.specs.Events.{What, starts, happens, ends, Event, in_order}
-use Rattle.job_story.specs.Causes.{Cause, by_deadline, by_task, by_failure, by_cancellation, cause_of}
+use Rattle.job_story.specs.Causes.{Cause, by_deadline, by_task, by_set, by_failure, by_cancellation, cause_of}
 use Rattle.job_story.specs.Sentences.{kept_text, job_events}
 use Rattle.exc_text.specs.Texts.{label_text}
 use Rattle.job_story.specs.Limit.{kept_text_to, walked_to}
@@ -17,6 +17,7 @@ abbrev pub task_of : Option Cause → Option Label
 task_of None = None
 task_of (Some by_deadline) = None
 task_of (Some (by_task task t)) = Some task
+task_of (Some (by_set task t)) = Some task
 task_of (Some (by_failure task t)) = Some task
 task_of (Some (by_cancellation task t)) = Some task
 
@@ -26,7 +27,7 @@ cause_by table all (Some l) = task_of (cause_of table all l)
 
 -- the task that caused an event, where the event is a cancellation
 abbrev pub causer_of : Table → List Event → What → Option Label
-causer_of table all (happens (is_cancelled by since in_cleanup)) = cause_by table all by
+causer_of table all (happens (is_cancelled by during in_cleanup)) = cause_by table all by
 causer_of table all _ = None
 
 abbrev pub is_some_label : Label → Option Label → Bool

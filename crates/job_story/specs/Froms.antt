@@ -1,4 +1,4 @@
--- What contracts see of the table with the moments from which scopes and nurseries are cancelled.
+-- What contracts see of the table with the moments from which scopes and nurseries are cancelled, and events are set.
 use Rattle.std.specs.Prelude.{Option, Some, None, List, [], ◌∷◌, if◌then◌else◌}
 use Rattle.indexmap.specs.IndexMap.{get}
 use Rattle.cancel_scopes.specs.Sight.{Tick}
@@ -15,7 +15,7 @@ or_never (Some from) = from
 abbrev pub table_in : Froms → Table
 table_in froms label = or_never (get same_label froms.all label)
 
--- the empty table, in which every label is never cancelled
+-- the empty table, in which every label is never cancelled, or set
 abbrev pub never : Table
 never label = None
 

@@ -11,8 +11,10 @@ use Rattle.job_story.specs.Story as story
 use Rattle.job_story.specs.Events as events
 use Rattle.job_story.specs.declared.event.Range.{Range}
 use Rattle.job_story.specs.declared.event.Span.{Span}
+use Rattle.job_story.specs.declared.event.During.{During}
+use Rattle.job_story.specs.declared.event.During.TheVariants.{Checkpoint, Sleeping, Waiting}
 use Rattle.job_story.specs.declared.event.Happening.{Happening}
-use Rattle.job_story.specs.declared.event.Happening.TheVariants.{Enters, Sleeps, IsCancelled, Finds, Misses, Raises, Cancels, Handles, Cleans, Replaces, Waits, Leaves}
+use Rattle.job_story.specs.declared.event.Happening.TheVariants.{Enters, EntersEvent, Sleeps, IsCancelled, Finds, Misses, Raises, Cancels, Sets, Awaits, WasSet, Handles, Cleans, Replaces, Waits, Leaves}
 use Rattle.job_story.specs.declared.event.What.{What}
 use Rattle.job_story.specs.declared.event.What.TheVariants.{Starts, Happens, Ends}
 use Rattle.job_story.specs.declared.event.Event.{Event}
@@ -27,14 +29,23 @@ span_in span = record { at = span.at; len = span.len }
 abbrev pub unboxed_exc : Option (Box Exc) → Option tree.Exc
 unboxed_exc exc = option_map (λ (b : Box Exc). exc_of b.value) exc
 
+abbrev pub during_of : During → story.During
+during_of Checkpoint = story.at_checkpoint
+during_of (Sleeping since) = story.sleeping since
+during_of (Waiting event since) = story.waiting_for event since
+
 abbrev pub happening_of : Happening → story.Happening
 happening_of (Enters kind label deadline shield) = story.enters (kind_of kind) label deadline shield
+happening_of (EntersEvent label) = story.enters_event label
 happening_of (Sleeps until) = story.sleeps until
-happening_of (IsCancelled by since in_cleanup) = story.is_cancelled by since in_cleanup
+happening_of (IsCancelled by during in_cleanup) = story.is_cancelled by (during_of during) in_cleanup
 happening_of (Finds lines) = story.finds (map span_in lines.items)
 happening_of (Misses name) = story.misses name
 happening_of (Raises name) = story.raises name
 happening_of (Cancels label) = story.cancels label
+happening_of (Sets label) = story.sets label
+happening_of (Awaits event) = story.awaits event
+happening_of (WasSet event) = story.was_set event
 happening_of (Handles matched rest) = story.handles (exc_of matched.value) (unboxed_exc rest)
 happening_of (Cleans exc) = story.cleans (unboxed_exc exc)
 happening_of (Replaces lost fresh) = story.replaces (exc_of lost.value) (exc_of fresh.value)

@@ -1,5 +1,5 @@
 -- The laws about the causes that stories name. They are the contracts of functions that do nothing.
-use Rattle.std.specs.Prelude.{◌≡◌, ℕ, true, Some, List, []}
+use Rattle.std.specs.Prelude.{◌≡◌, ℕ, true, Some, is_some, List, []}
 use Rattle.job_tree.specs.Tree.{Tree}
 use Rattle.job_tree.specs.Names.{GivesNamesOnce}
 use Rattle.exc_groups.specs.Exceptions.{Label}
@@ -28,10 +28,11 @@ CancellationsAreSeen = (table : Table) (job : Tree) (input : List ℕ) → AllBl
 abbrev pub BlocksAreNested : Type 0
 BlocksAreNested = (table : Table) (job : Tree) (input : List ℕ) → AllNested (clock_of job.format) table (only_at 0) [] [] (story_by table job input)
 
--- The time of a task passes only while it sleeps or waits for a nursery, and by rounds at a checkpoint too. So a task that falls asleep
--- until a moment goes on in that moment, or is cancelled by then. The root task is started in moment 0, and nothing follows it.
+-- The time of a task passes only while it sleeps or waits for a nursery or an event, and by rounds at a checkpoint too. So a task that falls
+-- asleep until a moment goes on in that moment, or is cancelled by then; and one that waits for an event goes on in the moment from which the
+-- event is set by the table, or is cancelled before. The root task is started in moment 0, and nothing follows it.
 abbrev pub TimePassesAsleep : Type 0
-TimePassesAsleep = (table : Table) (job : Tree) (input : List ℕ) → AllInTime (clock_of job.format) (awake 0) 0 (story_by table job input)
+TimePassesAsleep = (table : Table) (job : Tree) (input : List ℕ) → AllInTime (clock_of job.format) table (awake 0) 0 (story_by table job input)
 
 -- The cause of a cancellation that a story names is in its events: the deadline, or an event of the moment before.
 abbrev pub CausesAreShown : Type 0
@@ -50,7 +51,13 @@ CancellationsHaveCauses =
     (table : Table) (job : Tree) (input : List ℕ) → GivesNamesOnce job → IsSettled table job input →
     (e : Event) → IsIn e (job_events table job input) → HasACause table (job_events table job input) e.what
 
--- The same holds of the story up to a limit, whose causes are read in the events up to it.
+-- By such a table, each scope or nursery that is cancelled, and each event that is set, has a cause among the events of the story.
+abbrev pub FromsHaveCauses : Type 0
+FromsHaveCauses =
+    (table : Table) (job : Tree) (input : List ℕ) (l : Label) (from : ℕ) → GivesNamesOnce job → IsSettled table job input →
+    table l ≡ Some from → is_some (cause_of table (job_events table job input) l) ≡ true
+
+-- What holds of the cancellations of a story holds of the story up to a limit, whose causes are read in the events up to it.
 abbrev pub CancellationsHaveCausesByLimit : Type 0
 CancellationsHaveCausesByLimit =
     (table : Table) (limit : ℕ) (job : Tree) (input : List ℕ) → GivesNamesOnce job → IsSettled table job input →

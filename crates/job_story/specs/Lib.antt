@@ -19,3 +19,4 @@ pub mod ExamplesCleanups
 pub mod ExamplesCauses
 pub mod ExamplesLimit
 pub mod ExamplesFocus
+pub mod ExamplesEvents

@@ -5,7 +5,7 @@ use Rattle.job_tree.specs.Tree.{Tree}
 use Rattle.job_meaning.specs.Log.{Table, same_label}
 use Rattle.job_meaning.specs.Meaning.{root_label}
 use Rattle.job_meaning.specs.Moments.{Clock, clock_of, tick_of}
-use Rattle.job_story.specs.Story.{sleeps, waits}
+use Rattle.job_story.specs.Story.{sleeps, awaits, waits}
 use Rattle.job_story.specs.Tell.{story_by}
 use Rattle.job_story.specs.Events.{What, starts, happens, ends, Event, events_of, in_order}
 use Rattle.job_story.specs.Sentences.{until_text, padded_text, label_width, kept_text}
@@ -44,11 +44,19 @@ running_in all (e ∷ es) = start_if (is_start e.what && not (has_ended e.task a
 
 -- ---- what they do
 
--- What a task does after this event: a task that has not ended sleeps, or waits for a nursery.
-abbrev pub doing_text : Clock → ℕ → What → List ℕ
-doing_text clock t (happens (sleeps until)) = codes "sleeping " ++ until_text clock until ++ codes " since " ++ decimal (tick_of clock t)
-doing_text clock t (happens (waits nursery exc)) = codes "waiting for nursery " ++ label_text nursery ++ codes " since " ++ decimal (tick_of clock t)
-doing_text clock t _ = []
+-- whether an event is never set, by the moment from which it is set
+abbrev pub unset_text : Option ℕ → List ℕ
+unset_text None = codes "; nothing sets it"
+unset_text (Some t) = []
+
+-- What a task does after this event: a task that has not ended sleeps, or waits for a nursery or for an event.
+abbrev pub doing_text : Clock → Table → ℕ → What → List ℕ
+doing_text clock table t (happens (sleeps until)) = codes "sleeping " ++ until_text clock until ++ codes " since " ++ decimal (tick_of clock t)
+doing_text clock table t (happens (waits nursery exc)) =
+    codes "waiting for nursery " ++ label_text nursery ++ codes " since " ++ decimal (tick_of clock t)
+doing_text clock table t (happens (awaits event)) =
+    codes "waiting for event " ++ label_text event ++ codes " since " ++ decimal (tick_of clock t) ++ unset_text (table event)
+doing_text clock table t _ = []
 
 -- the last of these events that is one of a task, or the given event if there is none
 abbrev pub last_event : Label → List Event → Option Event → Option Event
@@ -56,14 +64,15 @@ last_event l [] found = found
 last_event l (e ∷ es) found = last_event l es (if same_label l e.task then Some e else found)
 
 -- what a task does after the last event of its own
-abbrev pub last_text : Clock → Option Event → List ℕ
-last_text clock None = []
-last_text clock (Some e) = doing_text clock e.tick e.what
+abbrev pub last_text : Clock → Table → Option Event → List ℕ
+last_text clock table None = []
+last_text clock table (Some e) = doing_text clock table e.tick e.what
 
-abbrev pub running_text : Clock → ℕ → List Event → List Label → List ℕ
-running_text clock width es [] = []
-running_text clock width es (l ∷ ls) =
-    codes "  " ++ padded_text width (label_text l) ++ codes "  " ++ last_text clock (last_event l es None) ++ codes "\n" ++ running_text clock width es ls
+abbrev pub running_text : Clock → Table → ℕ → List Event → List Label → List ℕ
+running_text clock table width es [] = []
+running_text clock table width es (l ∷ ls) =
+    codes "  " ++ padded_text width (label_text l) ++ codes "  " ++ last_text clock table (last_event l es None) ++ codes "\n"
+    ++ running_text clock table width es ls
 
 -- ---- the text
 
@@ -71,7 +80,7 @@ running_text clock width es (l ∷ ls) =
 abbrev pub kept_text_to : Clock → Table → ℕ → List Event → List Event → List Event → List ℕ
 kept_text_to clock table limit all sorted walked =
     kept_text clock table all sorted ++ codes "limit " ++ decimal limit ++ codes "\n"
-    ++ running_text clock (label_width sorted) sorted (running_in walked walked)
+    ++ running_text clock table (label_width sorted) sorted (running_in walked walked)
 
 -- the events of a job by a table up to a limit, in the order of the walk
 abbrev pub walked_to : Table → ℕ → Tree → List ℕ → List Event

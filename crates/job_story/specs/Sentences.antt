@@ -9,10 +9,10 @@ use Rattle.job_meaning.specs.Log.{Table}
 use Rattle.job_meaning.specs.Meaning.{root_label}
 use Rattle.job_meaning.specs.Moments.{Clock, clock_of, tick_of}
 use Rattle.job_meaning.specs.Walk.{Kind, a_scope, a_nursery}
-use Rattle.job_story.specs.Story.{Happening, enters, sleeps, is_cancelled, finds, misses, raises, cancels, handles, cleans, replaces, waits, leaves}
+use Rattle.job_story.specs.Story.{During, at_checkpoint, sleeping, waiting_for, Happening, enters, enters_event, sleeps, is_cancelled, finds, misses, raises, cancels, sets, awaits, was_set, handles, cleans, replaces, waits, leaves}
 use Rattle.job_story.specs.Tell.{is_from, story_by}
 use Rattle.job_story.specs.Events.{What, starts, happens, ends, Event, events_of, in_order}
-use Rattle.job_story.specs.Causes.{Cause, by_deadline, by_task, by_failure, by_cancellation, Entering, entering_of, cause_of}
+use Rattle.job_story.specs.Causes.{Cause, by_deadline, by_task, by_set, by_failure, by_cancellation, Entering, entering_of, cause_of}
 
 -- ---- sentences, in which each number is a tick
 
@@ -35,9 +35,11 @@ abbrev pub until_text : Clock → Tick → List ℕ
 until_text clock None = codes "forever"
 until_text clock (Some t) = codes "until " ++ decimal (tick_of clock t)
 
-abbrev pub since_text : Clock → Tick → List ℕ
-since_text clock None = codes " at a checkpoint"
-since_text clock (Some t) = codes " while sleeping since " ++ decimal (tick_of clock t)
+abbrev pub during_text : Clock → During → List ℕ
+during_text clock at_checkpoint = codes " at a checkpoint"
+during_text clock (sleeping since) = codes " while sleeping since " ++ decimal (tick_of clock since)
+during_text clock (waiting_for event since) =
+    codes " while waiting for event " ++ label_text event ++ codes " since " ++ decimal (tick_of clock since)
 
 abbrev pub cleanup_text : Bool → List ℕ
 cleanup_text true = codes " during cleanup"
@@ -47,6 +49,7 @@ abbrev pub cause_text : Clock → Option Cause → List ℕ
 cause_text clock None = []
 cause_text clock (Some by_deadline) = codes " (deadline)"
 cause_text clock (Some (by_task task t)) = codes " (cancelled by " ++ label_text task ++ codes " at " ++ decimal (tick_of clock t) ++ codes ")"
+cause_text clock (Some (by_set task t)) = codes " (set by " ++ label_text task ++ codes " at " ++ decimal (tick_of clock t) ++ codes ")"
 cause_text clock (Some (by_failure task t)) = codes " (" ++ label_text task ++ codes " failed at " ++ decimal (tick_of clock t) ++ codes ")"
 cause_text clock (Some (by_cancellation task t)) = codes " (" ++ label_text task ++ codes " was cancelled at " ++ decimal (tick_of clock t) ++ codes ")"
 
@@ -83,6 +86,12 @@ cancel_text clock table es (Some l) t =
     codes "cancels " ++ entered_text (entering_of l es) l
     ++ (if is_from (table l) (t + 1) then codes " from " ++ decimal (tick_of clock (t + 1)) else codes ", which is cancelled already")
 
+-- a `set` of an event that is already set changes nothing
+abbrev pub set_text : Table → Option Label → ℕ → List ℕ
+set_text table None t = []
+set_text table (Some l) t =
+    codes "sets event " ++ label_text l ++ (if is_from (table l) (t + 1) then [] else codes ", which is set already")
+
 abbrev pub cancelled_text : Clock → Table → List Event → Option Label → List ℕ
 cancelled_text clock table es None = []
 cancelled_text clock table es (Some l) = codes " by " ++ entered_text (entering_of l es) l ++ cause_text clock (cause_of table es l)
@@ -90,13 +99,17 @@ cancelled_text clock table es (Some l) = codes " by " ++ entered_text (entering_
 abbrev pub happening_text : Clock → Table → List Event → ℕ → Happening → List ℕ
 happening_text clock table es t (enters kind label deadline shield) =
     codes "enters " ++ kind_text kind ++ label_text label ++ entering_text clock deadline shield
+happening_text clock table es t (enters_event label) = codes "enters event " ++ label_text label
 happening_text clock table es t (sleeps until) = codes "sleeps " ++ until_text clock until
-happening_text clock table es t (is_cancelled by since in_cleanup) =
-    codes "is cancelled" ++ cleanup_text in_cleanup ++ since_text clock since ++ cancelled_text clock table es by
+happening_text clock table es t (is_cancelled by during in_cleanup) =
+    codes "is cancelled" ++ cleanup_text in_cleanup ++ during_text clock during ++ cancelled_text clock table es by
 happening_text clock table es t (finds lines) = codes "finds " ++ count_text (length lines)
 happening_text clock table es t (misses name) = codes "misses " ++ name
 happening_text clock table es t (raises name) = codes "raises " ++ name
 happening_text clock table es t (cancels label) = cancel_text clock table es label t
+happening_text clock table es t (sets label) = set_text table label t
+happening_text clock table es t (awaits event) = codes "waits for event " ++ label_text event
+happening_text clock table es t (was_set event) = codes "goes on: event " ++ label_text event ++ codes " was set"
 happening_text clock table es t (handles matched rest) = codes "handles " ++ exc_text matched ++ with_exc (codes ", ") rest (codes " propagates")
 happening_text clock table es t (cleans exc) = codes "runs cleanup" ++ with_exc (codes " after ") exc []
 happening_text clock table es t (replaces lost fresh) = codes "replaces " ++ exc_text lost ++ codes " with " ++ exc_text fresh

@@ -5,9 +5,9 @@ use Rattle.exc_groups.specs.Split.{is_cancelled as by_cancelled, drop}
 use Rattle.cancel_scopes.specs.Sight.{Tick}
 use Rattle.job_meaning.specs.Log.{Table}
 use Rattle.job_meaning.specs.Walk.{Kind}
-use Rattle.job_story.specs.Story.{enters, is_cancelled, cancels, waits}
+use Rattle.job_story.specs.Story.{enters, is_cancelled, cancels, sets, waits}
 use Rattle.job_story.specs.Events.{What, happens, ends, Event, event}
-use Rattle.job_story.specs.Causes.{Cause, by_deadline, by_task, by_failure, by_cancellation, cause_of}
+use Rattle.job_story.specs.Causes.{Cause, by_deadline, by_task, by_set, by_failure, by_cancellation, cause_of}
 
 -- an event is one of these
 abbrev pub IsIn : Event → List Event → Type 0
@@ -32,6 +32,7 @@ IsEndIn l t task e all = IsIn (event t task (happens (waits l (Some e)))) all �
 abbrev pub IsShownFrom : ℕ → Label → List Event → Cause → Type 0
 IsShownFrom from l all by_deadline = IsEntered l (Some from) all
 IsShownFrom from l all (by_task task t) = (from ≡ t + 1) × IsIn (event t task (happens (cancels (Some l)))) all
+IsShownFrom from l all (by_set task t) = (from ≡ t + 1) × IsIn (event t task (happens (sets (Some l)))) all
 IsShownFrom from l all (by_failure task t) = (from ≡ t + 1) × (e : Exc) × (drop by_cancelled e ≢ None) × IsEndIn l t task e all
 IsShownFrom from l all (by_cancellation task t) = (from ≡ t + 1) × (e : Exc) × (drop by_cancelled e ≡ None) × IsEndIn l t task e all
 
@@ -40,6 +41,6 @@ IsShown table all l c = (from : ℕ) × (table l ≡ Some from) × IsShownFrom f
 
 -- an event that is a cancellation names a scope or nursery, and that one has a cause
 abbrev pub HasACause : Table → List Event → What → Type 0
-HasACause table all (happens (is_cancelled by since in_cleanup)) =
+HasACause table all (happens (is_cancelled by during in_cleanup)) =
     (l : Label) × (by ≡ Some l) × (is_some (cause_of table all l) ≡ true)
 HasACause table all _ = Unit {0}

@@ -1,19 +1,27 @@
 -- The story of a task: what happened to it, in order, and the stories of the tasks that it started.
-use Rattle.std.specs.Prelude.{ℕ, Bool, Option, Some, List}
+use Rattle.std.specs.Prelude.{ℕ, Bool, Option, Some, None, List}
 use Rattle.buffer_parts.specs.Lines.{Range, Span}
 use Rattle.exc_groups.specs.Exceptions.{Label, Exc}
 use Rattle.cancel_scopes.specs.Sight.{Tick}
-use Rattle.job_meaning.specs.Log.{Log, nil, entry, entered, task, followed_by, Member, Result}
+use Rattle.job_meaning.specs.Log.{waited, Log, nil, entry, entered, task, followed_by, Member, Result}
 use Rattle.job_meaning.specs.Walk.{Kind, left_as, log_of_lines, sign_if, sign_of}
+
+-- What a task did when `Cancelled` was raised in it: it was at a checkpoint, or since a moment it slept, or waited for an event.
+pub data During : Type 0 where
+  at_checkpoint : During
+  sleeping : (since : ℕ) → During
+  waiting_for : (event : Label) → (since : ℕ) → During
 
 -- One thing that happened to a task.
 pub data Happening : Type 0 where
   -- the task entered a scope or a nursery
   enters : (kind : Kind) → (label : Label) → (deadline : Tick) → (shield : Bool) → Happening
+  -- it entered an event, of which nothing is left where its block ends
+  enters_event : (label : Label) → Happening
   -- it fell asleep until a moment, or forever; a sleep that takes no tick does not count
   sleeps : (until : Tick) → Happening
-  -- `Cancelled` was raised: by which scope or nursery; since when it slept, or at a checkpoint; in a `finally` block or not
-  is_cancelled : (by : Option Label) → (since : Tick) → (in_cleanup : Bool) → Happening
+  -- `Cancelled` was raised: by which scope or nursery; during what; in a `finally` block or not
+  is_cancelled : (by : Option Label) → (during : During) → (in_cleanup : Bool) → Happening
   -- a kernel found these lines
   finds : (lines : List Span) → Happening
   -- `need` found no line, and raised this name
@@ -21,6 +29,12 @@ pub data Happening : Type 0 where
   raises : (name : List ℕ) → Happening
   -- a `cancel` step, of the innermost scope or nursery of its name that encloses the task, if there is one
   cancels : (label : Option Label) → Happening
+  -- a `set` step, of the innermost event of its name that encloses the task, if there is one
+  sets : (label : Option Label) → Happening
+  -- it waits until an event is set; a wait for an event that is set by the next round is a checkpoint, and does not count
+  awaits : (event : Label) → Happening
+  -- it has waited for an event, which is set
+  was_set : (event : Label) → Happening
   -- a handler begins: the part of the exception that matches, and the rest
   handles : (matched : Exc) → (rest : Option Exc) → Happening
   -- a `finally` block begins, with the exception with which the block before it or its handler ended
@@ -45,15 +59,19 @@ then_story no_more others = others
 then_story (happened t what rest) others = happened t what (then_story rest others)
 then_story (started l home part s u e own rest) others = started l home part s u e own (then_story rest others)
 
--- what a log contains of a happening: the lines, the labels entered, the signs, and the exits
+-- what a log contains of a happening: the lines, the labels entered, the signs, the waits that ended well, and the exits
 abbrev pub erased_one : ℕ → Happening → Log → Log
 erased_one t (enters kind label deadline shield) rest = entered label t deadline rest
+erased_one t (enters_event label) rest = entered label t None rest
 erased_one t (sleeps until) rest = rest
-erased_one t (is_cancelled by since in_cleanup) rest = rest
+erased_one t (is_cancelled by during in_cleanup) rest = rest
 erased_one t (finds lines) rest = followed_by (log_of_lines t lines) rest
 erased_one t (misses name) rest = rest
 erased_one t (raises name) rest = rest
 erased_one t (cancels label) rest = followed_by (sign_of label t) rest
+erased_one t (sets label) rest = followed_by (sign_of label t) rest
+erased_one t (awaits event) rest = rest
+erased_one t (was_set event) rest = entry t (waited event) rest
 erased_one t (handles matched left) rest = rest
 erased_one t (cleans exc) rest = rest
 erased_one t (replaces lost fresh) rest = rest

@@ -1,17 +1,17 @@
 -- The story of a job's steps by a table: the walk of its tree, with a story in place of the log.
-use Rattle.std.specs.Prelude.{ℕ, zero, suc, ◌-◌, ◌==◌, Bool, true, false, Option, Some, None, List, [], ◌∷◌, ◌++◌, nat_le, if◌then◌else◌}
-use Rattle.job_tree.specs.Tree.{Step, sleep, checkpoint, forever, pace, find, head, longest, need, raise, cancel, scope, nursery, start, repeat, attempt, Steps, stop, step, Handled, unhandled, except, Cleaned, uncleaned, finally, Tree}
+use Rattle.std.specs.Prelude.{ℕ, zero, suc, ◌-◌, ◌==◌, Bool, true, false, Option, Some, None, List, [], ◌∷◌, ◌++◌, nat_le, nat_lt, max, if◌then◌else◌}
+use Rattle.job_tree.specs.Tree.{Step, sleep, checkpoint, forever, pace, find, head, longest, need, raise, cancel, set_event, wait_for, scope, nursery, event, start, repeat, attempt, Steps, stop, step, Handled, unhandled, except, Cleaned, uncleaned, finally, Tree}
 use Rattle.buffer_parts.specs.Lines.{Span}
 use Rattle.buffer_parts.specs.Cuts.{cut_of}
 use Rattle.line_kernels.specs.Kernels.{found_in, head_of, longest_in, needed_in, count_in}
 use Rattle.exc_groups.specs.Exceptions.{Label, by_nursery, Exc, cancelled, raised, parts_of, group_of}
 use Rattle.exc_groups.specs.Split.{Wanted, named, keep, drop}
-use Rattle.cancel_scopes.specs.Sight.{Tick, sight, catches}
+use Rattle.cancel_scopes.specs.Sight.{Tick, Level, sight, catches}
 use Rattle.job_meaning.specs.Log.{Table}
 use Rattle.job_meaning.specs.Meaning.{root_label, root_here}
 use Rattle.job_meaning.specs.Moments.{Clock, tick_of, a_round_after, wakes_at, gives_up_at, due, Now, only_at, far}
-use Rattle.job_meaning.specs.Walk.{Stack, Here, label_here, pace_ticks, label_on, with_own, from_for, stack_for, Left, left_with, Kind, a_scope, a_nursery, exc_after, stack_inside, home_of, latest, with_exc, excs_of, in_pass, here_in, label_over, handler_exc, outcome_after}
-use Rattle.job_story.specs.Story.{Happening, enters, sleeps, is_cancelled, finds, misses, raises, cancels, handles, cleans, replaces, waits, leaves, Story, no_more, happened, started, then_story, Tale}
+use Rattle.job_meaning.specs.Walk.{Levels, Stack, no_stack, Here, label_here, set_moment, pace_ticks, label_on, event_on, with_own, from_for, stack_for, Left, left_with, Kind, a_scope, a_nursery, exc_after, stack_inside, stack_in_event, home_of, latest, with_exc, excs_of, in_pass, here_in, label_over, handler_exc, outcome_after}
+use Rattle.job_story.specs.Story.{During, at_checkpoint, sleeping, waiting_for, Happening, enters, enters_event, sleeps, is_cancelled, finds, misses, raises, cancels, sets, awaits, was_set, handles, cleans, replaces, waits, leaves, Story, no_more, happened, started, then_story, Tale}
 
 -- where a walk is, and whether it is in a `finally` block of this task or of one that started it
 pub record Scene : Type 0 where
@@ -59,7 +59,7 @@ is_from (Some f) t = f == t
 
 -- the innermost scope or nursery that determines the effective deadline (`sight`) t: the first that is cancelled from t on, up to and
 -- including the first shielded one
-abbrev pub seer : Stack → ℕ → Option Label
+abbrev pub seer : Levels → ℕ → Option Label
 seer [] t = None
 seer (l ∷ ls) t = if is_from l.from t then Some l.label else (if l.shield then None else seer ls t)
 
@@ -68,30 +68,67 @@ abbrev pub asleep_for : ℕ → ℕ → Tick → Story
 asleep_for zero m until = no_more
 asleep_for (suc n) m until = story_of_one m (sleeps until)
 
--- a task that was cancelled in a sleep of n ticks slept since a moment, if the sleep takes a tick
-abbrev pub slept_since : ℕ → ℕ → Tick
-slept_since zero m = None
-slept_since (suc n) m = Some m
+-- what a task did that was cancelled in a sleep of n ticks from moment m: a sleep that takes no tick is a checkpoint
+abbrev pub during_sleep : ℕ → ℕ → During
+during_sleep zero m = at_checkpoint
+during_sleep (suc n) m = sleeping m
 
 -- A sleep of n ticks from moment m, which cannot end before `least`, and ends in `gives_up` if a cancellation is seen by then; the
 -- story says that it is until `until`, or forever. A cancellation that is seen when it begins is one at a checkpoint.
-abbrev pub tell_slept : Tick → (n m least gives_up end : ℕ) → Stack → Bool → Tick → Tale
-tell_slept None n m least gives_up end stack cleanup until = told_at (only_at end) (asleep_for n m until)
-tell_slept (Some from) n m least gives_up end stack cleanup until =
+abbrev pub tell_slept : Tick → (n m least gives_up end : ℕ) → Levels → Bool → Tick → Tale
+tell_slept None n m least gives_up end levels cleanup until = told_at (only_at end) (asleep_for n m until)
+tell_slept (Some from) n m least gives_up end levels cleanup until =
     let while_asleep = (λ (t : ℕ). failed_at cancelled (only_at t)
-    (then_story (asleep_for n m until) (story_of_one t (is_cancelled (seer stack from) (slept_since n m) cleanup)))) in
-    if nat_le from m then failed_at cancelled (only_at gives_up) (story_of_one gives_up (is_cancelled (seer stack from) None cleanup))
+    (then_story (asleep_for n m until) (story_of_one t (is_cancelled (seer levels from) (during_sleep n m) cleanup)))) in
+    if nat_le from m then failed_at cancelled (only_at gives_up) (story_of_one gives_up (is_cancelled (seer levels from) at_checkpoint cleanup))
     else (if nat_le from least then while_asleep gives_up
     else (if nat_le from end then while_asleep from else told_at (only_at end) (asleep_for n m until)))
 
-unfoldable pub tell_sleep : Clock → Stack → Bool → Tick → ℕ → ℕ → Tale
-tell_sleep clock stack cleanup until n m =
-    tell_slept (sight stack) n m (a_round_after clock m) (gives_up_at clock n m) (wakes_at clock n m) stack cleanup until
+unfoldable pub tell_sleep : Clock → Levels → Bool → Tick → ℕ → ℕ → Tale
+tell_sleep clock levels cleanup until n m =
+    tell_slept (sight levels) n m (a_round_after clock m) (gives_up_at clock n m) (wakes_at clock n m) levels cleanup until
 
 -- the same for `pace`
-unfoldable pub tell_pace : Clock → Stack → Bool → Tick → ℕ → ℕ → Tale
-tell_pace clock stack cleanup until n m =
-    tell_slept (sight stack) n m (a_round_after clock m) (a_round_after clock m) (wakes_at clock n m) stack cleanup until
+unfoldable pub tell_pace : Clock → Levels → Bool → Tick → ℕ → ℕ → Tale
+tell_pace clock levels cleanup until n m =
+    tell_slept (sight levels) n m (a_round_after clock m) (a_round_after clock m) (wakes_at clock n m) levels cleanup until
+
+-- ---- waits for events
+
+-- A wait from moment m for an event that is set in moment `end`, which cannot end before `least`. A cancellation that is seen when it
+-- begins is one at a checkpoint.
+abbrev pub tell_waiting : Tick → (m least end : ℕ) → Levels → Bool → Label → Tale
+tell_waiting None m least end levels cleanup label =
+    told_at (only_at end) (happened m (awaits label) (story_of_one end (was_set label)))
+tell_waiting (Some from) m least end levels cleanup label =
+    let t = max least from in
+    if nat_le from m then failed_at cancelled (only_at t) (story_of_one t (is_cancelled (seer levels from) at_checkpoint cleanup))
+    else (if nat_lt from end then failed_at cancelled (only_at t)
+    (happened m (awaits label) (story_of_one t (is_cancelled (seer levels from) (waiting_for label m) cleanup)))
+    else told_at (only_at end) (happened m (awaits label) (story_of_one end (was_set label))))
+
+-- after a checkpoint that ended well, the event is set
+abbrev pub with_set_if : Option Exc → Label → Tale → Tale
+with_set_if None label a = before_this a a.end (was_set label)
+with_set_if (Some e) label a = a
+
+abbrev pub with_set : Label → Tale → Tale
+with_set label a = with_set_if a.exc label a
+
+-- a wait for an event that is set by the next round is a checkpoint
+abbrev pub tell_wait_by : Clock → Levels → Bool → Label → (set m : ℕ) → Tale
+tell_wait_by clock levels cleanup label set m =
+    if nat_le set (a_round_after clock m) then with_set label (tell_sleep clock levels cleanup (Some m) 0 m)
+    else tell_waiting (sight levels) m (a_round_after clock m) set levels cleanup label
+
+-- where no event of the name encloses the task, nothing happens
+abbrev pub tell_wait_on : Clock → Levels → Bool → Option (Level Label) → Now → Tale
+tell_wait_on clock levels cleanup None now = told_at now no_more
+tell_wait_on clock levels cleanup (Some l) now =
+    tell_wait_by clock levels cleanup l.label (set_moment clock l.from now.at) now.at
+
+unfoldable pub tell_event_wait : Clock → Levels → Bool → Option (Level Label) → Now → Tale
+tell_event_wait clock levels cleanup level now = tell_wait_on clock levels cleanup level now
 
 -- ---- other steps
 
@@ -111,6 +148,9 @@ tell_raise name here now = failed_at (raised name here.task (tick_of here.clock 
 unfoldable pub tell_cancel : Clock → Option Label → Now → Tale
 tell_cancel clock label now = told_at (record { at = now.at; own = with_own clock label now.own }) (story_of_one now.at (cancels label))
 
+unfoldable pub tell_set : Clock → Option Label → Now → Tale
+tell_set clock label now = told_at (record { at = now.at; own = with_own clock label now.own }) (story_of_one now.at (sets label))
+
 -- ---- blocks
 
 -- a scope or nursery that was entered in moment m is left when its inside ends
@@ -127,11 +167,15 @@ tell_left clock kind label m deadline shield left a =
           (then_story a.story (story_of_one a.end (leaves kind label a.exc left.caught exc)));
     }
 
-unfoldable pub tell_block : Clock → Table → Kind → Label → ℕ → Tick → Bool → Stack → (Tick → Tale) → Tale
-tell_block clock table kind label m deadline shield stack inside =
+unfoldable pub tell_block : Clock → Table → Kind → Label → ℕ → Tick → Bool → Levels → (Tick → Tale) → Tale
+tell_block clock table kind label m deadline shield levels inside =
     let a = inside (table label) in
     tell_left clock kind label m deadline shield
-    (left_with (catches (from_for a.own a.end label (table label)) shield (stack_for a.own a.end stack) a.end) a.exc) a
+    (left_with (catches (from_for a.own a.end label (table label)) shield (stack_for a.own a.end levels) a.end) a.exc) a
+
+-- an event that was entered in moment m
+unfoldable pub tell_event : Table → Label → ℕ → (Tick → Tale) → Tale
+tell_event table label m inside = after_this m (enters_event label) (inside (table label))
 
 -- the body of a nursery ended, and its task waits; what it has cancelled itself no longer counts
 unfoldable pub tell_wait : Label → Tale → Tale
@@ -220,34 +264,39 @@ unfoldable mutual
   -- one step
   pub tell_step : Table → Step → Scene → Stack → Now → Tale
   tell_step k (sleep n) scene st now =
-      tell_sleep scene.here.clock st scene.in_cleanup (Some (wakes_at scene.here.clock n now.at)) n now.at
-  tell_step k checkpoint scene st now = tell_sleep scene.here.clock st scene.in_cleanup (Some now.at) 0 now.at
-  tell_step k forever scene st now = tell_sleep scene.here.clock st scene.in_cleanup None (far - tick_of scene.here.clock now.at) now.at
+      tell_sleep scene.here.clock st.scopes scene.in_cleanup (Some (wakes_at scene.here.clock n now.at)) n now.at
+  tell_step k checkpoint scene st now = tell_sleep scene.here.clock st.scopes scene.in_cleanup (Some now.at) 0 now.at
+  tell_step k forever scene st now = tell_sleep scene.here.clock st.scopes scene.in_cleanup None (far - tick_of scene.here.clock now.at) now.at
   tell_step k (pace per_tick) scene st now =
       let n = pace_ticks (count_in scene.here.input scene.here.part) per_tick in
-      tell_pace scene.here.clock st scene.in_cleanup (Some (wakes_at scene.here.clock n now.at)) n now.at
+      tell_pace scene.here.clock st.scopes scene.in_cleanup (Some (wakes_at scene.here.clock n now.at)) n now.at
   tell_step k (find text) scene st now = tell_lines (found_in scene.here.input text scene.here.part) now
   tell_step k (head n) scene st now = tell_lines (head_of scene.here.input n scene.here.part) now
   tell_step k longest scene st now = tell_lines (longest_in scene.here.input scene.here.part) now
   tell_step k (need text name) scene st now = tell_need (needed_in scene.here.input text scene.here.part) name scene.here now
   tell_step k (raise name) scene st now = tell_raise name scene.here now
-  tell_step k (cancel name) scene st now = tell_cancel scene.here.clock (label_on name st) now
+  tell_step k (cancel name) scene st now = tell_cancel scene.here.clock (label_on name st.scopes) now
+  tell_step k (set_event name) scene st now = tell_set scene.here.clock (label_on name st.events) now
+  tell_step k (wait_for name) scene st now = tell_event_wait scene.here.clock st.scopes scene.in_cleanup (event_on name st.events) now
   tell_step k (scope name deadline shield fail body) scene st now =
-      tell_block scene.here.clock k (a_scope fail) (label_here name scene.here) now.at (due scene.here.clock deadline now.at) shield st
+      tell_block scene.here.clock k (a_scope fail) (label_here name scene.here) now.at (due scene.here.clock deadline now.at) shield st.scopes
       (λ from. tell k body scene (stack_inside (label_here name scene.here) shield from st) now)
   tell_step k (nursery name deadline shield body) scene st now =
-      tell_block scene.here.clock k a_nursery (label_here name scene.here) now.at (due scene.here.clock deadline now.at) shield st
+      tell_block scene.here.clock k a_nursery (label_here name scene.here) now.at (due scene.here.clock deadline now.at) shield st.scopes
       (λ from. tell_gathered scene.here.clock (label_here name scene.here)
       (tell_wait (label_here name scene.here) (tell k body scene (stack_inside (label_here name scene.here) shield from st) now)))
+  tell_step k (event name body) scene st now =
+      tell_event k (label_here name scene.here) now.at
+      (λ from. tell k body scene (stack_in_event (label_here name scene.here) from st) now)
   tell_step k (start name None body) scene st now =
       let inner = at_place (here_in (label_here name scene.here) scene.here.part scene.here) scene in
       let begins = a_round_after scene.here.clock now.at in
-      tell_child (label_here name scene.here) (home_of st) inner begins (tell k body inner st (only_at begins)) now
+      tell_child (label_here name scene.here) (home_of st.scopes) inner begins (tell k body inner st (only_at begins)) now
   tell_step k (start name (Some copies) body) scene st now =
       let begins = a_round_after scene.here.clock now.at in
       tell_each copies (λ i.
       let inner = at_place (here_in (label_over name scene.here i) (cut_of scene.here.input scene.here.part copies i) scene.here) scene in
-      tell_child (label_over name scene.here i) (home_of st) inner begins (tell k body inner st (only_at begins)) now) now
+      tell_child (label_over name scene.here i) (home_of st.scopes) inner begins (tell k body inner st (only_at begins)) now) now
   tell_step k (repeat count body) scene st now =
       tell_passes 0 count (λ i later. tell k body (at_place (in_pass i scene.here) scene) st later) now
   tell_step k (attempt body handler cleanup) scene st now =
@@ -267,7 +316,7 @@ root_scene job input = record { here = root_here job input; in_cleanup = false }
 
 -- the tale of a job's root task by a table
 unfoldable pub tale_by : Table → Tree → List ℕ → Tale
-tale_by table job input = tell table job.steps (root_scene job input) [] (only_at 0)
+tale_by table job input = tell table job.steps (root_scene job input) no_stack (only_at 0)
 
 -- the story of the job, which is that of the root as a started task
 abbrev pub story_by : Table → Tree → List ℕ → Story

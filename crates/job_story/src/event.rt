@@ -20,6 +20,25 @@ pub struct Span {
     pub len: usize,
 }
 
+/// What a task did when `Cancelled` was raised in it.
+#[derive(Drop)]
+pub enum During {
+    /// It was at a checkpoint.
+    Checkpoint,
+    /// It slept.
+    Sleeping {
+        /// The tick in which it fell asleep.
+        since: u64,
+    },
+    /// It waited for an event.
+    Waiting {
+        /// The label of the event.
+        event: Label,
+        /// The tick in which it began to wait.
+        since: u64,
+    },
+}
+
 /// One thing that happened to a task. Exceptions are boxed, so that the many events without one take less memory.
 #[derive(Drop)]
 pub enum Happening {
@@ -34,6 +53,11 @@ pub enum Happening {
         /// Whether it is shielded, so that it hides cancellations from outside.
         shield: bool,
     },
+    /// The task entered an event (the block `event` of a job). Nothing happens to the task where the block ends.
+    EntersEvent {
+        /// The label of the event.
+        label: Label,
+    },
     /// The task fell asleep. A sleep that takes no time is not an event.
     Sleeps {
         /// The tick at which the sleep is due, or `None` for `forever`.
@@ -45,8 +69,8 @@ pub enum Happening {
         /// cancelled from the effective deadline (`sight`) on. `None` if there is no such scope or nursery, which does not occur
         /// in the story of a job.
         by: Option<Label>,
-        /// The tick since which the task slept, or `None` if it was cancelled at a checkpoint and did not fall asleep.
-        since: Option<u64>,
+        /// What the task did then.
+        during: During,
         /// Whether the task was in a `finally` block, its own or that of a task that started it.
         in_cleanup: bool,
     },
@@ -69,6 +93,21 @@ pub enum Happening {
     Cancels {
         /// The innermost scope or nursery of that name that encloses the task, or `None` if there is none.
         label: Option<Label>,
+    },
+    /// A `set` step.
+    Sets {
+        /// The innermost event of that name that encloses the task, or `None` if there is none.
+        label: Option<Label>,
+    },
+    /// The task waits for an event. A wait for an event that is set by the next round is a checkpoint, and is not an event of a story.
+    Awaits {
+        /// The label of the event.
+        event: Label,
+    },
+    /// The task goes on, since the event for which it waited is set.
+    WasSet {
+        /// The label of the event.
+        event: Label,
     },
     /// A handler begins.
     Handles {

@@ -7,14 +7,14 @@ use exc_groups::Label;
 use indexmap::IndexMap;
 use std::alloc::{AllocError, Global};
 
-/// A table with the tick from which each scope and nursery is cancelled, by label. A look-up takes constant time.
+/// A table with the tick from which each scope and nursery is cancelled, and each event set, by label. A look-up takes constant time.
 #[derive(Drop)]
 pub struct Froms {
     pub(crate) all: IndexMap<Label, Option<u64>>,
 }
 
 impl Froms {
-    /// Creates an empty table, in which no scope or nursery is ever cancelled. Does not allocate.
+    /// Creates an empty table, in which no scope or nursery is ever cancelled, and no event set. Does not allocate.
     pub fn new(alloc: Global) -> Froms
         ensures { (label : tree.Label) → table_in result label ≡ None }
     {
@@ -23,7 +23,7 @@ impl Froms {
         }
     }
 
-    /// Sets the tick from which the scope or nursery with this label is cancelled; `None` is never. Other labels keep their
+    /// Sets the tick from which the scope or nursery with this label is cancelled, or the event set; `None` is never. Other labels keep their
     /// ticks. Returns `AllocError` if memory is refused; every label then keeps its tick.
     pub fn set(&mut self, label: Label, from: Option<u64>) -> Result<(), AllocError>
         ensures set { OnOk result ((other : tree.Label) →
@@ -34,7 +34,7 @@ impl Froms {
         Ok(())
     }
 
-    /// Returns the tick from which the scope or nursery with this label is cancelled, or `None` if it never is.
+    /// Returns the tick from which the scope or nursery with this label is cancelled, or the event set, or `None` if it never is.
     pub fn of(&self, label: &Label) -> Option<u64>
         ensures { result ≡ table_in self.now label.now }
     {

@@ -1,7 +1,7 @@
 //! The laws of stories. The functions do nothing: their contracts are the laws.
 
 ghost use Rattle.job_story.specs.Laws.{FromsGiveTheTable, StoriesAreTrue, TellingIsFollowing};
-ghost use Rattle.job_story.specs.LawsOfCauses.{BlocksAreNested, CancellationsAreSeen, CancellationsHaveCauses, CancellationsHaveCausesByLimit, CausesAreShown, ConcernedTasksAreClosed, TimePassesAsleep};
+ghost use Rattle.job_story.specs.LawsOfCauses.{BlocksAreNested, CancellationsAreSeen, CancellationsHaveCauses, CancellationsHaveCausesByLimit, CausesAreShown, ConcernedTasksAreClosed, FromsHaveCauses, TimePassesAsleep};
 
 /// A law, which does nothing at run time. The story of a job by a table is the log of following that table, with more said of each
 /// step. So the story by a settled table is true: its starts, ends, outcomes and entries are the records of the job's meaning, and its
@@ -19,22 +19,24 @@ pub fn law_froms_of_meaning()
 
 /// A law, which does nothing at run time. Where a story says by which scope or nursery a task is cancelled, that scope or nursery
 /// encloses the task, no shield hides it from the task, and it is the innermost that is cancelled from the task's effective deadline
-/// on. A task that slept is cancelled in that tick, and a task at a checkpoint in that tick or later.
+/// on. A task that slept or waited for an event is cancelled in that tick, and a task at a checkpoint in that tick or later.
 pub fn law_blame()
     ensures { CancellationsAreSeen }
 {}
 
 /// A law, which does nothing at run time. The scopes and nurseries of a story are nested: a task leaves, and waits for, the innermost
-/// that is open, has left all that it entered when it ends, and starts tasks in the innermost. A `cancel` step cancels the innermost of
-/// its name. One that is left catches if it is cancelled by then, and is shielded or no cancellation is seen outside of it; the story says
-/// so, and which exception propagates.
+/// that is open, has left all that it entered when it ends, and starts tasks in the innermost. Events do not count here. A `cancel` step
+/// cancels the innermost of its name. One that is left catches if it is cancelled by then, and is shielded or no cancellation is seen
+/// outside of it; the story says so, and which exception propagates.
 pub fn law_nesting()
     ensures { BlocksAreNested }
 {}
 
-/// A law, which does nothing at run time. In a story the time of a task passes only while it sleeps or waits for a nursery. The next
-/// thing that it does after it fell asleep until a tick is in that tick, or is its cancellation, at most in that tick. A story says only
-/// of such a task that it was cancelled while it slept, and since when.
+/// A law, which does nothing at run time. In a story the time of a task passes only while it sleeps, or waits for a nursery or an event.
+/// The next thing that it does after it fell asleep until a tick is in that tick, or is its cancellation, at most in that tick. After it
+/// began to wait for an event, it goes on in exactly the moment from which the event is set, or is cancelled before. A story says that a
+/// task was cancelled while it slept only of a task that sleeps, and while it waited for an event only of one that waits for this event,
+/// and since when.
 pub fn law_waking()
     ensures { TimePassesAsleep }
 {}
@@ -43,12 +45,14 @@ pub fn law_waking()
 /// with which a task entered the scope or nursery, and is exactly the tick from which that is cancelled. Any other cause is an event of
 /// the named task in the named tick, which is the one before the cancellation: its `cancel`, or the end of the task or of its body of the
 /// nursery with an exception, which has a leaf that is not `Cancelled` where the story says that it failed, and none where it says that
-/// it was cancelled.
+/// it was cancelled. That an event is set has as cause a `set` in the tick before.
 /// By a settled table, where names are given once, every cancellation in the story of a job names a scope or nursery that has a cause,
-/// also in the story up to a limit, where it is among the events up to the limit.
+/// also in the story up to a limit, where it is among the events up to the limit. Each event that is set has a cause among the events of
+/// the whole story.
 pub fn law_causes()
     ensures shown { CausesAreShown }
     ensures complete { CancellationsHaveCauses }
+    ensures froms { FromsHaveCauses }
     ensures limited { CancellationsHaveCausesByLimit }
 {}
 

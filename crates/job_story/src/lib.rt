@@ -12,7 +12,7 @@ mod kinds;
 mod laws;
 
 pub use block_exits::Kind;
-pub use event::{Event, Happening, Range, Span, What};
+pub use event::{During, Event, Happening, Range, Span, What};
 pub use froms::Froms;
 pub use laws::{
     law_blame, law_causes, law_focus, law_froms_of_meaning, law_nesting, law_story, law_waking,

@@ -9,11 +9,11 @@ use Rattle.cancel_scopes.specs.Sight.{Tick, catches}
 use Rattle.job_tree.specs.Tree.{Steps}
 use Rattle.job_meaning.specs.Log.{Table}
 use Rattle.job_meaning.specs.Moments.{Clock, tick_of, Now}
-use Rattle.job_meaning.specs.Walk.{Kind, Stack, Left, from_for, stack_for, left_with, exc_after}
+use Rattle.job_meaning.specs.Walk.{Kind, Levels, Stack, Left, from_for, stack_for, left_with, exc_after}
 use Rattle.job_story.specs.Events.{event, starts, ends}
 use Rattle.job_story.specs.Held.{event_of}
-use Rattle.job_story.specs.Story.{Tale, enters, leaves, waits}
-use Rattle.job_story.specs.Tell.{Scene, story_of_one, tell, tell_block, tell_left, tell_wait, tell_gathered, tell_child}
+use Rattle.job_story.specs.Story.{Tale, enters, enters_event, leaves, waits}
+use Rattle.job_story.specs.Tell.{Scene, story_of_one, tell, tell_block, tell_event, tell_left, tell_wait, tell_gathered, tell_child}
 use Rattle.job_story.specs.declared.event.Event as held
 use Rattle.job_teller.specs.declared.progress.Progress.{Progress}
 use Rattle.job_teller.specs.declared.told.Told.{Told}
@@ -22,13 +22,13 @@ use Rattle.job_teller.proofs.Adding.{adds_then, adds_child}
 use Rattle.job_teller.proofs.Telling.{told_like}
 
 -- what is left of a block, by where the task is and with what its inside ended
-abbrev left_in : Label → Tick → Bool → Stack → Now → Option Exc → Left
+abbrev left_in : Label → Tick → Bool → Levels → Now → Option Exc → Left
 left_in label from shield st now o =
     left_with (catches (from_for now.own now.at label from) shield (stack_for now.own now.at st) now.at) o
 
 -- what a block that is left notes, and how it ends
 record Shut (clock : Clock) (me : Label) (mid : List held.Event) (after : Progress) (w : Told) (kind : Kind) (label : Label) (from : Tick)
-    (shield : Bool) (st : Stack) (now : Now) (o : Option Exc) : Type 0 where
+    (shield : Bool) (st : Levels) (now : Now) (o : Option Exc) : Type 0 where
   pub exc : option_map exc_of w.exc ≡ exc_after kind label (tick_of clock now.at) (left_in label from shield st now o)
   pub events : Adds me mid after.events.items
       (story_of_one now.at (leaves kind label o (left_in label from shield st now o).caught
@@ -36,7 +36,7 @@ record Shut (clock : Clock) (me : Label) (mid : List held.Event) (after : Progre
 
 -- a block is entered, and left where its inside ends
 pub tells_block : (clock : Clock) (me : Label) (a b : List held.Event) (c d : Progress) (table : Table) (kind : Kind) (label : Label)
-    (m : ℕ) (deadline : Tick) (shield : Bool) (st : Stack) (inside : Tick → Tale) (inner w : Told) (from : Tick) → from ≡ table label →
+    (m : ℕ) (deadline : Tick) (shield : Bool) (st : Levels) (inside : Tick → Tale) (inner w : Told) (from : Tick) → from ≡ table label →
     Adds me a b (story_of_one m (enters kind label deadline shield)) → Tells me b inner c (inside from) →
     IsLeft clock me c.events.items d inner w kind label (own_of c)
     (left_in label from shield st (now_in inner.end c) (option_map exc_of inner.exc)) →
@@ -78,6 +78,19 @@ tells_wait clock me start mid now told w label a h k own g =
       told = told_like w (tell_gathered clock label a) (tell_gathered clock label (tell_wait label a)) (g a h.told) refl refl refl;
       events = adds_then me start mid.events.items now.events.items a.story _ h.events waited;
       own = own;
+    }
+
+-- an event is entered, and its inside walked
+pub tells_event : (me : Label) (a b : List held.Event) (d : Progress) (table : Table) (label : Label) (m : ℕ) (inside : Tick → Tale)
+    (w : Told) →
+    Adds me a b (story_of_one m (enters_event label)) → Tells me b w d (inside (table label)) →
+    Tells me a w d (tell_event table label m inside)
+unfolding tell_event
+tells_event me a b d table label m inside w h k =
+    record {
+      told = told_like w (inside (table label)) (tell_event table label m inside) k.told refl refl refl;
+      events = adds_then me a b d.events.items _ (inside (table label)).story h k.events;
+      own = k.own;
     }
 
 -- a task is started, and walked up to its end

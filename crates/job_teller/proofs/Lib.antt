@@ -8,4 +8,5 @@ pub mod Shows
 pub mod Going
 pub mod Steps
 pub mod Passing
+pub mod Waited
 pub mod Rooted

@@ -13,7 +13,7 @@ use Rattle.job_story.specs.declared.event.Event as held
 use Rattle.job_teller.specs.declared.here.Here.{Here}
 use Rattle.job_teller.specs.declared.progress.Progress.{Progress}
 use Rattle.job_teller.specs.declared.told.Told.{Told}
-use Rattle.job_teller.specs.Heres.{HasRoom, here_of, scene_of, scopes_of, table_of, pass}
+use Rattle.job_teller.specs.Heres.{HasRoom, here_of, scene_of, stack_of, table_of, pass}
 use Rattle.job_teller.specs.Rooms.{base, reach, span}
 use Rattle.job_teller.specs.Tales.{IsTold, Tells, now_in}
 use Rattle.job_teller.proofs.Going.{Going, going_start, going_failed, going_next, going_stop}
@@ -89,7 +89,7 @@ pub pass_next : (h : Here) (now : Now) (count : ℕ) (body : Steps) (i : ℕ) (s
     AtPass h now count body (i + 1) start x over
 pass_next h now count body i start mid over w v x at lt u ends tells join well =
     let ends_by : max v.end v.open_until ≤ reach h.clock u + size_of body * span h.clock =
-    ends_small v (table_of h) body (at_place (in_pass i (here_of h)) (scene_of h)) (scopes_of h) (now_in u mid) at.in_range at.room.small
+    ends_small v (table_of h) body (at_place (in_pass i (here_of h)) (scene_of h)) (stack_of h) (now_in u mid) at.in_range at.room.small
     tells.told in
     let from : u ≡ w.end = ends in
     let last : x.end ≡ v.end = (join at.going.before _ at.going.tells.told tells.told).end ∙ sym tells.told.end in

@@ -7,6 +7,7 @@ use Rattle.job_tree.specs.Tree.{Steps, Tree}
 use Rattle.job_meaning.specs.Log.{Table}
 use Rattle.job_meaning.specs.Meaning.{root_label}
 use Rattle.job_meaning.specs.Moments.{Clock, clock_of, Now, only_at}
+use Rattle.job_meaning.specs.Walk.{no_stack}
 use Rattle.job_story.specs.Events.{events_of}
 use Rattle.job_story.specs.Held.{event_of}
 use Rattle.job_story.specs.Tell.{Scene, tell, tell_child, tale_by, story_by}
@@ -24,7 +25,7 @@ root_at clock input root lent =
 abbrev pub Rooted : Label → List held.Event → Told → Progress → Table → Clock → List ℕ → Label → Range → Steps → Now → Type 0
 Rooted me before w after table clock input root lent ss now =
     Tells me before w after
-    (tell_child root None (root_at clock input root lent) 0 (tell table ss (root_at clock input root lent) [] (only_at 0)) now)
+    (tell_child root None (root_at clock input root lent) 0 (tell table ss (root_at clock input root lent) no_stack (only_at 0)) now)
 
 -- and nothing else, so that is the story of the job
 pub tells_root : (me : Label) (before : List held.Event) (after : Progress) (w : Told) (table : Table) (job : Tree) (clock : Clock)

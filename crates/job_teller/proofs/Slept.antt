@@ -4,9 +4,9 @@ use Rattle.std.proofs.lemmas.Bool.Decides.{nat_tests}
 use Rattle.exc_groups.specs.Exceptions.{Label, cancelled}
 use Rattle.cancel_scopes.specs.Sight.{Tick}
 use Rattle.job_meaning.specs.Moments.{only_at}
-use Rattle.job_meaning.specs.Walk.{Stack}
-use Rattle.job_story.specs.Story.{Story, Tale, is_cancelled, sleeps, then_story}
-use Rattle.job_story.specs.Tell.{told_at, failed_at, story_of_one, seer, asleep_for, slept_since, tell_slept}
+use Rattle.job_meaning.specs.Walk.{Levels}
+use Rattle.job_story.specs.Story.{at_checkpoint, Story, Tale, is_cancelled, sleeps, then_story}
+use Rattle.job_story.specs.Tell.{told_at, failed_at, story_of_one, seer, asleep_for, during_sleep, tell_slept}
 use Rattle.job_story.specs.declared.event.Event as held
 use Rattle.job_teller.specs.declared.progress.Progress.{Progress}
 use Rattle.job_teller.specs.declared.told.Told.{Told}
@@ -18,17 +18,17 @@ pub none_own : (ls : List Label) → ls ≡ [] → reverse ls ≡ []
 none_own ls e = ap (λ (xs : List Label). reverse xs) e
 
 -- the tale of a sleep in which a cancellation is seen from a moment on: when it begins, at its earliest end, or before its end
-abbrev slept_from : (at least due : Bool) → (from n m gives_up end : ℕ) → Stack → Bool → Tick → Tale
+abbrev slept_from : (at least due : Bool) → (from n m gives_up end : ℕ) → Levels → Bool → Tick → Tale
 slept_from at least due from n m gives_up end st c until =
     let while_asleep = (λ (t : ℕ). failed_at cancelled (only_at t)
-    (then_story (asleep_for n m until) (story_of_one t (is_cancelled (seer st from) (slept_since n m) c)))) in
-    if at then failed_at cancelled (only_at gives_up) (story_of_one gives_up (is_cancelled (seer st from) None c))
+    (then_story (asleep_for n m until) (story_of_one t (is_cancelled (seer st from) (during_sleep n m) c)))) in
+    if at then failed_at cancelled (only_at gives_up) (story_of_one gives_up (is_cancelled (seer st from) at_checkpoint c))
     else (if least then while_asleep gives_up
     else (if due then while_asleep from else told_at (only_at end) (asleep_for n m until)))
 
 -- no cancellation is seen
 pub slept_never : (me : Label) (before : List held.Event) (after : Progress) (w : Told) (sight : Tick) (n m least gives_up end : ℕ)
-    (st : Stack)
+    (st : Levels)
     (c : Bool) (until : Tick) → sight ≡ None → Adds me before after.events.items (asleep_for n m until) → after.cancelled.items ≡ [] →
     ((own : List Label) (s : Story) → IsTold w (told_at (record { at = end; own = own }) s)) →
     Tells me before w after (tell_slept sight n m least gives_up end st c until)
@@ -37,9 +37,9 @@ slept_never me before after w sight n m least gives_up end st c until e h own k 
 
 -- a sleep at whose start the task is cancelled already
 pub slept_now : (me : Label) (before : List held.Event) (after : Progress) (w : Told) (sight : Tick) (n m least gives_up end : ℕ)
-    (st : Stack)
+    (st : Levels)
     (c : Bool) (until : Tick) (from : ℕ) → sight ≡ Some from → from ≤ m →
-    Adds me before after.events.items (story_of_one gives_up (is_cancelled (seer st from) None c)) → after.cancelled.items ≡ [] →
+    Adds me before after.events.items (story_of_one gives_up (is_cancelled (seer st from) at_checkpoint c)) → after.cancelled.items ≡ [] →
     ((own : List Label) (s : Story) → IsTold w (failed_at cancelled (record { at = gives_up; own = own }) s)) →
     Tells me before w after (tell_slept sight n m least gives_up end st c until)
 slept_now me before after w sight n m least gives_up end st c until from e le h own k = rw e (by_test (nat_le from m) refl)
@@ -51,9 +51,9 @@ slept_now me before after w sight n m least gives_up end st c until from e le h 
 
 -- a sleep that is cancelled by its earliest end
 pub slept_soon : (me : Label) (before mid : List held.Event) (after : Progress) (w : Told) (sight : Tick) (n m least gives_up end : ℕ)
-    (st : Stack)
+    (st : Levels)
     (c : Bool) (until : Tick) (from : ℕ) → sight ≡ Some from → m < from → from ≤ least → Adds me before mid (asleep_for n m until) →
-    Adds me mid after.events.items (story_of_one gives_up (is_cancelled (seer st from) (slept_since n m) c)) → after.cancelled.items ≡ [] →
+    Adds me mid after.events.items (story_of_one gives_up (is_cancelled (seer st from) (during_sleep n m) c)) → after.cancelled.items ≡ [] →
     ((own : List Label) (s : Story) → IsTold w (failed_at cancelled (record { at = gives_up; own = own }) s)) →
     Tells me before w after (tell_slept sight n m least gives_up end st c until)
 slept_soon me before mid after w sight n m least gives_up end st c until from e lt le h g own k =
@@ -68,10 +68,10 @@ slept_soon me before mid after w sight n m least gives_up end st c until from e 
 
 -- a sleep that is cancelled while the task is asleep
 pub slept_later : (me : Label) (before mid : List held.Event) (after : Progress) (w : Told) (sight : Tick) (n m least gives_up end : ℕ)
-    (st : Stack)
+    (st : Levels)
     (c : Bool) (until : Tick) (from : ℕ) → sight ≡ Some from → m < from → least < from → from ≤ end →
     Adds me before mid (asleep_for n m until) →
-    Adds me mid after.events.items (story_of_one from (is_cancelled (seer st from) (slept_since n m) c)) → after.cancelled.items ≡ [] →
+    Adds me mid after.events.items (story_of_one from (is_cancelled (seer st from) (during_sleep n m) c)) → after.cancelled.items ≡ [] →
     ((own : List Label) (s : Story) → IsTold w (failed_at cancelled (record { at = from; own = own }) s)) →
     Tells me before w after (tell_slept sight n m least gives_up end st c until)
 slept_later me before mid after w sight n m least gives_up end st c until from e lt later le h g own k =
@@ -87,7 +87,7 @@ slept_later me before mid after w sight n m least gives_up end st c until from e
 
 -- a sleep that ends before the moment from which the task is cancelled
 pub slept_past : (me : Label) (before : List held.Event) (after : Progress) (w : Told) (sight : Tick) (n m least gives_up end : ℕ)
-    (st : Stack)
+    (st : Levels)
     (c : Bool) (until : Tick) (from : ℕ) → sight ≡ Some from → m < from → least < from → end < from →
     Adds me before after.events.items (asleep_for n m until) → after.cancelled.items ≡ [] →
     ((own : List Label) (s : Story) → IsTold w (told_at (record { at = end; own = own }) s)) →

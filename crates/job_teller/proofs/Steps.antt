@@ -18,7 +18,7 @@ use Rattle.job_story.proofs.Erasing.{tell_is, step_is, handler_is}
 use Rattle.job_teller.specs.declared.here.Here.{Here}
 use Rattle.job_teller.specs.declared.progress.Progress.{Progress}
 use Rattle.job_teller.specs.declared.told.Told.{Told}
-use Rattle.job_teller.specs.Heres.{HasRoom, scene_of, scopes_of, started_by, started_over, table_of}
+use Rattle.job_teller.specs.Heres.{HasRoom, scene_of, stack_of, started_by, started_over, table_of}
 use Rattle.job_teller.specs.Rooms.{reach, span}
 use Rattle.job_teller.specs.Tales.{IsTold, Tells, now_in}
 use Rattle.job_meaning.proofs.Ends.{EndsBy, AllBy, ends_step, ends_by, ends_handler}
@@ -73,8 +73,8 @@ ends_handled w k x ss scene st now in_range in_range_handler small told =
 
 -- at a step, what was walked ended without an exception and continues with the steps that are left
 pub record AtStep (h : Here) (now : Now) (all left : Steps) (start : List held.Event) (w : Told) (at : Progress) : Type 0 where
-  pub going : Going h.task.now start w at (tell (table_of h) all (scene_of h) (scopes_of h) now)
-      (λ u. tell (table_of h) left (scene_of h) (scopes_of h) u)
+  pub going : Going h.task.now start w at (tell (table_of h) all (scene_of h) (stack_of h) now)
+      (λ u. tell (table_of h) left (scene_of h) (stack_of h) u)
   pub in_range : AreInRange left
   pub room : HasRoom (size_of left) h w.end
 
@@ -83,7 +83,7 @@ pub at_start : (h : Here) (m : ℕ) (all : Steps) (start : Progress) (w : Told) 
     HasRoom (size_of all) h m → AtStep h (now_in m start) all all start.events.items w start
 at_start h m all start w told in_range room =
     record {
-      going = going_start h.task.now start w m (λ u. tell (table_of h) all (scene_of h) (scopes_of h) u) told;
+      going = going_start h.task.now start w m (λ u. tell (table_of h) all (scene_of h) (stack_of h) u) told;
       in_range = in_range;
       room = subst (λ (u : ℕ). HasRoom (size_of all) h u) (sym (told [] no_more).end) room;
     }
@@ -110,29 +110,29 @@ room_step h now all rest s start w mid at = record { room = omega (arith, at.roo
 -- a step that ended with an exception ends the block, and what was told is the tale of the whole block
 pub at_failed : (h : Here) (now : Now) (all rest : Steps) (s : Step) (start : List held.Event) (mid over : Progress) (w v x : Told) →
     AtStep h now all (step s rest) start w mid → (u : ℕ) → u ≡ w.end →
-    Tells h.task.now mid.events.items v over (tell_step (table_of h) s (scene_of h) (scopes_of h) (now_in u mid)) →
+    Tells h.task.now mid.events.items v over (tell_step (table_of h) s (scene_of h) (stack_of h) (now_in u mid)) →
     ((p q : Tale) → IsTold w p → IsTold v q → IsTold x (and_tale p q)) → is_some x.exc ≡ true →
-    Tells h.task.now start x over (tell (table_of h) all (scene_of h) (scopes_of h) now)
+    Tells h.task.now start x over (tell (table_of h) all (scene_of h) (stack_of h) now)
 unfolding tell
 at_failed h now all rest s start mid over w v x at u ends tells join failed =
-    going_failed h.task.now start mid over w v x _ _ (λ y. tell_step (table_of h) s (scene_of h) (scopes_of h) y)
-    (λ y. tell (table_of h) rest (scene_of h) (scopes_of h) y) at.going (λ y. refl) u ends tells join failed
+    going_failed h.task.now start mid over w v x _ _ (λ y. tell_step (table_of h) s (scene_of h) (stack_of h) y)
+    (λ y. tell (table_of h) rest (scene_of h) (stack_of h) y) at.going (λ y. refl) u ends tells join failed
 
 -- a step that ended well: the walk is at the next step, with the tales so far (`w`) and of this step (`v`) joined
 pub at_next : (h : Here) (now : Now) (all rest : Steps) (s : Step) (start : List held.Event) (mid over : Progress) (w v x : Told) →
     AtStep h now all (step s rest) start w mid → (u : ℕ) → u ≡ w.end →
-    Tells h.task.now mid.events.items v over (tell_step (table_of h) s (scene_of h) (scopes_of h) (now_in u mid)) →
+    Tells h.task.now mid.events.items v over (tell_step (table_of h) s (scene_of h) (stack_of h) (now_in u mid)) →
     ((p q : Tale) → IsTold w p → IsTold v q → IsTold x (and_tale p q)) → is_some x.exc ≡ false → AtStep h now all rest start x over
 unfolding tell
 at_next h now all rest s start mid over w v x at u ends tells join well =
     let fits : max v.end v.open_until ≤ reach h.clock u + size_in s * span h.clock =
-    ends_one v (table_of h) s (scene_of h) (scopes_of h) (now_in u mid) at.in_range.0 at.room.small tells.told in
+    ends_one v (table_of h) s (scene_of h) (stack_of h) (now_in u mid) at.in_range.0 at.room.small tells.told in
     let from : u ≡ w.end = ends in
     let last : x.end ≡ v.end = (join at.going.before _ at.going.tells.told tells.told).end ∙ sym tells.told.end in
     record {
       going =
-          going_next h.task.now start mid over w v x _ _ (λ y. tell_step (table_of h) s (scene_of h) (scopes_of h) y)
-          (λ y. tell (table_of h) rest (scene_of h) (scopes_of h) y) at.going (λ y. refl) u ends tells join well;
+          going_next h.task.now start mid over w v x _ _ (λ y. tell_step (table_of h) s (scene_of h) (stack_of h) y)
+          (λ y. tell (table_of h) rest (scene_of h) (stack_of h) y) at.going (λ y. refl) u ends tells join well;
       in_range = at.in_range.1;
       room = record { room = omega (arith, at.room.room, fits, from, last); small = at.room.small };
     }
@@ -140,13 +140,13 @@ at_next h now all rest s start mid over w v x at u ends tells join well =
 -- all steps were walked
 pub at_stop : (h : Here) (now : Now) (all : Steps) (start : List held.Event) (w : Told) (mid : Progress) →
     AtStep h now all stop start w mid →
-    Tells h.task.now start w mid (tell (table_of h) all (scene_of h) (scopes_of h) now)
+    Tells h.task.now start w mid (tell (table_of h) all (scene_of h) (stack_of h) now)
 unfolding tell
 at_stop h now all start w mid at = going_stop h.task.now start mid w _ _ at.going (λ y. refl)
 
 -- a `start` is walked with what it starts
 pub start_is : (h : Here) (name : List ℕ) (over : Option ℕ) (body : Steps) (now : Now) →
-    started_by name over body h now ≡ tell_step (table_of h) (tree.start name over body) (scene_of h) (scopes_of h) now
+    started_by name over body h now ≡ tell_step (table_of h) (tree.start name over body) (scene_of h) (stack_of h) now
 unfolding tell
 start_is h name None body now = refl
 start_is h name (Some k) body now = refl

@@ -1,4 +1,4 @@
--- The scopes and nurseries that enclose a task, in the terms of the meaning.
+-- The scopes and nurseries that enclose a task, and the events that do, in the terms of the meaning.
 use Rattle.std.specs.Prelude.{[], ◌∷◌}
 use Rattle.exc_groups.specs.Exceptions.{Label}
 use Rattle.cancel_scopes.specs.Sight as sights
@@ -10,6 +10,6 @@ abbrev pub level_of : Level → sights.Level Label
 level_of l = record { label = l.label; shield = l.shield; from = l.from }
 
 -- the levels, innermost first
-abbrev pub stack_of : Stack → meaning.Stack
-stack_of Empty = []
-stack_of (Within' level p outer) = level_of level ∷ stack_of outer
+abbrev pub levels_of : Stack → meaning.Levels
+levels_of Empty = []
+levels_of (Within' level p outer) = level_of level ∷ levels_of outer

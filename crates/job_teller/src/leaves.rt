@@ -10,19 +10,20 @@ ghost use Rattle.job_story.specs.Tell.{failed_at, tell_step, tell_slept, tell_sl
 ghost use Rattle.job_tree.specs.Blocks.{step_of};
 ghost use Rattle.job_tree.specs.InRange.{IsInRangeStep};
 ghost use Rattle.job_tree.specs.Names.{size_in};
-ghost use Rattle.job_teller.specs.Heres.{HasRoom, IsLeaf, tell_paced, here_of, input_of, scene_of, scopes_of, table_of};
+ghost use Rattle.job_teller.specs.Heres.{HasRoom, IsLeaf, tell_paced, here_of, input_of, scene_of, scopes_of, stack_of, table_of};
 ghost use Rattle.job_story.specs.Story.{Story};
 ghost use Rattle.job_teller.specs.Tales.{IsTold, Tells, now_in};
 
 use crate::excs::copy_label;
 use crate::here::Here;
 use crate::notes::{note, note_cancelled, note_sleep};
-use crate::own::{add_own, gives_up_at, slept_since};
+use crate::own::{add_own, during_sleep, gives_up_at};
 use crate::places::spans;
 use crate::progress::Progress;
 use crate::told::Told;
+use crate::waits::{set, wait_for};
 use exc_groups::{Exc, Label};
-use job_story::Happening;
+use job_story::{During, Happening};
 use job_tree::{Name, Step, Text};
 use line_kernels::{Answer, FoundLines, Kernel, answer};
 use moments::FAR;
@@ -40,7 +41,7 @@ pub(crate) fn tell_leaf<'a>(
     requires in_range { IsInRangeStep (step_of step.now) }
     requires room { HasRoom (size_in (step_of step.now)) here moment }
     ensures { IfOk result (λ w. Tells here.entry.task.now progress.old.events.items w progress.new
-        (tell_step (table_of here.entry) (step_of step.now) (scene_of here.entry) (scopes_of here.entry) (now_in moment progress.old))) }
+        (tell_step (table_of here.entry) (step_of step.now) (scene_of here.entry) (stack_of here.entry) (now_in moment progress.old))) }
 {
     match step {
         Step::Sleep(ticks) => {
@@ -59,6 +60,8 @@ pub(crate) fn tell_leaf<'a>(
         Step::Need { text, name } => need(here, text, name, moment, progress),
         Step::Raise(name) => raise(here, name, moment, progress),
         Step::Cancel(name) => cancel(here, name, moment, progress),
+        Step::Set(name) => set(here, name, moment, progress),
+        Step::Wait(name) => wait_for(here, name, moment, progress),
         _ => unreachable!(),
     }
 }
@@ -100,22 +103,28 @@ fn doze<'a>(
 {
     progress.cancelled.clear();
     let end = here.clock.wakes_at(ticks, moment);
-    let Some(from) = here.stack.sight() else {
+    let Some(from) = here.scopes.sight() else {
         note_sleep(here, until, ticks, moment, &mut progress.events)?;
         return Ok(Told::at(here.alloc, end));
     };
     if from <= moment {
-        note_cancelled(here, from, None, gives_up, &mut progress.events)?;
+        note_cancelled(
+            here,
+            from,
+            During::Checkpoint,
+            gives_up,
+            &mut progress.events,
+        )?;
         return Ok(Told::failure(here.alloc, Exc::Cancelled, gives_up));
     }
     note_sleep(here, until, ticks, moment, &mut progress.events)?;
-    let since = slept_since(ticks, moment);
+    let during = during_sleep(ticks, moment);
     if from <= here.clock.a_round_after(moment) {
-        note_cancelled(here, from, since, gives_up, &mut progress.events)?;
+        note_cancelled(here, from, during, gives_up, &mut progress.events)?;
         return Ok(Told::failure(here.alloc, Exc::Cancelled, gives_up));
     }
     if from <= end {
-        note_cancelled(here, from, since, from, &mut progress.events)?;
+        note_cancelled(here, from, during, from, &mut progress.events)?;
         return Ok(Told::failure(here.alloc, Exc::Cancelled, from));
     }
     Ok(Told::at(here.alloc, end))
@@ -278,14 +287,14 @@ pub(crate) fn cancel<'a>(
     ensures { IfOk result (λ told. Tells here.entry.task.now progress.old.events.items told progress.new
         (tell_cancel here.entry.clock (label_on name.now (scopes_of here.entry)) (now_in moment progress.old))) }
 {
-    let label = copy_label(here.alloc, here.stack.label_on(name))?;
+    let label = copy_label(here.alloc, here.scopes.label_on(name))?;
     note(
         here,
         moment,
         Happening::Cancels { label },
         &mut progress.events,
     )?;
-    let own = copy_label(here.alloc, here.stack.label_on(name))?;
+    let own = copy_label(here.alloc, here.scopes.label_on(name))?;
     add_own(here.clock, own, &mut progress.cancelled)?;
     Ok(Told::at(here.alloc, moment))
 }

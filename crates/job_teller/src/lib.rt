@@ -1,7 +1,8 @@
-//! Lists the events of a job's run over an input, given the moment from which each scope and nursery is cancelled.
+//! Lists the events of a job's run over an input, given the moment from which each scope and nursery is cancelled, and each event of
+//! the job set.
 //!
 //! `tell` returns exactly the events of the story that `job_story` defines, in the order of the walk. It needs no queue and no
-//! timers, since the moments of cancellation are given: it walks the job's tree once, follows each task from its start to its end
+//! timers, since these moments are given: it walks the job's tree once, follows each task from its start to its end
 //! before it continues with the task that started it, and appends every event when it reaches it. An error anywhere in the crate
 //! is a failed allocation.
 //!
@@ -20,6 +21,7 @@ mod progress;
 mod root;
 mod stack;
 mod told;
+mod waits;
 mod walk;
 
 pub use root::tell;

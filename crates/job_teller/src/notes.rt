@@ -6,7 +6,7 @@ ghost use Rattle.exc_groups.specs.Held.{exc_of};
 ghost use Rattle.job_meaning.specs.Walk.{from_for, home_of, left_with, stack_for};
 ghost use Rattle.job_story.specs.Events.{event, starts, ends};
 ghost use Rattle.block_exits.specs.Held.{kind_of};
-ghost use Rattle.job_story.specs.Held.{event_of, happening_of, what_of};
+ghost use Rattle.job_story.specs.Held.{during_of, event_of, happening_of, what_of};
 ghost use Rattle.job_story.specs.Story.{is_cancelled, Tale};
 ghost use Rattle.job_story.specs.Tell.{asleep_for, story_of_one, replacement, seer, tell_gathered, tell_wait};
 ghost use Rattle.job_story.specs.declared.event.Event.{Event as HeldEvent};
@@ -23,7 +23,7 @@ use crate::told::Told;
 use block_exits::{exc_after, left_with};
 use buffer_parts::Part;
 use exc_groups::{Exc, Label};
-use job_story::{Event, Happening, What};
+use job_story::{During, Event, Happening, What};
 use std::alloc::{AllocError, Global};
 
 // Appends one event of a task.
@@ -78,23 +78,23 @@ pub(crate) fn note_sleep<'a>(
     Ok(())
 }
 
-// Appends the event of a `Cancelled` that is raised in `moment`, because a cancellation from the moment `from` on is seen. `since`
-// is the moment in which the task fell asleep, if it slept.
+// Appends the event of a `Cancelled` that is raised in `moment`, because a cancellation from the moment `from` on is seen. `during` says
+// what the task does then.
 #[inline(never)]
 pub(crate) fn note_cancelled<'a>(
     here: Here<'a, '_>,
     from: u64,
-    since: Option<u64>,
+    during: During,
     moment: u64,
     events: &mut Vec<Event>,
 ) -> Result<(), AllocError>
     ensures { OnOk result (Adds here.entry.task.now events.old.items events.new.items
-        (story_of_one moment (is_cancelled (seer (scopes_of here.entry) from) since here.entry.in_cleanup))) }
+        (story_of_one moment (is_cancelled (seer (scopes_of here.entry) from) (during_of during) here.entry.in_cleanup))) }
 {
-    let by = copy_label(here.alloc, here.stack.seer(from))?;
+    let by = copy_label(here.alloc, here.scopes.seer(from))?;
     let what = Happening::IsCancelled {
         by,
-        since,
+        during,
         in_cleanup: here.in_cleanup,
     };
     note(here, moment, what, events)?;
@@ -137,7 +137,7 @@ pub(crate) fn note_start<'a>(
     ensures { OnOk result (map event_of events.new.items ≡ map event_of events.old.items
         ++ event begins label.now (starts (home_of (scopes_of here.entry)) (range_of part.entry)) ∷ []) }
 {
-    let home = copy_label(here.alloc, here.stack.home())?;
+    let home = copy_label(here.alloc, here.scopes.home())?;
     let part = range(part);
     add(
         here.alloc,
@@ -160,7 +160,7 @@ pub(crate) fn note_end<'a>(
     ensures { OnOk result (map event_of events.new.items ≡ map event_of events.old.items
         ++ event told.now.end label.now (ends (home_of (scopes_of here.entry)) (option_map exc_of told.now.exc)) ∷ []) }
 {
-    let home = copy_label(here.alloc, here.stack.home())?;
+    let home = copy_label(here.alloc, here.scopes.home())?;
     let exc = told.box_exc(here.alloc)?;
     let what = What::Ends { home, exc };
     add(here.alloc, label, told.end(), what, events)?;
@@ -235,5 +235,5 @@ fn catches(block: &Block, here: Here<'_, '_>, cancelled: &[Label], moment: u64) 
         (stack_for (reverse cancelled.now) moment (scopes_of here.entry)) moment }
 {
     let from = from_for(cancelled, moment, &block.label, block.from);
-    here.stack.catches(from, block.shield, cancelled, moment)
+    here.scopes.catches(from, block.shield, cancelled, moment)
 }

@@ -2,11 +2,13 @@ ghost use Rattle.std.specs.Prelude.{◌≡◌, ◌≤◌, OnOk, reverse};
 ghost use Rattle.std.specs.List.{list_any};
 ghost use Rattle.exc_groups.specs.Labels.{same_label};
 ghost use Rattle.job_meaning.specs.Walk.{from_for, with_own};
-ghost use Rattle.job_story.specs.Tell.{slept_since};
+ghost use Rattle.job_story.specs.Held.{during_of};
+ghost use Rattle.job_story.specs.Tell.{during_sleep};
 ghost use Rattle.moments.specs.Moments.{gives_up_at};
 
 use cancel_scopes::earlier;
 use exc_groups::Label;
+use job_story::During;
 use moments::Clock;
 use std::alloc::AllocError;
 
@@ -49,17 +51,17 @@ pub(crate) fn gives_up_at(clock: Clock, ticks: u64, moment: u64) -> u64
     }
 }
 
-// Returns since when a task slept that is cancelled in a sleep of `ticks` ticks, or `None` where that is a checkpoint.
-pub(crate) fn slept_since(ticks: u64, moment: u64) -> Option<u64>
-    ensures { result ≡ slept_since ticks moment }
+// Returns what a task does that is cancelled in a sleep of `ticks` ticks from a moment on. A sleep of no tick is a checkpoint.
+pub(crate) fn during_sleep(ticks: u64, moment: u64) -> During
+    ensures { during_of result ≡ during_sleep ticks moment }
 {
     match ticks {
-        0 => None,
-        _ => Some(moment),
+        0 => During::Checkpoint,
+        _ => During::Sleeping { since: moment },
     }
 }
 
-// Adds what a task cancels to what it has cancelled itself in this moment, where a tick has rounds.
+// Adds what a task cancels or sets to what it has cancelled or set itself in this moment, where a tick has rounds.
 pub(crate) fn add_own(
     clock: Clock,
     label: Option<Label>,

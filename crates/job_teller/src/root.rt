@@ -18,7 +18,7 @@ use moments::Clock;
 use std::alloc::{AllocError, Global};
 
 /// Returns the events of a job's run over an input, where `froms` maps each scope and nursery to the moment from which it is
-/// cancelled. What is called a tick of an event is its moment.
+/// cancelled, and each event to the moment from which it is set. What is called a tick of an event is its moment.
 ///
 /// The events are in the order of the walk and not sorted by moment: all events of a started task, from its start to its end, are
 /// at the point where the task was started. The input has at most `MAX_INPUT` bytes. The only error is a failed allocation.
@@ -33,7 +33,7 @@ pub fn tell<'a>(
         (story_by (table_in froms.now) job.now input.now)) }
 {
     let outside = Label::new(alloc, job.name());
-    let stack = Stack::Empty;
+    let nothing = Stack::Empty;
     let here = Here {
         alloc,
         clock: Clock::of(job.text_format()),
@@ -41,7 +41,8 @@ pub fn tell<'a>(
         part: Part::whole(input),
         task: &outside,
         place: &outside,
-        stack: &stack,
+        scopes: &nothing,
+        events: &nothing,
         in_cleanup: false,
     };
     let root = Label::new(alloc, job.name());

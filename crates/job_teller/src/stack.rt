@@ -1,30 +1,30 @@
 ghost use Rattle.std.specs.Prelude.{◌≡◌, Option, ◌&&◌, reverse};
-ghost use Rattle.std.specs.Option.{option_copied};
+ghost use Rattle.std.specs.Option.{option_copied, option_map};
 ghost use Rattle.cancel_scopes.specs.Sight.{sight, catches};
-ghost use Rattle.job_meaning.specs.Walk.{label_on, home_of, stack_for};
+ghost use Rattle.job_meaning.specs.Walk.{event_on, label_on, home_of, stack_for};
 ghost use Rattle.job_story.specs.Tell.{is_from, seer};
-ghost use Rattle.job_teller.specs.Stacks.{stack_of};
+ghost use Rattle.job_teller.specs.Stacks.{level_of, levels_of};
 
 use crate::own::from_for;
 use cancel_scopes::{earlier, is_reached};
 use exc_groups::Label;
 use job_tree::Name;
 
-/// An open scope or nursery.
+/// An open scope or nursery, or an event that encloses a task.
 #[derive(Drop)]
 pub struct Level {
     /// Its label.
     pub label: Label,
-    /// Whether it hides the cancellations of the levels that enclose it.
+    /// Whether it hides the cancellations of the levels that enclose it. An event does not.
     pub shield: bool,
-    /// The moment from which it is cancelled, or `None` for never.
+    /// The moment from which it is cancelled, or set if it is an event, or `None` for never.
     pub from: Option<u64>,
 }
 
-/// The scopes and nurseries that are open at a point of the walk, innermost first.
+/// The scopes and nurseries that are open at a point of the walk, innermost first. The events that enclose it are another stack.
 #[derive(Drop)]
 pub enum Stack<'s> {
-    /// No scope or nursery is open.
+    /// No level.
     Empty,
     /// The innermost level, and those that enclose it.
     Within(Level, &'s Stack<'s>),
@@ -34,7 +34,7 @@ impl<'s> Stack<'s> {
     // Returns the effective deadline (`sight`): the earliest moment from which a cancellation is seen inside this stack, or
     // `None` for never. Levels outside the first shielded one do not count.
     pub(crate) fn sight(&self) -> Option<u64>
-        ensures { result ≡ sight (stack_of self.now) }
+        ensures { result ≡ sight (levels_of self.now) }
     {
         match self {
             Stack::Empty => None,
@@ -45,7 +45,7 @@ impl<'s> Stack<'s> {
 
     // Returns the same for a task that has cancelled some labels itself in this moment.
     pub(crate) fn sight_for(&self, cancelled: &[Label], moment: u64) -> Option<u64>
-        ensures { result ≡ sight (stack_for (reverse cancelled.now) moment (stack_of self.now)) }
+        ensures { result ≡ sight (stack_for (reverse cancelled.now) moment (levels_of self.now)) }
     {
         match self {
             Stack::Empty => None,
@@ -61,7 +61,7 @@ impl<'s> Stack<'s> {
 
     // Returns the label of the innermost level, in which a task that starts here is started, or `None` for an empty stack.
     pub(crate) fn home(&self) -> Option<&Label>
-        ensures { option_copied result ≡ home_of (stack_of self.now) }
+        ensures { option_copied result ≡ home_of (levels_of self.now) }
     {
         match self {
             Stack::Empty => None,
@@ -71,7 +71,7 @@ impl<'s> Stack<'s> {
 
     // Returns the label of the innermost level of that name, if there is one.
     pub(crate) fn label_on(&self, name: &Name) -> Option<&Label>
-        ensures { option_copied result ≡ label_on name.now (stack_of self.now) }
+        ensures { option_copied result ≡ label_on name.now (levels_of self.now) }
     {
         match self {
             Stack::Empty => None,
@@ -80,10 +80,21 @@ impl<'s> Stack<'s> {
         }
     }
 
+    // Returns the innermost level of that name, if there is one.
+    pub(crate) fn level_on(&self, name: &Name) -> Option<&Level>
+        ensures { option_map level_of (option_copied result) ≡ event_on name.now (levels_of self.now) }
+    {
+        match self {
+            Stack::Empty => None,
+            Stack::Within(level, _) if *name == level.label.name() => Some(level),
+            Stack::Within(_, outer) => outer.level_on(name),
+        }
+    }
+
     // Returns the label of the innermost level that is cancelled from exactly that moment, if there is one. Levels outside the
     // first shielded one do not count.
     pub(crate) fn seer(&self, from: u64) -> Option<&Label>
-        ensures { option_copied result ≡ seer (stack_of self.now) from }
+        ensures { option_copied result ≡ seer (levels_of self.now) from }
     {
         match self {
             Stack::Empty => None,
@@ -103,7 +114,7 @@ impl<'s> Stack<'s> {
         cancelled: &[Label],
         moment: u64,
     ) -> bool
-        ensures { result ≡ catches from shield (stack_for (reverse cancelled.now) moment (stack_of self.now)) moment }
+        ensures { result ≡ catches from shield (stack_for (reverse cancelled.now) moment (levels_of self.now)) moment }
     {
         is_reached(from, moment)
             && (shield || !is_reached(self.sight_for(cancelled, moment), moment))

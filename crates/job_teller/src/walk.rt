@@ -5,9 +5,9 @@ ghost use Rattle.job_tree.specs.InRange.{AreInRange, IsInRangeStep, IsInRangeOve
 ghost use Rattle.job_tree.specs.Names.{copies_of, size_of, size_in, handled_size, cleaned_size};
 ghost use Rattle.block_exits.specs.Held.{kind_of};
 ghost use Rattle.job_story.specs.Story.{Tale};
-ghost use Rattle.job_story.specs.Tell.{tell, tell_step, tell_handler, tell_cleanup, tell_block, tell_each, tell_passes};
+ghost use Rattle.job_story.specs.Tell.{tell, tell_step, tell_handler, tell_cleanup, tell_block, tell_event, tell_each, tell_passes};
 ghost use Rattle.job_story.specs.declared.event.Event.{Event as HeldEvent};
-ghost use Rattle.job_teller.specs.Heres.{HasRoom, input_of, scene_of, scopes_of, table_of, inside, started_tale, started_over, started_by, pass};
+ghost use Rattle.job_teller.specs.Heres.{HasRoom, input_of, label_in, scene_of, scopes_of, stack_of, table_of, inside, inside_event, started_tale, started_over, started_by, pass};
 ghost use Rattle.job_teller.specs.Tales.{Tells, now_in};
 
 use crate::block::Block;
@@ -36,7 +36,7 @@ fn tell_steps<'a>(
     requires in_range { AreInRange (steps_of steps.now) }
     requires room { HasRoom (size_of (steps_of steps.now)) here moment }
     ensures { IfOk result (λ w. Tells here.entry.task.now progress.old.events.items w progress.new
-        (tell (table_of here.entry) (steps_of steps.now) (scene_of here.entry) (scopes_of here.entry) (now_in moment progress.old))) }
+        (tell (table_of here.entry) (steps_of steps.now) (scene_of here.entry) (stack_of here.entry) (now_in moment progress.old))) }
 {
     let mut told = Told::at(here.alloc, moment);
     'steps: for step in steps {
@@ -61,7 +61,7 @@ fn tell_step<'a>(
     requires in_range { IsInRangeStep (step_of step.now) }
     requires room { HasRoom (size_in (step_of step.now)) here moment }
     ensures { IfOk result (λ w. Tells here.entry.task.now progress.old.events.items w progress.new
-        (tell_step (table_of here.entry) (step_of step.now) (scene_of here.entry) (scopes_of here.entry) (now_in moment progress.old))) }
+        (tell_step (table_of here.entry) (step_of step.now) (scene_of here.entry) (stack_of here.entry) (now_in moment progress.old))) }
 {
     match step {
         Step::Scope {
@@ -89,6 +89,7 @@ fn tell_step<'a>(
             )?;
             tell_block(&block, body, here, moment, progress)
         }
+        Step::Event { name, body } => tell_event(name, body, here, moment, progress),
         Step::Start { name, over, body } => tell_start(name, *over, body, here, moment, progress),
         Step::Repeat { count, body } => tell_passes(*count, body, here, moment, progress),
         Step::Try {
@@ -151,9 +152,9 @@ fn tell_inside<'a>(
         shield: block.shield,
         from: block.from,
     };
-    let stack = Stack::Within(level, here.stack);
+    let scopes = Stack::Within(level, here.scopes);
     let within = Here {
-        stack: &stack,
+        scopes: &scopes,
         ..here
     };
     let told = tell_steps(body.as_slice(), within, moment, progress)?;
@@ -164,6 +165,35 @@ fn tell_inside<'a>(
             Ok(told)
         }
     }
+}
+
+// Walks an event that is entered in a moment. Nothing is told where its block ends.
+#[cycle(telling)]
+#[inline(never)]
+fn tell_event<'a>(
+    name: &Name,
+    body: &'a Body,
+    here: Here<'a, '_>,
+    moment: u64,
+    progress: &mut Progress,
+) -> Result<Told, AllocError>
+    requires in_range { AreInRange body.now }
+    requires room { HasRoom (size_of body.now) here moment }
+    ensures { IfOk result (λ w. Tells here.entry.task.now progress.old.events.items w progress.new
+        (tell_event (table_of here.entry) (label_in name.now here.entry) moment
+        (inside_event (label_in name.now here.entry) body.now here.entry (now_in moment progress.old)))) }
+{
+    let event = here.event(*name)?;
+    let label = event.label.copy(here.alloc)?;
+    let what = Happening::EntersEvent { label };
+    note(here, moment, what, &mut progress.events)?;
+    let events = Stack::Within(event, here.events);
+    let within = Here {
+        events: &events,
+        ..here
+    };
+    let told = tell_steps(body.as_slice(), within, moment, progress)?;
+    Ok(told)
 }
 
 // Walks what a `start` starts: one task on the whole part, or one on each cut of it. They begin a round later.
@@ -321,9 +351,9 @@ fn tell_try<'a>(
     requires in_range_cleanup { IsInRangeCleanup (cleaned_of cleanup.now) }
     requires room { HasRoom (size_of body.now + handled_size (handled_of handler.now) + cleaned_size (cleaned_of cleanup.now)) here moment }
     ensures { IfOk result (λ w. Tells here.entry.task.now progress.old.events.items w progress.new
-        (tell_cleanup (table_of here.entry) (cleaned_of cleanup.now) (scene_of here.entry) (scopes_of here.entry)
-        (tell_handler (table_of here.entry) (handled_of handler.now) (scene_of here.entry) (scopes_of here.entry)
-        (tell (table_of here.entry) body.now (scene_of here.entry) (scopes_of here.entry) (now_in moment progress.old))))) }
+        (tell_cleanup (table_of here.entry) (cleaned_of cleanup.now) (scene_of here.entry) (stack_of here.entry)
+        (tell_handler (table_of here.entry) (handled_of handler.now) (scene_of here.entry) (stack_of here.entry)
+        (tell (table_of here.entry) body.now (scene_of here.entry) (stack_of here.entry) (now_in moment progress.old))))) }
 {
     let told = tell_steps(body.as_slice(), here, moment, progress)?;
     let told = tell_handler(handler, told, here, progress)?;
@@ -344,7 +374,7 @@ fn tell_handler<'a>(
     requires room { HasRoom (handled_size (handled_of handler.now)) here told.end }
     ensures { IfOk result (λ w. (start : List HeldEvent) (a : Tale) → Tells here.entry.task.now start told progress.old a
         → Tells here.entry.task.now start w progress.new
-        (tell_handler (table_of here.entry) (handled_of handler.now) (scene_of here.entry) (scopes_of here.entry) a)) }
+        (tell_handler (table_of here.entry) (handled_of handler.now) (scene_of here.entry) (stack_of here.entry) a)) }
 {
     let Some(handler) = handler else {
         return Ok(told);
@@ -381,7 +411,7 @@ fn tell_cleanup<'a>(
     requires room { HasRoom (cleaned_size (cleaned_of cleanup.now)) here told.end }
     ensures { IfOk result (λ w. (start : List HeldEvent) (a : Tale) → Tells here.entry.task.now start told progress.old a
         → Tells here.entry.task.now start w progress.new
-        (tell_cleanup (table_of here.entry) (cleaned_of cleanup.now) (scene_of here.entry) (scopes_of here.entry) a)) }
+        (tell_cleanup (table_of here.entry) (cleaned_of cleanup.now) (scene_of here.entry) (stack_of here.entry) a)) }
 {
     let Some(cleanup) = cleanup else {
         return Ok(told);

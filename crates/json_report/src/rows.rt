@@ -3,7 +3,7 @@ ghost use Rattle.serde_json.specs.Data.{Members, member};
 ghost use Rattle.serde_json.specs.View.{view};
 ghost use Rattle.serde_json.specs.Written.{compact_text, members_text};
 ghost use Rattle.buffer_parts.specs.Part.{span_of, line_text};
-ghost use Rattle.job_meaning.specs.Shown.{line_shown, scope_shown, nursery_shown};
+ghost use Rattle.job_meaning.specs.Shown.{line_shown, scope_shown, nursery_shown, wait_shown};
 ghost use Rattle.task_machine.specs.Noted.{entry_of};
 ghost use Rattle.task_table.specs.Records.{ending_in, row_in};
 ghost use Rattle.json_report.specs.Values.{entry_json, exception_json, list_of, outcome_json, row_json, word};
@@ -35,6 +35,7 @@ fn push_entry(alloc: Global, out: &mut Vec<u8>, entry: &Entry<'_>) -> Result<(),
             tick,
             caught,
         } => push_nursery(alloc, out, label, *tick, *caught),
+        Entry::Wait { label, tick } => push_wait(alloc, out, label, *tick),
     }
 }
 
@@ -93,6 +94,22 @@ fn push_nursery(
     ensures { OnOk result (out.new.items ≡ out.old.items ++ compact_text (entry_json (nursery_shown label.now tick caught))) }
 {
     let value = nursery_value(alloc, label, tick, caught)?;
+    push_value(alloc, out, &value)
+}
+
+// Returns an event that a task waited for as a JSON object.
+fn wait_value(alloc: Global, label: &Label, tick: u64) -> Result<Value, AllocError>
+    ensures { IfOk result (λ value. view value ≡ entry_json (wait_shown label.now tick)) }
+{
+    let event = label_value(alloc, label)?;
+    json!(in alloc; {"tick": tick, "wait": event})
+}
+
+// Appends an event that a task waited for as a JSON object.
+fn push_wait(alloc: Global, out: &mut Vec<u8>, label: &Label, tick: u64) -> Result<(), AllocError>
+    ensures { OnOk result (out.new.items ≡ out.old.items ++ compact_text (entry_json (wait_shown label.now tick))) }
+{
+    let value = wait_value(alloc, label, tick)?;
     push_value(alloc, out, &value)
 }
 

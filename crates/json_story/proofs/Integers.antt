@@ -11,13 +11,13 @@ use Rattle.exc_groups.specs.Exceptions.{Label, Exc}
 use Rattle.cancel_scopes.specs.Sight.{Tick}
 use Rattle.job_meaning.specs.Log.{Table}
 use Rattle.job_meaning.specs.Moments.{Clock, tick_of}
-use Rattle.job_story.specs.Story.{Happening, enters, sleeps, is_cancelled, finds, misses, raises, cancels, handles, cleans, replaces, waits, leaves}
+use Rattle.job_story.specs.Story.{During, at_checkpoint, sleeping, waiting_for, Happening, enters, enters_event, sleeps, is_cancelled, finds, misses, raises, cancels, sets, awaits, was_set, handles, cleans, replaces, waits, leaves}
 use Rattle.job_story.specs.Events.{What, starts, happens, ends, Event}
 use Rattle.job_story.specs.Limit.{running_in, last_event}
-use Rattle.job_story.specs.Causes.{Cause, by_deadline, by_task, by_failure, by_cancellation, cause_of}
+use Rattle.job_story.specs.Causes.{Cause, by_deadline, by_task, by_set, by_failure, by_cancellation, cause_of}
 use Rattle.json_report.specs.Values.{integer, word, list_of, text_json, label_json, exc_json}
 use Rattle.json_report.proofs.Integers.{exc_without_float}
-use Rattle.json_story.specs.Events.{tick_json, moment_json, label_or_null, exc_or_null, cause_json, why_json, cancel_from, failure_from, kind_key, span_json, with_happening, with_what, event_head, event_json}
+use Rattle.json_story.specs.Events.{tick_json, moment_json, label_or_null, exc_or_null, cause_json, why_json, cancel_from, failure_from, kind_key, span_json, with_during, with_happening, with_what, event_head, event_json}
 use Rattle.json_story.specs.Running.{with_idle, with_doing, with_last, task_json}
 use Rattle.json_story.specs.Stories.{running_json}
 
@@ -78,6 +78,7 @@ cause_has_none : (clock : Clock) (c : Option Cause) → has_float (cause_json cl
 cause_has_none clock None = refl
 cause_has_none clock (Some by_deadline) = refl
 cause_has_none clock (Some (by_task task t)) = refl
+cause_has_none clock (Some (by_set task t)) = refl
 cause_has_none clock (Some (by_failure task t)) = refl
 cause_has_none clock (Some (by_cancellation task t)) = refl
 
@@ -91,18 +92,28 @@ spans_have_none (s ∷ ss) = spans_have_none ss
 
 -- ---- events
 
+during_has_none : (clock : Clock) (d : During) (ms : Members) → members_have_float ms ≡ false →
+    members_have_float (with_during clock d ms) ≡ false
+during_has_none clock at_checkpoint ms hm = with_put (codes "since") null ms refl hm
+during_has_none clock (sleeping since) ms hm = with_put (codes "since") (integer (tick_of clock since)) ms refl hm
+during_has_none clock (waiting_for event since) ms hm =
+    put_two (codes "waiting_for") (codes "since") (label_json event) (integer (tick_of clock since)) ms refl refl hm
+
 happening_has_none : (clock : Clock) (table : Table) (es : List Event) (t : ℕ) (h : Happening) (ms : Members) →
     members_have_float ms ≡ false →
     members_have_float (with_happening clock table es t h ms) ≡ false
 happening_has_none clock table es t (enters kind label deadline shield) ms hm =
     put_three (codes "shield") (codes "deadline") (kind_key kind) (boolean shield) (moment_json clock deadline) (label_json label) ms refl
     (moment_has_none clock deadline) refl hm
+happening_has_none clock table es t (enters_event label) ms hm = with_put (codes "label") (label_json label) ms refl hm
 happening_has_none clock table es t (sleeps until) ms hm =
     with_put (codes "until") (moment_json clock until) ms (moment_has_none clock until) hm
-happening_has_none clock table es t (is_cancelled by since in_cleanup) ms hm =
-    put_four (codes "in_cleanup") (codes "since") (codes "why") (codes "by") (boolean in_cleanup) (moment_json clock since)
-    (why_json clock table es by) (label_or_null by) ms refl (moment_has_none clock since)
-    (why_has_none clock table es by) (label_has_none by) hm
+happening_has_none clock table es t (is_cancelled by during in_cleanup) ms hm =
+    let by_whom = put (codes "why") (why_json clock table es by) (put (codes "by") (label_or_null by) ms) in
+    with_put (codes "in_cleanup") (boolean in_cleanup) (with_during clock during by_whom) refl
+    (during_has_none clock during by_whom
+    (put_two (codes "why") (codes "by") (why_json clock table es by) (label_or_null by) ms (why_has_none clock table es by)
+    (label_has_none by) hm))
 happening_has_none clock table es t (finds lines) ms hm =
     with_put (codes "lines") (list_of (map span_json lines)) ms (spans_have_none lines) hm
 happening_has_none clock table es t (misses name) ms hm = with_put (codes "name") (text_json name) ms refl hm
@@ -110,6 +121,11 @@ happening_has_none clock table es t (raises name) ms hm = with_put (codes "name"
 happening_has_none clock table es t (cancels label) ms hm =
     put_two (codes "from") (codes "label") (moment_json clock (cancel_from table label t)) (label_or_null label) ms
     (moment_has_none clock (cancel_from table label t)) (label_has_none label) hm
+happening_has_none clock table es t (sets label) ms hm =
+    put_two (codes "from") (codes "label") (moment_json clock (cancel_from table label t)) (label_or_null label) ms
+    (moment_has_none clock (cancel_from table label t)) (label_has_none label) hm
+happening_has_none clock table es t (awaits event) ms hm = with_put (codes "label") (label_json event) ms refl hm
+happening_has_none clock table es t (was_set event) ms hm = with_put (codes "label") (label_json event) ms refl hm
 happening_has_none clock table es t (handles matched rest) ms hm =
     put_two (codes "rest") (codes "matched") (exc_or_null rest) (exc_json matched) ms (exc_has_none rest) (exc_without_float matched) hm
 happening_has_none clock table es t (cleans exc) ms hm = with_put (codes "exception") (exc_or_null exc) ms (exc_has_none exc) hm
@@ -141,14 +157,20 @@ idle_has_none ms hm = with_put (codes "doing") null ms refl hm
 doing_in_has_none : (clock : Clock) (t : ℕ) (h : Happening) (ms : Members) → members_have_float ms ≡ false →
     members_have_float (with_doing clock t (happens h) ms) ≡ false
 doing_in_has_none clock t (enters kind label deadline shield) ms hm = idle_has_none ms hm
+doing_in_has_none clock t (enters_event label) ms hm = idle_has_none ms hm
 doing_in_has_none clock t (sleeps until) ms hm =
     put_three (codes "until") (codes "since") (codes "doing") (moment_json clock until) (integer (tick_of clock t))
     (word (codes "sleeping")) ms (moment_has_none clock until) refl refl hm
-doing_in_has_none clock t (is_cancelled by since in_cleanup) ms hm = idle_has_none ms hm
+doing_in_has_none clock t (is_cancelled by during in_cleanup) ms hm = idle_has_none ms hm
 doing_in_has_none clock t (finds lines) ms hm = idle_has_none ms hm
 doing_in_has_none clock t (misses name) ms hm = idle_has_none ms hm
 doing_in_has_none clock t (raises name) ms hm = idle_has_none ms hm
 doing_in_has_none clock t (cancels label) ms hm = idle_has_none ms hm
+doing_in_has_none clock t (sets label) ms hm = idle_has_none ms hm
+doing_in_has_none clock t (awaits event) ms hm =
+    put_three (codes "event") (codes "since") (codes "doing") (label_json event) (integer (tick_of clock t)) (word (codes "waiting")) ms
+    refl refl refl hm
+doing_in_has_none clock t (was_set event) ms hm = idle_has_none ms hm
 doing_in_has_none clock t (handles matched rest) ms hm = idle_has_none ms hm
 doing_in_has_none clock t (cleans exc) ms hm = idle_has_none ms hm
 doing_in_has_none clock t (replaces lost fresh) ms hm = idle_has_none ms hm

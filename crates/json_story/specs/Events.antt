@@ -8,10 +8,10 @@ use Rattle.cancel_scopes.specs.Sight.{Tick}
 use Rattle.job_meaning.specs.Log.{Table}
 use Rattle.job_meaning.specs.Moments.{Clock, tick_of}
 use Rattle.job_meaning.specs.Walk.{Kind, a_scope, a_nursery}
-use Rattle.job_story.specs.Story.{Happening, enters, sleeps, is_cancelled, finds, misses, raises, cancels, handles, cleans, replaces, waits, leaves}
+use Rattle.job_story.specs.Story.{During, at_checkpoint, sleeping, waiting_for, Happening, enters, enters_event, sleeps, is_cancelled, finds, misses, raises, cancels, sets, awaits, was_set, handles, cleans, replaces, waits, leaves}
 use Rattle.job_story.specs.Tell.{is_from}
 use Rattle.job_story.specs.Events.{What, starts, happens, ends, Event}
-use Rattle.job_story.specs.Causes.{Cause, by_deadline, by_task, by_failure, by_cancellation, cause_of}
+use Rattle.job_story.specs.Causes.{Cause, by_deadline, by_task, by_set, by_failure, by_cancellation, cause_of}
 use Rattle.json_report.specs.Values.{integer, word, list_of, text_json, label_json, exc_json}
 
 -- ---- values that may be none
@@ -33,7 +33,7 @@ abbrev pub exc_or_null : Option Exc → Data
 exc_or_null None = null
 exc_or_null (Some e) = exc_json e
 
--- ---- why a scope or nursery is cancelled
+-- ---- why a scope or nursery is cancelled, or an event is set
 
 -- `{"cause":WORD,"task":LABEL,"tick":T}`: what a task did
 abbrev pub act_json : List ℕ → Label → ℕ → Data
@@ -44,6 +44,7 @@ abbrev pub cause_json : Clock → Option Cause → Data
 cause_json clock None = null
 cause_json clock (Some by_deadline) = object (put (codes "cause") (word (codes "deadline")) no_members)
 cause_json clock (Some (by_task task t)) = act_json (codes "cancel") task (tick_of clock t)
+cause_json clock (Some (by_set task t)) = act_json (codes "set") task (tick_of clock t)
 cause_json clock (Some (by_failure task t)) = act_json (codes "failure") task (tick_of clock t)
 cause_json clock (Some (by_cancellation task t)) = act_json (codes "cancellation") task (tick_of clock t)
 
@@ -51,9 +52,9 @@ abbrev pub why_json : Clock → Table → List Event → Option Label → Data
 why_json clock table es None = null
 why_json clock table es (Some l) = cause_json clock (cause_of table es l)
 
--- ---- from which moment something is cancelled
+-- ---- from which moment something is cancelled, or set
 
--- the next moment, if a label is cancelled from then on
+-- the next moment, if a label is cancelled or set from then on
 abbrev pub next_if : Tick → ℕ → Tick
 next_if from t = if is_from from (t + 1) then Some (t + 1) else None
 
@@ -78,31 +79,47 @@ span_json line = object (put (codes "length") (integer line.len) (put (codes "at
 
 abbrev pub happening_word : Happening → List ℕ
 happening_word (enters kind label deadline shield) = codes "enters"
+happening_word (enters_event label) = codes "enters_event"
 happening_word (sleeps until) = codes "sleeps"
-happening_word (is_cancelled by since in_cleanup) = codes "cancelled"
+happening_word (is_cancelled by during in_cleanup) = codes "cancelled"
 happening_word (finds lines) = codes "finds"
 happening_word (misses name) = codes "misses"
 happening_word (raises name) = codes "raises"
 happening_word (cancels label) = codes "cancels"
+happening_word (sets label) = codes "sets"
+happening_word (awaits event) = codes "waits_for_event"
+happening_word (was_set event) = codes "goes_on"
 happening_word (handles matched rest) = codes "handles"
 happening_word (cleans exc) = codes "cleanup"
 happening_word (replaces lost fresh) = codes "replaces"
 happening_word (waits nursery exc) = codes "waits"
 happening_word (leaves kind label inside caught outside) = codes "leaves"
 
+-- since when a task slept or waited that is cancelled, or null at a checkpoint; and for which event it waited, if for one
+abbrev pub with_during : Clock → During → Members → Members
+with_during clock at_checkpoint ms = put (codes "since") null ms
+with_during clock (sleeping since) ms = put (codes "since") (integer (tick_of clock since)) ms
+with_during clock (waiting_for event since) ms =
+    put (codes "waiting_for") (label_json event) (put (codes "since") (integer (tick_of clock since)) ms)
+
 -- the data of what happens in a moment, added to the members that are there
 abbrev pub with_happening : Clock → Table → List Event → ℕ → Happening → Members → Members
 with_happening clock table es t (enters kind label deadline shield) ms =
     put (codes "shield") (boolean shield) (put (codes "deadline") (moment_json clock deadline) (put (kind_key kind) (label_json label) ms))
+with_happening clock table es t (enters_event label) ms = put (codes "label") (label_json label) ms
 with_happening clock table es t (sleeps until) ms = put (codes "until") (moment_json clock until) ms
-with_happening clock table es t (is_cancelled by since in_cleanup) ms =
-    put (codes "in_cleanup") (boolean in_cleanup) (put (codes "since") (moment_json clock since)
+with_happening clock table es t (is_cancelled by during in_cleanup) ms =
+    put (codes "in_cleanup") (boolean in_cleanup) (with_during clock during
     (put (codes "why") (why_json clock table es by) (put (codes "by") (label_or_null by) ms)))
 with_happening clock table es t (finds lines) ms = put (codes "lines") (list_of (map span_json lines)) ms
 with_happening clock table es t (misses name) ms = put (codes "name") (text_json name) ms
 with_happening clock table es t (raises name) ms = put (codes "name") (text_json name) ms
 with_happening clock table es t (cancels label) ms =
     put (codes "from") (moment_json clock (cancel_from table label t)) (put (codes "label") (label_or_null label) ms)
+with_happening clock table es t (sets label) ms =
+    put (codes "from") (moment_json clock (cancel_from table label t)) (put (codes "label") (label_or_null label) ms)
+with_happening clock table es t (awaits event) ms = put (codes "label") (label_json event) ms
+with_happening clock table es t (was_set event) ms = put (codes "label") (label_json event) ms
 with_happening clock table es t (handles matched rest) ms =
     put (codes "rest") (exc_or_null rest) (put (codes "matched") (exc_json matched) ms)
 with_happening clock table es t (cleans exc) ms = put (codes "exception") (exc_or_null exc) ms

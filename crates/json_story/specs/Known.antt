@@ -15,6 +15,6 @@ clock_in known = known.clock
 abbrev pub events_in : Known → List told.Event
 events_in known = map event_in known.events.now
 
--- the moment from which each label is cancelled
+-- the moment from which each label is cancelled, or set
 abbrev pub froms_in : Known → Table
 froms_in known = table_in known.froms.now

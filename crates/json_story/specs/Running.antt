@@ -3,7 +3,7 @@ use Rattle.std.specs.Prelude.{ℕ, Option, Some, None, List, codes}
 use Rattle.serde_json.specs.Data.{Data, null, object, Members, no_members, put}
 use Rattle.exc_groups.specs.Exceptions.{Label}
 use Rattle.job_meaning.specs.Moments.{Clock, tick_of}
-use Rattle.job_story.specs.Story.{sleeps, waits}
+use Rattle.job_story.specs.Story.{sleeps, awaits, waits}
 use Rattle.job_story.specs.Events.{What, happens, Event}
 use Rattle.json_report.specs.Values.{integer, word, label_json}
 use Rattle.json_story.specs.Events.{moment_json}
@@ -13,13 +13,16 @@ use Rattle.job_story.specs.Limit.{last_event}
 abbrev pub with_idle : Members → Members
 with_idle ms = put (codes "doing") null ms
 
--- what a task is doing after this has happened in a moment: it sleeps, or waits for a nursery
+-- what a task is doing after this has happened in a moment: it sleeps, or waits for a nursery or an event
 abbrev pub with_doing : Clock → ℕ → What → Members → Members
 with_doing clock t (happens (sleeps until)) ms =
     put (codes "until") (moment_json clock until) (put (codes "since") (integer (tick_of clock t))
     (put (codes "doing") (word (codes "sleeping")) ms))
 with_doing clock t (happens (waits nursery exc)) ms =
     put (codes "nursery") (label_json nursery) (put (codes "since") (integer (tick_of clock t))
+    (put (codes "doing") (word (codes "waiting")) ms))
+with_doing clock t (happens (awaits event)) ms =
+    put (codes "event") (label_json event) (put (codes "since") (integer (tick_of clock t))
     (put (codes "doing") (word (codes "waiting")) ms))
 with_doing clock t _ ms = with_idle ms
 

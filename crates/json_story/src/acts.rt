@@ -12,7 +12,7 @@ use serde_json::{Value, json};
 use std::alloc::{AllocError, Global};
 use story_causes::Cause;
 
-// Returns why a scope or nursery is cancelled, or `null`.
+// Returns why a scope or nursery is cancelled, or an event of the job set, or `null`.
 pub(crate) fn why_value(
     alloc: Global,
     known: &Known<'_, '_>,
@@ -36,6 +36,7 @@ fn cause_value(alloc: Global, clock: Clock, cause: &Cause<'_>) -> Result<Value, 
     match cause {
         Cause::Deadline => json!(in alloc; {"cause": "deadline"}),
         Cause::Task { task, tick } => act_value(alloc, "cancel", task, clock.tick_of(*tick)),
+        Cause::Set { task, tick } => act_value(alloc, "set", task, clock.tick_of(*tick)),
         Cause::Failure { task, tick } => act_value(alloc, "failure", task, clock.tick_of(*tick)),
         Cause::Cancellation { task, tick } => act_value(
             alloc,

@@ -3,16 +3,17 @@ ghost use Rattle.serde_json.specs.Data.{boolean, put as with_member};
 ghost use Rattle.serde_json.specs.View.{view, members_view};
 ghost use Rattle.exc_groups.specs.Held.{exc_of};
 ghost use Rattle.block_exits.specs.Held.{kind_of};
-ghost use Rattle.job_story.specs.Held.{unboxed_exc, span_in, happening_of};
-ghost use Rattle.json_report.specs.Values.{list_of, label_json, exc_json};
-ghost use Rattle.json_story.specs.Events.{moment_json, label_or_null, exc_or_null, why_json, cancel_from, failure_from, kind_key, span_json, happening_word, with_happening};
+ghost use Rattle.job_story.specs.Held.{unboxed_exc, during_of, span_in, happening_of};
+ghost use Rattle.json_report.specs.Values.{integer, list_of, label_json, exc_json};
+ghost use Rattle.moments.specs.Moments.{tick_of};
+ghost use Rattle.json_story.specs.Events.{moment_json, label_or_null, exc_or_null, why_json, cancel_from, failure_from, kind_key, span_json, happening_word, with_during, with_happening};
 ghost use Rattle.json_story.specs.Known.{clock_in, events_in, froms_in};
 
 use crate::acts::why_value;
 use crate::known::Known;
 use crate::optional::{exc_or_null, label_or_null, moment_value};
 use exc_groups::{Exc, Label};
-use job_story::{Happening, Kind, Span};
+use job_story::{During, Happening, Kind, Span};
 use json_report::{exc_value, label_value, text_value};
 use moments::Clock;
 use serde_json::{Map, Value, json, put};
@@ -24,12 +25,16 @@ pub(crate) fn happening_word(happening: &Happening) -> &'static str
 {
     match happening {
         Happening::Enters { .. } => "enters",
+        Happening::EntersEvent { .. } => "enters_event",
         Happening::Sleeps { .. } => "sleeps",
         Happening::IsCancelled { .. } => "cancelled",
         Happening::Finds { .. } => "finds",
         Happening::Misses { .. } => "misses",
         Happening::Raises { .. } => "raises",
         Happening::Cancels { .. } => "cancels",
+        Happening::Sets { .. } => "sets",
+        Happening::Awaits { .. } => "waits_for_event",
+        Happening::WasSet { .. } => "goes_on",
         Happening::Handles { .. } => "handles",
         Happening::Cleans { .. } => "cleanup",
         Happening::Replaces { .. } => "replaces",
@@ -65,20 +70,26 @@ pub(crate) fn put_happening(
             *deadline,
             *shield,
         ),
+        Happening::EntersEvent { label } => put_label(members, alloc, label),
         Happening::Sleeps { until } => {
             put(members, alloc, "until", moment_value(known.clock, *until))
         }
         Happening::IsCancelled {
             by,
-            since,
+            during,
             in_cleanup,
-        } => put_cancelled(members, alloc, known, by, *since, *in_cleanup),
+        } => put_cancelled(members, alloc, known, by, during, *in_cleanup),
         Happening::Finds { lines } => put_lines(members, alloc, lines.as_slice()),
         Happening::Misses { name } | Happening::Raises { name } => {
             let text = text_value(alloc, name.bytes())?;
             put(members, alloc, "name", text)
         }
-        Happening::Cancels { label } => put_cancels(members, alloc, known, label, moment),
+        Happening::Cancels { label } | Happening::Sets { label } => {
+            put_cancels(members, alloc, known, label, moment)
+        }
+        Happening::Awaits { event } | Happening::WasSet { event } => {
+            put_label(members, alloc, event)
+        }
         Happening::Handles { matched, rest } => put_handles(members, alloc, matched, rest),
         Happening::Cleans { exc } => {
             let exception = exc_or_null(alloc, exc)?;
@@ -135,18 +146,18 @@ fn put_enters(
     put(members, alloc, "shield", Value::Bool(shield))
 }
 
-// Adds by which scope or nursery a task is cancelled, why that is, since when the task slept, and whether it
-// was in a cleanup.
+// Adds by which scope or nursery a task is cancelled, why that is, what the task did, and whether it was in a
+// cleanup.
 fn put_cancelled(
     members: &mut Map<String, Value>,
     alloc: Global,
     known: &Known<'_, '_>,
     by: &Option<Label>,
-    since: Option<u64>,
+    during: &During,
     in_cleanup: bool,
 ) -> Result<(), AllocError>
     ensures { OnOk result (members_view members.new.entries ≡ with_member (codes "in_cleanup") (boolean in_cleanup)
-        (with_member (codes "since") (moment_json (clock_in known.now) since)
+        (with_during (clock_in known.now) (during_of during.now)
         (with_member (codes "why") (why_json (clock_in known.now) (froms_in known.now) (events_in known.now) by.now)
         (with_member (codes "by") (label_or_null by.now) (members_view members.old.entries))))) }
 {
@@ -154,8 +165,67 @@ fn put_cancelled(
     put(members, alloc, "by", label)?;
     let why = why_value(alloc, known, by)?;
     put(members, alloc, "why", why)?;
-    put(members, alloc, "since", moment_value(known.clock, since))?;
+    put_during(members, alloc, known.clock, during)?;
     put(members, alloc, "in_cleanup", Value::Bool(in_cleanup))
+}
+
+// Adds since when a task slept or waited that is cancelled, and for which event it waited, if for one.
+fn put_during(
+    members: &mut Map<String, Value>,
+    alloc: Global,
+    clock: Clock,
+    during: &During,
+) -> Result<(), AllocError>
+    ensures { OnOk result (members_view members.new.entries
+        ≡ with_during clock (during_of during.now) (members_view members.old.entries)) }
+{
+    match during {
+        During::Checkpoint => put(members, alloc, "since", Value::Null),
+        During::Sleeping { since } => put_since(members, alloc, clock, *since),
+        During::Waiting { event, since } => put_waiting(members, alloc, clock, event, *since),
+    }
+}
+
+// Adds since when a task waited for an event, and for which one.
+fn put_waiting(
+    members: &mut Map<String, Value>,
+    alloc: Global,
+    clock: Clock,
+    event: &Label,
+    since: u64,
+) -> Result<(), AllocError>
+    ensures { OnOk result (members_view members.new.entries ≡ with_member (codes "waiting_for") (label_json event.now)
+        (with_member (codes "since") (integer (tick_of clock since)) (members_view members.old.entries))) }
+{
+    put_since(members, alloc, clock, since)?;
+    let label = label_value(alloc, event)?;
+    put(members, alloc, "waiting_for", label)
+}
+
+// Adds since when a task did something.
+fn put_since(
+    members: &mut Map<String, Value>,
+    alloc: Global,
+    clock: Clock,
+    since: u64,
+) -> Result<(), AllocError>
+    ensures { OnOk result (members_view members.new.entries
+        ≡ with_member (codes "since") (integer (tick_of clock since)) (members_view members.old.entries)) }
+{
+    put(members, alloc, "since", Value::from(clock.tick_of(since)))
+}
+
+// Adds the label of an event of the job.
+fn put_label(
+    members: &mut Map<String, Value>,
+    alloc: Global,
+    label: &Label,
+) -> Result<(), AllocError>
+    ensures { OnOk result (members_view members.new.entries
+        ≡ with_member (codes "label") (label_json label.now) (members_view members.old.entries)) }
+{
+    let text = label_value(alloc, label)?;
+    put(members, alloc, "label", text)
 }
 
 // Adds the places of the lines that a kernel answered. The event itself is written by `push_found`, without values.
@@ -190,7 +260,7 @@ fn span_value(alloc: Global, line: Span) -> Result<Value, AllocError>
     json!(in alloc; {"at": line.at, "length": line.len})
 }
 
-// Adds what a task cancels, and from which tick on, unless that is cancelled already.
+// Adds what a task cancels or sets, and from which tick on, unless that is cancelled or set already.
 fn put_cancels(
     members: &mut Map<String, Value>,
     alloc: Global,

@@ -7,8 +7,8 @@ use job_story::{Event, Froms};
 use moments::Clock;
 use story_causes::Causes;
 
-// The clock of a story's moments, its events in order, the moment from which each scope and nursery is cancelled, and an index
-// of both.
+// The clock of a story's moments, its events in order, the moment from which each scope and nursery is cancelled, or
+// an event of the job set, and an index of both.
 #[derive(Drop)]
 pub(crate) struct Known<'k, 'e> {
     pub clock: Clock,

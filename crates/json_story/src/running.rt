@@ -89,7 +89,7 @@ fn put_last(
     }
 }
 
-// Adds what a task is doing after an event: it sleeps, or it waits for a nursery.
+// Adds what a task is doing after an event: it sleeps, or it waits for a nursery or an event of the job.
 fn put_doing(
     members: &mut Map<String, Value>,
     alloc: Global,
@@ -127,6 +127,11 @@ fn put_doing_in(
             put_state(members, alloc, "waiting", clock.tick_of(moment))?;
             let label = label_value(alloc, nursery)?;
             put(members, alloc, "nursery", label)
+        }
+        Happening::Awaits { event } => {
+            put_state(members, alloc, "waiting", clock.tick_of(moment))?;
+            let label = label_value(alloc, event)?;
+            put(members, alloc, "event", label)
         }
         _ => put_idle(members, alloc),
     }

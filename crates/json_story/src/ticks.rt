@@ -36,14 +36,14 @@ impl<'k, 'e> Known<'k, 'e> {
         }
     }
 
-    // Returns why a scope or nursery is cancelled, or `None` if it never is.
+    // Returns why a scope or nursery is cancelled, or an event of the job set, or `None` if it never is.
     pub(crate) fn cause(&self, label: &Label) -> Option<Cause<'e>>
         ensures { option_map cause_in_code result ≡ cause_of (froms_in self.now) (events_in self.now) label.now }
     {
         self.causes.cause(label)
     }
 
-    // Returns the moment after this one, if a scope or nursery is cancelled from then on.
+    // Returns the moment after this one, if a scope or nursery is cancelled, or an event set, from then on.
     pub(crate) fn cancel_from(&self, label: &Option<Label>, moment: u64) -> Option<u64>
         ensures { result ≡ cancel_from (froms_in self.now) label.now moment }
     {

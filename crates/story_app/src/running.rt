@@ -64,7 +64,13 @@ fn running_of<R: Threads + Sync, P: Pick, G: Gate + Sync>(
                 Some(settings.limit()),
             )?;
             let sorted = in_order(alloc, walked.as_slice())?;
-            let lines = running_text(alloc, meaning.clock, sorted.as_slice(), walked.as_slice())?;
+            let lines = running_text(
+                alloc,
+                meaning.clock,
+                &meaning.table,
+                sorted.as_slice(),
+                walked.as_slice(),
+            )?;
             Ok(lines)
         }
     }

@@ -9,21 +9,22 @@ use Rattle.job_story.specs.Tell.{is_from}
 use Rattle.job_story.specs.Causes as why
 use Rattle.story_causes.specs.declared.causes.Entering.{Entering}
 use Rattle.story_causes.specs.declared.sign.Cause.{Cause}
-use Rattle.story_causes.specs.declared.sign.Cause.TheVariants.{Deadline, Task, Failure, Cancellation}
+use Rattle.story_causes.specs.declared.sign.Cause.TheVariants.{Deadline, Task, Set, Failure, Cancellation}
 use Rattle.story_causes.specs.declared.sign.Sign.{Sign}
 
 -- how a scope or nursery was entered
 abbrev pub entering_in_code : Entering → why.Entering
 entering_in_code e = record { kind = kind_of e.kind; deadline = e.deadline }
 
--- why a scope or nursery is cancelled
+-- why a scope or nursery is cancelled, or an event is set
 abbrev pub cause_in_code : Cause → why.Cause
 cause_in_code Deadline = why.by_deadline
 cause_in_code (Task task tick) = why.by_task task.now tick
+cause_in_code (Set task tick) = why.by_set task.now tick
 cause_in_code (Failure task tick) = why.by_failure task.now tick
 cause_in_code (Cancellation task tick) = why.by_cancellation task.now tick
 
--- the cause that a sign is for the cancellation of a label, if it is one
+-- the cause that a sign is for the cancellation of a label, or for its being set, if it is one
 abbrev pub sign_at : Label → Option Sign → Option why.Cause
 sign_at l None = None
 sign_at l (Some sign) = if same_label l sign.label.now then Some (cause_in_code sign.cause) else None

@@ -25,25 +25,26 @@ pub struct Entering {
     pub deadline: Option<u64>,
 }
 
-/// An index over the events of a story, which says how each scope and nursery was first entered, and why it is cancelled. Each answer
-/// takes constant time. It borrows the events and the table, and copies no label.
+/// An index over the events of a story, which says how each scope and nursery was first entered, why it is cancelled, and why each event
+/// of the job is set. Each answer takes constant time. It borrows the events and the table, and copies no label.
 #[derive(Drop)]
 pub struct Causes<'e> {
-    // The moment from which each label is cancelled.
+    // The moment from which each label is cancelled, or set.
     froms: &'e Froms,
     // How each label was first entered.
     entered: IndexMap<&'e Label, Entering>,
-    // Why each label is cancelled, if not by its deadline: the first event that cancelled it, in the moment before the one from which it
-    // is cancelled.
+    // Why each label is cancelled, if not by its deadline, or set: the first event that cancelled or set it, in the moment before the one
+    // from which it is cancelled or set.
     signed: IndexMap<&'e Label, Cause<'e>>,
 }
 
 impl<'e> Causes<'e> {
     /// Creates an index over events. It reads the events once, in the order in which they are given, and does not sort them. It records
     /// for each scope and nursery how it was first entered, and, if `froms` says that it is cancelled, the first event that cancelled it
-    /// in the moment before. First means first in the order given, so for the answers of a story the caller passes its events in order.
+    /// in the moment before. It does so for what is set, too. First means first in the order given, so for the answers of a story the
+    /// caller passes its events in order.
     ///
-    /// Each event takes constant time, and only scopes and nurseries take memory. Returns `AllocError` if memory is refused.
+    /// Each event takes constant time, and only scopes, nurseries and what is set take memory. Returns `AllocError` if memory is refused.
     pub fn of(
         alloc: Global,
         events: &[&'e Event],
@@ -81,7 +82,8 @@ impl<'e> Causes<'e> {
     }
 
     /// Returns why a scope or nursery is cancelled: by its deadline, if that is the moment from which it is cancelled, and otherwise by the
-    /// first event that cancelled it in the moment before. Returns `None` if it never is cancelled, or if there is no such event.
+    /// first event that cancelled it in the moment before. The same says why an event of the job is set. Returns `None` if the label never
+    /// is cancelled or set, or if there is no such event of the story.
     pub fn cause(&self, label: &Label) -> Option<Cause<'e>>
         ensures { (table : Table) (es : List told.Event) → Knows self.now table es →
             option_map cause_in_code result ≡ cause_of table es label.now }
@@ -95,7 +97,7 @@ impl<'e> Causes<'e> {
         self.signed.get(&label).copied()
     }
 
-    /// Returns the moment from which a scope or nursery is cancelled, or `None` if it never is.
+    /// Returns the moment from which a scope or nursery is cancelled, or an event set, or `None` if it never is.
     pub fn from(&self, label: &Label) -> Option<u64>
         ensures { (table : Table) (es : List told.Event) → Knows self.now table es → result ≡ table label.now }
     {

@@ -42,8 +42,8 @@ pub(crate) fn note_entering<'e>(
     Ok(())
 }
 
-// Records why a label is cancelled, if the event cancels it in the moment before the one from which it is cancelled and no earlier
-// event did so.
+// Records why a label is cancelled, or set, if the event of the story cancels or sets it in the moment before the one from which it is
+// cancelled or set, and no earlier one did so.
 pub(crate) fn note_sign<'e>(
     signed: &mut IndexMap<&'e Label, Cause<'e>>,
     froms: &Froms,

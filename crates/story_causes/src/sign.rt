@@ -12,7 +12,7 @@ use crate::exc::is_cancellation;
 use exc_groups::{Exc, Label};
 use job_story::{Event, Happening, What};
 
-/// Why a scope or nursery is cancelled.
+/// Why a scope or nursery is cancelled, or an event is set.
 #[derive(Clone, Copy)]
 pub enum Cause<'e> {
     /// Its deadline cancelled it.
@@ -22,6 +22,13 @@ pub enum Cause<'e> {
         /// The label of the task.
         task: &'e Label,
         /// The moment of the step, which is the one before it is cancelled.
+        tick: u64,
+    },
+    /// A task set it with a `set` step.
+    Set {
+        /// The label of the task.
+        task: &'e Label,
+        /// The moment of the step, which is the one before it is set.
         tick: u64,
     },
     /// A child of the nursery, or its own body, ended with an exception of which not every leaf is `Cancelled`.
@@ -40,16 +47,16 @@ pub enum Cause<'e> {
     },
 }
 
-// The scope or nursery that an event cancels, and why.
+// The scope or nursery that a happening cancels, or the event that it sets, and why.
 #[derive(Clone, Copy)]
 pub(crate) struct Sign<'e> {
-    // The label of the scope or nursery.
+    // The label of the scope, nursery or event.
     pub(crate) label: &'e Label,
-    // Why it is cancelled.
+    // Why it is cancelled, or set.
     pub(crate) cause: Cause<'e>,
 }
 
-// Returns what an event cancels, or `None` if it cancels nothing.
+// Returns what an event of a story cancels or sets, or `None` if it does neither.
 pub(crate) fn sign_of<'e>(event: &'e Event) -> Option<Sign<'e>>
     ensures { (l : tree.Label) → sign_at l result ≡ cause_in l event.now.tick event.now.task (what_of event.now.what) }
 {
@@ -63,19 +70,20 @@ pub(crate) fn sign_of<'e>(event: &'e Event) -> Option<Sign<'e>>
     }
 }
 
-// Returns what a happening between the start and the end of a task cancels.
+// Returns what a happening between the start and the end of a task cancels or sets.
 fn sign_in<'e>(happening: &'e Happening, task: &'e Label, tick: u64) -> Option<Sign<'e>>
     ensures { (l : tree.Label) → sign_at l result ≡ cause_in l tick task.entry.now (told.happens (happening_of happening.now)) }
 {
     match happening {
-        Happening::Cancels { label } => sign_step(label, task, tick),
+        Happening::Cancels { label } => sign_cancel(label, task, tick),
+        Happening::Sets { label } => sign_set(label, task, tick),
         Happening::Waits { nursery, exc } => sign_by(nursery, exc, task, tick),
         _ => None,
     }
 }
 
 // Returns what a `cancel` step cancels, or `None` if no scope or nursery of its name encloses the task.
-fn sign_step<'e>(label: &'e Option<Label>, task: &'e Label, tick: u64) -> Option<Sign<'e>>
+fn sign_cancel<'e>(label: &'e Option<Label>, task: &'e Label, tick: u64) -> Option<Sign<'e>>
     ensures { (l : tree.Label) → sign_at l result ≡ cause_in l tick task.entry.now (told.happens (story.cancels label.entry.now)) }
 {
     let Some(label) = label else {
@@ -84,6 +92,19 @@ fn sign_step<'e>(label: &'e Option<Label>, task: &'e Label, tick: u64) -> Option
     Some(Sign {
         label,
         cause: Cause::Task { task, tick },
+    })
+}
+
+// Returns what a `set` step sets, or `None` if no event of its name encloses the task.
+fn sign_set<'e>(label: &'e Option<Label>, task: &'e Label, tick: u64) -> Option<Sign<'e>>
+    ensures { (l : tree.Label) → sign_at l result ≡ cause_in l tick task.entry.now (told.happens (story.sets label.entry.now)) }
+{
+    let Some(label) = label else {
+        return None;
+    };
+    Some(Sign {
+        label,
+        cause: Cause::Set { task, tick },
     })
 }
 

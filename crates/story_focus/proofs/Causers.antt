@@ -5,10 +5,10 @@ use Rattle.exc_groups.specs.Exceptions.{Label, Exc}
 use Rattle.exc_groups.specs.Split.{is_cancelled as by_cancelled, drop}
 use Rattle.cancel_scopes.specs.Sight.{Tick}
 use Rattle.job_meaning.specs.Log.{Table, same_label}
-use Rattle.job_story.specs.Story.{Happening, is_cancelled, cancels, waits}
+use Rattle.job_story.specs.Story.{Happening, is_cancelled, cancels, sets, waits}
 use Rattle.job_story.specs.Events.{What, starts, happens, ends, Event}
 use Rattle.job_story.specs.Tell.{is_from}
-use Rattle.job_story.specs.Causes.{Cause, by_deadline, by_task, by_failure, by_cancellation, Entering, entering_of, is_label, cause_if, cause_in, or_later, signed_by, cause_by_entering, cause_from}
+use Rattle.job_story.specs.Causes.{Cause, by_deadline, by_task, by_set, by_failure, by_cancellation, Entering, entering_of, is_label, cause_if, cause_in, or_later, signed_by, cause_by_entering, cause_from}
 use Rattle.job_story.specs.Focus.{task_of, cause_by, causer_of, is_some_label}
 use Rattle.story_focus.proofs.Bools.{or_left, or_right}
 
@@ -27,6 +27,10 @@ by_step : (b : Bool) (l task : Label) (t : ℕ) → is_by l (if b then Some (by_
 by_step true l task t h = h
 by_step false l task t h = let clash : false ≡ true = h in cc
 
+by_set_step : (b : Bool) (l task : Label) (t : ℕ) → is_by l (if b then Some (by_set task t) else None) ≡ true → same_label l task ≡ true
+by_set_step true l task t h = h
+by_set_step false l task t h = let clash : false ≡ true = h in cc
+
 by_kind : (b : Bool) (l task : Label) (t : ℕ) →
     is_by l (Some (if b then by_cancellation task t else by_failure task t)) ≡ true → same_label l task ≡ true
 by_kind true l task t h = h
@@ -39,6 +43,7 @@ by_end false exc l task t h = let clash : false ≡ true = h in cc
 
 in_happening : (k l task : Label) (t : ℕ) (h : Happening) → is_by l (cause_in k t task (happens h)) ≡ true → same_label l task ≡ true
 in_happening k l task t (cancels label) h = by_step (is_label k label) l task t h
+in_happening k l task t (sets label) h = by_set_step (is_label k label) l task t h
 in_happening k l task t (waits label exc) h = by_end (same_label k label) exc l task t h
 in_happening k l task t _ h = let clash : false ≡ true = h in cc
 
@@ -86,7 +91,7 @@ in_cause table all l (Some k) h = in_from (table k) k l all h
 
 in_cancelled : (table : Table) (all : List Event) (l : Label) (what : Happening) →
     is_some_label l (causer_of table all (happens what)) ≡ true → is_task l all ≡ true
-in_cancelled table all l (is_cancelled by since in_cleanup) h = in_cause table all l by h
+in_cancelled table all l (is_cancelled by during in_cleanup) h = in_cause table all l by h
 in_cancelled table all l _ h = let clash : false ≡ true = h in cc
 
 -- a task that caused a cancellation is the task of some event

@@ -135,6 +135,7 @@ fn task_of<'e>(cause: Option<Cause<'e>>) -> Option<&'e Label>
     match cause {
         Cause::Deadline => None,
         Cause::Task { task, .. } => Some(task),
+        Cause::Set { task, .. } => Some(task),
         Cause::Failure { task, .. } => Some(task),
         Cause::Cancellation { task, .. } => Some(task),
     }

@@ -24,8 +24,8 @@ pub four : {T E : Type 0} (r : Result T E) (old a b c d one more most new : List
     most ≡ more ++ c → OnOk r (new ≡ most ++ d) → OnOk r (new ≡ old ++ (a ++ b ++ c ++ d))
 four r old a b c d one more most new p q s h = three r old (a ++ b) c d more most new (two_lists old a b one more p q) s h
 
--- the same where the last call appends two of them
-pub three_of_four : {T E : Type 0} (r : Result T E) (old a b c d one more new : List ℕ) → one ≡ old ++ a → more ≡ one ++ b →
-    OnOk r (new ≡ more ++ (c ++ d)) → OnOk r (new ≡ old ++ (a ++ b ++ c ++ d))
-three_of_four r old a b c d one more new p q h =
-    on_ok_weaker r (λ all. all ∙ ap (λ xs. old ++ xs) (sym (append_assoc (a ++ b) c d))) (three r old a b (c ++ d) one more new p q h)
+-- the same where two calls append two of them each
+pub two_of_four : {T E : Type 0} (r : Result T E) (old a b c d one new : List ℕ) → one ≡ old ++ (a ++ b) →
+    OnOk r (new ≡ one ++ (c ++ d)) → OnOk r (new ≡ old ++ (a ++ b ++ c ++ d))
+two_of_four r old a b c d one new p q =
+    on_ok_weaker r (λ all. all ∙ ap (λ xs. old ++ xs) (sym (append_assoc (a ++ b) c d))) (two r old (a ++ b) (c ++ d) one new p q)

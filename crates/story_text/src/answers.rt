@@ -42,14 +42,14 @@ impl<'k, 'e> Known<'k, 'e> {
         self.causes.entering_of(label)
     }
 
-    // Returns why a scope or nursery is cancelled, or `None` if it never is.
+    // Returns why a scope or nursery is cancelled, or an event of the job set, or `None` if it never is.
     pub(crate) fn cause(&self, label: &Label) -> Option<Cause<'e>>
         ensures { option_map cause_in_code result ≡ cause_of (froms_in self.now) (events_in self.now) label.now }
     {
         self.causes.cause(label)
     }
 
-    // Returns the moment from which a scope or nursery is cancelled, or `None` if it never is.
+    // Returns the moment from which a scope or nursery is cancelled, or an event of the job set, or `None` if it never is.
     pub(crate) fn from(&self, label: &Label) -> Option<u64>
         ensures { result ≡ froms_in self.now label.now }
     {

@@ -8,7 +8,7 @@ use moments::Clock;
 use story_causes::Causes;
 
 /// What is needed to write the sentences of a story: the clock of its moments, its events in order, the table with the moments
-/// from which its scopes and nurseries are cancelled, and the index of both.
+/// from which its scopes and nurseries are cancelled, and the events of the job set, and the index of both.
 #[derive(Drop)]
 pub struct Known<'k, 'e> {
     pub(crate) clock: Clock,

@@ -1,10 +1,10 @@
 ghost use Rattle.std.specs.Prelude.{◌≡◌, ◌++◌, ◌&&◌, not, [], ◌∷◌, List, IfOk, OnOk, map, codes, decimal};
 ghost use Rattle.exc_groups.specs.Exceptions as tree;
+ghost use Rattle.job_story.specs.Froms.{table_in};
 ghost use Rattle.job_story.specs.Held.{happening_of, what_of};
 ghost use Rattle.job_story.specs.Events as told;
-ghost use Rattle.job_story.specs.Limit.{has_ended, start_if, is_start, running_in, doing_text, last_event, last_text, running_text, kept_text_to};
+ghost use Rattle.job_story.specs.Limit.{has_ended, start_if, is_start, running_in, unset_text, doing_text, last_event, last_text, running_text, kept_text_to};
 ghost use Rattle.job_story.specs.Sentences.{label_width};
-ghost use Rattle.moments.specs.Moments.{tick_of};
 ghost use Rattle.story_text.specs.Told.{clock_in, events_in, froms_in};
 ghost use Rattle.story_causes.specs.Tasks.{sorted_in, walked_in};
 ghost use Rattle.story_causes.specs.Lasts.{seen_last};
@@ -13,11 +13,10 @@ ghost use Rattle.story_causes.specs.Seen.{event_in};
 use crate::known::Known;
 use crate::label::push_padded;
 use crate::lines::{label_width, push_lines};
-use crate::sentences::push_until;
+use crate::sentences::{push_since, push_until, push_waiting};
 use digits::push_number;
 use exc_groups::Label;
-use exc_text::push_label;
-use job_story::{Event, Happening, What};
+use job_story::{Event, Froms, Happening, What};
 use moments::Clock;
 use std::alloc::{AllocError, Global};
 use story_causes::Tasks;
@@ -41,26 +40,27 @@ pub fn kept_text_to<'e>(
     push_lines(&mut out, known, sorted, width)?;
     push_limit(&mut out, limit)?;
     let tasks = Tasks::of(alloc, sorted, walked)?;
-    push_running(&mut out, known.clock, width, &tasks, walked)?;
+    push_running(&mut out, known.clock, known.froms, width, &tasks, walked)?;
     Ok(out)
 }
 
 /// Returns a line for each task that has not ended in these events, with what it is doing, as at the end of `kept_text_to`. The
-/// events are given in order (`sorted`) and in the order of the walk (`walked`), with the clock of their moments. Returns
-/// `AllocError` if memory is refused.
+/// events are given in order (`sorted`) and in the order of the walk (`walked`), with the clock of their moments, and the table of
+/// the whole story, which says of an event of the job whether it is ever set. Returns `AllocError` if out of memory.
 pub fn running_text(
     alloc: Global,
     clock: Clock,
+    froms: &Froms,
     sorted: &[&Event],
     walked: &[&Event],
 ) -> Result<Vec<u8>, AllocError>
-    ensures { IfOk result (λ text. text.items ≡ running_text clock (label_width (map event_in sorted.now)) (map event_in sorted.now)
-        (running_in (map event_in walked.now) (map event_in walked.now))) }
+    ensures { IfOk result (λ text. text.items ≡ running_text clock (table_in froms.now) (label_width (map event_in sorted.now))
+        (map event_in sorted.now) (running_in (map event_in walked.now) (map event_in walked.now))) }
 {
     let width = label_width(alloc, sorted)?;
     let tasks = Tasks::of(alloc, sorted, walked)?;
     let mut out = Vec::new(alloc);
-    push_running(&mut out, clock, width, &tasks, walked)?;
+    push_running(&mut out, clock, froms, width, &tasks, walked)?;
     Ok(out)
 }
 
@@ -77,15 +77,16 @@ fn push_limit(out: &mut Vec<u8>, limit: u64) -> Result<(), AllocError>
 fn push_running(
     out: &mut Vec<u8>,
     clock: Clock,
+    froms: &Froms,
     width: usize,
     tasks: &Tasks<'_, '_>,
     walked: &[&Event],
 ) -> Result<(), AllocError>
     ensures { OnOk result (out.new.items ≡ out.old.items
-        ++ running_text clock width (sorted_in tasks.now) (running_in (walked_in tasks.now) (map event_in walked.now))) }
+        ++ running_text clock (table_in froms.now) width (sorted_in tasks.now) (running_in (walked_in tasks.now) (map event_in walked.now))) }
 {
     'walked: for event in walked {
-        push_if_running(out, clock, width, tasks, event)?;
+        push_if_running(out, clock, froms, width, tasks, event)?;
     }
     Ok(())
 }
@@ -94,18 +95,19 @@ fn push_running(
 fn push_if_running(
     out: &mut Vec<u8>,
     clock: Clock,
+    froms: &Froms,
     width: usize,
     tasks: &Tasks<'_, '_>,
     event: &Event,
 ) -> Result<(), AllocError>
-    ensures { OnOk result ((others : List tree.Label) → out.new.items ++ running_text clock width (sorted_in tasks.now) others
-        ≡ out.old.items ++ running_text clock width (sorted_in tasks.now)
+    ensures { OnOk result ((others : List tree.Label) → out.new.items ++ running_text clock (table_in froms.now) width (sorted_in tasks.now) others
+        ≡ out.old.items ++ running_text clock (table_in froms.now) width (sorted_in tasks.now)
         (start_if (is_start (what_of event.now.what) && not (has_ended event.now.task (walked_in tasks.now))) event.now.task others)) }
 {
     if !tasks.is_running(event) {
         return Ok(());
     }
-    push_task(out, clock, width, tasks, &event.task)?;
+    push_task(out, clock, froms, width, tasks, &event.task)?;
     Ok(())
 }
 
@@ -113,36 +115,48 @@ fn push_if_running(
 fn push_task(
     out: &mut Vec<u8>,
     clock: Clock,
+    froms: &Froms,
     width: usize,
     tasks: &Tasks<'_, '_>,
     label: &Label,
 ) -> Result<(), AllocError>
-    ensures { OnOk result (out.new.items ≡ out.old.items ++ running_text clock width (sorted_in tasks.now) (label.now ∷ [])) }
+    ensures { OnOk result (out.new.items ≡ out.old.items ++ running_text clock (table_in froms.now) width (sorted_in tasks.now) (label.now ∷ [])) }
 {
     out.extend_from_slice(b"  ")?;
     push_padded(out, width, label)?;
     out.extend_from_slice(b"  ")?;
-    push_last(out, clock, tasks.last(label))?;
+    push_last(out, clock, froms, tasks.last(label))?;
     out.extend_from_slice(b"\n")
 }
 
 // Appends what a task is doing, by the last of its events.
-fn push_last(out: &mut Vec<u8>, clock: Clock, last: Option<&Event>) -> Result<(), AllocError>
-    ensures { OnOk result (out.new.items ≡ out.old.items ++ last_text clock (seen_last last.entry)) }
+fn push_last(
+    out: &mut Vec<u8>,
+    clock: Clock,
+    froms: &Froms,
+    last: Option<&Event>,
+) -> Result<(), AllocError>
+    ensures { OnOk result (out.new.items ≡ out.old.items ++ last_text clock (table_in froms.now) (seen_last last.entry)) }
 {
     match last {
-        Some(event) => push_doing(out, clock, event.tick, &event.what),
+        Some(event) => push_doing(out, clock, froms, event.tick, &event.what),
         None => Ok(()),
     }
 }
 
-// Appends what a task is doing after an event: it sleeps, or it waits for a nursery.
-fn push_doing(out: &mut Vec<u8>, clock: Clock, moment: u64, what: &What) -> Result<(), AllocError>
-    ensures { OnOk result (out.new.items ≡ out.old.items ++ doing_text clock moment (what_of what.now)) }
+// Appends what a task is doing after an event: it sleeps, or it waits for a nursery or an event of the job.
+fn push_doing(
+    out: &mut Vec<u8>,
+    clock: Clock,
+    froms: &Froms,
+    moment: u64,
+    what: &What,
+) -> Result<(), AllocError>
+    ensures { OnOk result (out.new.items ≡ out.old.items ++ doing_text clock (table_in froms.now) moment (what_of what.now)) }
 {
     match what {
         What::Starts { .. } => Ok(()),
-        What::Happens(happening) => push_doing_in(out, clock, moment, happening),
+        What::Happens(happening) => push_doing_in(out, clock, froms, moment, happening),
         What::Ends { .. } => Ok(()),
     }
 }
@@ -151,10 +165,12 @@ fn push_doing(out: &mut Vec<u8>, clock: Clock, moment: u64, what: &What) -> Resu
 fn push_doing_in(
     out: &mut Vec<u8>,
     clock: Clock,
+    froms: &Froms,
     moment: u64,
     happening: &Happening,
 ) -> Result<(), AllocError>
-    ensures { OnOk result (out.new.items ≡ out.old.items ++ doing_text clock moment (told.happens (happening_of happening.now))) }
+    ensures { OnOk result (out.new.items
+        ≡ out.old.items ++ doing_text clock (table_in froms.now) moment (told.happens (happening_of happening.now))) }
 {
     match happening {
         Happening::Sleeps { until } => {
@@ -163,18 +179,22 @@ fn push_doing_in(
             push_since(out, clock, moment)
         }
         Happening::Waits { nursery, .. } => {
-            out.extend_from_slice(b"waiting for nursery ")?;
-            push_label(out, nursery)?;
-            push_since(out, clock, moment)
+            push_waiting(out, b"waiting for nursery ", nursery, clock, moment)
+        }
+        Happening::Awaits { event } => {
+            push_waiting(out, b"waiting for event ", event, clock, moment)?;
+            push_unset(out, froms.of(event))
         }
         _ => Ok(()),
     }
 }
 
-// Appends since when a task does what it is doing.
-fn push_since(out: &mut Vec<u8>, clock: Clock, moment: u64) -> Result<(), AllocError>
-    ensures { OnOk result (out.new.items ≡ out.old.items ++ (codes " since " ++ decimal (tick_of clock moment))) }
+// Appends that nothing sets an event, if it is never set.
+fn push_unset(out: &mut Vec<u8>, from: Option<u64>) -> Result<(), AllocError>
+    ensures { OnOk result (out.new.items ≡ out.old.items ++ unset_text from) }
 {
-    out.extend_from_slice(b" since ")?;
-    push_number(out, clock.tick_of(moment))
+    match from {
+        Some(_) => Ok(()),
+        None => out.extend_from_slice(b"; nothing sets it"),
+    }
 }

@@ -3,9 +3,10 @@ ghost use Rattle.std.specs.Option.{option_map};
 ghost use Rattle.exc_groups.specs.Held.{exc_of};
 ghost use Rattle.exc_groups.specs.Split.{is_cancelled, drop};
 ghost use Rattle.block_exits.specs.Held.{kind_of};
-ghost use Rattle.job_story.specs.Held.{unboxed_exc, happening_of, what_of};
-ghost use Rattle.job_story.specs.Sentences.{kind_text, with_exc, entering_text, until_text, since_text, cleanup_text, cause_text, entered_text, count_text, caught_text, leaving_text, sign_text, cancel_text, cancelled_text, happening_text, home_text, what_text};
+ghost use Rattle.job_story.specs.Held.{unboxed_exc, during_of, happening_of, what_of};
+ghost use Rattle.job_story.specs.Sentences.{kind_text, with_exc, entering_text, until_text, during_text, cleanup_text, cause_text, entered_text, count_text, caught_text, leaving_text, sign_text, cancel_text, set_text, cancelled_text, happening_text, home_text, what_text};
 ghost use Rattle.exc_text.specs.Texts.{label_text, exc_text, end_text};
+ghost use Rattle.moments.specs.Moments.{tick_of};
 ghost use Rattle.moments.specs.declared.clock.Clock.{Clock};
 ghost use Rattle.story_causes.specs.Found.{entering_in_code, cause_in_code};
 ghost use Rattle.story_text.specs.Told.{clock_in, events_in, froms_in};
@@ -15,7 +16,7 @@ use crate::ticks::next_from;
 use digits::push_number;
 use exc_groups::{Exc, Label};
 use exc_text::{push_exc, push_label, push_raised};
-use job_story::{Event, Happening, Kind, What};
+use job_story::{During, Event, Happening, Kind, What};
 use job_tree::Name;
 use moments::Clock;
 use std::alloc::AllocError;
@@ -63,16 +64,20 @@ fn push_happening(
             deadline,
             shield,
         } => push_enters(out, known.clock, *kind, label, *deadline, *shield),
+        Happening::EntersEvent { label } => push_labelled(out, b"enters event ", label),
         Happening::Sleeps { until } => push_sleeps(out, known.clock, *until),
         Happening::IsCancelled {
             by,
-            since,
+            during,
             in_cleanup,
-        } => push_is_cancelled(out, known, by, *since, *in_cleanup),
+        } => push_is_cancelled(out, known, by, during, *in_cleanup),
         Happening::Finds { lines } => push_finds(out, lines.len()),
         Happening::Misses { name } => push_verb(out, b"misses ", *name),
         Happening::Raises { name } => push_verb(out, b"raises ", *name),
         Happening::Cancels { label } => push_cancels(out, known, label, moment),
+        Happening::Sets { label } => push_sets(out, known, label, moment),
+        Happening::Awaits { event } => push_labelled(out, b"waits for event ", event),
+        Happening::WasSet { event } => push_was_set(out, event),
         Happening::Handles { matched, rest } => push_handles(out, matched, rest),
         Happening::Cleans { exc } => push_cleans(out, exc),
         Happening::Replaces { lost, fresh } => push_replaces(out, lost, fresh),
@@ -93,6 +98,14 @@ fn push_verb(out: &mut Vec<u8>, verb: &[u8], name: Name) -> Result<(), AllocErro
 {
     out.extend_from_slice(verb)?;
     out.extend_from_slice(name.bytes())
+}
+
+// Appends some words, and a label after them.
+fn push_labelled(out: &mut Vec<u8>, words: &[u8], label: &Label) -> Result<(), AllocError>
+    ensures { OnOk result (out.new.items ≡ out.old.items ++ (words.now ++ label_text label.now)) }
+{
+    out.extend_from_slice(words)?;
+    push_label(out, label)
 }
 
 // Appends that a task enters a scope or nursery.
@@ -184,16 +197,16 @@ fn push_is_cancelled(
     out: &mut Vec<u8>,
     known: &Known<'_, '_>,
     by: &Option<Label>,
-    since: Option<u64>,
+    during: &During,
     in_cleanup: bool,
 ) -> Result<(), AllocError>
     ensures { OnOk result (out.new.items
-        ≡ out.old.items ++ (codes "is cancelled" ++ cleanup_text in_cleanup ++ since_text (clock_in known.now) since
+        ≡ out.old.items ++ (codes "is cancelled" ++ cleanup_text in_cleanup ++ during_text (clock_in known.now) (during_of during.now)
         ++ cancelled_text (clock_in known.now) (froms_in known.now) (events_in known.now) by.now)) }
 {
     out.extend_from_slice(b"is cancelled")?;
     push_cleanup(out, in_cleanup)?;
-    push_since(out, known.clock, since)?;
+    push_during(out, known.clock, during)?;
     push_by(out, known, by)?;
     Ok(())
 }
@@ -209,15 +222,43 @@ fn push_cleanup(out: &mut Vec<u8>, in_cleanup: bool) -> Result<(), AllocError>
     }
 }
 
-// Appends the tick since which a task slept that is cancelled, or that it was cancelled at a checkpoint.
-fn push_since(out: &mut Vec<u8>, clock: Clock, since: Option<u64>) -> Result<(), AllocError>
-    ensures { OnOk result (out.new.items ≡ out.old.items ++ since_text clock since) }
+// Appends what a task did that is cancelled: it was at a checkpoint, or slept or waited for an event, since a tick.
+fn push_during(out: &mut Vec<u8>, clock: Clock, during: &During) -> Result<(), AllocError>
+    ensures { OnOk result (out.new.items ≡ out.old.items ++ during_text clock (during_of during.now)) }
 {
-    let Some(moment) = since else {
-        return out.extend_from_slice(b" at a checkpoint");
-    };
-    out.extend_from_slice(b" while sleeping since ")?;
-    push_number(out, clock.tick_of(moment))
+    match during {
+        During::Checkpoint => out.extend_from_slice(b" at a checkpoint"),
+        During::Sleeping { since } => {
+            out.extend_from_slice(b" while sleeping since ")?;
+            push_number(out, clock.tick_of(*since))
+        }
+        During::Waiting { event, since } => {
+            push_waiting(out, b" while waiting for event ", event, clock, *since)
+        }
+    }
+}
+
+// Appends some words, the label of what a task waits for, and since when.
+pub(crate) fn push_waiting(
+    out: &mut Vec<u8>,
+    words: &[u8],
+    label: &Label,
+    clock: Clock,
+    since: u64,
+) -> Result<(), AllocError>
+    ensures { OnOk result (out.new.items
+        ≡ out.old.items ++ (words.now ++ label_text label.now ++ codes " since " ++ decimal (tick_of clock since))) }
+{
+    push_labelled(out, words, label)?;
+    push_since(out, clock, since)
+}
+
+// Appends since when a task does something.
+pub(crate) fn push_since(out: &mut Vec<u8>, clock: Clock, since: u64) -> Result<(), AllocError>
+    ensures { OnOk result (out.new.items ≡ out.old.items ++ (codes " since " ++ decimal (tick_of clock since))) }
+{
+    out.extend_from_slice(b" since ")?;
+    push_number(out, clock.tick_of(since))
 }
 
 // Appends the scope or nursery by which a task is cancelled, and why that is cancelled.
@@ -236,7 +277,7 @@ fn push_by(out: &mut Vec<u8>, known: &Known<'_, '_>, by: &Option<Label>) -> Resu
     push_cause(out, known.clock, &cause)
 }
 
-// Appends why a scope or nursery is cancelled.
+// Appends why a scope or nursery is cancelled, or an event is set.
 fn push_cause(out: &mut Vec<u8>, clock: Clock, cause: &Cause<'_>) -> Result<(), AllocError>
     ensures { OnOk result (out.new.items ≡ out.old.items ++ cause_text clock (Some (cause_in_code cause.now))) }
 {
@@ -244,6 +285,9 @@ fn push_cause(out: &mut Vec<u8>, clock: Clock, cause: &Cause<'_>) -> Result<(), 
         Cause::Deadline => out.extend_from_slice(b" (deadline)"),
         Cause::Task { task, tick } => {
             push_act(out, b" (cancelled by ", task, b" at ", clock.tick_of(*tick))
+        }
+        Cause::Set { task, tick } => {
+            push_act(out, b" (set by ", task, b" at ", clock.tick_of(*tick))
         }
         Cause::Failure { task, tick } => {
             push_act(out, b" (", task, b" failed at ", clock.tick_of(*tick))
@@ -326,6 +370,33 @@ fn push_cancels(
     };
     out.extend_from_slice(b" from ")?;
     push_number(out, known.clock.tick_of(from))
+}
+
+// Appends which event a task sets, or that it is already set.
+fn push_sets(
+    out: &mut Vec<u8>,
+    known: &Known<'_, '_>,
+    label: &Option<Label>,
+    moment: u64,
+) -> Result<(), AllocError>
+    ensures { OnOk result (out.new.items ≡ out.old.items ++ set_text (froms_in known.now) label.now moment) }
+{
+    let Some(label) = label else {
+        return Ok(());
+    };
+    push_labelled(out, b"sets event ", label)?;
+    let Some(_) = next_from(known, label, moment) else {
+        return out.extend_from_slice(b", which is set already");
+    };
+    Ok(())
+}
+
+// Appends that a task goes on, since an event was set.
+fn push_was_set(out: &mut Vec<u8>, event: &Label) -> Result<(), AllocError>
+    ensures { OnOk result (out.new.items ≡ out.old.items ++ (codes "goes on: event " ++ label_text event.now ++ codes " was set")) }
+{
+    push_labelled(out, b"goes on: event ", event)?;
+    out.extend_from_slice(b" was set")
 }
 
 // Appends what a handler handles, and the rest of the exception.

@@ -15,7 +15,7 @@ pub(crate) fn is_tick(from: Option<u64>, tick: u64) -> bool
     }
 }
 
-// Returns the moment after this one, if the scope or nursery is cancelled from exactly that moment on.
+// Returns the moment after this one, if the scope or nursery is cancelled, or the event set, from exactly that moment on.
 pub(crate) fn next_from(known: &Known<'_, '_>, label: &Label, moment: u64) -> Option<u64>
     ensures value { IfSome result (λ from. from ≡ moment + 1) }
     ensures some { is_some result ≡ is_from (froms_in known.now label.now) (moment + 1) }

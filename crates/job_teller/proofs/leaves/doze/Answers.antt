@@ -16,14 +16,14 @@ pub returns-then-from-a_round_after : goal.returns-then-from-a_round_after
 returns-then-from-a_round_after c =
     slept_soon _ _ _ _ _ _ _ _ _ _ _ _ _ _ _ (sym c.sight.ensures ∙ c.in-Some.is) c.if-from-moment.false
     (subst (λ (t : ℕ). c.in-Some.from ≤ t) c.a_round_after.ensures c.if-from-a_round_after.true) c.in_ok-note_sleep-2.ensures
-    (rw (← c.slept_since-since.ensures) c.in_ok-note_cancelled-2.ensures) c.clear.ensures.items c.failure-then-from-a_round_after.ensures
+    (rw (← c.during_sleep-during.ensures) c.in_ok-note_cancelled-2.ensures) c.clear.ensures.items c.failure-then-from-a_round_after.ensures
 
 pub returns-then-from-end : goal.returns-then-from-end
 returns-then-from-end c =
     slept_later _ _ _ _ _ _ _ _ _ _ _ _ _ _ _ (sym c.sight.ensures ∙ c.in-Some.is) c.if-from-moment.false
     (subst (λ (t : ℕ). t < c.in-Some.from) c.a_round_after.ensures c.if-from-a_round_after.false)
     (subst (λ (t : ℕ). c.in-Some.from ≤ t) c.wakes_at-end.ensures.wakes c.if-from-end.true) c.in_ok-note_sleep-2.ensures
-    (rw (← c.slept_since-since.ensures) c.in_ok-note_cancelled-3.ensures) c.clear.ensures.items c.failure-then-from-end.ensures
+    (rw (← c.during_sleep-during.ensures) c.in_ok-note_cancelled-3.ensures) c.clear.ensures.items c.failure-then-from-end.ensures
 
 pub returns : goal.returns
 returns c =

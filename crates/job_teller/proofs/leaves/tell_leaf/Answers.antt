@@ -40,3 +40,11 @@ returns-in-Raise c = rw c.in-Raise.is c.raise.ensures
 pub returns-in-Cancel : goal.returns-in-Cancel
 unfolding tell_step
 returns-in-Cancel c = rw c.in-Cancel.is c.cancel.ensures
+
+pub returns-in-Set : goal.returns-in-Set
+unfolding tell_step
+returns-in-Set c = rw c.in-Set.is c.set.ensures
+
+pub returns-in-Wait : goal.returns-in-Wait
+unfolding tell_step
+returns-in-Wait c = rw c.in-Wait.is c.wait_for.ensures

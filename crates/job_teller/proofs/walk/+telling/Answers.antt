@@ -17,14 +17,16 @@ use Rattle.job_meaning.specs.Moments.{Now}
 use Rattle.job_meaning.specs.Walk.{stack_inside, home_of, label_over}
 use Rattle.block_exits.specs.Held.{kind_of}
 use Rattle.job_story.specs.Held.{unboxed_exc}
-use Rattle.job_story.specs.Story.{Tale, enters, handles, cleans}
+use Rattle.job_story.specs.Story.{Tale, enters, enters_event, handles, cleans}
 use Rattle.job_story.specs.Tell.{now_of, story_of_one, tell, tell_block, tell_each, replacement}
 use Rattle.job_teller.specs.declared.block.Block.{Block}
-use Rattle.job_teller.specs.Heres.{HasRoom, table_of, scene_of, scene_in, scopes_of, input_of, here_of, inside, started_tale, started_over}
+use Rattle.job_teller.specs.declared.stack.Level.{Level}
+use Rattle.job_teller.specs.Stacks.{level_of}
+use Rattle.job_teller.specs.Heres.{HasRoom, table_of, scene_of, scene_in, scopes_of, stack_of, input_of, here_of, label_in, inside, inside_event, started_tale, started_over}
 use Rattle.job_teller.specs.Tales.{Tells, now_in}
 use Rattle.job_teller.proofs.Adding.{adds_like, adds_nothing}
 use Rattle.job_teller.proofs.Telling.{tells_joined}
-use Rattle.job_teller.proofs.Blocks.{tells_block, tells_child, tells_in, tells_at, same_now}
+use Rattle.job_teller.proofs.Blocks.{tells_block, tells_event, tells_child, tells_in, tells_at, same_now}
 use Rattle.job_teller.proofs.Slept.{none_own}
 use Rattle.job_teller.proofs.Trying.{not_raised, not_wanted, is_wanted, tells_handled, tells_cleaned}
 use Rattle.job_teller.proofs.Steps.{AtStep, at_start, at_item, at_failed, at_next, at_stop, room_step, ends_small, ends_handled, start_is, each_own}
@@ -96,7 +98,7 @@ tell_inside-returns-in-Scope t c =
     rw c.in-Scope.is
     (subst (λ (l : Label). Tells here.task.now c.args.progress.now.events.items c.in_ok-told.told c.tell_steps.new.progress
     (tell (table_of here) c.args.body.now (scene_of here) (stack_inside l c.args.block.now.shield c.args.block.now.from
-    (scopes_of here)) now))
+    (stack_of here)) now))
     c.in_ok-copy.ensures body)
 
 pub tell_inside-returns : goal.tell_inside-returns
@@ -106,9 +108,24 @@ tell_inside-returns t c =
     let body = tells_at _ _ _ c.in_ok-told.told _ _ c.args.body.now _ _ now now c.as_slice.ensures refl c.in_ok-told.ensures in
     let inner = subst (λ (l : Label). Tells here.task.now c.args.progress.now.events.items c.in_ok-told.told c.tell_steps.new.progress
     (tell (table_of here) c.args.body.now (scene_of here) (stack_inside l c.args.block.now.shield c.args.block.now.from
-    (scopes_of here)) now))
+    (stack_of here)) now))
     c.in_ok-copy.ensures body in
     rw c.in-Nursery.is (c.in_ok-told-in-Nursery.ensures _ _ inner)
+
+pub tell_event-returns : goal.tell_event-returns
+tell_event-returns t c =
+    let here = c.args.here in
+    let now = now_in c.args.moment c.args.progress.now in
+    let label = label_in c.args.name.now here in
+    let entering = adds_like _ _ _ _ _ c.in_ok-note.ensures
+    (ap (λ (l : Label). story_of_one c.args.moment (enters_event l))
+    (c.in_ok-label.ensures ∙ ap (λ (e : Level). e.label) c.in_ok-event.ensures)) in
+    let body = tells_at _ _ _ c.in_ok-told.told _ _ c.args.body.now _ _ now now c.as_slice.ensures refl c.in_ok-told.ensures in
+    let inner = subst (λ (e : Level). Tells here.task.now c.note.new.events.items c.in_ok-told.told c.tell_steps.new.progress
+    (tell (table_of here) c.args.body.now (scene_of here)
+    (let outer = (stack_of here).events in record (stack_of here) { events = level_of e ∷ outer }) now)) c.in_ok-event.ensures body in
+    tells_event here.task.now _ _ _ (table_of here) label c.args.moment (inside_event label c.args.body.now here now)
+    c.in_ok-told.told entering inner
 
 pub tell_child-returns : goal.tell_child-returns
 tell_child-returns t c =
@@ -117,7 +134,7 @@ tell_child-returns t c =
     let scene = scene_in c.args.label (range_of c.args.part) here in
     let now = now_in c.args.moment c.args.progress.now in
     let inner = subst (λ (x : Now). Tells c.args.label c.note_start.new.events.items c.in_ok-told.told c.tell_steps.new.progress
-    (tell (table_of here) (steps_of c.args.steps.now) scene (scopes_of here) x))
+    (tell (table_of here) (steps_of c.args.steps.now) scene (stack_of here) x))
     (same_now c.args.begins c.replace-own.new.dest.items c.args.begins [] refl
     (none_own c.replace-own.new.dest.items (ap (λ (v : Vec Label). v.items) c.replace-own.ensures.after ∙ c.new.ensures.items)))
     (tells_in _ _ _ c.in_ok-told.told _ _ _ _ _ _ _ _ _ _ c.requires.same c.in_ok-told.ensures) in
@@ -199,7 +216,7 @@ tell_pass-returns t c =
       in_cleanup =
           here.in_cleanup;
     })
-    (scopes_of here) now)) path body
+    (stack_of here) now)) path body
 
 pub tell_try-tell_handler-requires : goal.tell_try-tell_handler-requires
 tell_try-tell_handler-requires t c =
@@ -298,6 +315,10 @@ tell_step-returns-in_ok-block-in-Nursery t c =
     (tell_block here.clock (table_of here) (kind_of b.kind) b.label c.args.moment b.deadline b.shield (scopes_of here)
     (inside (kind_of b.kind) b.label b.shield c.in-Nursery.body here (now_in c.args.moment c.args.progress.now)))))
     c.in_ok-block-in-Nursery.ensures told.ensures)
+
+pub tell_step-returns-in-Event : goal.tell_step-returns-in-Event
+unfolding tell
+tell_step-returns-in-Event t c = rw c.in-Event.is c.tell_event.ensures
 
 pub tell_step-returns-in-Start : goal.tell_step-returns-in-Start
 tell_step-returns-in-Start t c =

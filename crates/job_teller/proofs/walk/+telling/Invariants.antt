@@ -35,6 +35,9 @@ decreases-tell_block l = weight_of l.body.now + 6
 abbrev pub decreases-tell_inside : goal.decreases-tell_inside
 decreases-tell_inside l = weight_of l.body.now + 4
 
+abbrev pub decreases-tell_event : goal.decreases-tell_event
+decreases-tell_event l = weight_of l.body.now + 6
+
 abbrev pub decreases-tell_start : goal.decreases-tell_start
 decreases-tell_start l = weight_of l.body.now + 7
 

@@ -1,10 +1,7 @@
-use Rattle.std.specs.Prelude.{codes, decimal}
-use Rattle.moments.specs.Moments.{tick_of}
-use Rattle.story_text.proofs.Joined.{three_of_four}
+use Rattle.story_text.proofs.Joined.{two}
 use Rattle.story_text.proofs.limit.push_doing_in.Goals as goal
 
-pub returns-in_ok-push_label-in-Waits : goal.returns-in_ok-push_label-in-Waits
-returns-in_ok-push_label-in-Waits c =
-    rw c.in-Waits.is
-    (three_of_four c.push_since-in-Waits.result _ _ _ (codes " since ") (decimal (tick_of c.args.clock c.args.moment)) _ _ _
-    c.in_ok-extend_from_slice-in-Waits.ensures.items c.in_ok-push_label-in-Waits.ensures c.push_since-in-Waits.ensures)
+pub returns-in_ok-push_waiting-in-Awaits : goal.returns-in_ok-push_waiting-in-Awaits
+returns-in_ok-push_waiting-in-Awaits c =
+    rw (c.in-Awaits.is, ← c.of.ensures)
+    (two c.push_unset.result _ _ _ _ _ c.in_ok-push_waiting-in-Awaits.ensures c.push_unset.ensures)
