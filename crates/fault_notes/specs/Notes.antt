@@ -2,16 +2,17 @@
 use Rattle.std.specs.Prelude.{ℕ, Bool, true, false, ◌&&◌, ◌||◌, not, Option, Some, None, List, [], ◌∷◌, ◌++◌, if◌then◌else◌}
 use Rattle.std.specs.Str.{bytes_eq}
 use Rattle.exc_groups.specs.Exceptions.{Label, Exc, cancelled, raised, too_slow, group, Excs, no_parts, part}
-use Rattle.job_story.specs.Story.{sleeps, is_cancelled, raises, handles, replaces}
+use Rattle.job_story.specs.Story.{sleeps, is_cancelled, raises, awaits, handles, replaces}
 use Rattle.job_story.specs.Events.{What, happens, ends, Event}
 use Rattle.job_story.specs.Limit.{is_start, start_if, last_event}
 use Rattle.job_story.specs.Focus.{is_among}
 
 -- ---- tasks that sleep forever
 
--- a task fell asleep without a moment at which it is due
+-- a task fell asleep without a moment at which it is due, or began to wait for an event
 abbrev pub is_endless : What → Bool
 is_endless (happens (sleeps None)) = true
+is_endless (happens (awaits event)) = true
 is_endless _ = false
 
 -- that is the last event of a task
@@ -19,7 +20,7 @@ abbrev pub sleeps_forever : Option Event → Bool
 sleeps_forever None = false
 sleeps_forever (Some e) = is_endless e.what
 
--- the tasks whose last event is that they fell asleep forever, in the order in which the walk starts them
+-- the tasks of which that is the last event, in the order in which the walk starts them
 abbrev pub sleeping_among : List Event → List Event → List Label
 sleeping_among all [] = []
 sleeping_among all (e ∷ es) =
@@ -32,7 +33,7 @@ sleeping_in es = sleeping_among es es
 
 -- `Cancelled` was raised in a cleanup
 abbrev pub cuts : What → Bool
-cuts (happens (is_cancelled by since in_cleanup)) = in_cleanup
+cuts (happens (is_cancelled by during in_cleanup)) = in_cleanup
 cuts _ = false
 
 -- a label added at the end of others, if it is not among them

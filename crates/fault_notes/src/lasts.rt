@@ -14,7 +14,7 @@ use story_causes::LastEvents;
 
 /// Returns the tasks that sleep forever after these events. The events are those of a story in the order of the walk, and may
 /// end at some moment. A task sleeps forever if it was started, and its last event is that it fell asleep without a moment at which
-/// it is due. The tasks are in the order in which the walk starts them. The only error is that memory was refused.
+/// it is due, or that it began to wait for an event of the job, which is not set in the time of these events. The tasks are in the order in which the walk starts them. The only error is that memory was refused.
 pub fn sleeping_forever<'e>(
     alloc: Global,
     walked: &[&'e Event],
@@ -29,7 +29,7 @@ pub fn sleeping_forever<'e>(
     Ok(tasks)
 }
 
-// Appends the task of an event that is its start, if the last event of the task is that it fell asleep forever. The clause has
+// Appends the task of an event that is its start, if by its last event the task sleeps forever. The clause has
 // `ls`, the labels that a loop appends later, on both sides.
 fn note_sleeping<'e>(
     tasks: &mut Vec<&'e Label>,
@@ -47,7 +47,7 @@ fn note_sleeping<'e>(
     Ok(())
 }
 
-// Returns whether the last event of a task is that it fell asleep forever.
+// Returns whether the last event of a task is that it fell asleep forever, or began to wait for an event.
 fn sleeps_forever(last: Option<&Event>) -> bool
     ensures { result ≡ sleeps_forever (seen_last last.entry) }
 {
@@ -56,6 +56,7 @@ fn sleeps_forever(last: Option<&Event>) -> bool
     };
     match &event.what {
         What::Happens(Happening::Sleeps { until }) => until.is_none(),
+        What::Happens(Happening::Awaits { .. }) => true,
         _ => false,
     }
 }

@@ -6,7 +6,7 @@ use Rattle.job_edits.specs.declared.change.Piece.{Piece}
 use Rattle.job_edits.specs.declared.change.Piece.TheVariants as piece
 use Rattle.job_edits.specs.declared.change.Change.{Change}
 use Rattle.job_edits.specs.declared.waiting.Wait.{Wait}
-use Rattle.job_edits.specs.declared.waiting.Wait.TheVariants.{Sleep, Checkpoint, Forever, Pace, Need}
+use Rattle.job_edits.specs.declared.waiting.Wait.TheVariants.{Sleep, Checkpoint, Forever, Pace, Need, Event}
 use Rattle.job_edits.specs.declared.waiting.Waiting.{Waiting}
 use Rattle.job_edits.specs.declared.fault.Fault.{Fault}
 use Rattle.job_edits.specs.declared.fault.Fault.TheVariants.{Fails, FailsLate, Hangs, Cancelled, Misses}
@@ -25,6 +25,7 @@ faults_of Checkpoint = Fails ∷ Hangs ∷ Cancelled ∷ []
 faults_of Forever = Fails ∷ Cancelled ∷ []
 faults_of (Pace n) = Fails ∷ FailsLate ∷ Hangs ∷ Cancelled ∷ []
 faults_of (Need text name) = Misses name ∷ []
+faults_of (Event name) = Fails ∷ FailsLate ∷ Hangs ∷ Cancelled ∷ []
 
 abbrev pub variants_with : Waiting → List Fault → List Variant
 variants_with step [] = []

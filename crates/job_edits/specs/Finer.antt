@@ -1,5 +1,5 @@
 -- A job text in finer ticks, and with one site moved by a hair.
-use Rattle.std.specs.Prelude.{ℕ, ◌+◌, ◌-◌, ◌*◌, ◌==◌, Bool, ◌&&◌, max, nat_le, nat_lt, if◌then◌else◌, List, [], ◌∷◌, ◌++◌, Option, Some, None}
+use Rattle.std.specs.Prelude.{ℕ, ◌+◌, ◌-◌, ◌*◌, ◌==◌, Bool, ◌&&◌, max, nat_le, nat_lt, if◌then◌else◌, List, [], ◌∷◌, ◌++◌, Option, Some, None, codes}
 use Rattle.std.specs.Io.Iter.{u64_saturate}
 use Rattle.moments.specs.declared.clock.Clock.{Clock}
 use Rattle.moments.specs.declared.clock.Clock.TheVariants.{ByTicks, ByRounds}
@@ -7,13 +7,15 @@ use Rattle.job_edits.specs.declared.change.Piece.TheVariants as piece
 use Rattle.job_edits.specs.declared.change.Change.{Change}
 use Rattle.job_edits.specs.declared.number.Number.{Number}
 use Rattle.job_edits.specs.declared.site.Moment.{Moment}
-use Rattle.job_edits.specs.declared.site.Moment.TheVariants.{Sleep, After, At, Checkpoint, Pace, Start}
+use Rattle.job_edits.specs.declared.site.Moment.TheVariants.{Sleep, After, At, Checkpoint, Pace, Start, Set, Wait}
 use Rattle.job_edits.specs.declared.site.Site.{Site}
 use Rattle.job_edits.specs.declared.finer.Finer.{Finer}
 use Rattle.job_edits.specs.declared.shift.Hair.{Hair}
 use Rattle.job_edits.specs.declared.shift.Hair.TheVariants.{Earlier, Later}
 use Rattle.job_edits.specs.declared.shift.Shift.{Shift}
+use Rattle.job_tokens.specs.declared.token.Token.{Token}
 use Rattle.job_edits.specs.Faults.{insertion}
+use Rattle.job_edits.specs.Fresh.{fresh_word}
 use Rattle.job_edits.specs.Numbers.{set_to}
 
 -- ---- how much finer
@@ -26,6 +28,8 @@ ticks_of (At name n) = n.value
 ticks_of (Checkpoint to) = 0
 ticks_of (Pace lines to) = 0
 ticks_of (Start name opening) = 0
+ticks_of (Set name) = 0
+ticks_of (Wait name to) = 0
 
 abbrev pub most_ticks : List Site → ℕ
 most_ticks [] = 0
@@ -72,6 +76,8 @@ finer_at finer from (At name n) = set_to n (ticks_by finer n) ∷ []
 finer_at finer from (Checkpoint to) = []
 finer_at finer from (Pace lines to) = insertion from (piece.OpenRepeat finer.factor) ∷ insertion (u64_saturate (to + 1)) piece.Close ∷ []
 finer_at finer from (Start name opening) = []
+finer_at finer from (Set name) = []
+finer_at finer from (Wait name to) = []
 
 abbrev pub finer_all : Finer → List Site → List Change
 finer_all finer [] = []
@@ -111,26 +117,33 @@ abbrev pub moved_ticks : Finer → Number → Hair → ℕ
 moved_ticks finer n Earlier = ticks_by finer n - finer.hair
 moved_ticks finer n Later = u64_saturate (ticks_by finer n + finer.hair)
 
--- A number of ticks is moved; in place of a `checkpoint` there is a sleep of a hair; a `pace` sleeps a hair after its
--- end, and a task at its start.
-abbrev pub shifted_at : Finer → Hair → ℕ → Moment → List Change
-shifted_at finer hair from (Sleep n) = set_to n (moved_ticks finer n hair) ∷ []
-shifted_at finer hair from (After name n) = set_to n (moved_ticks finer n hair) ∷ []
-shifted_at finer hair from (At name n) = set_to n (moved_ticks finer n hair) ∷ []
-shifted_at finer hair from (Checkpoint to) = record { from = from; to = to; piece = piece.Sleep finer.hair } ∷ []
-shifted_at finer hair from (Pace lines to) =
+-- The name of the scope in which there is a sleep of a hair before a `set`. It is meant to be new in the text (`fresh_word`).
+abbrev pub hair_scope : List Token → List ℕ
+hair_scope tokens = fresh_word (codes "hair") tokens
+
+-- A number of ticks is moved; in place of a `checkpoint` there is a sleep of a hair; a `pace` and a `wait` sleep a hair after their
+-- end, and a task at its start. Before a `set` there is a sleep of a hair in a shielded scope with the given name: so it is no point at
+-- which the task can be cancelled.
+abbrev pub shifted_at : Finer → (scope : List ℕ) → Hair → ℕ → Moment → List Change
+shifted_at finer scope hair from (Sleep n) = set_to n (moved_ticks finer n hair) ∷ []
+shifted_at finer scope hair from (After name n) = set_to n (moved_ticks finer n hair) ∷ []
+shifted_at finer scope hair from (At name n) = set_to n (moved_ticks finer n hair) ∷ []
+shifted_at finer scope hair from (Checkpoint to) = record { from = from; to = to; piece = piece.Sleep finer.hair } ∷ []
+shifted_at finer scope hair from (Pace lines to) =
     insertion from (piece.OpenRepeat finer.factor) ∷ insertion (u64_saturate (to + 1)) piece.Close ∷ insertion (u64_saturate (to + 1)) (piece.ThenSleep finer.hair) ∷ []
-shifted_at finer hair from (Start name opening) = insertion (u64_saturate (opening + 1)) (piece.ThenSleep finer.hair) ∷ []
+shifted_at finer scope hair from (Start name opening) = insertion (u64_saturate (opening + 1)) (piece.ThenSleep finer.hair) ∷ []
+shifted_at finer scope hair from (Set name) = insertion from (piece.ShieldedSleep scope finer.hair) ∷ []
+shifted_at finer scope hair from (Wait name to) = insertion (u64_saturate (to + 1)) (piece.ThenSleep finer.hair) ∷ []
 
 -- a site, which may be the one that is moved by a hair
-abbrev pub shifted_or_finer : Finer → Shift → Site → List Change
-shifted_or_finer finer shift site =
-    if site.from == shift.site.from then shifted_at finer shift.hair site.from site.moment else finer_at finer site.from site.moment
+abbrev pub shifted_or_finer : Finer → List ℕ → Shift → Site → List Change
+shifted_or_finer finer scope shift site =
+    if site.from == shift.site.from then shifted_at finer scope shift.hair site.from site.moment else finer_at finer site.from site.moment
 
-abbrev pub shifted_all : Finer → Shift → List Site → List Change
-shifted_all finer shift [] = []
-shifted_all finer shift (s ∷ ss) = shifted_or_finer finer shift s ++ shifted_all finer shift ss
+abbrev pub shifted_all : Finer → List ℕ → Shift → List Site → List Change
+shifted_all finer scope shift [] = []
+shifted_all finer scope shift (s ∷ ss) = shifted_or_finer finer scope shift s ++ shifted_all finer scope shift ss
 
 -- finer ticks, and one site moved by a hair
-abbrev pub shifted_changes : Clock → Finer → Shift → List Site → List Change
-shifted_changes clock finer shift sites = version_changes clock ++ shifted_all finer shift sites
+abbrev pub shifted_changes : Clock → Finer → List ℕ → Shift → List Site → List Change
+shifted_changes clock finer scope shift sites = version_changes clock ++ shifted_all finer scope shift sites

@@ -1,15 +1,16 @@
--- The sites of a job text, where time passes or may pass, found among its tokens: a keyword begins each.
-use Rattle.std.specs.Prelude.{ℕ, List, [], ◌∷◌, ◌++◌, Option, Some, None, codes, decimal}
+-- The sites of a job text, where time passes or may pass, or where it matters when a step runs, found among its tokens: a keyword
+-- begins each.
+use Rattle.std.specs.Prelude.{ℕ, Bool, false, List, [], ◌∷◌, ◌++◌, Option, Some, None, codes, decimal}
 use Rattle.std.specs.Option.{option_map}
 use Rattle.job_tokens.specs.declared.token.Token.{Token}
 use Rattle.job_tokens.specs.declared.token.Mark.TheVariants.{Open, Semicolon}
 use Rattle.job_tokens.specs.Shapes.{word_in}
 use Rattle.job_syntax.specs.declared.keyword.Keyword.{Keyword}
 use Rattle.job_syntax.specs.declared.keyword.Keyword.TheVariants as keyword
-use Rattle.job_edits.specs.Waiting.{first_number, first_name, first_mark, keyword_in}
+use Rattle.job_edits.specs.Waiting.{first_number, first_name, first_mark, keyword_in, begins_after, step_keyword}
 use Rattle.job_edits.specs.Numbers.{number_first}
 use Rattle.job_edits.specs.declared.site.Moment.{Moment}
-use Rattle.job_edits.specs.declared.site.Moment.TheVariants.{Sleep, After, At, Checkpoint, Pace, Start}
+use Rattle.job_edits.specs.declared.site.Moment.TheVariants.{Sleep, After, At, Checkpoint, Pace, Start, Set, Wait}
 use Rattle.job_edits.specs.declared.site.Site.{Site}
 
 -- ---- what is there
@@ -41,6 +42,11 @@ start_moment (Some name) (Some opening) = Some (Start name opening)
 start_moment (Some name) None = None
 start_moment None opening = None
 
+abbrev pub wait_moment : Option (List ℕ) → Option ℕ → Option Moment
+wait_moment (Some name) (Some to) = Some (Wait name to)
+wait_moment (Some name) None = None
+wait_moment None to = None
+
 -- what begins with a keyword, given the tokens after it
 abbrev pub moment_by : Keyword → List Token → Option Moment
 moment_by keyword.Sleep ts = option_map (λ n. Sleep n) (number_first ts)
@@ -49,6 +55,8 @@ moment_by keyword.Nursery ts = deadline_from ts
 moment_by keyword.Checkpoint ts = option_map (λ to. Checkpoint to) (first_mark Semicolon ts)
 moment_by keyword.Pace ts = pace_moment (first_number ts) (first_mark Semicolon ts)
 moment_by keyword.Start ts = start_moment (first_name ts) (first_mark Open ts)
+moment_by keyword.Set ts = option_map (λ name. Set name) (first_name ts)
+moment_by keyword.Wait ts = wait_moment (first_name ts) (first_mark Semicolon ts)
 moment_by _ ts = None
 
 abbrev pub moment_if : Option Keyword → List Token → Option Moment
@@ -61,10 +69,14 @@ abbrev pub with_site : ℕ → Option Moment → List Site → List Site
 with_site from None others = others
 with_site from (Some m) others = record { from = from; moment = m } ∷ others
 
+-- the sites from a token on, given whether a step may begin there
+abbrev pub sites_from : (begins : Bool) → List Token → List Site
+sites_from begins [] = []
+sites_from begins (t ∷ ts) = with_site t.at (moment_if (step_keyword begins t) ts) (sites_from (begins_after t) ts)
+
 -- the sites of a text, in the order of their places
 abbrev pub sites_in : List Token → List Site
-sites_in [] = []
-sites_in (t ∷ ts) = with_site t.at (moment_if (keyword_in (word_in t.shape)) ts) (sites_in ts)
+sites_in ts = sites_from false ts
 
 -- ---- how it is printed
 
@@ -75,3 +87,5 @@ moment_text (At name n) = name ++ codes " at " ++ decimal n.value
 moment_text (Checkpoint to) = codes "checkpoint"
 moment_text (Pace lines to) = codes "pace " ++ decimal lines
 moment_text (Start name opening) = codes "start " ++ name
+moment_text (Set name) = codes "set " ++ name
+moment_text (Wait name to) = codes "wait " ++ name

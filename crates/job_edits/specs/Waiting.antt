@@ -1,5 +1,5 @@
--- The steps of a job text that wait, found among its tokens: a keyword begins a step, and a semicolon ends it.
-use Rattle.std.specs.Prelude.{ℕ, List, [], ◌∷◌, ◌++◌, Option, Some, None, codes, decimal}
+-- The steps of a job text that wait, found among its tokens: a keyword begins a step where one may begin, and a semicolon ends it.
+use Rattle.std.specs.Prelude.{ℕ, Bool, true, false, List, [], ◌∷◌, ◌++◌, Option, Some, None, is_some, codes, decimal}
 use Rattle.std.specs.Option.{option_map}
 use Rattle.job_tokens.specs.declared.token.Token.{Token}
 use Rattle.job_tokens.specs.declared.token.Mark.{Mark}
@@ -11,8 +11,27 @@ use Rattle.job_syntax.specs.declared.keyword.Keyword.{Keyword}
 use Rattle.job_syntax.specs.declared.keyword.Keyword.TheVariants as keyword
 use Rattle.job_syntax.specs.Keywords.{keyword_of}
 use Rattle.job_edits.specs.declared.waiting.Wait.{Wait}
-use Rattle.job_edits.specs.declared.waiting.Wait.TheVariants.{Sleep, Checkpoint, Forever, Pace, Need}
+use Rattle.job_edits.specs.declared.waiting.Wait.TheVariants.{Sleep, Checkpoint, Forever, Pace, Need, Event}
 use Rattle.job_edits.specs.declared.waiting.Waiting.{Waiting}
+
+-- ---- where a step may begin
+
+abbrev pub keyword_in : Option (List ℕ) → Option Keyword
+keyword_in None = None
+keyword_in (Some word) = keyword_of word
+
+-- A step begins directly after a `{`, `}` or `;`, and no name stands there. So a name that is spelled as a keyword, as `event`,
+-- `set` and `wait` may be, is not taken for a step.
+abbrev pub begins_after : Token → Bool
+begins_after t = is_some (mark_in t.shape)
+
+-- the keyword of a token, if a step may begin there
+abbrev pub keyword_if : Bool → Option (List ℕ) → Option Keyword
+keyword_if false word = None
+keyword_if true word = keyword_in word
+
+abbrev pub step_keyword : Bool → Token → Option Keyword
+step_keyword begins t = keyword_if begins (word_in t.shape)
 
 -- ---- what a step waits for
 
@@ -46,6 +65,7 @@ wait_of keyword.Checkpoint ts = Some Checkpoint
 wait_of keyword.Forever ts = Some Forever
 wait_of keyword.Pace ts = option_map (λ n. Pace n) (first_number ts)
 wait_of keyword.Need ts = need_in ts
+wait_of keyword.Wait ts = option_map (λ name. Event name) (first_name ts)
 wait_of _ ts = None
 
 -- ---- its place
@@ -74,22 +94,22 @@ abbrev pub wait_if : Option Keyword → List Token → Option Wait
 wait_if None ts = None
 wait_if (Some k) ts = wait_of k ts
 
-abbrev pub keyword_in : Option (List ℕ) → Option Keyword
-keyword_in None = None
-keyword_in (Some word) = keyword_of word
-
--- the waiting step that begins at a token, given the tokens after it
-abbrev pub waiting_at : Token → List Token → Option Waiting
-waiting_at t ts = waiting_for t.at (wait_if (keyword_in (word_in t.shape)) ts) ts
+-- the waiting step that begins at a token, given whether a step may begin there and the tokens after it
+abbrev pub waiting_at : (begins : Bool) → Token → List Token → Option Waiting
+waiting_at begins t ts = waiting_for t.at (wait_if (step_keyword begins t) ts) ts
 
 abbrev pub with_waiting : Option Waiting → List Waiting → List Waiting
 with_waiting None others = others
 with_waiting (Some w) others = w ∷ others
 
+-- the waiting steps from a token on, given whether a step may begin there
+abbrev pub waiting_from : (begins : Bool) → List Token → List Waiting
+waiting_from begins [] = []
+waiting_from begins (t ∷ ts) = with_waiting (waiting_at begins t ts) (waiting_from (begins_after t) ts)
+
 -- the waiting steps of a text, in the order of their places
 abbrev pub waiting_in : List Token → List Waiting
-waiting_in [] = []
-waiting_in (t ∷ ts) = with_waiting (waiting_at t ts) (waiting_in ts)
+waiting_in ts = waiting_from false ts
 
 -- ---- how it is printed
 
@@ -100,3 +120,4 @@ wait_text Checkpoint = codes "checkpoint"
 wait_text Forever = codes "forever"
 wait_text (Pace n) = codes "pace " ++ decimal n
 wait_text (Need text name) = codes "need " ++ token (shape.Text text) ++ codes " " ++ name
+wait_text (Event name) = codes "wait " ++ name

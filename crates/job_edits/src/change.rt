@@ -1,4 +1,5 @@
 ghost use Rattle.std.specs.Prelude.{◌≡◌, ◌-◌, ◌++◌, take, drop, decimal, IfOk, OnOk};
+ghost use Rattle.job_edits.specs.declared.change.Piece.TheVariants as piece;
 ghost use Rattle.job_edits.specs.Changes.{piece_text, changed_text};
 
 use digits::push_number;
@@ -27,6 +28,8 @@ pub enum Piece {
     Sleep(u64),
     /// A step that sleeps for the given number of ticks, with its semicolon, after another step or at the start of a block.
     ThenSleep(u64),
+    /// A shielded scope with this name, in which a step sleeps for the given number of ticks, before another step.
+    ShieldedSleep(Name, u64),
     /// The start of a `repeat` with the given number of passes, before a step.
     OpenRepeat(u64),
 }
@@ -102,12 +105,23 @@ fn push_piece(out: &mut Vec<u8>, piece: Piece) -> Result<(), AllocError>
             push_number(out, n)?;
             out.extend_from_slice(b";")
         }
+        Piece::ShieldedSleep(name, n) => push_shielded(out, name, n),
         Piece::OpenRepeat(n) => {
             out.extend_from_slice(b"repeat ")?;
             push_number(out, n)?;
             out.extend_from_slice(b" { ")
         }
     }
+}
+
+// Appends a shielded scope in which a step sleeps for some ticks.
+fn push_shielded(out: &mut Vec<u8>, name: Name, n: u64) -> Result<(), AllocError>
+    ensures { OnOk result (out.new.items ≡ out.old.items ++ piece_text (piece.ShieldedSleep name n)) }
+{
+    push_named(out, b"scope ", name)?;
+    out.extend_from_slice(b" shield { sleep ")?;
+    push_number(out, n)?;
+    out.extend_from_slice(b"; } ")
 }
 
 // Appends some words and a name.

@@ -31,8 +31,8 @@ pub struct Variant {
 }
 
 /// Returns each fault of each waiting step of the job text with these tokens, in the order of the places of the steps. A step
-/// has each kind of fault at most once: a `sleep` and a `pace` can fail, fail late, hang and be cancelled; a `checkpoint` can
-/// do the same except fail late, since it takes no time; a `forever` can fail and be cancelled; a `need` can only miss. The
+/// has each kind of fault at most once: a `sleep`, a `pace` and a `wait` can fail, fail late, hang and be cancelled; a `checkpoint`
+/// can do the same except fail late, since it takes no time; a `forever` can fail and be cancelled; a `need` can only miss. The
 /// only error is that memory was refused.
 pub fn variants(alloc: Global, tokens: &[Token]) -> Result<Vec<Variant>, AllocError>
     ensures { IfOk result (λ variants. variants.items ≡ variants_in tokens.now) }
@@ -51,7 +51,7 @@ fn push_faults(variants: &mut Vec<Variant>, step: &Waiting) -> Result<(), AllocE
 {
     let wait = step.wait;
     match wait {
-        Wait::Sleep(_) | Wait::Pace(_) => push_each(
+        Wait::Sleep(_) | Wait::Pace(_) | Wait::Event(_) => push_each(
             variants,
             step,
             &[

@@ -121,5 +121,7 @@ pub(crate) fn ticks_of(moment: Moment) -> u64
         Moment::Checkpoint { .. } => 0,
         Moment::Pace { .. } => 0,
         Moment::Start { .. } => 0,
+        Moment::Set(_) => 0,
+        Moment::Wait { .. } => 0,
     }
 }

@@ -1,4 +1,5 @@
-ghost use Rattle.std.specs.Prelude.{◌≡◌, IfOk};
+ghost use Rattle.std.specs.Prelude.{◌≡◌, IfOk, IsTrue};
+ghost use Rattle.job_tree.specs.Words.{is_word};
 ghost use Rattle.job_edits.specs.Fresh.{occurs, numbered_word, fresh_word};
 
 use digits::push_number;
@@ -6,10 +7,21 @@ use job_tokens::Token;
 use job_tree::Name;
 use std::alloc::{AllocError, Global};
 
+// Returns the first of the word, and the word with numbers after it, that is not a token. Requires that `word` is a word.
+pub(crate) fn fresh_word(alloc: Global, word: &[u8], tokens: &[Token]) -> Result<Name, AllocError>
+    requires { IsTrue (is_word word.now) }
+    ensures { IfOk result (λ name. name ≡ fresh_word word.now tokens.now) }
+{
+    let Some(name) = Name::new(word) else {
+        unreachable!()
+    };
+    fresh_name(alloc, name, tokens)
+}
+
 // Returns the first of `word`, `word_1`, `word_2` and so on that is not a token of the text. As many numbers are
 // tried as the text has tokens, so one of the names is new if `word` is short; this is tested, not proved. The only
 // error is that memory was refused.
-pub(crate) fn fresh_name(alloc: Global, word: Name, tokens: &[Token]) -> Result<Name, AllocError>
+fn fresh_name(alloc: Global, word: Name, tokens: &[Token]) -> Result<Name, AllocError>
     ensures { IfOk result (λ name. name ≡ fresh_word word tokens.now) }
 {
     if !occurs(word, tokens) {

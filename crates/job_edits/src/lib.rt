@@ -4,7 +4,8 @@
 //! `waiting_steps` finds each step of a job text that waits, with its place (`specs/Waiting.antt`), and `Plan::changes` returns
 //! the changes of the text that make a fault of such a step (`specs/Faults.antt`). `sites` finds each place where time passes
 //! or may pass; `finer_changes` and `shifted_changes` are the changes that make the ticks of the text finer, and move one place
-//! by a hair (`specs/Sites.antt`, `specs/Finer.antt`). `copied_starts` finds each `start .. over` (`specs/Copied.antt`).
+//! by a hair (`specs/Sites.antt`, `specs/Finer.antt`). `copied_starts` finds each `start` of several tasks, with `over` or in a
+//! `repeat` (`specs/Copied.antt`).
 //! `number_at` and `deadline_of` find a number of the text by its place, or as the deadline of a scope or nursery;
 //! `Number::set_to` is the change that puts another number in its place (`specs/Numbers.antt`). The crate uses `job_tokens` for
 //! the tokens of the text, `job_syntax` for keywords, and `moments` for how the time of the job is counted.
@@ -27,6 +28,6 @@ pub use fault::{Fault, Variant, variants};
 pub use finer::Finer;
 pub use number::{Number, Target, block_names, deadline_of, number_at};
 pub use plan::Plan;
-pub use shift::{Hair, Shift, finer_changes, shifted_changes, shifts};
+pub use shift::{Hair, Shift, finer_changes, hair_scope, shifted_changes, shifts};
 pub use site::{Moment, Site, push_moment, sites};
 pub use waiting::{Wait, Waiting, push_wait, waiting_steps};

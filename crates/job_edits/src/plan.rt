@@ -1,12 +1,10 @@
-ghost use Rattle.std.specs.Prelude.{◌≡◌, [], ◌∷◌, IfOk, IsTrue};
-ghost use Rattle.job_tree.specs.Words.{is_word};
+ghost use Rattle.std.specs.Prelude.{◌≡◌, [], ◌∷◌, IfOk};
 ghost use Rattle.job_edits.specs.declared.fault.Fault.TheVariants.{Cancelled};
 ghost use Rattle.job_edits.specs.Faults.{plan_of, last_place, replacement, insertion, changes_by, changes_of, probe_of, raised_by};
-ghost use Rattle.job_edits.specs.Fresh.{fresh_word};
 
 use crate::change::{Change, Piece};
 use crate::fault::{Fault, Variant};
-use crate::fresh::fresh_name;
+use crate::fresh::fresh_word;
 use crate::waiting::{Waiting, first_mark};
 use job_tokens::{Mark, Token};
 use job_tree::Name;
@@ -93,17 +91,6 @@ impl Plan {
             Fault::Misses(name) => Some(name),
         }
     }
-}
-
-// Returns the first of the word, and the word with numbers after it, that is not a token. Requires that `word` is a word.
-fn fresh_word(alloc: Global, word: &[u8], tokens: &[Token]) -> Result<Name, AllocError>
-    requires { IsTrue (is_word word.now) }
-    ensures { IfOk result (λ name. name ≡ fresh_word word.now tokens.now) }
-{
-    let Some(name) = Name::new(word) else {
-        unreachable!()
-    };
-    fresh_name(alloc, name, tokens)
 }
 
 // Returns the place of the last token, or 0 if there is none.

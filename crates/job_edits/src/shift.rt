@@ -3,12 +3,15 @@ ghost use Rattle.std.specs.Io.Iter.{u64_saturate};
 ghost use Rattle.job_edits.specs.declared.change.Piece.TheVariants as piece;
 ghost use Rattle.job_edits.specs.Faults.{insertion};
 ghost use Rattle.job_edits.specs.Numbers.{set_to};
-ghost use Rattle.job_edits.specs.Finer.{finer_at, version_changes, finer_changes, hairs_of, shifts_with, shifts_of, moved_ticks, shifted_at, shifted_or_finer, shifted_changes};
+ghost use Rattle.job_edits.specs.Finer.{finer_at, version_changes, finer_changes, hairs_of, shifts_with, shifts_of, hair_scope, moved_ticks, shifted_at, shifted_or_finer, shifted_changes};
 
 use crate::change::{Change, Piece};
 use crate::finer::{Finer, ticks_of};
+use crate::fresh::fresh_word;
 use crate::number::Number;
 use crate::site::{Moment, Site};
+use job_tokens::Token;
+use job_tree::Name;
 use moments::Clock;
 use std::alloc::{AllocError, Global};
 
@@ -83,20 +86,31 @@ pub fn finer_changes(
     Ok(changes)
 }
 
+/// Returns the name of the scope in which `shifted_changes` puts a hair before a `set`: the first of `hair`, `hair_1` and so on that
+/// is not in the job text with these tokens. That there is such a name is tested, not proved. The only error is that memory was
+/// refused.
+pub fn hair_scope(alloc: Global, tokens: &[Token]) -> Result<Name, AllocError>
+    ensures { IfOk result (λ name. name ≡ hair_scope tokens.now) }
+{
+    fresh_word(alloc, b"hair", tokens)
+}
+
 /// Returns the changes that give a job text finer ticks, as `finer_changes` does, and move one of its sites by a hair. `sites`
-/// are all the sites of the text. The only error is that memory was refused.
+/// are all the sites of the text. The hair of a `set` is a sleep before it in a shielded scope with the name `scope`, which is
+/// `hair_scope` of the text. The only error is that memory was refused.
 pub fn shifted_changes(
     alloc: Global,
     clock: Clock,
     finer: Finer,
+    scope: Name,
     shift: &Shift,
     sites: &[Site],
 ) -> Result<Vec<Change>, AllocError>
-    ensures { IfOk result (λ changes. changes.items ≡ shifted_changes clock finer shift.now sites.now) }
+    ensures { IfOk result (λ changes. changes.items ≡ shifted_changes clock finer scope shift.now sites.now) }
 {
     let mut changes = version_changes(alloc, clock)?;
     'sites: for site in sites {
-        push_shifted_or_finer(&mut changes, finer, shift, site)?;
+        push_shifted_or_finer(&mut changes, finer, scope, shift, site)?;
     }
     Ok(changes)
 }
@@ -119,13 +133,14 @@ fn version_changes(alloc: Global, clock: Clock) -> Result<Vec<Change>, AllocErro
 fn push_shifted_or_finer(
     changes: &mut Vec<Change>,
     finer: Finer,
+    scope: Name,
     shift: &Shift,
     site: &Site,
 ) -> Result<(), AllocError>
-    ensures { OnOk result (changes.new.items ≡ changes.old.items ++ shifted_or_finer finer shift.now site.now) }
+    ensures { OnOk result (changes.new.items ≡ changes.old.items ++ shifted_or_finer finer scope shift.now site.now) }
 {
     if site.from == shift.site.from {
-        push_shifted(changes, finer, shift.hair, site)
+        push_shifted(changes, finer, scope, shift.hair, site)
     } else {
         push_finer(changes, finer, site)
     }
@@ -142,6 +157,7 @@ fn push_finer(changes: &mut Vec<Change>, finer: Finer, site: &Site) -> Result<()
         }
         Moment::Pace { to, .. } => push_repeat(changes, finer, site.from, to),
         Moment::Checkpoint { .. } | Moment::Start { .. } => Ok(()),
+        Moment::Set(_) | Moment::Wait { .. } => Ok(()),
     }
 }
 
@@ -149,10 +165,11 @@ fn push_finer(changes: &mut Vec<Change>, finer: Finer, site: &Site) -> Result<()
 fn push_shifted(
     changes: &mut Vec<Change>,
     finer: Finer,
+    scope: Name,
     hair: Hair,
     site: &Site,
 ) -> Result<(), AllocError>
-    ensures { OnOk result (changes.new.items ≡ changes.old.items ++ shifted_at finer hair site.now.from site.now.moment) }
+    ensures { OnOk result (changes.new.items ≡ changes.old.items ++ shifted_at finer scope hair site.now.from site.now.moment) }
 {
     let from = site.from;
     let moment = site.moment;
@@ -168,6 +185,8 @@ fn push_shifted(
         Moment::Start { opening, .. } => {
             push_after(changes, opening, Piece::ThenSleep(finer.hair))
         }
+        Moment::Set(_) => { push(changes, from, from, Piece::ShieldedSleep(scope, finer.hair)) }
+        Moment::Wait { to, .. } => push_after(changes, to, Piece::ThenSleep(finer.hair)),
     }
 }
 

@@ -1,11 +1,12 @@
 ghost use Rattle.std.specs.Prelude.{◌≡◌, [], ◌++◌, IfOk, OnOk};
 ghost use Rattle.job_syntax.specs.declared.keyword.Keyword.TheVariants as keyword;
-ghost use Rattle.job_tokens.specs.Shapes.{word_in};
-ghost use Rattle.job_edits.specs.Waiting.{keyword_in};
+ghost use Rattle.job_edits.specs.Waiting.{step_keyword};
 ghost use Rattle.job_edits.specs.Sites.{deadline_by, deadline_from, moment_by, moment_if, with_site, sites_in, moment_text};
 
 use crate::number::{Number, number_first};
-use crate::waiting::{first_mark, first_name, first_number, keyword_in, push_counted};
+use crate::waiting::{
+    begins_after, first_mark, first_name, first_number, keyword_in, push_counted, step_keyword,
+};
 use job_syntax::Keyword;
 use job_tokens::{Mark, Token};
 use job_tree::Name;
@@ -39,9 +40,18 @@ pub enum Moment {
         /// The place of the brace that opens its block.
         opening: usize,
     },
+    /// A `set` of the event with this name.
+    Set(Name),
+    /// A `wait`.
+    Wait {
+        /// The name of the event.
+        name: Name,
+        /// The place of the semicolon after it.
+        to: usize,
+    },
 }
 
-/// A place of a job text at which time passes or may pass.
+/// A place of a job text at which time passes or may pass, or at which an event is set.
 #[derive(Clone, Copy)]
 pub struct Site {
     /// The place of the keyword that begins the step, scope, nursery or start, counted from the start of the text.
@@ -51,26 +61,34 @@ pub struct Site {
 }
 
 /// Returns the sites of the job text with these tokens, in the order of their places: each `sleep`, `checkpoint` and `pace`,
-/// each scope and nursery with a deadline, and each `start`. The only error is that memory was refused.
+/// each scope and nursery with a deadline, each `start`, and each `set` and `wait`. The only error is that memory was refused.
 pub fn sites(alloc: Global, tokens: &[Token]) -> Result<Vec<Site>, AllocError>
     ensures { IfOk result (λ sites. sites.items ≡ sites_in tokens.now) }
 {
     let mut sites = Vec::new(alloc);
+    let mut begins = false;
     let mut rest = tokens;
     'tokens: while let Some((token, others)) = rest.split_first() {
-        push_site(&mut sites, *token, others)?;
+        push_site(&mut sites, begins, *token, others)?;
+        begins = begins_after(*token);
         rest = others;
     }
     Ok(sites)
 }
 
-// Appends the site that begins at this token, if there is one. `others` are the tokens after it.
-fn push_site(sites: &mut Vec<Site>, token: Token, others: &[Token]) -> Result<(), AllocError>
+// Appends the site that begins at this token, if there is one. `begins` says whether a step may begin at the token, and `others`
+// are the tokens after it.
+fn push_site(
+    sites: &mut Vec<Site>,
+    begins: bool,
+    token: Token,
+    others: &[Token],
+) -> Result<(), AllocError>
     ensures { OnOk result (sites.new.items
-        ≡ sites.old.items ++ with_site token.at (moment_if (keyword_in (word_in token.shape)) others.now) []) }
+        ≡ sites.old.items ++ with_site token.at (moment_if (step_keyword begins token) others.now) []) }
 {
     let from = token.at;
-    let Some(keyword) = keyword_in(token) else {
+    let Some(keyword) = step_keyword(begins, token) else {
         return Ok(());
     };
     let Some(moment) = moment_by(keyword, others) else {
@@ -90,6 +108,8 @@ fn moment_by(keyword: Keyword, others: &[Token]) -> Option<Moment>
         Keyword::Checkpoint => checkpoint_in(others),
         Keyword::Pace => pace_in(others),
         Keyword::Start => start_in(others),
+        Keyword::Set => Some(Moment::Set(first_name(others)?)),
+        Keyword::Wait => wait_in(others),
         _ => None,
     }
 }
@@ -120,6 +140,15 @@ fn start_in(others: &[Token]) -> Option<Moment>
     Some(Moment::Start { name, opening })
 }
 
+// Returns a `wait`, given the tokens after the keyword.
+fn wait_in(others: &[Token]) -> Option<Moment>
+    ensures { result ≡ moment_by keyword.Wait others.now }
+{
+    let name = first_name(others)?;
+    let to = first_mark(Mark::Semicolon, others)?;
+    Some(Moment::Wait { name, to })
+}
+
 // Returns the deadline of a scope or nursery, given the tokens from its name on.
 fn deadline_from(tokens: &[Token]) -> Option<Moment>
     ensures { result ≡ deadline_from tokens.now }
@@ -142,7 +171,7 @@ fn deadline_by(name: Name, keyword: Option<Keyword>, tokens: &[Token]) -> Option
 }
 
 /// Appends what is at a site, as it is printed: `sleep 5`, `limit after 5` or `limit at 5` for the deadline of `limit`,
-/// `checkpoint`, `pace 5` or `start reader`. The only error is that memory was refused.
+/// `checkpoint`, `pace 5`, `start reader`, `set ready` or `wait ready`. The only error is that memory was refused.
 pub fn push_moment(out: &mut Vec<u8>, moment: Moment) -> Result<(), AllocError>
     ensures { OnOk result (out.new.items ≡ out.old.items ++ moment_text moment) }
 {
@@ -160,6 +189,14 @@ pub fn push_moment(out: &mut Vec<u8>, moment: Moment) -> Result<(), AllocError>
         Moment::Pace { lines, .. } => push_counted(out, b"pace ", lines),
         Moment::Start { name, .. } => {
             out.extend_from_slice(b"start ")?;
+            out.extend_from_slice(name.bytes())
+        }
+        Moment::Set(name) => {
+            out.extend_from_slice(b"set ")?;
+            out.extend_from_slice(name.bytes())
+        }
+        Moment::Wait { name, .. } => {
+            out.extend_from_slice(b"wait ")?;
             out.extend_from_slice(name.bytes())
         }
     }

@@ -1,6 +1,6 @@
 ghost use Rattle.std.specs.Prelude.{◌≡◌, [], ◌++◌, decimal, IfOk, OnOk};
 ghost use Rattle.job_tokens.specs.Shapes.{word_in};
-ghost use Rattle.job_edits.specs.Waiting.{wait_of, wait_if, keyword_in, need_in, first_number, first_name, first_mark, waiting_at, with_waiting, waiting_in, wait_text};
+ghost use Rattle.job_edits.specs.Waiting.{begins_after, step_keyword, wait_of, wait_if, keyword_in, need_in, first_number, first_name, first_mark, waiting_at, with_waiting, waiting_in, wait_text};
 
 use digits::push_number;
 use job_syntax::Keyword;
@@ -21,6 +21,8 @@ pub enum Wait {
     Pace(u64),
     /// `need`: a line that contains this string. If there is none, it raises an exception with this name.
     Need(Text, Name),
+    /// `wait`: until the event with this name is set.
+    Event(Name),
 }
 
 /// A waiting step of a job text.
@@ -35,25 +37,33 @@ pub struct Waiting {
 }
 
 /// Returns the waiting steps of the job text with these tokens, in the order of their places: each `sleep`, `checkpoint`,
-/// `forever`, `pace` and `need`. The only error is that memory was refused.
+/// `forever`, `pace`, `need` and `wait`. The only error is that memory was refused.
 pub fn waiting_steps(alloc: Global, tokens: &[Token]) -> Result<Vec<Waiting>, AllocError>
     ensures { IfOk result (λ steps. steps.items ≡ waiting_in tokens.now) }
 {
     let mut steps = Vec::new(alloc);
+    let mut begins = false;
     let mut rest = tokens;
     'tokens: while let Some((token, others)) = rest.split_first() {
-        push_step(&mut steps, *token, others)?;
+        push_step(&mut steps, begins, *token, others)?;
+        begins = begins_after(*token);
         rest = others;
     }
     Ok(steps)
 }
 
-// Appends the waiting step that begins at this token, if there is one. `others` are the tokens after it.
-fn push_step(steps: &mut Vec<Waiting>, token: Token, others: &[Token]) -> Result<(), AllocError>
-    ensures { OnOk result (steps.new.items ≡ steps.old.items ++ with_waiting (waiting_at token others.now) []) }
+// Appends the waiting step that begins at this token, if there is one. `begins` says whether a step may begin at the token, and
+// `others` are the tokens after it.
+fn push_step(
+    steps: &mut Vec<Waiting>,
+    begins: bool,
+    token: Token,
+    others: &[Token],
+) -> Result<(), AllocError>
+    ensures { OnOk result (steps.new.items ≡ steps.old.items ++ with_waiting (waiting_at begins token others.now) []) }
 {
     let from = token.at;
-    let Some(wait) = wait_at(token, others) else {
+    let Some(wait) = wait_at(begins, token, others) else {
         return Ok(());
     };
     let Some(to) = first_mark(Mark::Semicolon, others) else {
@@ -64,11 +74,28 @@ fn push_step(steps: &mut Vec<Waiting>, token: Token, others: &[Token]) -> Result
 }
 
 // Returns what the step that begins at this token waits for. `others` are the tokens after it.
-fn wait_at(token: Token, others: &[Token]) -> Option<Wait>
-    ensures { result ≡ wait_if (keyword_in (word_in token.shape)) others.now }
+fn wait_at(begins: bool, token: Token, others: &[Token]) -> Option<Wait>
+    ensures { result ≡ wait_if (step_keyword begins token) others.now }
 {
-    let keyword = keyword_in(token)?;
+    let keyword = step_keyword(begins, token)?;
     wait_of(keyword, others)
+}
+
+// Returns whether a step may begin after this token: after a mark, where no name may be.
+pub(crate) fn begins_after(token: Token) -> bool
+    ensures { result ≡ begins_after token }
+{
+    token.shape.mark().is_some()
+}
+
+// Returns the keyword that a token is, if it is one and a step may begin there.
+pub(crate) fn step_keyword(begins: bool, token: Token) -> Option<Keyword>
+    ensures { result ≡ step_keyword begins token }
+{
+    if !begins {
+        return None;
+    }
+    keyword_in(token)
 }
 
 // Returns the keyword that a token is, if it is one.
@@ -88,6 +115,7 @@ fn wait_of(keyword: Keyword, others: &[Token]) -> Option<Wait>
         Keyword::Forever => Some(Wait::Forever),
         Keyword::Pace => Some(Wait::Pace(first_number(others)?)),
         Keyword::Need => need_in(others),
+        Keyword::Wait => Some(Wait::Event(first_name(others)?)),
         _ => None,
     }
 }
@@ -144,6 +172,10 @@ pub fn push_wait(out: &mut Vec<u8>, wait: Wait) -> Result<(), AllocError>
             out.extend_from_slice(b"need ")?;
             push_canon(out, &[Shape::Text(text)])?;
             out.extend_from_slice(b" ")?;
+            out.extend_from_slice(name.bytes())
+        }
+        Wait::Event(name) => {
+            out.extend_from_slice(b"wait ")?;
             out.extend_from_slice(name.bytes())
         }
     }

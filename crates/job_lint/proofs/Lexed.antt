@@ -4,10 +4,7 @@ use Rattle.job_tree.specs.Tree.{Tree}
 use Rattle.job_tokens.specs.declared.token.Token.{Token}
 use Rattle.job_tokens.proofs.LeftToRight.{Lexes-unique}
 use Rattle.job_syntax.specs.declared.keyword.Keyword.{Keyword}
-use Rattle.job_checks.specs.Reserved.{reserved_in}
-use Rattle.job_grammar.specs.Refusals.{Spells, HasTokens, may_have_comments, roles_of}
-use Rattle.job_grammar.specs.declared.fault.JobKind.TheVariants as kind
-use Rattle.job_grammar.proofs.Passing.{none_of}
+use Rattle.job_grammar.specs.Refusals.{Spells, HasTokens, may_have_comments}
 use Rattle.job_lint.specs.Openings.{opening_places, openings_of, numbered_in}
 use Rattle.job_lint.specs.Warnings.{in_job, job_warnings}
 use Rattle.job_lint.specs.Fitting.{opening_keywords, keywords_of, AllStandAtKeywords}
@@ -19,9 +16,7 @@ pub keywords_of_text : (text : List ℕ) (job : Tree) (tokens : List Token) → 
     opening_keywords tokens ≡ keywords_of job.steps []
 keywords_of_text text job tokens (ts, is_of, none) lexed =
     let same : ts ≡ tokens = (Lexes-unique (may_have_comments text) (length text) (drop 11 text) ts tokens None None is_of.0 lexed).0 in
-    let free : reserved_in ts (roles_of job) ≡ None =
-    none_of (reserved_in ts (roles_of job)) (λ at e. none kind.Reserved at (ts, job, is_of, e)) in
-    subst (λ (us : List Token). opening_keywords us ≡ keywords_of job.steps []) same (same_keywords job ts is_of.1.1 free)
+    subst (λ (us : List Token). opening_keywords us ≡ keywords_of job.steps []) same (same_keywords job ts is_of.1.1)
 
 -- there are as many places as opening keywords in the tree
 pub keywords_have_places : (text : List ℕ) (job : Tree) (tokens : List Token) → Spells text job → HasTokens text tokens None →

@@ -4,12 +4,14 @@ use Rattle.std.specs.Prelude.{slice_get, if◌then◌else◌}
 use Rattle.std.proofs.lemmas.List.{length-append}
 use Rattle.std.proofs.lemmas.List.{drop-drop}
 use Rattle.std.proofs.Math.Seq.{drop-append_seam}
-use Rattle.job_tree.specs.Tree.{Step, sleep, checkpoint, forever, pace, find, head, longest, need, raise, cancel, scope, nursery, start, repeat, attempt, Steps, stop, step, Handled, unhandled, except, Cleaned, uncleaned, finally}
+use Rattle.job_tree.specs.Tree.{Step, sleep, checkpoint, forever, pace, find, head, longest, need, raise, cancel, set_event, wait_for, scope, nursery, event, start, repeat, attempt, Steps, stop, step, Handled, unhandled, except, Cleaned, uncleaned, finally}
 use Rattle.job_syntax.specs.declared.keyword.Keyword.{Keyword}
 use Rattle.job_syntax.specs.declared.keyword.Keyword.TheVariants as word
 use Rattle.job_lint.specs.declared.around.Around.{Around}
+use Rattle.job_lint.specs.declared.warning.Lint.TheVariants.{UnsetEvent, UnawaitedEvent}
 use Rattle.job_lint.specs.declared.warning.Warning.{Warning}
-use Rattle.job_lint.specs.Seeking.{is_never}
+use Rattle.job_lint.specs.declared.sought.Sought.TheVariants.{Set, Await}
+use Rattle.job_lint.specs.Seeking.{is_never, has}
 use Rattle.job_lint.specs.Openings.{openings_of, openings_in, handled_openings, cleaned_openings, numbered_in}
 use Rattle.job_lint.specs.Warnings.{in_block, in_cleanup, warn_if, with_warning, never_ends_well, own_warning, endless_shield, idle_scope, can_raise, warnings_at, warnings_of, warnings_in, handled_warnings, cleaned_warnings}
 use Rattle.job_lint.specs.Fitting.{own_keyword, keywords_of, keywords_in, handled_keywords, cleaned_keywords, begins_step, StandsAtKeyword, AllStandAtKeywords}
@@ -56,8 +58,11 @@ mutual
   split_in (need t n) others = ([], refl, refl)
   split_in (raise n) others = ([], refl, refl)
   split_in (cancel n) others = ([], refl, refl)
+  split_in (set_event n) others = ([], refl, refl)
+  split_in (wait_for n) others = ([], refl, refl)
   split_in (scope n d s f body) others = split_of body others
   split_in (nursery n d s body) others = split_of body others
+  split_in (event n body) others = split_of body others
   split_in (start n o body) others = split_of body others
   split_in (repeat n body) others = split_of body others
   split_in (attempt body h c) others =
@@ -128,6 +133,9 @@ own_stands places keywords around n (need t x) others got all = all
 own_stands places keywords around n (raise x) others got all =
     with_if places keywords around.cleanup _ others (n, word.Raise, refl, got, refl) all
 own_stands places keywords around n (cancel x) others got all = all
+own_stands places keywords around n (set_event x) others got all = all
+own_stands places keywords around n (wait_for x) others got all =
+    with_if places keywords around.exposed _ others (n, word.Wait, refl, got, refl) all
 own_stands places keywords around n (scope x d shield f body) others got all = by_flags (is_never d) shield
   where
     by_flags : (never shielded : Bool) → AllStandAtKeywords places keywords
@@ -142,6 +150,13 @@ own_stands places keywords around n (nursery x d shield body) others got all = b
         (with_warning (if b then endless_shield x body (numbered_in places n) else None) others)
     by_flag false = all
     by_flag true = with_if places keywords _ _ others (n, word.Nursery, refl, got, refl) all
+own_stands places keywords around n (event x body) others got all = by_flag (has (Set x) body)
+  where
+    by_flag : (b : Bool) → AllStandAtKeywords places keywords
+        (with_warning (if b then warn_if (not (has (Await x) body)) (record { at = numbered_in places n; lint = UnawaitedEvent; name = Some x })
+        else Some (record { at = numbered_in places n; lint = UnsetEvent; name = Some x })) others)
+    by_flag true = with_if places keywords _ _ others (n, word.Event, refl, got, refl) all
+    by_flag false = ((n, word.Event, refl, got, refl), all)
 own_stands places keywords around n (start x o body) others got all = all
 own_stands places keywords around n (repeat c body) others got all = all
 own_stands places keywords around n (attempt body h c) others got all = all
@@ -179,10 +194,13 @@ mutual
   stand_in places keywords around n (need t x) more others e all = all
   stand_in places keywords around n (raise x) more others e all = all
   stand_in places keywords around n (cancel x) more others e all = all
+  stand_in places keywords around n (set_event x) more others e all = all
+  stand_in places keywords around n (wait_for x) more others e all = all
   stand_in places keywords around n (scope x d shield f body) more others e all =
       stand_of places keywords (in_block shield around) false n body more others e all
   stand_in places keywords around n (nursery x d shield body) more others e all =
       stand_of places keywords (in_block shield around) false n body more others e all
+  stand_in places keywords around n (event x body) more others e all = stand_of places keywords around false n body more others e all
   stand_in places keywords around n (start x o body) more others e all = stand_of places keywords around false n body more others e all
   stand_in places keywords around n (repeat c body) more others e all = stand_of places keywords around false n body more others e all
   stand_in places keywords around n (attempt body h c) more others e all =

@@ -1,15 +1,15 @@
 -- The opening keywords of a job in the order of the text, and which of them a warning is about.
 use Rattle.std.specs.Prelude.{◌≡◌, ℕ, Bool, true, false, List, [], ◌∷◌, Option, Some, None, slice_get, if◌then◌else◌}
-use Rattle.job_tree.specs.Tree.{Step, sleep, checkpoint, forever, pace, find, head, longest, need, raise, cancel, scope, nursery, start, repeat, attempt, Steps, stop, step, Handled, unhandled, except, Cleaned, uncleaned, finally}
+use Rattle.job_tree.specs.Tree.{Step, sleep, checkpoint, forever, pace, find, head, longest, need, raise, cancel, set_event, wait_for, scope, nursery, event, start, repeat, attempt, Steps, stop, step, Handled, unhandled, except, Cleaned, uncleaned, finally}
 use Rattle.job_tokens.specs.declared.token.Token.{Token}
 use Rattle.job_tokens.specs.Shapes.{word_in}
 use Rattle.job_syntax.specs.declared.keyword.Keyword.{Keyword}
 use Rattle.job_syntax.specs.declared.keyword.Keyword.TheVariants as keyword
 use Rattle.job_syntax.specs.Keywords.{keyword_of}
 use Rattle.job_lint.specs.declared.warning.Lint.{Lint}
-use Rattle.job_lint.specs.declared.warning.Lint.TheVariants.{Unreachable, ExposedWait, RaiseInCleanup, ShieldWithoutDeadline, IdleScope, IdleHandler}
+use Rattle.job_lint.specs.declared.warning.Lint.TheVariants.{Unreachable, ExposedWait, RaiseInCleanup, ShieldWithoutDeadline, IdleScope, IdleHandler, UnsetEvent, UnawaitedEvent}
 use Rattle.job_lint.specs.declared.warning.Warning.{Warning}
-use Rattle.job_lint.specs.Openings.{is_opening, numbered_in}
+use Rattle.job_lint.specs.Openings.{is_opening, opens_after, numbered_in}
 
 -- ---- in the text
 
@@ -21,10 +21,19 @@ abbrev pub kept_by : Option (List ℕ) → List Keyword → List Keyword
 kept_by None others = others
 kept_by (Some word) others = kept_as (keyword_of word) others
 
+-- the opening keyword that a word is, if one may stand there, before others
+abbrev pub kept_if : Bool → Option (List ℕ) → List Keyword → List Keyword
+kept_if false word others = others
+kept_if true word others = kept_by word others
+
+-- the opening keywords from a token on, given whether one may stand there
+abbrev pub keywords_from : (opens : Bool) → List Token → List Keyword
+keywords_from opens [] = []
+keywords_from opens (t ∷ ts) = kept_if opens (word_in t.shape) (keywords_from (opens_after t.shape) ts)
+
 -- the opening keywords of a text
 abbrev pub opening_keywords : List Token → List Keyword
-opening_keywords [] = []
-opening_keywords (t ∷ ts) = kept_by (word_in t.shape) (opening_keywords ts)
+opening_keywords ts = keywords_from false ts
 
 -- ---- in the tree
 
@@ -39,8 +48,11 @@ own_keyword longest = keyword.Longest
 own_keyword (need text name) = keyword.Need
 own_keyword (raise name) = keyword.Raise
 own_keyword (cancel name) = keyword.Cancel
+own_keyword (set_event name) = keyword.Set
+own_keyword (wait_for name) = keyword.Wait
 own_keyword (scope name deadline shield fail body) = keyword.Scope
 own_keyword (nursery name deadline shield body) = keyword.Nursery
+own_keyword (event name body) = keyword.Event
 own_keyword (start name over body) = keyword.Start
 own_keyword (repeat count body) = keyword.Repeat
 own_keyword (attempt body handler cleanup) = keyword.Try
@@ -63,8 +75,11 @@ abbrev mutual
   keywords_in (need text name) others = others
   keywords_in (raise name) others = others
   keywords_in (cancel name) others = others
+  keywords_in (set_event name) others = others
+  keywords_in (wait_for name) others = others
   keywords_in (scope name deadline shield fail body) others = keywords_of body others
   keywords_in (nursery name deadline shield body) others = keywords_of body others
+  keywords_in (event name body) others = keywords_of body others
   keywords_in (start name over body) others = keywords_of body others
   keywords_in (repeat count body) others = keywords_of body others
   keywords_in (attempt body handler cleanup) others = keywords_of body (handled_keywords handler (cleaned_keywords cleanup others))
@@ -90,6 +105,7 @@ is_wait keyword.Sleep = true
 is_wait keyword.Checkpoint = true
 is_wait keyword.Forever = true
 is_wait keyword.Pace = true
+is_wait keyword.Wait = true
 is_wait _ = false
 
 abbrev pub is_raise : Keyword → Bool
@@ -105,6 +121,10 @@ abbrev pub is_scope : Keyword → Bool
 is_scope keyword.Scope = true
 is_scope _ = false
 
+abbrev pub is_event : Keyword → Bool
+is_event keyword.Event = true
+is_event _ = false
+
 abbrev pub is_except : Keyword → Bool
 is_except keyword.Except = true
 is_except _ = false
@@ -117,6 +137,8 @@ fits RaiseInCleanup k = is_raise k
 fits ShieldWithoutDeadline k = is_shieldable k
 fits IdleScope k = is_scope k
 fits IdleHandler k = is_except k
+fits UnsetEvent k = is_event k
+fits UnawaitedEvent k = is_event k
 
 -- a warning is at the place of an opening keyword that it can be about
 abbrev pub StandsAtKeyword : List ℕ → List Keyword → Warning → Type 0

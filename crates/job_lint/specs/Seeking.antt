@@ -3,9 +3,9 @@ use Rattle.std.specs.Prelude.{ℕ, Bool, true, false, ◌&&◌, ◌||◌, List}
 use Rattle.std.specs.Str.{bytes_eq}
 use Rattle.job_tree.specs.declared.deadline.Deadline.{Deadline}
 use Rattle.job_tree.specs.declared.deadline.Deadline.TheVariants.{Never, After, At}
-use Rattle.job_tree.specs.Tree.{Step, sleep, checkpoint, forever, pace, find, head, longest, need, raise, cancel, scope, nursery, start, repeat, attempt, Steps, stop, step, Handled, unhandled, except, Cleaned, uncleaned, finally}
+use Rattle.job_tree.specs.Tree.{Step, sleep, checkpoint, forever, pace, find, head, longest, need, raise, cancel, set_event, wait_for, scope, nursery, event, start, repeat, attempt, Steps, stop, step, Handled, unhandled, except, Cleaned, uncleaned, finally}
 use Rattle.job_lint.specs.declared.sought.Sought.{Sought}
-use Rattle.job_lint.specs.declared.sought.Sought.TheVariants.{Cancel, Raise, Fail, Wait}
+use Rattle.job_lint.specs.declared.sought.Sought.TheVariants.{Cancel, Raise, Fail, Wait, Set, Await}
 
 -- ---- the kinds
 
@@ -28,13 +28,24 @@ waits (sleep n) = true
 waits checkpoint = true
 waits forever = true
 waits (pace k) = true
+waits (wait_for name) = true
 waits _ = false
+
+abbrev pub sets : List ℕ → Step → Bool
+sets name (set_event other) = bytes_eq name other
+sets name _ = false
+
+abbrev pub awaits : List ℕ → Step → Bool
+awaits name (wait_for other) = bytes_eq name other
+awaits name _ = false
 
 abbrev pub is_sought : Sought → Step → Bool
 is_sought (Cancel name) s = cancels name s
 is_sought (Raise name) s = raises name s
 is_sought Fail s = fails s
 is_sought Wait s = waits s
+is_sought (Set name) s = sets name s
+is_sought (Await name) s = awaits name s
 
 abbrev pub is_never : Deadline → Bool
 is_never Never = true
@@ -48,6 +59,8 @@ is_entered (Cancel name) deadline = true
 is_entered (Raise name) deadline = true
 is_entered Fail deadline = true
 is_entered Wait deadline = is_never deadline
+is_entered (Set name) deadline = true
+is_entered (Await name) deadline = true
 
 -- ---- at any depth
 
@@ -68,8 +81,11 @@ abbrev mutual
   has_inside sought (need text name) = false
   has_inside sought (raise name) = false
   has_inside sought (cancel name) = false
+  has_inside sought (set_event name) = false
+  has_inside sought (wait_for name) = false
   has_inside sought (scope name deadline shield fail body) = is_entered sought deadline && has sought body
   has_inside sought (nursery name deadline shield body) = is_entered sought deadline && has sought body
+  has_inside sought (event name body) = has sought body
   has_inside sought (start name over body) = has sought body
   has_inside sought (repeat count body) = has sought body
   has_inside sought (attempt body handler cleanup) = has sought body || (handled_has sought handler || cleaned_has sought cleanup)

@@ -2,7 +2,7 @@
 use Rattle.std.specs.Prelude.{ℕ, List, [], ◌++◌, Option, Some, None, codes, if◌then◌else◌}
 use Rattle.std.specs.Str.{bytes_eq}
 use Rattle.job_lint.specs.declared.warning.Lint.{Lint}
-use Rattle.job_lint.specs.declared.warning.Lint.TheVariants.{Unreachable, ExposedWait, RaiseInCleanup, ShieldWithoutDeadline, IdleScope, IdleHandler}
+use Rattle.job_lint.specs.declared.warning.Lint.TheVariants.{Unreachable, ExposedWait, RaiseInCleanup, ShieldWithoutDeadline, IdleScope, IdleHandler, UnsetEvent, UnawaitedEvent}
 use Rattle.job_lint.specs.declared.warning.Warning.{Warning}
 
 abbrev pub idle_scope_text : List ℕ → List ℕ
@@ -15,6 +15,12 @@ idle_handler_text name =
     codes "no scope in this `try` has `fail`, so nothing raises TooSlow and its handler never runs"
     else codes "nothing in this `try` raises " ++ name ++ codes ", so its handler never runs"
 
+abbrev pub unset_event_text : List ℕ → List ℕ
+unset_event_text name = codes "nothing sets the event " ++ name ++ codes ": no `set " ++ name ++ codes "` is in it"
+
+abbrev pub unawaited_event_text : List ℕ → List ℕ
+unawaited_event_text name = codes "nothing waits for the event " ++ name ++ codes ": no `wait " ++ name ++ codes "` is in it"
+
 -- the sentence for a kind of mistake, with the name that it is about
 abbrev pub sentence_for : Lint → List ℕ → List ℕ
 sentence_for Unreachable name = codes "this step never runs: the step before it never ends well"
@@ -24,6 +30,8 @@ sentence_for RaiseInCleanup name = codes "an exception raised in a cleanup repla
 sentence_for ShieldWithoutDeadline name = codes "nothing outside can cancel a wait in this shield: give it a deadline"
 sentence_for IdleScope name = idle_scope_text name
 sentence_for IdleHandler name = idle_handler_text name
+sentence_for UnsetEvent name = unset_event_text name
+sentence_for UnawaitedEvent name = unawaited_event_text name
 
 abbrev pub name_or_none : Option (List ℕ) → List ℕ
 name_or_none None = []

@@ -2,11 +2,11 @@
 use Rattle.std.specs.Prelude.{ℕ, ◌+◌, Bool, true, false, ◌&&◌, ◌||◌, not, List, [], ◌∷◌, Option, Some, None, codes, if◌then◌else◌}
 use Rattle.std.specs.Str.{bytes_eq}
 use Rattle.job_tree.specs.declared.deadline.Deadline.{Deadline}
-use Rattle.job_tree.specs.Tree.{Step, sleep, checkpoint, forever, pace, find, head, longest, need, raise, cancel, scope, nursery, start, repeat, attempt, Steps, stop, step, Handled, unhandled, except, Cleaned, uncleaned, finally, Tree}
+use Rattle.job_tree.specs.Tree.{Step, sleep, checkpoint, forever, pace, find, head, longest, need, raise, cancel, set_event, wait_for, scope, nursery, event, start, repeat, attempt, Steps, stop, step, Handled, unhandled, except, Cleaned, uncleaned, finally, Tree}
 use Rattle.job_lint.specs.declared.around.Around.{Around}
-use Rattle.job_lint.specs.declared.warning.Lint.TheVariants.{Unreachable, ExposedWait, RaiseInCleanup, ShieldWithoutDeadline, IdleScope, IdleHandler}
+use Rattle.job_lint.specs.declared.warning.Lint.TheVariants.{Unreachable, ExposedWait, RaiseInCleanup, ShieldWithoutDeadline, IdleScope, IdleHandler, UnsetEvent, UnawaitedEvent}
 use Rattle.job_lint.specs.declared.warning.Warning.{Warning}
-use Rattle.job_lint.specs.declared.sought.Sought.TheVariants.{Cancel, Raise, Fail, Wait}
+use Rattle.job_lint.specs.declared.sought.Sought.TheVariants.{Cancel, Raise, Fail, Wait, Set, Await}
 use Rattle.job_lint.specs.Seeking.{has, is_never}
 use Rattle.job_lint.specs.Openings.{openings_of, openings_in, handled_openings}
 
@@ -33,7 +33,7 @@ abbrev pub with_warning : Option Warning → List Warning → List Warning
 with_warning None others = others
 with_warning (Some w) others = w ∷ others
 
--- the steps after this one in its block never run
+-- The steps after this one in its block never run. It is not decided whether a `wait` ends.
 abbrev pub never_ends_well : Step → Bool
 never_ends_well forever = true
 never_ends_well (raise name) = true
@@ -64,6 +64,13 @@ scope_warning name deadline shield body at =
 abbrev pub nursery_warning : List ℕ → Deadline → Bool → Steps → ℕ → Option Warning
 nursery_warning name deadline shield body at = if is_never deadline && shield then endless_shield name body at else None
 
+-- an event that no `set` in it names, or that something sets and no `wait` in it names
+abbrev pub event_warning : List ℕ → Steps → ℕ → Option Warning
+event_warning name body at =
+    if has (Set name) body
+    then warn_if (not (has (Await name) body)) (record { at = at; lint = UnawaitedEvent; name = Some name })
+    else Some (record { at = at; lint = UnsetEvent; name = Some name })
+
 -- a step of a block raises exceptions with this name; or the name is `TooSlow`, and a scope in it has `fail`
 abbrev pub can_raise : List ℕ → Steps → Bool
 can_raise name body = has (Raise name) body || (bytes_eq name (codes "TooSlow") && has Fail body)
@@ -78,9 +85,11 @@ own_warning around at (sleep n) = exposed_wait around at
 own_warning around at checkpoint = exposed_wait around at
 own_warning around at forever = exposed_wait around at
 own_warning around at (pace k) = exposed_wait around at
+own_warning around at (wait_for name) = exposed_wait around at
 own_warning around at (raise name) = raise_in_cleanup around at
 own_warning around at (scope name deadline shield fail body) = scope_warning name deadline shield body at
 own_warning around at (nursery name deadline shield body) = nursery_warning name deadline shield body at
+own_warning around at (event name body) = event_warning name body at
 own_warning around at _ = None
 
 -- both warnings, followed by others
@@ -111,10 +120,13 @@ abbrev mutual
   warnings_in place around number (need text name) others = others
   warnings_in place around number (raise name) others = others
   warnings_in place around number (cancel name) others = others
+  warnings_in place around number (set_event name) others = others
+  warnings_in place around number (wait_for name) others = others
   warnings_in place around number (scope name deadline shield fail body) others =
       warnings_of place (in_block shield around) false number body others
   warnings_in place around number (nursery name deadline shield body) others =
       warnings_of place (in_block shield around) false number body others
+  warnings_in place around number (event name body) others = warnings_of place around false number body others
   warnings_in place around number (start name over body) others = warnings_of place around false number body others
   warnings_in place around number (repeat count body) others = warnings_of place around false number body others
   warnings_in place around number (attempt body handler cleanup) others =

@@ -1,6 +1,6 @@
 ghost use Rattle.std.specs.Prelude.{◌≡◌, OnOk};
 ghost use Rattle.job_tree.specs.Blocks.{step_of};
-ghost use Rattle.job_lint.specs.Warnings.{warn_if, own_warning, scope_warning, nursery_warning, idle_scope, endless_shield, idle_handler, can_raise, never_ends_well, with_warning, warnings_at};
+ghost use Rattle.job_lint.specs.Warnings.{warn_if, own_warning, scope_warning, nursery_warning, event_warning, idle_scope, endless_shield, idle_handler, can_raise, never_ends_well, with_warning, warnings_at};
 ghost use Rattle.job_lint.specs.Adding.{Adds};
 
 use crate::around::Around;
@@ -38,7 +38,7 @@ pub(crate) fn push_found(
     Ok(())
 }
 
-// Returns whether the steps after this one in its block never run.
+// Returns whether the steps after this one in its block never run. It is not decided whether a `wait` ends.
 pub(crate) fn never_ends_well(step: &Step) -> bool
     ensures { result ≡ never_ends_well (step_of step.now) }
 {
@@ -58,6 +58,7 @@ fn own_warning(step: &Step, around: Around, at: usize) -> Option<Warning>
         Step::Checkpoint => warn_if(around.exposed, at, Lint::ExposedWait, None),
         Step::Forever => warn_if(around.exposed, at, Lint::ExposedWait, None),
         Step::Pace(_) => warn_if(around.exposed, at, Lint::ExposedWait, None),
+        Step::Wait(_) => warn_if(around.exposed, at, Lint::ExposedWait, None),
         Step::Raise(_) => warn_if(around.cleanup, at, Lint::RaiseInCleanup, None),
         Step::Scope {
             name,
@@ -72,6 +73,7 @@ fn own_warning(step: &Step, around: Around, at: usize) -> Option<Warning>
             shield,
             body,
         } => nursery_warning(*name, *deadline, *shield, body, at),
+        Step::Event { name, body } => event_warning(*name, body, at),
         _ => None,
     }
 }
@@ -110,6 +112,18 @@ fn nursery_warning(
         endless_shield(name, body, at)
     } else {
         None
+    }
+}
+
+// Returns the warning at an event.
+fn event_warning(name: Name, body: &Body, at: usize) -> Option<Warning>
+    ensures { result ≡ event_warning name body.now at }
+{
+    if has(body.as_slice(), &Sought::Set(name)) {
+        let is_unawaited = !has(body.as_slice(), &Sought::Await(name));
+        warn_if(is_unawaited, at, Lint::UnawaitedEvent, Some(name))
+    } else {
+        warn_if(true, at, Lint::UnsetEvent, Some(name))
     }
 }
 

@@ -1,5 +1,5 @@
 ghost use Rattle.std.specs.Prelude.{◌≡◌, ◌++◌, IfOk, OnOk};
-ghost use Rattle.job_lint.specs.Sentences.{sentence_of, sentence_for, idle_scope_text, idle_handler_text};
+ghost use Rattle.job_lint.specs.Sentences.{sentence_of, sentence_for, idle_scope_text, idle_handler_text, unset_event_text, unawaited_event_text};
 
 use crate::warning::{Lint, Warning};
 use std::alloc::{AllocError, Global};
@@ -36,6 +36,8 @@ fn push_sentence(text: &mut Vec<u8>, lint: Lint, name: &[u8]) -> Result<(), Allo
         ),
         Lint::IdleScope => push_idle_scope(text, name),
         Lint::IdleHandler => push_idle_handler(text, name),
+        Lint::UnsetEvent => push_unset_event(text, name),
+        Lint::UnawaitedEvent => push_unawaited_event(text, name),
     }
 }
 
@@ -45,6 +47,26 @@ fn push_idle_scope(text: &mut Vec<u8>, name: &[u8]) -> Result<(), AllocError>
     text.extend_from_slice(b"nothing cancels the scope ")?;
     text.extend_from_slice(name)?;
     text.extend_from_slice(b": it has no deadline, and no `cancel ")?;
+    text.extend_from_slice(name)?;
+    text.extend_from_slice(b"` is in it")
+}
+
+fn push_unset_event(text: &mut Vec<u8>, name: &[u8]) -> Result<(), AllocError>
+    ensures { OnOk result (text.new.items ≡ text.old.items ++ unset_event_text name.now) }
+{
+    text.extend_from_slice(b"nothing sets the event ")?;
+    text.extend_from_slice(name)?;
+    text.extend_from_slice(b": no `set ")?;
+    text.extend_from_slice(name)?;
+    text.extend_from_slice(b"` is in it")
+}
+
+fn push_unawaited_event(text: &mut Vec<u8>, name: &[u8]) -> Result<(), AllocError>
+    ensures { OnOk result (text.new.items ≡ text.old.items ++ unawaited_event_text name.now) }
+{
+    text.extend_from_slice(b"nothing waits for the event ")?;
+    text.extend_from_slice(name)?;
+    text.extend_from_slice(b": no `wait ")?;
     text.extend_from_slice(name)?;
     text.extend_from_slice(b"` is in it")
 }

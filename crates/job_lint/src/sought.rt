@@ -1,6 +1,6 @@
 ghost use Rattle.std.specs.Prelude.{◌≡◌};
 ghost use Rattle.job_tree.specs.Blocks.{step_of, steps_of, handled_of, cleaned_of};
-ghost use Rattle.job_lint.specs.Seeking.{cancels, raises, fails, waits, is_never, is_sought, is_entered, has, has_inside, handled_has, cleaned_has};
+ghost use Rattle.job_lint.specs.Seeking.{cancels, raises, fails, waits, sets, awaits, is_never, is_sought, is_entered, has, has_inside, handled_has, cleaned_has};
 
 use job_tree::{Body, Deadline, Handler, Name, Step};
 
@@ -15,6 +15,10 @@ pub(crate) enum Sought {
     Fail,
     // A step that waits and is not in a scope or nursery with a deadline.
     Wait,
+    // A `set` with this name.
+    Set(Name),
+    // A `wait` with this name.
+    Await(Name),
 }
 
 // Returns whether a block has what is sought, at any depth.
@@ -42,6 +46,7 @@ fn has_inside(step: &Step, sought: &Sought) -> bool
         Step::Nursery { deadline, body, .. } => {
             is_entered(sought, *deadline) && has(body.as_slice(), sought)
         }
+        Step::Event { body, .. } => has(body.as_slice(), sought),
         Step::Start { body, .. } => has(body.as_slice(), sought),
         Step::Repeat { body, .. } => has(body.as_slice(), sought),
         Step::Try {
@@ -85,6 +90,8 @@ fn is_sought(step: &Step, sought: &Sought) -> bool
         Sought::Raise(name) => raises(step, name),
         Sought::Fail => fails(step),
         Sought::Wait => waits(step),
+        Sought::Set(name) => sets(step, name),
+        Sought::Await(name) => awaits(step, name),
     }
 }
 
@@ -97,6 +104,8 @@ fn is_entered(sought: &Sought, deadline: Deadline) -> bool
         Sought::Raise(_) => true,
         Sought::Fail => true,
         Sought::Wait => is_never(deadline),
+        Sought::Set(_) => true,
+        Sought::Await(_) => true,
     }
 }
 
@@ -146,6 +155,25 @@ fn waits(step: &Step) -> bool
         Step::Checkpoint => true,
         Step::Forever => true,
         Step::Pace(_) => true,
+        Step::Wait(_) => true,
+        _ => false,
+    }
+}
+
+fn sets(step: &Step, name: &Name) -> bool
+    ensures { result ≡ sets name.now (step_of step.now) }
+{
+    match step {
+        Step::Set(other) => name == other,
+        _ => false,
+    }
+}
+
+fn awaits(step: &Step, name: &Name) -> bool
+    ensures { result ≡ awaits name.now (step_of step.now) }
+{
+    match step {
+        Step::Wait(other) => name == other,
         _ => false,
     }
 }

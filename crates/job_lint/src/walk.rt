@@ -60,6 +60,10 @@ fn walk_inside(
             let next = walk_steps(body.as_slice(), places, around, number, found)?;
             Ok(next)
         }
+        Step::Event { body, .. } => {
+            let next = walk_steps(body.as_slice(), places, around, number, found)?;
+            Ok(next)
+        }
         Step::Start { body, .. } => {
             let next = walk_steps(body.as_slice(), places, around, number, found)?;
             Ok(next)

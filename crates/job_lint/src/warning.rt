@@ -5,8 +5,8 @@ use job_tree::Name;
 pub enum Lint {
     /// A step directly after a `forever` or a `raise` in the same block. It never runs.
     Unreachable,
-    /// A `sleep`, `checkpoint`, `forever` or `pace` in a cleanup that no shield inside the cleanup encloses. It is cut off if
-    /// the task is cancelled.
+    /// A `sleep`, `checkpoint`, `forever`, `pace` or `wait` in a cleanup that no shield inside the cleanup encloses. It is cut
+    /// off if the task is cancelled.
     ExposedWait,
     /// A `raise` in a cleanup. Its exception replaces the one that the cleanup began with.
     RaiseInCleanup,
@@ -18,6 +18,10 @@ pub enum Lint {
     /// A handler of exceptions that nothing in the block of its `try` raises, or of `TooSlow` if no scope in that block has
     /// `fail`. It never runs.
     IdleHandler,
+    /// An event with no `set` in it that names it. So nothing sets it.
+    UnsetEvent,
+    /// An event with a `set` in it that names it, and no `wait` that does. So nothing waits for it.
+    UnawaitedEvent,
 }
 
 /// A probable mistake in a job text.
@@ -28,6 +32,6 @@ pub struct Warning {
     pub at: usize,
     /// What is probably wrong there.
     pub lint: Lint,
-    /// The name of the handler, scope or nursery, or `None` if the warning is about another step.
+    /// The name of the handler, scope, nursery or event, or `None` if the warning is about another step.
     pub name: Option<Name>,
 }

@@ -1,5 +1,5 @@
 -- The values of lines, with the text of the step as it was passed on.
-use Rattle.std.proofs.Common.{◌≡◌, ℕ, List, ap, ◌∙◌}
+use Rattle.std.proofs.Common.{◌≡◌, ℕ, Option, List, ap, ◌∙◌}
 use Rattle.serde_json.specs.Data.{Data}
 use Rattle.exc_groups.specs.Exceptions.{Label}
 use Rattle.job_edits.specs.declared.site.Moment.{Moment}
@@ -14,7 +14,7 @@ pub of_moved : (line column : ℕ) (moment : Moment) (hair : Hair) (found : Foun
 of_moved line column moment hair found step text value t s v = v ∙ ap (moved_json line column hair found) (t ∙ s)
 
 -- the JSON object of copies that meet, by its text
-pub of_copies : (line column : ℕ) (name : List ℕ) (count : ℕ) (one other : Label) (tick : ℕ) (step text : List ℕ) (value : Data) →
+pub of_copies : (line column : ℕ) (name : List ℕ) (count : Option ℕ) (one other : Label) (tick : ℕ) (step text : List ℕ) (value : Data) →
     text ≡ step → step ≡ step_text (copies line column name count one other tick) →
     value ≡ copies_json line column one other tick text → value ≡ race_line_json (copies line column name count one other tick)
 of_copies line column name count one other tick step text value t s v = v ∙ ap (copies_json line column one other tick) (t ∙ s)

@@ -7,7 +7,7 @@ use Rattle.job_edits.specs.declared.fault.Fault.TheVariants.{Fails, Hangs, Misse
 use Rattle.job_edits.specs.declared.waiting.Wait.TheVariants as wait
 use Rattle.job_edits.specs.declared.site.Moment.TheVariants.{Sleep}
 use Rattle.job_edits.specs.declared.shift.Hair.TheVariants.{Earlier, Later}
-use Rattle.job_lint.specs.declared.warning.Lint.TheVariants.{Unreachable, IdleScope}
+use Rattle.job_lint.specs.declared.warning.Lint.TheVariants.{Unreachable, IdleScope, UnsetEvent}
 use Rattle.fault_text.specs.JobOutcomes.{refused, stuck, ended}
 use Rattle.fault_text.specs.Examples.{task, too_large, line_with}
 use Rattle.sweep_text.specs.Examples.{value_with as value}
@@ -60,24 +60,29 @@ pub races_are_written :
     (races.differs (otherwise (task (codes "a")) (codes "done") (codes "cancelled") ∷ []))
     ∷ races.moved 4 18 (Sleep (record { from = 0; to = 0; value = 5 })) Later (races.differs [])
     ∷ races.moved 5 3 (Sleep (record { from = 0; to = 0; value = 1 })) Later (races.not_tried too_large)
-    ∷ races.copies 2 26 (codes "w") 3 (copy (codes "w") 0) (copy (codes "w") 1) 2
+    ∷ races.copies 2 26 (codes "w") (Some 3) (copy (codes "w") 0) (copy (codes "w") 1) 2
+    ∷ races.copies 3 5 (codes "h") None (copy (codes "h") 0) (copy (codes "h") 1) 7
     ∷ []))
-    ≡ codes "{\"counts\":{\"hairs\":5,\"not_tried\":1,\"races\":3},"
+    ≡ codes "{\"counts\":{\"hairs\":5,\"not_tried\":1,\"races\":4},"
     ++ codes "\"lines\":[{\"differences\":[{\"entries_differ\":true,\"task\":\"w.1\"}],\"hair\":\"finer\",\"not_tried\":null},"
     ++ codes "{\"column\":18,\"differences\":[{\"after\":\"cancelled\",\"before\":\"done\",\"task\":\"a\"}],\"hair\":\"earlier\",\"line\":4,\"not_tried\":null,\"step\":\"sleep 5\"},"
     ++ codes "{\"column\":3,\"differences\":[],\"hair\":\"later\",\"line\":5,\"not_tried\":{\"at\":0,\"number\":11},\"step\":\"sleep 1\"},"
-    ++ codes "{\"column\":26,\"hair\":\"copies\",\"line\":2,\"step\":\"start w over 3\",\"tasks\":[\"w.0\",\"w.1\"],\"tick\":2}]}\n"
+    ++ codes "{\"column\":26,\"hair\":\"copies\",\"line\":2,\"step\":\"start w over 3\",\"tasks\":[\"w.0\",\"w.1\"],\"tick\":2},"
+    ++ codes "{\"column\":5,\"hair\":\"copies\",\"line\":3,\"step\":\"start h\",\"tasks\":[\"h.0\",\"h.1\"],\"tick\":7}]}\n"
 unfolding digits escape_byte
 races_are_written = refl
 
 -- with the places in this text, which has two lines
 pub lints_are_written :
     document (lints_json (codes "nursery 1\njob x { forever; sleep 1; }")
-    (record { at = 26; lint = Unreachable; name = None } ∷ record { at = 18; lint = IdleScope; name = Some (codes "s") } ∷ []))
-    ≡ codes "{\"counts\":{\"warnings\":2},"
+    (record { at = 26; lint = Unreachable; name = None } ∷ record { at = 18; lint = IdleScope; name = Some (codes "s") }
+    ∷ record { at = 18; lint = UnsetEvent; name = Some (codes "e") } ∷ []))
+    ≡ codes "{\"counts\":{\"warnings\":3},"
     ++ codes "\"lines\":[{\"at\":26,\"column\":17,\"kind\":\"unreachable\",\"line\":2,\"name\":null,"
     ++ codes "\"sentence\":\"this step never runs: the step before it never ends well\"},"
     ++ codes "{\"at\":18,\"column\":9,\"kind\":\"idle_scope\",\"line\":2,\"name\":\"s\","
-    ++ codes "\"sentence\":\"nothing cancels the scope s: it has no deadline, and no `cancel s` is in it\"}]}\n"
+    ++ codes "\"sentence\":\"nothing cancels the scope s: it has no deadline, and no `cancel s` is in it\"},"
+    ++ codes "{\"at\":18,\"column\":9,\"kind\":\"unset_event\",\"line\":2,\"name\":\"e\","
+    ++ codes "\"sentence\":\"nothing sets the event e: no `set e` is in it\"}]}\n"
 unfolding digits escape_byte
 lints_are_written = refl

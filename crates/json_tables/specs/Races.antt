@@ -9,7 +9,7 @@ use Rattle.race_text.specs.Table.{hair_name, step_text, lines_that}
 use Rattle.json_report.specs.Values.{integer, word, list_of, text_json, label_json}
 use Rattle.json_tables.specs.Results.{not_tried_json}
 
--- `{"after":TEXT,"before":TEXT,"task":LABEL}`, or `{"entries_differ":true,"task":LABEL}` where only lines or scopes differ
+-- `{"after":TEXT,"before":TEXT,"task":LABEL}`, or `{"entries_differ":true,"task":LABEL}` where only lines, exits or waits differ
 abbrev pub difference_json : Difference → Data
 difference_json (otherwise task before after) =
     object (member (codes "after") (text_json after) (member (codes "before") (text_json before)

@@ -103,5 +103,7 @@ fn kind_word(lint: Lint) -> &'static str
         Lint::ShieldWithoutDeadline => "shield_without_deadline",
         Lint::IdleScope => "idle_scope",
         Lint::IdleHandler => "idle_handler",
+        Lint::UnsetEvent => "unset_event",
+        Lint::UnawaitedEvent => "unawaited_event",
     }
 }

@@ -37,7 +37,7 @@ moves_seen author input before shifts lines is are =
 -- the lines of a text in finer ticks and of all hairs, given its run
 pub of_run : (author : Author) (input : List ℕ) (first : Ran) (shown rows : List Row) (end : ℕ) (found : told.Found)
     (moves lines : List told.Line) →
-    shown ≡ rows → end ≡ root_end rows → found ≡ found_between first (ran (nat_le (root_end rows) author.limit) rows) →
+    shown ≡ rows → end ≡ root_end rows → found ≡ found_between author.scope.now first (ran (nat_le (root_end rows) author.limit) rows) →
     AreAnswers (IsMovedBy author input (ran (nat_le end author.limit) shown)) (shifts_of author.sites.now) moves →
     lines ≡ told.finer found ∷ moves →
     AreLinesBeside author input first (ran (nat_le (root_end rows) author.limit) rows) lines
@@ -68,7 +68,7 @@ with_copies author input first job rows lines all r are a =
           a
           ∙ ap
           (λ (ls : List told.Line). ls ++ copies_lines author.clock author.text.now author.limit author.finer (walked_events job input) author.starts.now)
-          (are.all ∙ ap (λ (before : Ran). told.finer (found_between first before) ∷ are.moves) run);
+          (are.all ∙ ap (λ (before : Ran). told.finer (found_between author.scope.now first before) ∷ are.moves) run);
     }
 
 -- all lines of a text whose text in finer ticks spells a job

@@ -12,7 +12,7 @@ use Rattle.job_meaning.specs.Meaning.{meaning_end}
 use Rattle.job_meaning.specs.Shown.{Row, meaning_rows}
 use Rattle.job_edits.specs.Sites.{sites_in}
 use Rattle.job_edits.specs.Copied.{copied_in}
-use Rattle.job_edits.specs.Finer.{fits, by_thousand, by_hundred, by_ten, finer_for, most_ticks, shifts_of}
+use Rattle.job_edits.specs.Finer.{fits, by_thousand, by_hundred, by_ten, finer_for, most_ticks, hair_scope, shifts_of}
 use Rattle.job_edits.specs.declared.site.Site.{Site}
 use Rattle.job_edits.specs.declared.copied.CopiedStart.{CopiedStart}
 use Rattle.job_edits.specs.declared.finer.Finer.{Finer}
@@ -50,19 +50,21 @@ clock_is format job clock same is = is ∙ ap clock_of same
 
 -- the lines, if the clock is that of the job, and places and starts of copies are those of the text's tokens
 pub are_lines : (text input : List ℕ) (limit l : ℕ) (job : Tree) (tokens : List Token) (format : Format) (clock : Clock) (f : Finer)
-    (sites : List Site) (starts : List CopiedStart) (first : Ran) (lines : List told.Line) (hairs : ℕ) →
+    (scope : List ℕ) (sites : List Site) (starts : List CopiedStart) (first : Ran) (lines : List told.Line) (hairs : ℕ) →
     Spells text job → meaning_end job input ≤ limit → HasTokens text tokens None → format ≡ job.format → clock ≡ clock_of format →
-    sites ≡ sites_in tokens → starts ≡ copied_in tokens →
+    scope ≡ hair_scope tokens → sites ≡ sites_in tokens → starts ≡ copied_in tokens →
     Some f ≡ finer_for clock limit sites → l ≡ u64_saturate (limit * f.factor) → first ≡ ran_of limit job input →
-    AreLines clock text input l f sites starts first lines → hairs ≡ length (shifts_of sites) → AreRaceLines text input limit hairs lines
-are_lines text input limit l job tokens format clock f sites starts first lines hairs spells soon has as_read counted s c finer at same are h =
+    AreLines clock text input l f scope sites starts first lines → hairs ≡ length (shifts_of sites) → AreRaceLines text input limit hairs lines
+are_lines text input limit l job tokens format clock f scope sites starts first lines hairs spells soon has as_read counted named s c finer at same are h =
     let by = clock_is format job clock as_read counted in
-    let by_clock = subst (λ (k : Clock). AreLines k text input l f sites starts first lines) by are in
-    let by_limit = subst (λ (n : ℕ). AreLines (clock_of job.format) text input n f sites starts first lines) at by_clock in
+    let by_clock = subst (λ (k : Clock). AreLines k text input l f scope sites starts first lines) by are in
+    let by_limit = subst (λ (n : ℕ). AreLines (clock_of job.format) text input n f scope sites starts first lines) at by_clock in
+    let by_name =
+    subst (λ (name : List ℕ). AreLines (clock_of job.format) text input (u64_saturate (limit * f.factor)) f name sites starts first lines) named by_limit in
     let by_sites =
-    subst (λ (ss : List Site). AreLines (clock_of job.format) text input (u64_saturate (limit * f.factor)) f ss starts first lines) s by_limit in
+    subst (λ (ss : List Site). AreLines (clock_of job.format) text input (u64_saturate (limit * f.factor)) f (hair_scope tokens) ss starts first lines) s by_name in
     let by_starts =
-    subst (λ (cs : List CopiedStart). AreLines (clock_of job.format) text input (u64_saturate (limit * f.factor)) f (sites_in tokens) cs first lines) c by_sites in
+    subst (λ (cs : List CopiedStart). AreLines (clock_of job.format) text input (u64_saturate (limit * f.factor)) f (hair_scope tokens) (sites_in tokens) cs first lines) c by_sites in
     record {
       job = job;
       spells = spells;
@@ -72,7 +74,7 @@ are_lines text input limit l job tokens format clock f sites starts first lines 
       f = f;
       finer_is = ap (λ (k : Clock). finer_for k limit (sites_in tokens)) (sym by) ∙ ap (finer_for clock limit) (sym s) ∙ sym finer;
       lines_are =
-          subst (λ (r : Ran). AreLines (clock_of job.format) text input (u64_saturate (limit * f.factor)) f (sites_in tokens) (copied_in tokens) r lines) same by_starts;
+          subst (λ (r : Ran). AreLines (clock_of job.format) text input (u64_saturate (limit * f.factor)) f (hair_scope tokens) (sites_in tokens) (copied_in tokens) r lines) same by_starts;
       hairs_are = h ∙ ap (λ (ss : List Site). length (shifts_of ss)) s;
     }
 

@@ -8,7 +8,7 @@ use Rattle.job_meaning.specs.Moments.{clock_of}
 use Rattle.job_meaning.specs.Meaning.{meaning_end}
 use Rattle.job_edits.specs.Sites.{sites_in}
 use Rattle.job_edits.specs.Copied.{copied_in}
-use Rattle.job_edits.specs.Finer.{finer_for, shifts_of}
+use Rattle.job_edits.specs.Finer.{finer_for, hair_scope, shifts_of}
 use Rattle.job_edits.specs.declared.finer.Finer.{Finer}
 use Rattle.race_text.specs.Lines.{Line}
 use Rattle.race_text.specs.Views.{line_held}
@@ -27,7 +27,8 @@ pub record AreRaceLines (text input : List ℕ) (limit : ℕ) (hairs : ℕ) (lin
   pub f : Finer
   pub finer_is : finer_for (clock_of job.format) limit (sites_in tokens) ≡ Some f
   pub lines_are :
-      AreLines (clock_of job.format) text input (u64_saturate (limit * f.factor)) f (sites_in tokens) (copied_in tokens) (ran_of limit job input) lines
+      AreLines (clock_of job.format) text input (u64_saturate (limit * f.factor)) f (hair_scope tokens) (sites_in tokens) (copied_in tokens)
+      (ran_of limit job input) lines
   pub hairs_are : hairs ≡ length (shifts_of (sites_in tokens))
 
 -- the job that the text spells does not end by the limit

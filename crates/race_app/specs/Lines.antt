@@ -17,10 +17,10 @@ use Rattle.race_app.specs.Ran.{Ran, IsRan, IsBeside, found_between}
 -- ---- one place moved by a hair
 
 -- A line compares the text in finer ticks, with one place moved by a hair, with the text in finer ticks alone. The limit is in
--- finer ticks.
-abbrev pub IsMoved : Clock → List ℕ → List ℕ → ℕ → Finer → List Site → Ran → Shift → Line → Type 0
-IsMoved clock text input limit f sites before shift line =
-    (found : Found) × IsBeside (changed_text text (shifted_changes clock f shift sites)) input limit before found
+-- finer ticks. `scope` is the name of the scope in which a hair before a `set` is.
+abbrev pub IsMoved : Clock → List ℕ → List ℕ → ℕ → Finer → (scope : List ℕ) → List Site → Ran → Shift → Line → Type 0
+IsMoved clock text input limit f scope sites before shift line =
+    (found : Found) × IsBeside scope (changed_text text (shifted_changes clock f scope shift sites)) input limit before found
     × (line ≡ moved (line_of text shift.site.from) (column_of text shift.site.from) shift.site.moment shift.hair found)
 
 -- ---- copies that meet
@@ -44,10 +44,10 @@ copies_lines clock text limit f events (c ∷ cs) =
 -- The lines of a text with these places and starts of copies, whose time is counted by this clock and whose run is the first one:
 -- its text in finer ticks, compared with the original text; then each hair of each place, once and in the order of places; then
 -- the copies that meet.
-pub record AreLines (clock : Clock) (text input : List ℕ) (limit : ℕ) (f : Finer) (sites : List Site) (starts : List CopiedStart) (first : Ran) (lines : List Line) : Type 0 where
+pub record AreLines (clock : Clock) (text input : List ℕ) (limit : ℕ) (f : Finer) (scope : List ℕ) (sites : List Site) (starts : List CopiedStart) (first : Ran) (lines : List Line) : Type 0 where
   pub before : Ran
   pub events : List Event
   pub before_is : IsRan (changed_text text (finer_changes clock f sites)) input limit before events
   pub moves : List Line
-  pub moves_are : AreAnswers (IsMoved clock text input limit f sites before) (shifts_of sites) moves
-  pub all : lines ≡ finer (found_between first before) ∷ (moves ++ copies_lines clock text limit f events starts)
+  pub moves_are : AreAnswers (IsMoved clock text input limit f scope sites before) (shifts_of sites) moves
+  pub all : lines ≡ finer (found_between scope first before) ∷ (moves ++ copies_lines clock text limit f events starts)

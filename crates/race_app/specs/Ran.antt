@@ -26,14 +26,15 @@ IsRan text input limit r events =
     ((job : Tree) × Spells text job × (r ≡ ran_of limit job input) × (events ≡ walked_events job input))
     ⊎ ((fault : JobFault) × IsRefused text fault.kind fault.at × (r ≡ refused fault) × (events ≡ []))
 
--- what a run shows that another one does not show, apart from ticks; nothing is compared where a text is refused
-abbrev pub found_between : Ran → Ran → Found
-found_between (refused fault) r = told.not_tried fault
-found_between (ran a before) (refused fault) = told.not_tried fault
-found_between (ran a before) (ran b after) = told.differs (of_runs a before b after)
+-- what a run shows that another one does not show, apart from ticks and from the exits of scopes with the name `scope`, which are
+-- those of hairs; nothing is compared where a text is refused
+abbrev pub found_between : (scope : List ℕ) → Ran → Ran → Found
+found_between scope (refused fault) r = told.not_tried fault
+found_between scope (ran a before) (refused fault) = told.not_tried fault
+found_between scope (ran a before) (ran b after) = told.differs (of_runs scope a before b after)
 
 -- what the job that a text spells shows that a run does not show; or the refusal of a text, with which nothing is compared
-abbrev pub IsBeside : List ℕ → List ℕ → ℕ → Ran → Found → Type 0
-IsBeside text input limit before found =
-    ((job : Tree) × Spells text job × (found ≡ found_between before (ran_of limit job input)))
-    ⊎ ((fault : JobFault) × IsRefused text fault.kind fault.at × (found ≡ found_between before (refused fault)))
+abbrev pub IsBeside : (scope : List ℕ) → List ℕ → List ℕ → ℕ → Ran → Found → Type 0
+IsBeside scope text input limit before found =
+    ((job : Tree) × Spells text job × (found ≡ found_between scope before (ran_of limit job input)))
+    ⊎ ((fault : JobFault) × IsRefused text fault.kind fault.at × (found ≡ found_between scope before (refused fault)))

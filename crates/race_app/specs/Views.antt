@@ -39,7 +39,7 @@ HasRoom moves = length moves.input.now ≤ MAX_INPUT
 -- the line of a place that is moved by a hair is right
 abbrev pub IsMovedBy : Author → List ℕ → Ran → Shift → told.Line → Type 0
 IsMovedBy author input before shift line =
-    IsMoved author.clock author.text.now input author.limit author.finer author.sites.now before shift line
+    IsMoved author.clock author.text.now input author.limit author.finer author.scope.now author.sites.now before shift line
 
 abbrev pub IsMovedOf : Moves → Shift → Line → Type 0
 IsMovedOf moves shift line = IsMovedBy moves.author moves.input.now (ran_held moves.before) shift (line_held line)
@@ -47,20 +47,20 @@ IsMovedOf moves shift line = IsMovedBy moves.author moves.input.now (ran_held mo
 -- all lines of a text
 abbrev pub AreLinesOf : Author → List ℕ → Ran → List told.Line → Type 0
 AreLinesOf author input first lines =
-    AreLines author.clock author.text.now input author.limit author.finer author.sites.now author.starts.now first lines
+    AreLines author.clock author.text.now input author.limit author.finer author.scope.now author.sites.now author.starts.now first lines
 
 -- the lines of a text in finer ticks and of all hairs, given its own run and the one in finer ticks
 pub record AreLinesBeside (author : Author) (input : List ℕ) (first before : Ran) (lines : List told.Line) : Type 0 where
   pub moves : List told.Line
   pub moves_are : AreAnswers (IsMovedBy author input before) (shifts_of author.sites.now) moves
-  pub all : lines ≡ told.finer (found_between first before) ∷ moves
+  pub all : lines ≡ told.finer (found_between author.scope.now first before) ∷ moves
 
 -- all lines of a text whose text in finer ticks spells this job
 pub record AreLinesFor (author : Author) (input : List ℕ) (first : Ran) (job : Tree) (lines : List told.Line) : Type 0 where
   pub moves : List told.Line
   pub moves_are : AreAnswers (IsMovedBy author input (ran_of author.limit job input)) (shifts_of author.sites.now) moves
   pub all :
-      lines ≡ told.finer (found_between first (ran_of author.limit job input))
+      lines ≡ told.finer (found_between author.scope.now first (ran_of author.limit job input))
       ∷ (moves ++ copies_lines author.clock author.text.now author.limit author.finer (walked_events job input) author.starts.now)
 
 -- all lines of a text whose text in finer ticks is refused

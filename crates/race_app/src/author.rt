@@ -1,4 +1,5 @@
 use job_edits::{CopiedStart, Finer, Site};
+use job_tree::Name;
 use moments::Clock;
 
 /// What all lines have in common.
@@ -12,8 +13,10 @@ pub(crate) struct Author<'a> {
     pub limit: u64,
     /// How much finer the ticks of the changed texts are.
     pub finer: Finer,
-    /// The places of the text where time passes or may pass.
+    /// The name of the scope in which a hair before a `set` is.
+    pub scope: &'a Name,
+    /// The places of the text where time passes or may pass, or where an event is set.
     pub sites: &'a [Site],
-    /// Each start of several copies of a task.
+    /// Each `start` of several copies of a task.
     pub starts: &'a [CopiedStart],
 }

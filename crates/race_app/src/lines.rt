@@ -120,7 +120,7 @@ fn lines_of_run<R: Threads + Sync, G: Gate + Sync>(
         records: run.records(),
         in_time: run.end() <= author.limit,
     };
-    let found = found_in_run(alloc, first, run, author.limit)?;
+    let found = found_in_run(alloc, *author.scope, first, run, author.limit)?;
     let moves = moves_for(rt, alloc, author, input, Ok(&before), workers, gate)?;
     after_first(alloc, found, moves)
 }

@@ -81,15 +81,24 @@ fn found_with<R: Threads + Sync>(
     shift: &Shift,
 ) -> Result<Found, AllocError>
     requires { length moves.now.input.now ≤ MAX_INPUT }
-    ensures { IfOk result (λ found. IsBeside (changed_text moves.now.author.text.now (shifted_changes moves.now.author.clock
-        moves.now.author.finer shift.now moves.now.author.sites.now)) moves.now.input.now moves.now.author.limit (ran_held moves.now.before) (found_held found)) }
+    ensures { IfOk result (λ found. IsBeside moves.now.author.scope.now (changed_text moves.now.author.text.now
+        (shifted_changes moves.now.author.clock moves.now.author.finer moves.now.author.scope.now shift.now moves.now.author.sites.now)) moves.now.input.now moves.now.author.limit (ran_held moves.now.before) (found_held found)) }
 {
     let author = moves.author;
-    let changes = shifted_changes(alloc, author.clock, author.finer, shift, author.sites)?;
+    let scope = *author.scope;
+    let changes = shifted_changes(
+        alloc,
+        author.clock,
+        author.finer,
+        scope,
+        shift,
+        author.sites,
+    )?;
     let text = changed_text(alloc, author.text, changes.as_slice())?;
     found_in_text(
         rt,
         alloc,
+        scope,
         moves.before,
         text.as_slice(),
         moves.input,

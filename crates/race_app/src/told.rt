@@ -6,7 +6,7 @@ ghost use Rattle.race_app.specs.Answers.{IsRaceAnswer};
 
 use crate::author::Author;
 use crate::lines::lines_for;
-use job_edits::{Finer, Site, copied_starts, shifts, sites};
+use job_edits::{Finer, Site, copied_starts, hair_scope, shifts, sites};
 use job_grammar::{Job, JobFault, read_job, spelled_tokens};
 use job_runner::{Forward, NoGate, Settings, run_to_end};
 use moments::Clock;
@@ -38,7 +38,7 @@ pub enum RaceAnswer {
 
 /// Returns how the outcome of the job that a text spells over an input changes if a single place of the text takes a hair more or
 /// less time: the text in finer ticks compared with the original text, then each hair of each place compared with the text in
-/// finer ticks, and the copies of one `start .. over` that meet. If the text is refused, the error is the refusal, as `read_job`
+/// finer ticks, and the copies of one `start` with `over` or in a `repeat` that meet. If the text is refused, the error is the refusal, as `read_job`
 /// returns it. If memory was refused, the error has the kind `NoMemory`. The caller must ensure that the input has at most
 /// 16,777,216 bytes.
 ///
@@ -87,12 +87,14 @@ fn answer_for_job<R: Threads + Sync, G: Gate + Sync>(
     let Some(finer) = Finer::of(clock, sites.as_slice(), limit) else {
         return Ok(RaceAnswer::NoFinerTicks);
     };
+    let scope = hair_scope(alloc, tokens.as_slice())?;
     let starts = copied_starts(alloc, tokens.as_slice())?;
     let author = Author {
         text: job_text,
         clock,
         limit: limit.saturating_mul(finer.factor),
         finer,
+        scope: &scope,
         sites: sites.as_slice(),
         starts: starts.as_slice(),
     };

@@ -1,4 +1,5 @@
--- Copies of one `start .. over` that meet: one cancels something, and something happens to another within a hair of that.
+-- Copies of one `start` that meet, which has `over` or is in a `repeat`: one cancels something, and something happens to another
+-- within a hair of that.
 use Rattle.std.specs.Prelude.{ℕ, ◌-◌, ◌==◌, ◌&&◌, ◌||◌, not, nat_le, Bool, true, false, if◌then◌else◌, Option, Some, None, List, [], ◌∷◌}
 use Rattle.std.specs.Str.{bytes_eq}
 use Rattle.exc_groups.specs.Exceptions.{Label, Exc, cancelled, raised, too_slow, group, Excs, no_parts, part}
@@ -75,7 +76,7 @@ cancels_some _ = false
 -- the event is neither a start nor a cancellation
 abbrev pub acts : What → Bool
 acts (starts home lent) = false
-acts (happens (is_cancelled by since in_cleanup)) = false
+acts (happens (is_cancelled by during in_cleanup)) = false
 acts _ = true
 
 -- indices that differ only in the last one
@@ -88,7 +89,7 @@ differ_last _ _ = false
 abbrev pub is_within : ℕ → ℕ → ℕ → Bool
 is_within hair t u = nat_le (t - hair) u && nat_le (u - hair) t
 
--- two copies that were started together: one cancels something, and the other acts within a hair of that
+-- two copies that were started together, or in passes of one `repeat`: one cancels something, and the other acts within a hair of that
 abbrev pub meets : ℕ → Sight → Sight → Bool
 meets hair a b = cancels_some a.what && (acts b.what && (differ_last a.copy.indices b.copy.indices && is_within hair a.tick b.tick))
 

@@ -1,5 +1,5 @@
-//! Finds copies of one task that meet: tasks of one `start .. over`, of which one cancels something while something happens to
-//! another.
+//! Finds copies of one task that meet: tasks of one `start` with `over` or in a `repeat`, of which one cancels something while
+//! something happens to another.
 //!
 //! `meeting_of` returns the first such meeting among the events of a story, as `specs/Copies.antt` defines it. Copies of a task
 //! have the same text, so changing the text cannot show whether an outcome depends on which of them acts first. Events are

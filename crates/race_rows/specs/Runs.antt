@@ -1,4 +1,4 @@
--- Two runs of a job, each of which ended by a limit or did not.
+-- Two runs of a job, each of which ended by a limit or did not. The exits of scopes with the name `scope` are left out.
 use Rattle.std.specs.Prelude.{ℕ, Bool, true, false, List, [], ◌∷◌, codes}
 use Rattle.job_meaning.specs.Shown.{Row}
 use Rattle.race_rows.specs.Same.{outcome_text}
@@ -16,8 +16,8 @@ of_roots a (r ∷ rs) b [] = []
 of_roots a (r ∷ rs) b (s ∷ ss) = otherwise r.label (root_text a r) (root_text b s) ∷ []
 
 -- The tasks that differ if both ended by the limit; the root alone if one of them did; none if neither did.
-abbrev pub of_runs : Bool → List Row → Bool → List Row → List Difference
-of_runs true before true after = differences before after
-of_runs true before false after = of_roots true before false after
-of_runs false before true after = of_roots false before true after
-of_runs false before false after = []
+abbrev pub of_runs : (scope : List ℕ) → Bool → List Row → Bool → List Row → List Difference
+of_runs scope true before true after = differences scope before after
+of_runs scope true before false after = of_roots true before false after
+of_runs scope false before true after = of_roots false before true after
+of_runs scope false before false after = []

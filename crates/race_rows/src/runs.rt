@@ -5,6 +5,7 @@ ghost use Rattle.race_rows.specs.Views.{difference_held};
 
 use crate::outcome::outcome_of;
 use crate::tasks::{Difference, differences, push_otherwise};
+use job_tree::Name;
 use std::alloc::{AllocError, Global};
 use task_table::Record;
 
@@ -17,19 +18,20 @@ pub struct Ran<'r> {
     pub in_time: bool,
 }
 
-/// Returns the differences between the tasks of two runs, apart from ticks: as [`differences`] if both jobs ended by the limit.
-/// If one did not, only the roots are compared, and the outcome of its root is `stuck`; if neither did, there is no difference.
-/// The only error is that memory was refused.
+/// Returns the differences between the tasks of two runs, apart from ticks and from the exits of scopes with the name `scope`: as
+/// [`differences`] if both jobs ended by the limit. If one did not, only the roots are compared, and the outcome of its root is
+/// `stuck`; if neither did, there is no difference. The only error is that memory was refused.
 pub fn run_differences(
     alloc: Global,
+    scope: Name,
     before: &Ran<'_>,
     after: &Ran<'_>,
 ) -> Result<Vec<Difference>, AllocError>
     ensures { IfOk result (λ found. map difference_held found.items
-        ≡ of_runs before.now.in_time (map row_in before.now.records.now) after.now.in_time (map row_in after.now.records.now)) }
+        ≡ of_runs scope before.now.in_time (map row_in before.now.records.now) after.now.in_time (map row_in after.now.records.now)) }
 {
     if before.in_time && after.in_time {
-        return differences(alloc, before.records, after.records);
+        return differences(alloc, scope, before.records, after.records);
     }
     if !before.in_time && !after.in_time {
         return Ok(Vec::new(alloc));

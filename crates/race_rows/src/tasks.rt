@@ -7,6 +7,7 @@ ghost use Rattle.race_rows.specs.Views.{difference_held};
 use crate::outcome::outcome_of;
 use crate::same::are_same_entries;
 use exc_groups::Label;
+use job_tree::Name;
 use std::alloc::{AllocError, Global};
 use task_table::Record;
 
@@ -22,24 +23,27 @@ pub enum Difference {
         /// How it ends in the second run, without ticks, or `not started` if it does not exist there.
         after: Vec<u8>,
     },
-    /// The task ends in the same way, and has other lines, or left other scopes or nurseries, or did so in another way.
+    /// The task ends in the same way, and has other lines, or left other scopes or nurseries, or did so in another way, or waited for
+    /// other events.
     Inside {
         /// The task.
         task: Label,
     },
 }
 
-/// Returns each task for which the records of two runs do not show the same, apart from ticks: those of the first run, in the
-/// order of its records, and then those that only the second has. The only error is that memory was refused.
+/// Returns each task for which the records of two runs do not show the same, apart from ticks and from the exits of scopes with the
+/// name `scope`: those of the first run, in the order of its records, and then those that only the second has. The only error is
+/// that memory was refused.
 pub fn differences(
     alloc: Global,
+    scope: Name,
     before: &[Record<'_>],
     after: &[Record<'_>],
 ) -> Result<Vec<Difference>, AllocError>
-    ensures { IfOk result (λ found. map difference_held found.items ≡ differences (map row_in before.now) (map row_in after.now)) }
+    ensures { IfOk result (λ found. map difference_held found.items ≡ differences scope (map row_in before.now) (map row_in after.now)) }
 {
     let mut found = Vec::new(alloc);
-    push_of_rows(alloc, &mut found, before, after)?;
+    push_of_rows(alloc, &mut found, scope, before, after)?;
     push_of_new_rows(alloc, &mut found, before, after)?;
     Ok(found)
 }
@@ -48,14 +52,15 @@ pub fn differences(
 fn push_of_rows(
     alloc: Global,
     found: &mut Vec<Difference>,
+    scope: Name,
     before: &[Record<'_>],
     after: &[Record<'_>],
 ) -> Result<(), AllocError>
     ensures { OnOk result (map difference_held found.new.items
-        ≡ map difference_held found.old.items ++ of_rows (map row_in before.now) (map row_in after.now)) }
+        ≡ map difference_held found.old.items ++ of_rows scope (map row_in before.now) (map row_in after.now)) }
 {
     'rows: for row in before {
-        push_of_row(alloc, found, row, row_of(&row.label, after))?;
+        push_of_row(alloc, found, scope, row, row_of(&row.label, after))?;
     }
     Ok(())
 }
@@ -94,11 +99,12 @@ fn row_of<'r, 'a>(task: &Label, rows: &'r [Record<'a>]) -> Option<&'r Record<'a>
 fn push_of_row(
     alloc: Global,
     found: &mut Vec<Difference>,
+    scope: Name,
     row: &Record<'_>,
     other: Option<&Record<'_>>,
 ) -> Result<(), AllocError>
     ensures { OnOk result (map difference_held found.new.items
-        ≡ map difference_held found.old.items ++ of_row (row_in row.now) (option_map (λ r. row_in r.now) other.entry)) }
+        ≡ map difference_held found.old.items ++ of_row scope (row_in row.now) (option_map (λ r. row_in r.now) other.entry)) }
 {
     let before = outcome_of(alloc, &row.outcome)?;
     let Some(other) = other else {
@@ -110,7 +116,7 @@ fn push_of_row(
     if before.as_slice() != after.as_slice() {
         return push_otherwise(alloc, found, &row.label, before, after);
     }
-    if !are_same_entries(row.entries.as_slice(), other.entries.as_slice()) {
+    if !are_same_entries(scope, row.entries.as_slice(), other.entries.as_slice()) {
         let task = row.label.copy(alloc)?;
         found.push(Difference::Inside { task })?;
     }

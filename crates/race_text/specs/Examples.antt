@@ -1,5 +1,5 @@
 -- Worked tables, by computing.
-use Rattle.std.specs.Prelude.{◌≡◌, ℕ, List, [], ◌∷◌, ◌++◌, codes, refl}
+use Rattle.std.specs.Prelude.{◌≡◌, ℕ, Some, None, List, [], ◌∷◌, ◌++◌, codes, refl}
 use Rattle.std.specs.Fmt.{digits}
 use Rattle.exc_groups.specs.Exceptions.{Label}
 use Rattle.job_grammar.specs.declared.fault.JobFault.{JobFault}
@@ -37,10 +37,16 @@ unfolding digits
 race_is_told = refl
 
 pub copies_are_told :
-    table_text 3 (copies 2 26 (codes "worker") 3 (copy (codes "worker") 0) (copy (codes "worker") 1) 2 ∷ [])
+    table_text 3 (copies 2 26 (codes "worker") (Some 3) (copy (codes "worker") 0) (copy (codes "worker") 1) 2 ∷ [])
     ≡ codes "2:26  start worker over 3  copies  worker.0 and worker.1 meet at 2\n3 hairs: 1 races\n"
 unfolding digits
 copies_are_told = refl
+
+pub loop_is_told :
+    table_text 3 (copies 2 26 (codes "handler") None (copy (codes "handler") 0) (copy (codes "handler") 1) 2 ∷ [])
+    ≡ codes "2:26  start handler  copies  handler.0 and handler.1 meet at 2\n3 hairs: 1 races\n"
+unfolding digits
+loop_is_told = refl
 
 pub finer_is_told :
     table_text 10 (finer (differs (otherwise (task (codes "fallback")) (codes "raised TooSlow(budget)") (codes "done") ∷ [])) ∷ [])

@@ -1,5 +1,5 @@
 -- What the lines of the table say of a job with one of its places moved by a hair.
-use Rattle.std.specs.Prelude.{ℕ, zero, suc, Bool, true, false, List, [], ◌∷◌, ◌++◌, length, codes, decimal}
+use Rattle.std.specs.Prelude.{ℕ, zero, suc, Bool, true, false, Option, List, [], ◌∷◌, ◌++◌, length, codes, decimal}
 use Rattle.exc_groups.specs.Exceptions.{Label}
 use Rattle.job_grammar.specs.declared.fault.JobFault.{JobFault}
 use Rattle.exc_text.specs.Texts.{label_text}
@@ -14,12 +14,12 @@ pub data Found : Type 0 where
   differs : (tasks : List Difference) → Found
 
 -- A line: the job in finer ticks compared with the job as it is; one place moved by a hair, compared with the job in finer ticks;
--- or two copies of one `start .. over` that meet in a tick, which cannot be moved apart in the text. Places are those of the
--- author's text.
+-- or two copies of one `start` that meet in a tick, which cannot be moved apart in the text; `count` is that of its `over`. Places
+-- are those of the author's text.
 pub data Line : Type 0 where
   finer : (found : Found) → Line
   moved : (line : ℕ) → (column : ℕ) → (moment : Moment) → (hair : Hair) → (found : Found) → Line
-  copies : (line : ℕ) → (column : ℕ) → (name : List ℕ) → (count : ℕ) → (one : Label) → (other : Label) → (tick : ℕ) → Line
+  copies : (line : ℕ) → (column : ℕ) → (name : List ℕ) → (count : Option ℕ) → (one : Label) → (other : Label) → (tick : ℕ) → Line
 
 -- ---- which lines are shown
 

@@ -1,5 +1,5 @@
 -- The table of the places of a job where a hair changes the outcome.
-use Rattle.std.specs.Prelude.{ℕ, ◌==◌, Bool, ◌&&◌, max, if◌then◌else◌, List, [], ◌∷◌, ◌++◌, length, codes, decimal}
+use Rattle.std.specs.Prelude.{ℕ, ◌==◌, Bool, ◌&&◌, max, if◌then◌else◌, Option, Some, None, List, [], ◌∷◌, ◌++◌, length, codes, decimal}
 use Rattle.exc_text.specs.Texts.{label_text}
 use Rattle.job_edits.specs.declared.shift.Hair.{Hair}
 use Rattle.job_edits.specs.declared.shift.Hair.TheVariants.{Earlier, Later}
@@ -18,10 +18,15 @@ place_text (finer found) = []
 place_text (moved line column moment hair found) = at_text line column
 place_text (copies line column name count one other tick) = at_text line column
 
+-- how many tasks a `start` starts at once, if it says so
+abbrev pub over_text : Option ℕ → List ℕ
+over_text None = []
+over_text (Some count) = codes " over " ++ decimal count
+
 abbrev pub step_text : Line → List ℕ
 step_text (finer found) = []
 step_text (moved line column moment hair found) = moment_text moment
-step_text (copies line column name count one other tick) = codes "start " ++ name ++ codes " over " ++ decimal count
+step_text (copies line column name count one other tick) = codes "start " ++ name ++ over_text count
 
 abbrev pub hair_name : Hair → List ℕ
 hair_name Earlier = codes "earlier"

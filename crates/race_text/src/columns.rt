@@ -1,5 +1,5 @@
 ghost use Rattle.std.specs.Prelude.{◌≡◌, ◌++◌, IfOk, OnOk, map};
-ghost use Rattle.race_text.specs.Table.{at_text, place_text, step_text, hair_name, hair_text};
+ghost use Rattle.race_text.specs.Table.{at_text, place_text, over_text, step_text, hair_name, hair_text};
 ghost use Rattle.race_text.specs.Views.{line_held};
 
 use crate::line::Line;
@@ -53,11 +53,21 @@ pub fn step_of(alloc: Global, line: &Line) -> Result<Vec<u8>, AllocError>
         Line::Copies { name, count, .. } => {
             text.extend_from_slice(b"start ")?;
             text.extend_from_slice(name.bytes())?;
-            text.extend_from_slice(b" over ")?;
-            push_number(&mut text, *count)?;
+            push_over(&mut text, *count)?;
         }
     }
     Ok(text)
+}
+
+// Appends how many tasks a `start` starts at once, if it says so.
+fn push_over(out: &mut Vec<u8>, count: Option<u64>) -> Result<(), AllocError>
+    ensures { OnOk result (out.new.items ≡ out.old.items ++ over_text count) }
+{
+    let Some(count) = count else {
+        return Ok(());
+    };
+    out.extend_from_slice(b" over ")?;
+    push_number(out, count)
 }
 
 // Returns what is done to the place of a line.

@@ -65,7 +65,7 @@ pub enum Line {
         /// The result of running the changed text.
         found: Found,
     },
-    /// Two copies of one `start .. over` that meet, and cannot be moved apart in the text.
+    /// Two copies of one `start` with `over` or in a `repeat` that meet, and cannot be moved apart in the text.
     Copies {
         /// The line of the `start`.
         line: usize,
@@ -73,8 +73,8 @@ pub enum Line {
         column: usize,
         /// The name of the tasks that it starts.
         name: Name,
-        /// The number of tasks that it starts.
-        count: u64,
+        /// The number of tasks that it starts at once, or `None` if it has no `over`.
+        count: Option<u64>,
         /// The copy that cancels something.
         one: Label,
         /// The copy to which something happens within a hair.

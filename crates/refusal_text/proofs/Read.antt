@@ -6,18 +6,18 @@ use Rattle.job_tree.specs.declared.format.Format.{Format}
 use Rattle.job_tree.specs.Tree.{Tree, Steps}
 use Rattle.job_tree.specs.Names.{size_of}
 use Rattle.job_tokens.specs.Lexing.{Gives}
-use Rattle.job_checks.specs.Cancels.{Cancel, cancels_of}
+use Rattle.job_checks.specs.Uses.{Use, uses_of}
 use Rattle.refusal_text.specs.declared.hinting.Hint.TheVariants as hint
 use Rattle.refusal_text.specs.Hinting.{size_hint}
-use Rattle.refusal_text.specs.Scopes.{around_stray, cancellable_names, names_held, or_names}
+use Rattle.refusal_text.specs.Scopes.{around_stray, enclosing_names, names_held, or_names}
 
 or_none : (found : Option (List (List ℕ))) → or_names found None ≡ found
 or_none None = refl
 or_none (Some names) = refl
 
--- the result of a search over all cancels, whatever cancels follow
-pub whole : (found : Option (List (List ℕ))) (cs : List Cancel) →
-    ((more : List Cancel) → around_stray (cs ++ more) ≡ or_names found (around_stray more)) → found ≡ around_stray cs
+-- the result of a search over all uses of names, whatever uses follow
+pub whole : (found : Option (List (List ℕ))) (cs : List Use) →
+    ((more : List Use) → around_stray (cs ++ more) ≡ or_names found (around_stray more)) → found ≡ around_stray cs
 whole found cs is = sym (or_none found) ∙ sym (is []) ∙ ap around_stray (append-nil cs)
 
 -- nothing is found if the code holds nothing
@@ -25,16 +25,16 @@ held_none : (found : Option (Vec (List ℕ))) → is_some found ≡ false → na
 held_none None is = refl
 held_none (Some names) is = absurd cc
 
--- What is found in the last of three parts, if the first two, of which one is a block, have no stray `cancel`.
-pub after_two : (ns : List (List ℕ)) (steps own : Steps) (hs cs : List Cancel) (first second third : Option (Vec (List ℕ))) →
+-- What is found in the last of three parts, if the first two, of which one is a block, have no stray use of a name.
+pub after_two : (ns es : List (List ℕ)) (steps own : Steps) (hs cs : List Use) (first second third : Option (Vec (List ℕ))) →
     steps ≡ own → is_some first ≡ false → is_some second ≡ false
-    → ((more : List Cancel) → around_stray (cancels_of ns steps ++ more) ≡ or_names (names_held first) (around_stray more))
-    → ((more : List Cancel) → around_stray (hs ++ more) ≡ or_names (names_held second) (around_stray more))
-    → ((more : List Cancel) → around_stray (cs ++ more) ≡ or_names (names_held third) (around_stray more))
-    → (more : List Cancel) → around_stray ((cancels_of ns own ++ (hs ++ cs)) ++ more) ≡ or_names (names_held third) (around_stray more)
-after_two ns steps own hs cs first second third same none none' is is' is'' more =
-    ap around_stray (append_assoc (cancels_of ns own) (hs ++ cs) more ∙ ap (λ (x : List Cancel). cancels_of ns own ++ x) (append_assoc hs cs more))
-    ∙ ap (λ (s : Steps). around_stray (cancels_of ns s ++ (hs ++ (cs ++ more)))) (sym same)
+    → ((more : List Use) → around_stray (uses_of ns es steps ++ more) ≡ or_names (names_held first) (around_stray more))
+    → ((more : List Use) → around_stray (hs ++ more) ≡ or_names (names_held second) (around_stray more))
+    → ((more : List Use) → around_stray (cs ++ more) ≡ or_names (names_held third) (around_stray more))
+    → (more : List Use) → around_stray ((uses_of ns es own ++ (hs ++ cs)) ++ more) ≡ or_names (names_held third) (around_stray more)
+after_two ns es steps own hs cs first second third same none none' is is' is'' more =
+    ap around_stray (append_assoc (uses_of ns es own) (hs ++ cs) more ∙ ap (λ (x : List Use). uses_of ns es own ++ x) (append_assoc hs cs more))
+    ∙ ap (λ (s : Steps). around_stray (uses_of ns es s ++ (hs ++ (cs ++ more)))) (sym same)
     ∙ is (hs ++ (cs ++ more))
     ∙ ap (λ (x : Option (List (List ℕ))). or_names x (around_stray (hs ++ (cs ++ more)))) (held_none first none)
     ∙ is' (cs ++ more)
@@ -50,12 +50,12 @@ pub some_read : {X : Type 0} (view : X → Tree) (x : X) (found : Option X) (rea
     read ≡ Some (view x)
 some_read view x found read gives is = subst (λ (y : Option _). Gives view y read) is gives
 
--- what could be cancelled in a job that is read, given its steps
+-- what could be named in a job that is read, given its steps
 pub names_in : (names : Option (List (List ℕ))) (steps own : Steps) (name : List ℕ) (format : Format) (read : Option Tree) →
-    read ≡ Some (record { format = format; name = name; steps = own }) → steps ≡ own → names ≡ around_stray (cancels_of [] steps)
-    → names ≡ cancellable_names read
+    read ≡ Some (record { format = format; name = name; steps = own }) → steps ≡ own → names ≡ around_stray (uses_of [] [] steps)
+    → names ≡ enclosing_names read
 names_in names steps own name format read is same found =
-    found ∙ ap (λ (s : Steps). around_stray (cancels_of [] s)) same ∙ sym (ap cancellable_names is)
+    found ∙ ap (λ (s : Steps). around_stray (uses_of [] [] s)) same ∙ sym (ap enclosing_names is)
 
 -- the size of a job that is read, given its steps
 pub size_in : (size : ℕ) (steps own : Steps) (name : List ℕ) (format : Format) (read : Option Tree) →

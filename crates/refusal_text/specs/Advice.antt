@@ -28,6 +28,9 @@ trio_sentence trio.Async = codes "there is no `async` here: a nursery is `nurser
 trio_sentence trio.OpenNursery = codes "Trio's `open_nursery` is `nursery NAME { .. }` here\n"
 trio_sentence trio.StartSoon = codes "Trio's `start_soon` is `start NAME { .. }` here, right inside a nursery\n"
 trio_sentence trio.SleepForever = codes "Trio's `sleep_forever` is `forever;` here\n"
+trio_sentence trio.Event = codes "Trio's `Event` is `event NAME { .. }` here, around the tasks that use it\n"
+trio_sentence trio.SetEvent = codes "Trio's `NAME.set()` is `set NAME;` here\n"
+trio_sentence trio.WaitEvent = codes "Trio's `await NAME.wait()` is `wait NAME;` here\n"
 
 -- the sentence, with its newline
 abbrev pub advice_text : Advice → List ℕ
@@ -40,8 +43,11 @@ advice_text advice.NewerComment = codes "format 3 has comments: begin the job te
 advice_text advice.CommentSign = codes "a comment begins with `#`, in a job text of format 3\n"
 advice_text advice.WholeTicks = codes "times are whole ticks: choose a smaller tick, and multiply every number\n"
 advice_text advice.NewerFormat = codes "format 2 has this: begin the job text with the line `trio-job 2`\n"
-advice_text advice.Unnamed = codes "each job, scope, nursery and start has a name, as in `scope work after 5 { .. }`\n"
+advice_text advice.NewestFormat = codes "format 3 has this: begin the job text with the line `trio-job 3`\n"
+advice_text advice.Unnamed = codes "each job, scope, nursery, event and start has a name, as in `scope work after 5 { .. }`\n"
 advice_text advice.HeadOrder = codes "the head of a scope is `scope NAME after N shield fail`, in this order\n"
+advice_text advice.StartInside =
+    codes "a `start` is directly inside a nursery, in format 3 also in a `repeat` there: `nursery NAME { repeat 3 { start NAME { .. } } }`\n"
 advice_text (advice.Python syntax) = python_sentence syntax
 advice_text (advice.Trio word) = trio_sentence word
 
@@ -55,4 +61,5 @@ trio_advice word =
     else if bytes_eq word (codes "open_nursery") then Some (advice.Trio trio.OpenNursery)
     else if bytes_eq word (codes "start_soon") then Some (advice.Trio trio.StartSoon)
     else if bytes_eq word (codes "sleep_forever") then Some (advice.Trio trio.SleepForever)
+    else if bytes_eq word (codes "Event") then Some (advice.Trio trio.Event)
     else None

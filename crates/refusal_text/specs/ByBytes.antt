@@ -7,6 +7,7 @@ use Rattle.nursery_app.specs.Feed.{feed_parts}
 use Rattle.refusal_text.specs.declared.advice.Advice.{Advice}
 use Rattle.refusal_text.specs.declared.advice.Advice.TheVariants as advice
 use Rattle.refusal_text.specs.declared.advice.PythonSyntax.TheVariants as python
+use Rattle.refusal_text.specs.declared.advice.TrioWord.TheVariants as trio
 
 -- a line that is exactly `%input` begins at or before this place
 abbrev pub is_in_feed : List ℕ → ℕ → Bool
@@ -45,6 +46,14 @@ version_advice text =
     else None
 
 -- ---- the hint where no token begins
+
+-- what a job has in place of what is called after a dot: `trio.Event()`, and the methods of an event
+abbrev pub method_advice : List ℕ → Option Advice
+method_advice rest =
+    if starts_with nat_eq rest (codes ".Event(") then Some (advice.Trio trio.Event)
+    else if starts_with nat_eq rest (codes ".set(") then Some (advice.Trio trio.SetEvent)
+    else if starts_with nat_eq rest (codes ".wait(") then Some (advice.Trio trio.WaitEvent)
+    else None
 
 -- `.`, after this byte
 abbrev pub dot_advice : Option ℕ → Advice

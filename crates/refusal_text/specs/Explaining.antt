@@ -1,5 +1,5 @@
 -- How a refusal is explained to the user: its place, a sentence, the line of the job text, and a caret under the place.
-use Rattle.std.specs.Prelude.{◌≡◌, ℕ, ◌-◌, ◌==◌, ◌&&◌, ◌||◌, Bool, min, nat_le, if◌then◌else◌, List, [], ◌∷◌, ◌++◌, length, take, drop, map, replicate, Option, Some, None, codes, decimal, slice_get}
+use Rattle.std.specs.Prelude.{◌≡◌, ℕ, ◌-◌, ◌==◌, ◌&&◌, ◌||◌, Bool, true, false, min, nat_le, if◌then◌else◌, List, [], ◌∷◌, ◌++◌, length, take, drop, map, replicate, Option, Some, None, codes, decimal, slice_get}
 use Rattle.std.specs.List.{before_first}
 use Rattle.job_syntax.specs.declared.nonterminal.Nonterminal.{Nonterminal}
 use Rattle.job_grammar.specs.declared.fault.JobFault.{JobFault}
@@ -10,7 +10,7 @@ use Rattle.refusal_text.specs.declared.hinting.Hint.TheVariants as hint
 use Rattle.refusal_text.specs.Expecting.{IsAsked}
 use Rattle.refusal_text.specs.Advice.{advice_text}
 use Rattle.refusal_text.specs.Hinting.{IsHint}
-use Rattle.refusal_text.specs.Scopes.{IsListed}
+use Rattle.refusal_text.specs.Scopes.{IsListed, IsStray}
 use Rattle.refusal_text.specs.Sentences.{sentence_of}
 
 -- the maximum number of bytes of a line that are shown before a place, and from that place on
@@ -91,20 +91,29 @@ abbrev pub more_quoted_names : List (List ℕ) → List ℕ
 more_quoted_names [] = []
 more_quoted_names (n ∷ ns) = codes ", " ++ quoted_name n ++ more_quoted_names ns
 
--- the line that lists what could be cancelled at a place, if it is to be listed
-abbrev pub names_line : List (List ℕ) → List ℕ
-names_line [] = codes "no scope or nursery is around this `cancel`\n"
-names_line (n ∷ ns) = codes "what can be cancelled here: " ++ quoted_name n ++ more_quoted_names ns ++ codes "\n"
+abbrev pub none_around : (of_event : Bool) → List ℕ
+none_around false = codes "no scope or nursery is around this `cancel`\n"
+none_around true = codes "no event is around this step\n"
 
-abbrev pub names_of : Option (List (List ℕ)) → List ℕ
-names_of None = []
-names_of (Some names) = names_line names
+abbrev pub list_head : (of_event : Bool) → List ℕ
+list_head false = codes "what can be cancelled here: "
+list_head true = codes "the events around this step: "
 
--- The message for a refusal of a job text: its sentence depends on its kind, on the byte at the place, and on what the
--- grammar expects. A hint follows, and a list of what could be cancelled.
+-- the line that lists what could be named at a place, if it is to be listed
+abbrev pub names_line : (of_event : Bool) → List (List ℕ) → List ℕ
+names_line of_event [] = none_around of_event
+names_line of_event (n ∷ ns) = list_head of_event ++ quoted_name n ++ more_quoted_names ns ++ codes "\n"
+
+abbrev pub names_of : (of_event : Bool) → Option (List (List ℕ)) → List ℕ
+names_of of_event None = []
+names_of of_event (Some names) = names_line of_event names
+
+-- The message for a refusal of a job text: its sentence depends on its kind, on the byte at the place, on what the grammar
+-- expects, and on whether the name at the place is that of an event. A hint follows, and a list of what could be named.
 abbrev pub Tells : List ℕ → List ℕ → JobFault → List ℕ → Type 0
 Tells job text fault message =
-    (nonterminal : Option Nonterminal) × (help : Option Hint) × (names : Option (List (List ℕ)))
-    × IsAsked fault.kind text nonterminal × IsHint fault.kind text fault.at help × IsListed fault.kind text names
-    × (message ≡ (pointed_message job text fault.at (sentence_of fault.kind (slice_get text fault.at) nonterminal) ++ hint_of job text help)
-    ++ names_of names)
+    (nonterminal : Option Nonterminal) × (help : Option Hint) × (of_event : Bool) × (names : Option (List (List ℕ)))
+    × IsAsked fault.kind text nonterminal × IsHint fault.kind text fault.at help
+    × IsStray fault.kind text fault.at of_event × IsListed fault.kind text names
+    × (message ≡ (pointed_message job text fault.at (sentence_of fault.kind (slice_get text fault.at) nonterminal of_event) ++ hint_of job text help)
+    ++ names_of of_event names)

@@ -1,5 +1,5 @@
 -- The hint that is added to the sentence of a refusal.
-use Rattle.std.specs.Prelude.{◌≡◌, ℕ, ◌-◌, Bool, true, false, is_some, ◌==◌, if◌then◌else◌, List, [], length, Option, Some, None, slice_get}
+use Rattle.std.specs.Prelude.{◌≡◌, ℕ, ◌-◌, Bool, true, false, is_some, ◌==◌, if◌then◌else◌, List, [], length, drop, Option, Some, None, slice_get}
 use Rattle.std.specs.Io.Iter.{u64_saturate}
 use Rattle.job_tree.specs.Tree.{Tree}
 use Rattle.job_tree.specs.Names.{size_of}
@@ -25,7 +25,7 @@ use Rattle.refusal_text.specs.declared.advice.Advice.TheVariants as advice
 use Rattle.refusal_text.specs.declared.hinting.Hint.{Hint}
 use Rattle.refusal_text.specs.declared.hinting.Hint.TheVariants as hint
 use Rattle.refusal_text.specs.Advice.{trio_advice}
-use Rattle.refusal_text.specs.ByBytes.{feed_advice, ascii_advice, version_advice, byte_advice}
+use Rattle.refusal_text.specs.ByBytes.{feed_advice, ascii_advice, version_advice, method_advice, byte_advice}
 use Rattle.refusal_text.specs.Expecting.{expected_nonterminal}
 use Rattle.refusal_text.specs.Nearness.{words_for, first_near}
 use Rattle.refusal_text.specs.Scanning.{shape_at, last_before, open_blocks, first_given_place}
@@ -72,8 +72,11 @@ call_or_byte_advice word before None = byte_advice before None
 call_or_byte_advice word before (Some b) =
     if b == 40 then or_advice (word_advice word) (byte_advice before (Some b)) else byte_advice before (Some b)
 
+-- that the text is a feed, or otherwise the hint for a method that is called, a word or the bytes
 abbrev pub token_advice : List ℕ → ℕ → Option Shape → Option Advice
-token_advice text at word = or_advice (feed_advice text at) (call_or_byte_advice word (slice_get text (at - 1)) (slice_get text at))
+token_advice text at word =
+    or_advice (feed_advice text at)
+    (or_advice (method_advice (drop at text)) (call_or_byte_advice word (slice_get text (at - 1)) (slice_get text at)))
 
 abbrev pub IsTokenHint : List ℕ → ℕ → Option Hint → Type 0
 IsTokenHint text at h = (tokens : List Token) × (fault : Option ℕ) × HasTokens text tokens fault
@@ -81,11 +84,14 @@ IsTokenHint text at h = (tokens : List Token) × (fault : Option ℕ) × HasToke
 
 -- ---- the hint where tokens leave the grammar
 
--- the text has format 1, and in format 2 the token would be allowed
-abbrev pub is_newer : Format → Rest → Bool
-is_newer One rest = is_some rest
-is_newer Two rest = false
-is_newer Three rest = false
+-- In a newer format the token would be allowed: given what follows it in formats 2 and 3.
+abbrev pub newer_advice : Format → (in_two in_three : Rest) → Option Advice
+newer_advice One in_two in_three =
+    if is_some in_two then Some advice.NewerFormat
+    else if is_some in_three then Some advice.NewestFormat
+    else None
+newer_advice Two in_two in_three = if is_some in_three then Some advice.NewestFormat else None
+newer_advice Three in_two in_three = None
 
 -- the keyword that a token nearly is, among those that may be read for the nonterminal
 abbrev pub near_hint : Format → Nonterminal → Shape → Option Hint
@@ -99,6 +105,14 @@ unnamed_advice before = if is_head_word before then Some advice.Unnamed else Non
 abbrev pub order_advice : Shape → Option Advice
 order_advice shape = if is_head_word (Some shape) then Some advice.HeadOrder else None
 
+abbrev pub is_start : Keyword → Bool
+is_start word.Start = true
+is_start _ = false
+
+-- a `start` where none may be, or a word of a program on Trio
+abbrev pub step_advice : Shape → Option Advice
+step_advice shape = if if_keyword is_start (keyword_in (Some shape)) then Some advice.StartInside else word_advice (Some shape)
+
 -- the sentence for a token that cannot be read for the nonterminal, after another token
 abbrev pub nonterminal_advice : Nonterminal → Option Shape → Shape → Option Advice
 nonterminal_advice nonterminal.Given before shape = Some advice.Unnamed
@@ -109,9 +123,9 @@ nonterminal_advice nonterminal.Shield before shape = order_advice shape
 nonterminal_advice nonterminal.Fail before shape = order_advice shape
 nonterminal_advice nonterminal.NurseryShield before shape = order_advice shape
 nonterminal_advice nonterminal.Open before shape = order_advice shape
-nonterminal_advice nonterminal.Steps before shape = word_advice (Some shape)
+nonterminal_advice nonterminal.Steps before shape = step_advice shape
 nonterminal_advice nonterminal.Items before shape = word_advice (Some shape)
-nonterminal_advice nonterminal.StepsCleanup before shape = word_advice (Some shape)
+nonterminal_advice nonterminal.StepsCleanup before shape = step_advice shape
 nonterminal_advice nonterminal.ItemsCleanup before shape = word_advice (Some shape)
 nonterminal_advice _ before shape = None
 
@@ -119,12 +133,14 @@ abbrev pub or_near_hint : Option Advice → Format → Nonterminal → Shape →
 or_near_hint None format nonterminal shape = near_hint format nonterminal shape
 or_near_hint (Some a) format nonterminal shape = Some (hint.Advice a)
 
--- the hint that a token is allowed in format 2, or a sentence, or the keyword that the token nearly is, among those that may be
--- read for the nonterminal
+-- that a token is allowed in a newer format, or another sentence
+abbrev pub any_advice : Format → Nonterminal → Option Shape → Shape → Option Advice
+any_advice format nonterminal before shape =
+    or_advice (newer_advice format (next Two nonterminal shape) (next Three nonterminal shape)) (nonterminal_advice nonterminal before shape)
+
+-- such a sentence, or the keyword that the token nearly is, among those that may be read for the nonterminal
 abbrev pub nonterminal_hint : Format → Option Nonterminal → Option Shape → Shape → Option Hint
-nonterminal_hint format nonterminal before shape = nonterminal >>= λ s.
-    if is_newer format (next Two s shape) then Some (hint.Advice advice.NewerFormat)
-    else or_near_hint (nonterminal_advice s before shape) format s shape
+nonterminal_hint format nonterminal before shape = nonterminal >>= λ s. or_near_hint (any_advice format s before shape) format s shape
 
 -- the hint where tokens leave the grammar: for a token at that place, what was meant; at the end of the text, the block that is
 -- open

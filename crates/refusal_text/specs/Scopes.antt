@@ -1,36 +1,66 @@
--- What could be cancelled where a `cancel` names no enclosing scope or nursery.
-use Rattle.std.specs.Prelude.{◌≡◌, ℕ, List, [], ◌∷◌, Option, Some, None, if◌then◌else◌}
+-- What could be named where a `cancel` names no enclosing scope or nursery, or a `set` or `wait` no enclosing event.
+use Rattle.std.specs.Prelude.{◌≡◌, ℕ, Bool, true, false, List, [], ◌∷◌, Option, Some, None, if◌then◌else◌}
 use Rattle.std.specs.Option.{option_map}
 use Rattle.std.specs.Global.{Vec}
 use Rattle.job_tree.specs.Tree.{Tree}
 use Rattle.job_tokens.specs.declared.token.Token.{Token}
 use Rattle.job_tokens.specs.Shapes.{shapes_of}
+use Rattle.job_syntax.specs.declared.keyword.Keyword.{Keyword}
+use Rattle.job_syntax.specs.declared.keyword.Keyword.TheVariants as word
 use Rattle.job_syntax.specs.Reading.{job_at}
 use Rattle.job_checks.specs.Given.{is_among}
-use Rattle.job_checks.specs.Cancels.{Cancel, cancels_of}
+use Rattle.job_checks.specs.Uses.{Use, uses_of}
 use Rattle.job_grammar.specs.declared.fault.JobKind.{JobKind}
 use Rattle.job_grammar.specs.declared.fault.JobKind.TheVariants as kind
 use Rattle.job_grammar.specs.Refusals.{HasTokens, format_of}
+use Rattle.refusal_text.specs.Hinting.{keyword_in, if_keyword}
+use Rattle.refusal_text.specs.Scanning.{last_before}
 use Rattle.refusal_text.specs.declared.scopes.Around.{Around, Nothing, Inside'}
 
--- the names that enclose the first `cancel` whose name is not among them, the innermost first
-abbrev pub around_stray : List Cancel → Option (List (List ℕ))
+-- the names of what encloses the first use of a name that is not among them, the innermost first
+abbrev pub around_stray : List Use → Option (List (List ℕ))
 around_stray [] = None
-around_stray (c ∷ cs) = if is_among c.around c.name then around_stray cs else Some c.around
+around_stray (u ∷ us) = if is_among u.around u.name then around_stray us else Some u.around
 
 -- the same in a job, where there is one
-abbrev pub cancellable_names : Option Tree → Option (List (List ℕ))
-cancellable_names None = None
-cancellable_names (Some job) = around_stray (cancels_of [] job.steps)
+abbrev pub enclosing_names : Option Tree → Option (List (List ℕ))
+enclosing_names None = None
+enclosing_names (Some job) = around_stray (uses_of [] [] job.steps)
 
 -- the same in the job that the tokens of a text spell
-abbrev pub IsCancellable : List ℕ → Option (List (List ℕ)) → Type 0
-IsCancellable text names = (tokens : List Token) × (fault : Option ℕ) × HasTokens text tokens fault
-    × (names ≡ cancellable_names (job_at (format_of text) (shapes_of tokens)))
+abbrev pub IsEnclosing : List ℕ → Option (List (List ℕ)) → Type 0
+IsEnclosing text names = (tokens : List Token) × (fault : Option ℕ) × HasTokens text tokens fault
+    × (names ≡ enclosing_names (job_at (format_of text) (shapes_of tokens)))
+
+-- whether a name after this token is that of an event
+abbrev pub uses_event : Keyword → Bool
+uses_event word.Set = true
+uses_event word.Wait = true
+uses_event _ = false
+
+-- whether the name at a place is that of an event, by the token before it
+abbrev pub IsOfEvent : List ℕ → ℕ → Bool → Type 0
+IsOfEvent text at of_event = (tokens : List Token) × (fault : Option ℕ) × HasTokens text tokens fault
+    × (of_event ≡ if_keyword uses_event (keyword_in (last_before at None tokens)))
+
+-- whether a refusal of this kind is about the name of an event that nothing around it has
+abbrev pub IsStray : JobKind → List ℕ → ℕ → Bool → Type 0
+IsStray kind.NotEnclosing text at of_event = IsOfEvent text at of_event
+IsStray kind.TooLong text at of_event = of_event ≡ false
+IsStray kind.NotAscii text at of_event = of_event ≡ false
+IsStray kind.Version text at of_event = of_event ≡ false
+IsStray kind.Token text at of_event = of_event ≡ false
+IsStray kind.Number text at of_event = of_event ≡ false
+IsStray kind.Syntax text at of_event = of_event ≡ false
+IsStray kind.Depth text at of_event = of_event ≡ false
+IsStray kind.Twice text at of_event = of_event ≡ false
+IsStray kind.Reserved text at of_event = of_event ≡ false
+IsStray kind.TooLarge text at of_event = of_event ≡ false
+IsStray kind.NoMemory text at of_event = of_event ≡ false
 
 -- what is listed with a refusal of this kind, if anything
 abbrev pub IsListed : JobKind → List ℕ → Option (List (List ℕ)) → Type 0
-IsListed kind.NotEnclosing text names = IsCancellable text names
+IsListed kind.NotEnclosing text names = IsEnclosing text names
 IsListed kind.TooLong text names = names ≡ None
 IsListed kind.NotAscii text names = names ≡ None
 IsListed kind.Version text names = names ≡ None
@@ -45,7 +75,7 @@ IsListed kind.NoMemory text names = names ≡ None
 
 -- ---- the values of the code
 
--- the names of the scopes and nurseries that enclose a block, the innermost first
+-- the names of the scopes and nurseries, or of the events, that enclose a block, the innermost first
 abbrev pub names_around : Around → List (List ℕ)
 names_around Nothing = []
 names_around (Inside' name p outer) = name.now ∷ names_around outer

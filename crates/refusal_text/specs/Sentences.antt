@@ -1,5 +1,5 @@
 -- What is wrong with a job text, in a sentence.
-use Rattle.std.specs.Prelude.{ℕ, ◌==◌, nat_lt, if◌then◌else◌, List, Option, Some, None, codes}
+use Rattle.std.specs.Prelude.{ℕ, Bool, true, false, ◌==◌, nat_lt, if◌then◌else◌, List, Option, Some, None, codes}
 use Rattle.job_tree.specs.Words.{is_digit, is_letter}
 use Rattle.job_syntax.specs.declared.nonterminal.Nonterminal.{Nonterminal}
 use Rattle.job_syntax.specs.declared.nonterminal.Nonterminal.TheVariants as nonterminal
@@ -24,7 +24,7 @@ byte_sentence (Some b) = if nat_lt b 128 then codes "a control character: a job 
 abbrev pub expected_sentence : Option Nonterminal → List ℕ
 expected_sentence None = codes "expected the text's end: nothing may follow the job's `}`"
 expected_sentence (Some nonterminal.Job) = codes "expected `job NAME { .. }`"
-expected_sentence (Some nonterminal.Steps) = codes "expected a step, as `sleep 1;`, or `}` (a `start` is allowed only directly inside a nursery)"
+expected_sentence (Some nonterminal.Steps) = codes "expected a step, as `sleep 1;`, or `}` (a `start` only directly inside a nursery or a `repeat` there)"
 expected_sentence (Some nonterminal.Items) = codes "expected a step, as `sleep 1;`, a `start NAME { .. }` or `}`"
 expected_sentence (Some nonterminal.StepsTail) = codes "expected `except NAME { .. }` or `finally { .. }`"
 expected_sentence (Some nonterminal.ItemsTail) = codes "expected `except NAME { .. }` or `finally { .. }`"
@@ -39,25 +39,31 @@ expected_sentence (Some nonterminal.Over) = codes "expected `over N` or `{`"
 expected_sentence (Some nonterminal.Given) = codes "expected a name"
 expected_sentence (Some nonterminal.Raised) = codes "expected the name of an exception"
 expected_sentence (Some nonterminal.Handled) = codes "expected the name of an exception"
-expected_sentence (Some nonterminal.Target) = codes "expected the name of an enclosing scope or nursery"
+expected_sentence (Some nonterminal.Target) = codes "expected the name of an enclosing scope or nursery, after `set` and `wait` that of an event"
 expected_sentence (Some nonterminal.Number) = codes "expected a number"
 expected_sentence (Some nonterminal.Text) = codes "expected a string, as `\"error\"`"
 expected_sentence (Some nonterminal.Open) = codes "expected `{`"
 expected_sentence (Some nonterminal.Semicolon) = codes "expected `;`"
 
--- what is wrong at a place with this byte (`None` is the end of the text), where the grammar expects this
-abbrev pub sentence_of : JobKind → Option ℕ → Option Nonterminal → List ℕ
-sentence_of TooLong byte asked = codes "the job text has more than 65536 bytes"
-sentence_of NotAscii byte asked = byte_sentence byte
-sentence_of Version byte asked = codes "a job text begins with the line `trio-job 1`, `trio-job 2` or `trio-job 3`, ended by a newline alone"
-sentence_of Token byte asked = token_sentence byte
-sentence_of Number byte asked =
+-- the name in a `cancel`, or in a `set` or `wait`, is that of nothing around it
+abbrev pub stray_sentence : (of_event : Bool) → List ℕ
+stray_sentence false = codes "no enclosing scope or nursery has this name"
+stray_sentence true = codes "no enclosing event has this name"
+
+-- What is wrong at a place with this byte (`None` is the end of the text), where the grammar expects this; or where a name is that of
+-- nothing around it, which may be that of an event.
+abbrev pub sentence_of : JobKind → Option ℕ → Option Nonterminal → (of_event : Bool) → List ℕ
+sentence_of TooLong byte asked of_event = codes "the job text has more than 65536 bytes"
+sentence_of NotAscii byte asked of_event = byte_sentence byte
+sentence_of Version byte asked of_event = codes "a job text begins with the line `trio-job 1`, `trio-job 2` or `trio-job 3`, ended by a newline alone"
+sentence_of Token byte asked of_event = token_sentence byte
+sentence_of Number byte asked of_event =
     codes "a number out of its range: `over` takes 1 to 64, `pace` 1 to 1000000, `repeat` 0 to 1000, others 0 to 1000000000; no leading zero"
-sentence_of Syntax byte asked = expected_sentence asked
-sentence_of Depth byte asked = codes "blocks are nested more than 32 deep"
-sentence_of Twice byte asked = codes "this name was given before: jobs, scopes, nurseries and starts need names of their own"
-sentence_of NotEnclosing byte asked = codes "no enclosing scope or nursery has this name"
-sentence_of Reserved byte asked = codes "this name is reserved: a name must not be a keyword or `Cancelled`, and `TooSlow` is allowed only after `except`"
-sentence_of TooLarge byte asked =
+sentence_of Syntax byte asked of_event = expected_sentence asked
+sentence_of Depth byte asked of_event = codes "blocks are nested more than 32 deep"
+sentence_of Twice byte asked of_event = codes "this name was given before: jobs, scopes, nurseries, events and starts need names of their own"
+sentence_of NotEnclosing byte asked of_event = stray_sentence of_event
+sentence_of Reserved byte asked of_event = codes "this name is reserved: a name must not be a keyword or `Cancelled`, and `TooSlow` is allowed only after `except`"
+sentence_of TooLarge byte asked of_event =
     codes "the job has more than 1000000 steps, in format 1 more than 100000, the copies that `over` makes and the passes of `repeat` counted"
-sentence_of NoMemory byte asked = codes "no memory"
+sentence_of NoMemory byte asked of_event = codes "no memory"

@@ -22,10 +22,14 @@ pub(crate) enum Advice {
     WholeTicks,
     /// What is there would be allowed in format 2.
     NewerFormat,
+    /// What is there would be allowed in format 3, and not in format 2.
+    NewestFormat,
     /// A scope, nursery, start or job without a name.
     Unnamed,
     /// The words in the head of a scope in another order.
     HeadOrder,
+    /// A `start` where none may be.
+    StartInside,
     /// What is there is Python.
     Python(PythonSyntax),
     /// A word of a program on Trio.
@@ -68,6 +72,12 @@ pub(crate) enum TrioWord {
     StartSoon,
     /// Trio's `sleep_forever`.
     SleepForever,
+    /// Trio's `Event`.
+    Event,
+    /// Trio's `set`, called as a method.
+    SetEvent,
+    /// Trio's `wait`, called as a method.
+    WaitEvent,
 }
 
 impl Advice {
@@ -98,11 +108,17 @@ impl Advice {
             Advice::NewerFormat => {
                 "format 2 has this: begin the job text with the line `trio-job 2`\n"
             }
+            Advice::NewestFormat => {
+                "format 3 has this: begin the job text with the line `trio-job 3`\n"
+            }
             Advice::Unnamed => {
-                "each job, scope, nursery and start has a name, as in `scope work after 5 { .. }`\n"
+                "each job, scope, nursery, event and start has a name, as in `scope work after 5 { .. }`\n"
             }
             Advice::HeadOrder => {
                 "the head of a scope is `scope NAME after N shield fail`, in this order\n"
+            }
+            Advice::StartInside => {
+                "a `start` is directly inside a nursery, in format 3 also in a `repeat` there: `nursery NAME { repeat 3 { start NAME { .. } } }`\n"
             }
             Advice::Python(syntax) => syntax.text(),
             Advice::Trio(word) => word.text(),
@@ -160,6 +176,11 @@ impl TrioWord {
                 "Trio's `start_soon` is `start NAME { .. }` here, right inside a nursery\n"
             }
             TrioWord::SleepForever => "Trio's `sleep_forever` is `forever;` here\n",
+            TrioWord::Event => {
+                "Trio's `Event` is `event NAME { .. }` here, around the tasks that use it\n"
+            }
+            TrioWord::SetEvent => "Trio's `NAME.set()` is `set NAME;` here\n",
+            TrioWord::WaitEvent => "Trio's `await NAME.wait()` is `wait NAME;` here\n",
         }
     }
 }
@@ -183,6 +204,8 @@ pub(crate) fn trio_advice(word: Name) -> Option<Advice>
         Some(Advice::Trio(TrioWord::StartSoon))
     } else if word == b"sleep_forever".as_slice() {
         Some(Advice::Trio(TrioWord::SleepForever))
+    } else if word == b"Event".as_slice() {
+        Some(Advice::Trio(TrioWord::Event))
     } else {
         None
     }

@@ -1,7 +1,7 @@
 ghost use Rattle.std.specs.Prelude.{◌≡◌};
-ghost use Rattle.refusal_text.specs.ByBytes.{is_in_feed, feed_advice, has_order_mark, ascii_advice, has_returns, has_blank, version_advice, dot_advice, hyphen_advice, plain_advice, byte_advice};
+ghost use Rattle.refusal_text.specs.ByBytes.{is_in_feed, feed_advice, has_order_mark, ascii_advice, has_returns, has_blank, version_advice, method_advice, dot_advice, hyphen_advice, plain_advice, byte_advice};
 
-use crate::advice::{Advice, PythonSyntax};
+use crate::advice::{Advice, PythonSyntax, TrioWord};
 use job_tree::{is_digit, is_word_byte};
 use nursery_app::split_feed;
 
@@ -68,6 +68,21 @@ fn has_blank(text: &[u8]) -> bool
 {
     text.starts_with(b"trio-job 1 ")
         || (text.starts_with(b"trio-job 2 ") || text.starts_with(b"trio-job 3 "))
+}
+
+// Returns what a job has in place of what is called after a dot, with which these bytes begin.
+pub(crate) fn method_advice(rest: &[u8]) -> Option<Advice>
+    ensures { result ≡ method_advice rest.now }
+{
+    if rest.starts_with(b".Event(") {
+        Some(Advice::Trio(TrioWord::Event))
+    } else if rest.starts_with(b".set(") {
+        Some(Advice::Trio(TrioWord::SetEvent))
+    } else if rest.starts_with(b".wait(") {
+        Some(Advice::Trio(TrioWord::WaitEvent))
+    } else {
+        None
+    }
 }
 
 // Returns the hint for a byte with which no token begins, given the byte before it.

@@ -1,7 +1,7 @@
 ghost use Rattle.std.specs.Prelude.{◌≡◌, ◌∷◌, ◌++◌, ◌<◌, ◌≤◌, length, take, map, replicate, codes, decimal, IfOk, OnOk};
 ghost use Rattle.std.specs.List.{before_first};
 ghost use Rattle.std.specs.String.{string_bytes};
-ghost use Rattle.refusal_text.specs.Explaining.{Tells, pointed_message, heading, shown_byte, is_newline, last_of, most_after, hint_of, hint_line, meant_line, keyword_line, place_line, size_line, quoted_name, more_quoted_names, names_line, names_of};
+ghost use Rattle.refusal_text.specs.Explaining.{Tells, pointed_message, heading, shown_byte, is_newline, last_of, most_after, hint_of, hint_line, meant_line, keyword_line, place_line, size_line, quoted_name, more_quoted_names, none_around, list_head, names_line, names_of};
 ghost use Rattle.job_syntax.specs.Keywords.{spelling_of};
 ghost use Rattle.refusal_text.specs.Positions.{IsPosition};
 ghost use Rattle.refusal_text.specs.Scopes.{names_held};
@@ -25,8 +25,8 @@ const MAX_AFTER: usize = 40;
 
 /// Returns the message that explains a refusal to the user: that of `pointed_message`, with a sentence for the kind of the
 /// refusal. If there is a hint, one more line has it: such as a keyword that is nearly spelled, a block that is not closed,
-/// what a job has in place of a word of Trio, or which scopes and nurseries could be cancelled there. `job` is the name that
-/// the user gave the text. The only error is that memory is short.
+/// what a job has in place of a word of Trio, or which scopes and nurseries could be cancelled there, or which events could be
+/// set. `job` is the name that the user gave the text. The only error is that memory is short.
 pub fn refusal_message(
     alloc: Global,
     job: &str,
@@ -35,12 +35,17 @@ pub fn refusal_message(
 ) -> Result<String, AllocError>
     ensures { IfOk result (λ message. Tells job.now text.now fault (string_bytes message)) }
 {
-    let Findings { asked, hint, names } = findings_of(alloc, text, fault)?;
+    let Findings {
+        asked,
+        hint,
+        of_event,
+        names,
+    } = findings_of(alloc, text, fault)?;
     let (_, rest) = text.split_at(fault.at.min(text.len()));
-    let sentence = sentence_of(fault.kind, rest.first().copied(), asked);
+    let sentence = sentence_of(fault.kind, rest.first().copied(), asked, of_event);
     let mut message = pointed_message(alloc, job, text, fault.at, sentence)?;
     push_help(&mut message, job, text, hint)?;
-    push_names(&mut message, &names)?;
+    push_names(&mut message, of_event, &names)?;
     Ok(message)
 }
 
@@ -218,32 +223,63 @@ fn push_size(message: &mut String, size: u64) -> Result<(), AllocError>
     Ok(())
 }
 
-// Appends the line that lists what could be cancelled, if it is to be listed.
-fn push_names(message: &mut String, names: &Option<Vec<Name>>) -> Result<(), AllocError>
-    ensures { OnOk result (string_bytes message.new ≡ string_bytes message.old ++ names_of (names_held names.now)) }
+// Appends the line that lists what could be named, if it is to be listed: events, or scopes and nurseries.
+fn push_names(
+    message: &mut String,
+    of_event: bool,
+    names: &Option<Vec<Name>>,
+) -> Result<(), AllocError>
+    ensures { OnOk result (string_bytes message.new ≡ string_bytes message.old ++ names_of of_event (names_held names.now)) }
 {
     match names {
-        Some(names) => push_list(message, names.as_slice()),
+        Some(names) => push_list(message, of_event, names.as_slice()),
         None => Ok(()),
     }
 }
 
-// Appends the line that lists what could be cancelled.
-fn push_list(message: &mut String, names: &[Name]) -> Result<(), AllocError>
-    ensures { OnOk result (string_bytes message.new ≡ string_bytes message.old ++ names_line names.now) }
+// Appends the line that lists what could be named.
+fn push_list(message: &mut String, of_event: bool, names: &[Name]) -> Result<(), AllocError>
+    ensures { OnOk result (string_bytes message.new ≡ string_bytes message.old ++ names_line of_event names.now) }
 {
     let Some((first, others)) = names.split_first() else {
-        return message.push_str("no scope or nursery is around this `cancel`\n");
+        return message.push_str(none_around(of_event));
     };
-    push_some(message, *first, others)?;
+    push_some(message, of_event, *first, others)?;
     Ok(())
 }
 
-// Does the same for at least one name.
-fn push_some(message: &mut String, first: Name, others: &[Name]) -> Result<(), AllocError>
-    ensures { OnOk result (string_bytes message.new ≡ string_bytes message.old ++ names_line (first ∷ others.now)) }
+// Returns that there is nothing that could be named.
+fn none_around(of_event: bool) -> &'static str
+    ensures { result.now ≡ none_around of_event }
 {
-    message.push_str("what can be cancelled here: ")?;
+    if of_event {
+        "no event is around this step\n"
+    } else {
+        "no scope or nursery is around this `cancel`\n"
+    }
+}
+
+// Returns what is written before the names.
+fn list_head(of_event: bool) -> &'static str
+    ensures { result.now ≡ list_head of_event }
+{
+    if of_event {
+        "the events around this step: "
+    } else {
+        "what can be cancelled here: "
+    }
+}
+
+// Appends the line that lists at least one name.
+fn push_some(
+    message: &mut String,
+    of_event: bool,
+    first: Name,
+    others: &[Name],
+) -> Result<(), AllocError>
+    ensures { OnOk result (string_bytes message.new ≡ string_bytes message.old ++ names_line of_event (first ∷ others.now)) }
+{
+    message.push_str(list_head(of_event))?;
     push_quoted(message, first)?;
     push_more(message, others)?;
     message.push_str("\n")?;

@@ -1,13 +1,14 @@
-ghost use Rattle.std.specs.Prelude.{◌≡◌, None, IfOk};
+ghost use Rattle.std.specs.Prelude.{◌≡◌, None, false, IfOk};
 ghost use Rattle.refusal_text.specs.Expecting.{IsAsked, IsExpected};
 ghost use Rattle.refusal_text.specs.Hinting.{IsHint, IsSyntaxHint};
-ghost use Rattle.refusal_text.specs.Scopes.{IsListed, names_held};
+ghost use Rattle.refusal_text.specs.Scopes.{IsListed, IsEnclosing, IsOfEvent, IsStray, names_held};
 
 use crate::by_bytes::{ascii_advice, feed_advice, version_advice};
 use crate::expecting::expected_nonterminal;
 use crate::hinting::{Hint, advice_hint, reserved_hint, syntax_hint, token_hint, twice_hint};
 use crate::lexed_text::LexedText;
-use crate::scopes::cancellable_names;
+use crate::scanning::last_before;
+use crate::scopes::{enclosing_names, is_of_event};
 use crate::size::size_hint;
 use job_grammar::{JobFault, JobKind};
 use job_syntax::Nonterminal;
@@ -22,8 +23,11 @@ pub(crate) struct Findings {
     pub asked: Option<Nonterminal>,
     /// The hint, if there is one.
     pub hint: Option<Hint>,
-    /// For a `cancel` that names no enclosing scope or nursery, the names of those that enclose it, the innermost first.
-    /// `None` if there is no such `cancel`, and for any other refusal.
+    /// Whether the refusal is of a `set` or `wait` that names no enclosing event.
+    pub of_event: bool,
+    /// For a `cancel` that names no enclosing scope or nursery, the names of those that enclose it, the innermost first; for a
+    /// `set` or `wait` that names no enclosing event, the names of the events. `None` if there is no such step, and for any other
+    /// refusal.
     pub names: Option<Vec<Name>>,
 }
 
@@ -32,11 +36,13 @@ impl Findings {
     fn with_hint(hint: Option<Hint>) -> Findings
         ensures asked { result.asked ≡ None }
         ensures hint { result.hint ≡ hint }
+        ensures of_event { result.of_event ≡ false }
         ensures names { names_held result.names ≡ None }
     {
         Findings {
             asked: None,
             hint,
+            of_event: false,
             names: None,
         }
     }
@@ -50,6 +56,7 @@ pub(crate) fn findings_of(
 ) -> Result<Findings, AllocError>
     ensures asked { IfOk result (λ found. IsAsked fault.kind text.now found.asked) }
     ensures hint { IfOk result (λ found. IsHint fault.kind text.now fault.at found.hint) }
+    ensures of_event { IfOk result (λ found. IsStray fault.kind text.now fault.at found.of_event) }
     ensures names { IfOk result (λ found. IsListed fault.kind text.now (names_held found.names)) }
 {
     let at = fault.at;
@@ -60,11 +67,7 @@ pub(crate) fn findings_of(
         JobKind::Token => Ok(Findings::with_hint(token_hint(alloc, text, at)?)),
         JobKind::Syntax => syntax_findings(alloc, text, at),
         JobKind::Twice => Ok(Findings::with_hint(twice_hint(alloc, text, at)?)),
-        JobKind::NotEnclosing => Ok(Findings {
-            asked: None,
-            hint: None,
-            names: cancellable_names(alloc, text)?,
-        }),
+        JobKind::NotEnclosing => stray_findings(alloc, text, at),
         JobKind::Reserved => Ok(Findings::with_hint(reserved_hint(alloc, text, at)?)),
         JobKind::TooLarge => Ok(Findings::with_hint(size_hint(alloc, text)?)),
         JobKind::Number | JobKind::Depth | JobKind::NoMemory => Ok(Findings::with_hint(None)),
@@ -75,6 +78,7 @@ pub(crate) fn findings_of(
 fn syntax_findings(alloc: Global, text: &[u8], at: usize) -> Result<Findings, AllocError>
     ensures asked { IfOk result (λ found. IsExpected text.now found.asked) }
     ensures hint { IfOk result (λ found. IsSyntaxHint text.now at found.hint) }
+    ensures of_event { IfOk result (λ found. found.of_event ≡ false) }
     ensures names { IfOk result (λ found. names_held found.names ≡ None) }
 {
     let lexed = LexedText::new(alloc, text)?;
@@ -83,6 +87,25 @@ fn syntax_findings(alloc: Global, text: &[u8], at: usize) -> Result<Findings, Al
     Ok(Findings {
         asked,
         hint,
+        of_event: false,
         names: None,
+    })
+}
+
+// Returns what could be named at a place whose name nothing of its kind around it has.
+fn stray_findings(alloc: Global, text: &[u8], at: usize) -> Result<Findings, AllocError>
+    ensures asked { IfOk result (λ found. found.asked ≡ None) }
+    ensures hint { IfOk result (λ found. found.hint ≡ None) }
+    ensures of_event { IfOk result (λ found. IsOfEvent text.now at found.of_event) }
+    ensures names { IfOk result (λ found. IsEnclosing text.now (names_held found.names)) }
+{
+    let lexed = LexedText::new(alloc, text)?;
+    let tokens = lexed.tokens.as_slice();
+    let names = enclosing_names(alloc, tokens)?;
+    Ok(Findings {
+        asked: None,
+        hint: None,
+        of_event: is_of_event(last_before(tokens, at)),
+        names,
     })
 }

@@ -1,13 +1,13 @@
-ghost use Rattle.std.specs.Prelude.{◌≡◌, ◌-◌, None, IfOk, slice_get};
+ghost use Rattle.std.specs.Prelude.{◌≡◌, ◌-◌, None, IfOk, drop, is_some, slice_get};
 ghost use Rattle.refusal_text.specs.Expecting.{expected_nonterminal};
 ghost use Rattle.refusal_text.specs.Scanning.{last_before, shape_at};
-ghost use Rattle.refusal_text.specs.Hinting.{IsTokenHint, IsTwiceHint, IsReservedHint, advice_hint, token_advice, call_or_byte_advice, near_hint, nonterminal_hint, is_newer, or_near_hint, nonterminal_advice, unnamed_advice, order_advice, word_advice, keyword_in, is_head_word, is_head, is_unnamed, reserved_name_hint, syntax_hint, twice_hint};
-ghost use Rattle.job_tree.specs.declared.format.Format.TheVariants.{Two};
+ghost use Rattle.refusal_text.specs.Hinting.{IsTokenHint, IsTwiceHint, IsReservedHint, advice_hint, token_advice, call_or_byte_advice, near_hint, nonterminal_hint, newer_advice, any_advice, or_near_hint, step_advice, nonterminal_advice, unnamed_advice, order_advice, word_advice, keyword_in, is_head_word, is_head, is_unnamed, reserved_name_hint, syntax_hint, twice_hint};
+ghost use Rattle.job_tree.specs.declared.format.Format.TheVariants.{Two, Three};
 ghost use Rattle.job_syntax.specs.Nonterminals.{next};
 ghost use Rattle.job_syntax.specs.Syntax.{whole_job};
 
 use crate::advice::{Advice, trio_advice};
-use crate::by_bytes::{byte_advice, feed_advice};
+use crate::by_bytes::{byte_advice, feed_advice, method_advice};
 use crate::lexed_text::LexedText;
 use crate::nearness::near_keyword;
 use crate::scanning::{first_given_place, innermost_open_block, last_before, shape_at};
@@ -59,7 +59,17 @@ fn token_advice(text: &[u8], at: usize, before: Option<Shape>) -> Option<Advice>
     if let Some(advice) = feed_advice(text, at) {
         return Some(advice);
     }
+    if let Some(advice) = method_advice(rest_from(text, at)) {
+        return Some(advice);
+    }
     call_or_byte_advice(before, byte_before(text, at), text.get(at).copied())
+}
+
+// Returns the bytes from a place on.
+fn rest_from(text: &[u8], at: usize) -> &[u8]
+    ensures { result.now ≡ drop at text.now }
+{
+    text.split_at(at.min(text.len())).1
 }
 
 // Returns the byte before a place.
@@ -142,15 +152,24 @@ fn nonterminal_hint(
     ensures { result ≡ nonterminal_hint format nonterminal before shape.now }
 {
     let nonterminal = nonterminal?;
-    if is_newer(format, nonterminal, shape) {
-        return Some(Hint::Advice(Advice::NewerFormat));
+    let advice = any_advice(format, nonterminal, before, shape);
+    or_near_hint(advice, format, nonterminal, shape)
+}
+
+// Returns the sentence for a token that cannot be read for the nonterminal, if there is one: first of all that a newer format has
+// it.
+fn any_advice(
+    format: Format,
+    nonterminal: Nonterminal,
+    before: Option<Shape>,
+    shape: &Shape,
+) -> Option<Advice>
+    ensures { result ≡ any_advice format nonterminal before shape.now }
+{
+    if let Some(advice) = newer_advice(format, nonterminal, shape) {
+        return Some(advice);
     }
-    or_near_hint(
-        nonterminal_advice(nonterminal, before, shape),
-        format,
-        nonterminal,
-        shape,
-    )
+    nonterminal_advice(nonterminal, before, shape)
 }
 
 // Returns a sentence, or otherwise the keyword that a token nearly is.
@@ -168,14 +187,37 @@ fn or_near_hint(
     }
 }
 
-// Returns whether the text has format 1 and the token would be allowed there in format 2.
-fn is_newer(format: Format, nonterminal: Nonterminal, shape: &Shape) -> bool
-    ensures { result ≡ is_newer format (next Two nonterminal shape.now) }
+// Returns that a newer format than that of the text has the token there, if one has.
+fn newer_advice(format: Format, nonterminal: Nonterminal, shape: &Shape) -> Option<Advice>
+    ensures { result ≡ newer_advice format (next Two nonterminal shape.now) (next Three nonterminal shape.now) }
 {
     match format {
-        Format::One => nonterminal.next(Format::Two, *shape).is_some(),
-        Format::Two | Format::Three => false,
+        Format::One => {
+            if is_allowed(Format::Two, nonterminal, shape) {
+                return Some(Advice::NewerFormat);
+            }
+            newest_advice(nonterminal, shape)
+        }
+        Format::Two => newest_advice(nonterminal, shape),
+        Format::Three => None,
     }
+}
+
+// Returns that format 3 has the token there, if it has.
+fn newest_advice(nonterminal: Nonterminal, shape: &Shape) -> Option<Advice>
+    ensures { result ≡ newer_advice Two (next Two nonterminal shape.now) (next Three nonterminal shape.now) }
+{
+    if is_allowed(Format::Three, nonterminal, shape) {
+        return Some(Advice::NewestFormat);
+    }
+    None
+}
+
+// Returns whether a token can be read for the nonterminal in a format.
+fn is_allowed(format: Format, nonterminal: Nonterminal, shape: &Shape) -> bool
+    ensures { result ≡ is_some (next format nonterminal shape.now) }
+{
+    nonterminal.next(format, *shape).is_some()
 }
 
 // Returns the keyword that a token nearly is, among those that may be read for the nonterminal.
@@ -200,10 +242,8 @@ fn nonterminal_advice(
         Nonterminal::Scope | Nonterminal::Nursery | Nonterminal::Over => unnamed_advice(before),
         Nonterminal::Shield | Nonterminal::Fail | Nonterminal::NurseryShield | Nonterminal::Open =>
             order_advice(shape),
-        Nonterminal::Steps
-        | Nonterminal::Items
-        | Nonterminal::StepsCleanup
-        | Nonterminal::ItemsCleanup => { word_advice(Some(*shape)) }
+        Nonterminal::Steps | Nonterminal::StepsCleanup => step_advice(shape),
+        Nonterminal::Items | Nonterminal::ItemsCleanup => word_advice(Some(*shape)),
         Nonterminal::Job
         | Nonterminal::StepsTail
         | Nonterminal::ItemsTail
@@ -213,6 +253,16 @@ fn nonterminal_advice(
         | Nonterminal::Number
         | Nonterminal::Text
         | Nonterminal::Semicolon => None,
+    }
+}
+
+// Returns the sentence for a `start` where none may be, or for a word of a program on Trio.
+fn step_advice(shape: &Shape) -> Option<Advice>
+    ensures { result ≡ step_advice shape.now }
+{
+    match keyword_in(Some(*shape)) {
+        Some(Keyword::Start) => Some(Advice::StartInside),
+        _ => word_advice(Some(*shape)),
     }
 }
 
@@ -247,7 +297,7 @@ fn is_head_word(shape: Option<Shape>) -> bool
 }
 
 // Returns the keyword that a token is, if it is one.
-fn keyword_in(shape: Option<Shape>) -> Option<Keyword>
+pub(crate) fn keyword_in(shape: Option<Shape>) -> Option<Keyword>
     ensures { result ≡ keyword_in shape }
 {
     let word = shape?.word()?;

@@ -1,17 +1,18 @@
 ghost use Rattle.std.specs.Prelude.{◌≡◌};
-ghost use Rattle.refusal_text.specs.Sentences.{sentence_of, byte_sentence, token_sentence, expected_sentence};
+ghost use Rattle.refusal_text.specs.Sentences.{sentence_of, stray_sentence, byte_sentence, token_sentence, expected_sentence};
 
 use job_grammar::JobKind;
 use job_syntax::Nonterminal;
 
-// Returns the sentence for a refusal of this kind at a place with this byte (`None` at the end of the text), where
-// the grammar expects this nonterminal.
+// Returns the sentence for a refusal of this kind at a place with this byte (`None` at the end of the text), where the grammar
+// expects this nonterminal. `of_event` says whether a name that nothing around it has is that of an event.
 pub(crate) fn sentence_of(
     kind: JobKind,
     byte: Option<u8>,
     asked: Option<Nonterminal>,
+    of_event: bool,
 ) -> &'static str
-    ensures { result.now ≡ sentence_of kind byte asked }
+    ensures { result.now ≡ sentence_of kind byte asked of_event }
 {
     match kind {
         JobKind::TooLong => "the job text has more than 65536 bytes",
@@ -25,13 +26,24 @@ pub(crate) fn sentence_of(
         JobKind::Syntax => expected_sentence(asked),
         JobKind::Depth => "blocks are nested more than 32 deep",
         JobKind::Twice =>
-            "this name was given before: jobs, scopes, nurseries and starts need names of their own",
-        JobKind::NotEnclosing => "no enclosing scope or nursery has this name",
+            "this name was given before: jobs, scopes, nurseries, events and starts need names of their own",
+        JobKind::NotEnclosing => stray_sentence(of_event),
         JobKind::Reserved =>
             "this name is reserved: a name must not be a keyword or `Cancelled`, and `TooSlow` is allowed only after `except`",
         JobKind::TooLarge =>
             "the job has more than 1000000 steps, in format 1 more than 100000, the copies that `over` makes and the passes of `repeat` counted",
         JobKind::NoMemory => "no memory",
+    }
+}
+
+// Returns that a name is that of nothing around it.
+fn stray_sentence(of_event: bool) -> &'static str
+    ensures { result.now ≡ stray_sentence of_event }
+{
+    if of_event {
+        "no enclosing event has this name"
+    } else {
+        "no enclosing scope or nursery has this name"
     }
 }
 
@@ -67,7 +79,7 @@ fn expected_sentence(nonterminal: Option<Nonterminal>) -> &'static str
         None => "expected the text's end: nothing may follow the job's `}`",
         Some(Nonterminal::Job) => "expected `job NAME { .. }`",
         Some(Nonterminal::Steps) => {
-            "expected a step, as `sleep 1;`, or `}` (a `start` is allowed only directly inside a nursery)"
+            "expected a step, as `sleep 1;`, or `}` (a `start` only directly inside a nursery or a `repeat` there)"
         }
         Some(Nonterminal::Items) => "expected a step, as `sleep 1;`, a `start NAME { .. }` or `}`",
         Some(Nonterminal::StepsTail | Nonterminal::ItemsTail) => {
@@ -83,7 +95,9 @@ fn expected_sentence(nonterminal: Option<Nonterminal>) -> &'static str
         Some(Nonterminal::Over) => "expected `over N` or `{`",
         Some(Nonterminal::Given) => "expected a name",
         Some(Nonterminal::Raised | Nonterminal::Handled) => "expected the name of an exception",
-        Some(Nonterminal::Target) => "expected the name of an enclosing scope or nursery",
+        Some(Nonterminal::Target) => {
+            "expected the name of an enclosing scope or nursery, after `set` and `wait` that of an event"
+        }
         Some(Nonterminal::Number) => "expected a number",
         Some(Nonterminal::Text) => "expected a string, as `\"error\"`",
         Some(Nonterminal::Open) => "expected `{`",

@@ -6,13 +6,13 @@ use Rattle.job_tokens.specs.Canon.{canon_of}
 use Rattle.job_tokens.specs.declared.token.Shape.TheVariants as shape
 use Rattle.job_tree.specs.declared.deadline.Deadline.{Deadline}
 use Rattle.job_tree.specs.declared.deadline.Deadline.TheVariants.{Never, After, At}
-use Rattle.job_tree.specs.Tree.{Step, sleep, checkpoint, forever, pace, find, head, longest, need, raise, cancel, scope, nursery, start, repeat, attempt, Steps, stop, step, Handled, unhandled, except, Cleaned, uncleaned, finally, Tree}
+use Rattle.job_tree.specs.Tree.{Step, sleep, checkpoint, forever, pace, find, head, longest, need, raise, cancel, set_event, wait_for, scope, nursery, event, start, repeat, attempt, Steps, stop, step, Handled, unhandled, except, Cleaned, uncleaned, finally, Tree}
 use Rattle.trio_text.specs.Names.{name_text}
 use Rattle.trio_text.specs.Uses.{Known, among, known_of, classes_of}
 use Rattle.trio_text.specs.Needs.{uses_of}
 use Rattle.trio_text.specs.Tasks.{tasks_of, tasks_in, handled_tasks, cleaned_tasks, function_head, HasFunction, HasFunctions}
 use Rattle.trio_text.specs.Lines.{margin, deeper, with_line, with_gap, with_used, with_nested_block, with_nested_call}
-use Rattle.trio_text.specs.Statements.{class_of, handled_class, with_call, with_text, with_find, with_need, with_cancel, with_statement, with_plain, is_plain, scope_kind, plain_scope, with_timed_scope, with_scope_call, with_setting, with_scope, with_opened, with_deadline_from, with_deadline, with_nursery, with_task, with_start, with_starts, with_repeat, with_handling}
+use Rattle.trio_text.specs.Statements.{class_of, handled_class, with_call, with_text, with_find, with_need, with_cancel, with_set, with_wait, with_statement, with_plain, is_plain, scope_kind, plain_scope, with_timed_scope, with_scope_call, with_setting, with_scope, with_opened, with_deadline_from, with_deadline, with_nursery, with_event, with_task, with_start, with_starts, with_repeat, with_handling}
 use Rattle.trio_text.specs.Program.{IsProgram, header, imports, classes, helpers, footer, with_root, with_start_time}
 use Rattle.trio_text.specs.Blocks.{OrPass, Inside, Tried, Finally, Apart, with_nested_try, with_nested_calls, Writes, WritesStep, WritesHandler, WritesTry}
 
@@ -163,6 +163,14 @@ longer_cancel is_nursery name a =
     let b = a ++ name_text name in
     more a _ (codes ".cancel()") (along a b _ (more a a (name_text name) (same a)) (longer_used is_nursery (codes ".cancel_scope") b))
 
+longer_set : (name a : List ℕ) → Longer a (with_set name a)
+unfolding with_set
+longer_set name a = more a _ (codes ".set()") (more a a (name_text name) (same a))
+
+longer_wait : (name a : List ℕ) → Longer a (with_wait name a)
+unfolding with_wait
+longer_wait name a = more a _ (codes ".wait()") (more a _ (name_text name) (more a a (codes "await ") (same a)))
+
 longer_statement : (known : Known) (s : Step) (a : List ℕ) → Longer a (with_statement known s a)
 longer_statement known (sleep n) a = longer_call (codes "await trio.sleep(") n a
 longer_statement known checkpoint a = more a a (codes "await trio.lowlevel.checkpoint()") (same a)
@@ -174,6 +182,8 @@ longer_statement known longest a = more a a (codes "longest(part)") (same a)
 longer_statement known (need text name) a = longer_need known text name a
 longer_statement known (raise name) a = more a _ (class_of known name) (more a a (codes "raise ") (same a))
 longer_statement known (cancel name) a = longer_cancel (among known.nurseries name) name a
+longer_statement known (set_event name) a = longer_set name a
+longer_statement known (wait_for name) a = longer_wait name a
 longer_statement known s a = same a
 
 longer_plain : (known : Known) (level : ℕ) (s : Step) (a : List ℕ) → Longer a (with_plain known level s a)
@@ -232,6 +242,10 @@ longer_nursery level name deadline shield a =
     along a b _ (longer_opened level name a)
     (along b d _ (longer_deadline (deeper level) name deadline b)
     (longer_setting (deeper level) shield name (codes ".cancel_scope.shield = True\n") d))
+
+longer_event : (level : ℕ) (name a : List ℕ) → Longer a (with_event level name a)
+unfolding with_event
+longer_event level name a = more a _ (codes " = trio.Event()\n") (more a _ (name_text name) (more a a (margin level) (same a)))
 
 longer_start : (level : ℕ) (around name end a : List ℕ) → Longer a (with_start level around name end a)
 unfolding with_start
@@ -380,6 +394,9 @@ mutual
       then_grows (tasks_of body) a is.middle b
       (adds a (with_nursery level name deadline shield a) is.middle (longer_nursery level name deadline shield a) is.starts)
       (block body (Writes known name body) (writes_grow known name body) (deeper level) is.middle b is.ends)
+  step_grows known around (event name body) level a b is =
+      then_grows (tasks_of body) a is.middle b (adds a (with_event level name a) is.middle (longer_event level name a) is.starts)
+      (writes_grow known around body level is.middle b is.ends)
   step_grows known around (start name over body) level a b is =
       let inner = is.ends in
       let P : List ℕ → Type 0 = λ x. Grows (name ∷ []) a x in

@@ -1,11 +1,11 @@
 -- What the program has for the steps of a block: a piece of text for each of them, in order. Whether a block or a cleanup gets a
 -- function of its own, as deeply nested ones do, is left open.
 use Rattle.std.specs.Prelude.{ℕ, List, ◌++◌, ◌⊎◌, codes}
-use Rattle.job_tree.specs.Tree.{Step, scope, nursery, start, repeat, attempt, Steps, stop, step, Handled, unhandled, except, Cleaned, uncleaned, finally}
+use Rattle.job_tree.specs.Tree.{Step, scope, nursery, event, start, repeat, attempt, Steps, stop, step, Handled, unhandled, except, Cleaned, uncleaned, finally}
 use Rattle.trio_text.specs.Uses.{Known}
 use Rattle.trio_text.specs.Pieces.{Adds, AddsNothing, Then}
 use Rattle.trio_text.specs.Lines.{deeper, with_line, with_nested_block, with_nested_call}
-use Rattle.trio_text.specs.Statements.{with_plain, with_scope, with_nursery, with_task, with_starts, with_repeat, with_handling}
+use Rattle.trio_text.specs.Statements.{with_plain, with_scope, with_nursery, with_event, with_task, with_starts, with_repeat, with_handling}
 
 -- the steps of a block, or `pass` where it has none
 abbrev pub OrPass : Steps → (ℕ → List ℕ → List ℕ → Type 0) → ℕ → List ℕ → List ℕ → Type 0
@@ -40,7 +40,7 @@ Apart Cleanup Trying level = Then (Adds (with_nested_try level)) (Then (Cleanup 
     (Then (Adds (λ before. before ++ codes "\n")) (Then (Trying (deeper level)) (Adds (with_nested_calls level)))))
 
 abbrev mutual
-  -- the steps of a block, one after the other; `around` is the nursery in whose body they are
+  -- the steps of a block, one after the other; `around` is the nursery in whose body, or in a `repeat` there, they are
   pub Writes : Known → List ℕ → Steps → ℕ → List ℕ → List ℕ → Type 0
   Writes known around stop level = AddsNothing
   Writes known around (step s ss) level = Then (WritesStep known around s level) (Writes known around ss level)
@@ -51,6 +51,8 @@ abbrev mutual
       Then (Adds (with_scope level name deadline shield fail)) (Inside (OrPass body (Writes known around body)) (deeper level))
   WritesStep known around (nursery name deadline shield body) level =
       Then (Adds (with_nursery level name deadline shield)) (Inside (OrPass body (Writes known name body)) (deeper level))
+  -- an event is no block of Python: its steps follow it
+  WritesStep known around (event name body) level = Then (Adds (with_event level name)) (Writes known around body level)
   WritesStep known around (start name over body) level =
       Then (Adds (with_task level name over)) (Then (Inside (OrPass body (Writes known around body)) (deeper level))
       (Adds (with_starts level around name over)))

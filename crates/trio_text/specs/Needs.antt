@@ -2,7 +2,7 @@
 use Rattle.std.specs.Prelude.{Bool, true, false, ◌||◌, is_some}
 use Rattle.job_tree.specs.declared.deadline.Deadline.{Deadline}
 use Rattle.job_tree.specs.declared.deadline.Deadline.TheVariants.{Never, After, At}
-use Rattle.job_tree.specs.Tree.{Step, pace, find, head, longest, need, scope, nursery, start, repeat, attempt, Steps, stop, step, Handled, unhandled, except, Cleaned, uncleaned, finally}
+use Rattle.job_tree.specs.Tree.{Step, pace, find, head, longest, need, scope, nursery, event, start, repeat, attempt, Steps, stop, step, Handled, unhandled, except, Cleaned, uncleaned, finally}
 use Rattle.trio_text.specs.declared.uses.Uses.{Uses}
 
 abbrev pub no_uses : Uses
@@ -48,6 +48,7 @@ abbrev mutual
   pub uses_in : Step → Uses
   uses_in (scope name deadline shield fail body) = any_use (deadline_use deadline) (uses_of body)
   uses_in (nursery name deadline shield body) = any_use (deadline_use deadline) (uses_of body)
+  uses_in (event name body) = uses_of body
   uses_in (start name over body) = any_use (record no_uses { over = is_some over }) (uses_of body)
   uses_in (repeat count body) = uses_of body
   uses_in (attempt body handler cleanup) = any_use (any_use (uses_of body) (handled_uses handler)) (cleaned_uses cleanup)

@@ -4,7 +4,7 @@ use Rattle.job_tokens.specs.Canon.{canon_of}
 use Rattle.job_tokens.specs.declared.token.Shape.TheVariants as shape
 use Rattle.job_tree.specs.declared.deadline.Deadline.{Deadline}
 use Rattle.job_tree.specs.declared.deadline.Deadline.TheVariants.{Never, After, At}
-use Rattle.job_tree.specs.Tree.{Step, sleep, checkpoint, forever, pace, find, head, longest, need, raise, cancel}
+use Rattle.job_tree.specs.Tree.{Step, sleep, checkpoint, forever, pace, find, head, longest, need, raise, cancel, set_event, wait_for}
 use Rattle.trio_text.specs.Names.{name_text, class_text}
 use Rattle.trio_text.specs.Uses.{Known, among, is_too_slow}
 use Rattle.trio_text.specs.Lines.{margin, deeper, with_line, with_gap, with_used}
@@ -34,6 +34,12 @@ with_need known text name before = with_text text (before ++ codes "need(part, "
 unfoldable pub with_cancel : Bool → List ℕ → List ℕ → List ℕ
 with_cancel is_nursery name before = with_used is_nursery (codes ".cancel_scope") (before ++ name_text name) ++ codes ".cancel()"
 
+unfoldable pub with_set : List ℕ → List ℕ → List ℕ
+with_set name before = before ++ name_text name ++ codes ".set()"
+
+unfoldable pub with_wait : List ℕ → List ℕ → List ℕ
+with_wait name before = before ++ codes "await " ++ name_text name ++ codes ".wait()"
+
 -- the statement of a step without a block
 abbrev pub with_statement : Known → Step → List ℕ → List ℕ
 with_statement known (sleep n) before = with_call (codes "await trio.sleep(") n before
@@ -46,6 +52,8 @@ with_statement known longest before = before ++ codes "longest(part)"
 with_statement known (need text name) before = with_need known text name before
 with_statement known (raise name) before = before ++ codes "raise " ++ class_of known name
 with_statement known (cancel name) before = with_cancel (among known.nurseries name) name before
+with_statement known (set_event name) before = with_set name before
+with_statement known (wait_for name) before = with_wait name before
 with_statement known s before = before
 
 -- its line
@@ -105,6 +113,10 @@ with_opened level name before = before ++ margin level ++ codes "async with trio
 unfoldable pub with_nursery : ℕ → List ℕ → Deadline → Bool → List ℕ → List ℕ
 with_nursery level name deadline shield before = with_setting (deeper level) shield name (codes ".cancel_scope.shield = True\n")
     (with_deadline (deeper level) name deadline (with_opened level name before))
+
+-- the line that makes an event
+unfoldable pub with_event : ℕ → List ℕ → List ℕ → List ℕ
+with_event level name before = before ++ margin level ++ name_text name ++ codes " = trio.Event()\n"
 
 -- the parameters of a started task: one of several copies gets its part of the input
 abbrev pub parameters : Option ℕ → List ℕ

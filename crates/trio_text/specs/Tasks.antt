@@ -1,6 +1,6 @@
 -- The tasks of a job, and the functions of tasks in a text.
 use Rattle.std.specs.Prelude.{◌≡◌, ℕ, List, [], ◌∷◌, ◌++◌, codes}
-use Rattle.job_tree.specs.Tree.{Step, scope, nursery, start, repeat, attempt, Steps, stop, step, Handled, unhandled, except, Cleaned, uncleaned, finally}
+use Rattle.job_tree.specs.Tree.{Step, scope, nursery, event, start, repeat, attempt, Steps, stop, step, Handled, unhandled, except, Cleaned, uncleaned, finally}
 use Rattle.trio_text.specs.Names.{name_text}
 
 abbrev mutual
@@ -12,6 +12,7 @@ abbrev mutual
   pub tasks_in : Step → List (List ℕ)
   tasks_in (scope name deadline shield fail body) = tasks_of body
   tasks_in (nursery name deadline shield body) = tasks_of body
+  tasks_in (event name body) = tasks_of body
   tasks_in (start name over body) = name ∷ tasks_of body
   tasks_in (repeat count body) = tasks_of body
   tasks_in (attempt body handler cleanup) = (tasks_of body ++ handled_tasks handler) ++ cleaned_tasks cleanup

@@ -1,8 +1,8 @@
--- The names that the steps of a job use: of scopes, nurseries, tasks and exceptions.
+-- The names that the steps of a job use: of scopes, nurseries, events, tasks and exceptions.
 use Rattle.std.specs.Prelude.{◌≡◌, ℕ, Bool, List, [], ◌∷◌, ◌++◌, codes, fold, if◌then◌else◌}
 use Rattle.std.specs.List.{list_any}
 use Rattle.std.specs.Str.{bytes_eq}
-use Rattle.job_tree.specs.Tree.{Step, need, raise, scope, nursery, start, repeat, attempt, Steps, stop, step, Handled, unhandled, except, Cleaned, uncleaned, finally, Tree}
+use Rattle.job_tree.specs.Tree.{Step, need, raise, scope, nursery, event, start, repeat, attempt, Steps, stop, step, Handled, unhandled, except, Cleaned, uncleaned, finally, Tree}
 use Rattle.job_tree.specs.Names.{names_of, names_in}
 use Rattle.trio_text.specs.declared.words.Words.{Words}
 
@@ -41,6 +41,7 @@ abbrev mutual
   pub exceptions_in : Step → List (List ℕ)
   exceptions_in (scope name deadline shield fail body) = exceptions_of body
   exceptions_in (nursery name deadline shield body) = exceptions_of body
+  exceptions_in (event name body) = exceptions_of body
   exceptions_in (start name over body) = exceptions_of body
   exceptions_in (repeat count body) = exceptions_of body
   exceptions_in (attempt body handler cleanup) = (exceptions_of body ++ handled_exceptions handler) ++ cleaned_exceptions cleanup
@@ -63,6 +64,7 @@ abbrev mutual
   pub nurseries_in : Step → List (List ℕ)
   nurseries_in (scope name deadline shield fail body) = nurseries_of body
   nurseries_in (nursery name deadline shield body) = name ∷ nurseries_of body
+  nurseries_in (event name body) = nurseries_of body
   nurseries_in (start name over body) = nurseries_of body
   nurseries_in (repeat count body) = nurseries_of body
   nurseries_in (attempt body handler cleanup) = (nurseries_of body ++ handled_nurseries handler) ++ cleaned_nurseries cleanup
@@ -76,7 +78,7 @@ abbrev mutual
   cleaned_nurseries uncleaned = []
   cleaned_nurseries (finally body) = nurseries_of body
 
--- the names in a program: those of the job's tasks, scopes and nurseries, and which of them are nurseries
+-- the names in a program: those of the job's tasks, scopes, nurseries and events, and which of them are nurseries
 pub record Known : Type 0 where
   pub given : List (List ℕ)
   pub nurseries : List (List ℕ)

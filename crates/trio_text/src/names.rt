@@ -12,7 +12,7 @@ use crate::words::Words;
 use job_tree::Name;
 use std::alloc::AllocError;
 
-// Appends the name of a task, scope or nursery: the name in the job, followed by `_` if the program uses that word for
+// Appends the name of a task, scope, nursery or event: the name in the job, followed by `_` if the program uses that word for
 // something else.
 #[tactic(auto, unfolding(crate::specs::Names::name_text))]
 pub(crate) fn push_name(out: &mut Vec<u8>, name: Name) -> Result<(), AllocError>
@@ -33,7 +33,7 @@ pub(crate) fn push_class(out: &mut Vec<u8>, words: &Words, name: Name) -> Result
     push_class_text(out, words.gives(name), name)
 }
 
-// The same, with `is_given` saying whether a task, scope or nursery has this name.
+// The same, with `is_given` saying whether a task, scope, nursery or event has this name.
 #[tactic(auto, unfolding(crate::specs::Names::class_text))]
 fn push_class_text(out: &mut Vec<u8>, is_given: bool, name: Name) -> Result<(), AllocError>
     ensures { OnOk result (out.new.items ≡ out.old.items ++ class_text is_given name) }

@@ -20,7 +20,7 @@ pub(crate) struct Place {
     pub blocks: usize,
     // How many `finally` blocks enclose it directly, without a function of their own.
     pub cleanups: usize,
-    // The nursery in whose body the block is, for a `start` directly in it.
+    // The nursery in whose body the block is, for a `start` directly in it or in a `repeat` there.
     pub nursery: Name,
 }
 

@@ -5,6 +5,7 @@ ghost use Rattle.trio_text.specs.Statements.{
   scope_kind,
   with_deadline,
   with_deadline_from,
+  with_event,
   with_nursery,
   with_opened,
   with_scope,
@@ -186,4 +187,14 @@ fn push_deadline_from(
     out.extend_from_slice(from)?;
     push_number(out, ticks)?;
     out.extend_from_slice(b"\n")
+}
+
+// Appends the line that makes an event. Its steps follow at the same level.
+pub(crate) fn push_event(out: &mut Vec<u8>, level: usize, name: Name) -> Result<(), AllocError>
+    ensures { OnOk result (out.new.items ≡ with_event level name out.old.items) }
+{
+    begin(out, level)?;
+    push_name(out, name)?;
+    out.extend_from_slice(b" = trio.Event()\n")?;
+    Ok(())
 }

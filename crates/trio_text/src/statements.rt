@@ -1,6 +1,6 @@
 ghost use Rattle.std.specs.Prelude.{◌≡◌, OnOk};
 ghost use Rattle.job_tree.specs.Blocks.{step_of};
-ghost use Rattle.trio_text.specs.Statements.{with_call, with_cancel, with_find, with_handling, with_need, with_plain, with_repeat, with_statement};
+ghost use Rattle.trio_text.specs.Statements.{with_call, with_cancel, with_find, with_handling, with_need, with_plain, with_repeat, with_set, with_statement, with_wait};
 ghost use Rattle.trio_text.specs.Uses.{known_in};
 
 use crate::names::{push_class, push_handled, push_name};
@@ -44,6 +44,8 @@ fn push_statement(out: &mut Vec<u8>, words: &Words, step: &Step) -> Result<(), A
             push_class(out, words, *name)
         }
         Step::Cancel(name) => push_cancel(out, words.is_nursery(*name), *name),
+        Step::Set(name) => push_set(out, *name),
+        Step::Wait(name) => push_wait(out, *name),
         _ => Ok(()),
     }
 }
@@ -85,6 +87,23 @@ fn push_cancel(out: &mut Vec<u8>, is_nursery: bool, name: Name) -> Result<(), Al
     push_name(out, name)?;
     push_if(out, is_nursery, b".cancel_scope")?;
     out.extend_from_slice(b".cancel()")
+}
+
+#[tactic(auto, unfolding(crate::specs::Statements::with_set))]
+fn push_set(out: &mut Vec<u8>, name: Name) -> Result<(), AllocError>
+    ensures { OnOk result (out.new.items ≡ with_set name out.old.items) }
+{
+    push_name(out, name)?;
+    out.extend_from_slice(b".set()")
+}
+
+#[tactic(auto, unfolding(crate::specs::Statements::with_wait))]
+fn push_wait(out: &mut Vec<u8>, name: Name) -> Result<(), AllocError>
+    ensures { OnOk result (out.new.items ≡ with_wait name out.old.items) }
+{
+    out.extend_from_slice(b"await ")?;
+    push_name(out, name)?;
+    out.extend_from_slice(b".wait()")
 }
 
 // Appends the line that begins a loop.

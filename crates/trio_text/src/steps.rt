@@ -6,7 +6,7 @@ ghost use Rattle.trio_text.specs.Uses.{known_in};
 use crate::nested::{push_nested_block, push_nested_call, push_nested_calls, push_nested_try};
 use crate::pieces::push_line;
 use crate::place::Place;
-use crate::scopes::{push_nursery, push_scope};
+use crate::scopes::{push_event, push_nursery, push_scope};
 use crate::statements::{push_handling, push_plain, push_repeat};
 use crate::tasks::{push_starts, push_task};
 use crate::words::Words;
@@ -93,6 +93,11 @@ fn push_step(out: &mut Vec<u8>, words: &Words, place: &Place, step: &Step) -> Re
         } => {
             push_nursery(out, place.level, *name, *deadline, *shield)?;
             push_block(out, words, &place.in_nursery(*name), body)
+        }
+        Step::Event { name, body } => {
+            push_event(out, place.level, *name)?;
+            push_each(out, words, place, body.as_slice())?;
+            Ok(())
         }
         Step::Start { name, over, body } => {
             push_task(out, place.level, *name, *over)?;

@@ -95,6 +95,7 @@ fn uses_in(step: &Step) -> Uses
         Step::Nursery { deadline, body, .. } => {
             any_use(deadline_use(*deadline), uses_of(body.as_slice()))
         }
+        Step::Event { body, .. } => uses_of(body.as_slice()),
         Step::Start { over, body, .. } => {
             any_use(over_use(over.is_some()), uses_of(body.as_slice()))
         }

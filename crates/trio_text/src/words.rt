@@ -48,7 +48,7 @@ impl Words {
         Ok(words)
     }
 
-    // Returns whether a task, scope or nursery has this name.
+    // Returns whether a task, scope, nursery or event has this name.
     pub(crate) fn gives(&self, name: Name) -> bool
         ensures { result ≡ among self.now.given.keys name }
     {
@@ -70,7 +70,7 @@ impl Words {
         self.raised.as_slice()
     }
 
-    // Records the name of a task, scope or nursery.
+    // Records the name of a task, scope, nursery or event.
     fn note_given(&mut self, name: Name) -> Result<(), AllocError>
         ensures { OnOk result (Notes (name ∷ []) [] [] self.old self.new) }
     {
@@ -135,6 +135,11 @@ fn note_step(words: &mut Words, step: &Step) -> Result<(), AllocError>
         }
         Step::Nursery { name, body, .. } => {
             words.note_nursery(*name)?;
+            note_steps(words, body.as_slice())?;
+            Ok(())
+        }
+        Step::Event { name, body } => {
+            words.note_given(*name)?;
             note_steps(words, body.as_slice())?;
             Ok(())
         }

@@ -1,5 +1,8 @@
-use Rattle.race_rows.proofs.Lengths.{lengths_differ}
+use Rattle.std.proofs.Common.{arith}
+use Rattle.race_rows.proofs.Kept.{finished}
 use Rattle.race_rows.proofs.same.are_same_entries.Goals as goal
 
-pub returns-then-a-b : goal.returns-then-a-b
-returns-then-a-b c = lengths_differ c.args.a.now c.args.b.now c.if-a-b.true
+pub returns : goal.returns
+returns c =
+    finished c.args.scope c.args.a.now c.args.b.now c.entries.entry-index c.entries.next c.next_kept.result _
+    (omega (arith, c.entries-test.false)) c.entries.invariant.same c.next_kept.ensures.kept c.next_kept.ensures.is_kept

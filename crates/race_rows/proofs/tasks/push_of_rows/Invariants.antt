@@ -7,5 +7,5 @@ use Rattle.race_rows.proofs.tasks.push_of_rows.Given as goal
 
 abbrev pub invariant-rows : goal.invariant-rows
 invariant-rows l =
-    map difference_held l.found.items ++ of_rows (map row_in (drop l.row-index l.before)) (map row_in l.after)
-    ≡ map difference_held l.fn.found.items ++ of_rows (map row_in l.before) (map row_in l.after)
+    map difference_held l.found.items ++ of_rows l.scope (map row_in (drop l.row-index l.before)) (map row_in l.after)
+    ≡ map difference_held l.fn.found.items ++ of_rows l.scope (map row_in l.before) (map row_in l.after)

@@ -1,7 +1,7 @@
 use Rattle.std.proofs.Common.{arith, sym, ◌∙◌}
 use Rattle.job_tree.proofs.Weights.{weight_at}
 use Rattle.job_tree.specs.Blocks.{steps_of, handled_of, cleaned_of}
-use Rattle.job_checks.specs.Cancels.{handled_cancels, cleaned_cancels}
+use Rattle.job_checks.specs.Uses.{handled_uses, cleaned_uses}
 use Rattle.refusal_text.specs.Scopes.{names_around}
 use Rattle.refusal_text.proofs.Read.{after_two}
 use Rattle.refusal_text.proofs.scopes.+search.Goals as goal
@@ -13,8 +13,9 @@ search_steps-search_step-requires t c =
 
 pub search_try-returns : goal.search_try-returns
 search_try-returns t c =
-    let ns = names_around c.args.around.now in
-    after_two ns (steps_of c.as_slice.result.now) c.args.body.now (handled_cancels ns (handled_of c.args.handler.now))
-    (cleaned_cancels ns (cleaned_of c.args.cleanup.now)) c.in_ok-found.found c.in_ok-found-2.found c.in_ok-found-3.found
+    let ns = names_around c.args.scopes.now in
+    let es = names_around c.args.events.now in
+    after_two ns es (steps_of c.as_slice.result.now) c.args.body.now (handled_uses ns es (handled_of c.args.handler.now))
+    (cleaned_uses ns es (cleaned_of c.args.cleanup.now)) c.in_ok-found.found c.in_ok-found-2.found c.in_ok-found-3.found
     c.as_slice.ensures (sym c.is_some.ensures ∙ c.if-is_some.false) (sym c.is_some-2.ensures ∙ c.if-is_some-2.false)
     c.in_ok-found.ensures c.in_ok-found-2.ensures c.in_ok-found-3.ensures

@@ -1,9 +1,9 @@
 use Rattle.std.specs.Prelude.{[]}
 use Rattle.job_tree.specs.Blocks.{steps_of}
-use Rattle.job_checks.specs.Cancels.{cancels_of}
+use Rattle.job_checks.specs.Uses.{uses_of}
 use Rattle.refusal_text.specs.Scopes.{names_held}
 use Rattle.refusal_text.proofs.Read.{whole}
 use Rattle.refusal_text.proofs.scopes.names_around_stray.Goals as goal
 
 pub returns : goal.returns
-returns c = whole (names_held c.in_ok-found.found) (cancels_of [] (steps_of c.args.steps.now)) c.in_ok-found.ensures
+returns c = whole (names_held c.in_ok-found.found) (uses_of [] [] (steps_of c.args.steps.now)) c.in_ok-found.ensures

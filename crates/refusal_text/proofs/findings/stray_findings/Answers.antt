@@ -1,0 +1,26 @@
+use Rattle.std.proofs.Common.{◌≡◌, ◌∙◌, ap, List}
+use Rattle.std.specs.Prelude.{None}
+use Rattle.job_tokens.specs.declared.token.Token.{Token}
+use Rattle.job_tokens.specs.Shapes.{shapes_of}
+use Rattle.job_syntax.specs.Reading.{job_at}
+use Rattle.job_grammar.specs.Refusals.{format_of}
+use Rattle.refusal_text.specs.Hinting.{keyword_in, if_keyword}
+use Rattle.refusal_text.specs.Scanning.{last_before}
+use Rattle.refusal_text.specs.Scopes.{enclosing_names, uses_event, names_held}
+use Rattle.refusal_text.proofs.Told.{of_tokens}
+use Rattle.refusal_text.proofs.findings.stray_findings.Goals as goal
+
+pub returns-clause-of_event : goal.returns-clause-of_event
+returns-clause-of_event c =
+    let at = c.args.at in
+    of_tokens c.args.text.now _ c.as_slice-tokens.result.now c.in_ok-lexed.lexed.fault
+    (λ (ts : List Token). c.is_of_event.result ≡ if_keyword uses_event (keyword_in (last_before at None ts)))
+    c.in_ok-lexed.ensures.tokens c.as_slice-tokens.ensures.value
+    (c.is_of_event.ensures ∙ ap (λ s. if_keyword uses_event (keyword_in s)) c.last_before.ensures)
+
+pub returns-clause-names : goal.returns-clause-names
+returns-clause-names c =
+    let text = c.args.text.now in
+    of_tokens text _ c.as_slice-tokens.result.now c.in_ok-lexed.lexed.fault
+    (λ (ts : List Token). names_held c.in_ok-names.names ≡ enclosing_names (job_at (format_of text) (shapes_of ts)))
+    c.in_ok-lexed.ensures.tokens c.as_slice-tokens.ensures.value (c.in_ok-names.ensures (format_of text))
