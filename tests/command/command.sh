@@ -382,15 +382,15 @@ refuses 'trio-job 1\njob main { sleep 1s; }\n' 'refused J4 Token at 28' \
 refuses 'trio-job 1\njob main { pace 0; }\n' 'refused J5 Number at 27' \
     '2:17: a number out of its range: `over` takes 1 to 64, `pace` 1 to 1000000, `repeat` 0 to 1000, others 0 to 1000000000; no leading zero\njob main { pace 0; }\n                ^'
 refuses 'trio-job 1\njob main { scope s { } scope s { } }\n' 'refused J8 Twice at 40' \
-    '2:30: this name was given before: jobs, scopes, nurseries and starts need names of their own\njob main { scope s { } scope s { } }\n                             ^\nit was first given at bad.job:2:18'
+    '2:30: this name was given before: jobs, scopes, nurseries, events and starts need names of their own\njob main { scope s { } scope s { } }\n                             ^\nit was first given at bad.job:2:18'
 refuses 'trio-job 1\njob main { slep 1; }\n' 'refused J6 Syntax at 22' \
-    '2:12: expected a step, as `sleep 1;`, or `}` (a `start` is allowed only directly inside a nursery)\njob main { slep 1; }\n           ^\ndid you mean `sleep`?'
+    '2:12: expected a step, as `sleep 1;`, or `}` (a `start` only directly inside a nursery or a `repeat` there)\njob main { slep 1; }\n           ^\ndid you mean `sleep`?'
 refuses 'trio-job 1\njob main { repeat 2 { } }\n' 'refused J6 Syntax at 22' \
-    '2:12: expected a step, as `sleep 1;`, or `}` (a `start` is allowed only directly inside a nursery)\njob main { repeat 2 { } }\n           ^\nformat 2 has this: begin the job text with the line `trio-job 2`'
+    '2:12: expected a step, as `sleep 1;`, or `}` (a `start` only directly inside a nursery or a `repeat` there)\njob main { repeat 2 { } }\n           ^\nformat 2 has this: begin the job text with the line `trio-job 2`'
 refuses 'trio-job 2\njob main { repeat 1000 { repeat 1000 { } } }\n' 'refused J11 TooLarge at 0' \
     '1:1: the job has more than 1000000 steps, in format 1 more than 100000, the copies that `over` makes and the passes of `repeat` counted\ntrio-job 2\n^\nthe job has 1002001 steps'
 refuses 'trio-job 1\njob main {\n  scope s {\n    sleep 1;\n}\n' 'refused J6 Syntax at 49' \
-    '6:1: expected a step, as `sleep 1;`, or `}` (a `start` is allowed only directly inside a nursery)\n\n^\nthe innermost block that is not closed begins at bad.job:2:10'
+    '6:1: expected a step, as `sleep 1;`, or `}` (a `start` only directly inside a nursery or a `repeat` there)\n\n^\nthe innermost block that is not closed begins at bad.job:2:10'
 refuses 'trio-job 1\njob main { cancel x; }\n' 'refused J9 NotEnclosing at 29' \
     '2:19: no enclosing scope or nursery has this name\njob main { cancel x; }\n                  ^\nno scope or nursery is around this `cancel`'
 refuses 'trio-job 1\njob main { raise Cancelled; }\n' 'refused J10 Reserved at 28' \

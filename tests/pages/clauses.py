@@ -22,7 +22,7 @@ import sys
 
 from functions import ROOT, blanked, crate_names, functions_of, functions_of_file, texts_of
 
-WIDTH = 120
+WIDTH = 118  # (one of the lists is indented by two more)
 # Edits that make a law false by changing a definition that the law is about: each with the reason, which names the law's statement.
 OF_A_LAW = {
     "interleavings/a_task_that_ended_stays_in_its_nursery.edit": "`IsHoused` is what the law `TasksAreHoused` states of each task",

@@ -13,10 +13,12 @@ Without `--format` the jobs are of formats 1 and 2. What is different there (doc
 Trio: a cancellation by `cancel` or by a member that failed sets the scope's deadline to the next tick, and waiting at a nursery's end
 is shielded.
 
-With `--format 3` the program is plain: `cancel` is Trio's, a nursery is Trio's, with its own scope. It is run under eight seeds of
-Trio's scheduler, and where these have one outcome, it has to be the report, tick for tick. The parts of groups are compared sorted,
-since Trio has them in the order in which tasks ended; and the end of a nursery is no cancel point, as from Trio 0.23 on. These jobs
-have no `pace`, which has a rule of its own for no tick. The last form shows the outcomes of one job, by its number.
+With `--format 3` the program is plain: `cancel` is Trio's, a nursery is Trio's, with its own scope, an event is Trio's. It is run under
+eight seeds of Trio's scheduler, and where these have one outcome, it has to be the report, tick for tick. The parts of groups are
+compared sorted, since Trio has them in the order in which tasks ended; and the end of a nursery is no cancel point, as from Trio 0.23
+on. These jobs have no `pace`, which has a rule of its own for no tick. A task that cancels a scope and then sets an event, in one round,
+has another outcome in Trio (docs/RULES.md, "Differences from Trio"): a job with an event may differ if `nursery races` has a line for it.
+The last form shows the outcomes of one job, by its number.
 """
 
 import argparse
@@ -26,6 +28,7 @@ import math
 import os
 import subprocess
 import sys
+import tempfile
 from concurrent.futures import ProcessPoolExecutor
 
 import trio
@@ -139,6 +142,15 @@ class Task:
                 raise Named(name, self.label, now())
             case ("cancel", name):
                 self.cancel(scopes[name])
+            case ("event", name, body):
+                await self.block(body, {**scopes, name: (self.label_of(name), trio.Event())})
+            case ("set", name):
+                scopes[name][1].set()
+            case ("wait", name):
+                label, event = scopes[name]
+                with trio.move_on_at(max(FOREVER, now())):
+                    await event.wait()
+                self.entries.append(f"wait {label} {now()}")
             case ("scope", name, deadline, shield, fail, body):
                 await self.scope(name, deadline, shield, fail, body, scopes)
             case ("nursery", name, after, shield, items):
@@ -167,12 +179,12 @@ class Task:
         if fail and scope.cancelled_caught:
             raise Named("TooSlow", label, now())
 
-    async def repeat(self, count, body, scopes):
+    async def repeat(self, count, body, scopes, run=None):
         around = self.indices
         try:
             for number in range(count):
                 self.indices = [*around, number]
-                await self.block(body, scopes)
+                await (run or self.block)(body, scopes)
         finally:
             self.indices = around
 
@@ -276,17 +288,24 @@ class PlainTask(Task):
             async with trio.open_nursery() as spawner:
                 own = spawner.cancel_scope
                 own.deadline, own.shield = math.inf if after is None else now() + after, shield
-                inside = {**scopes, name: own}
-                for item in items:
-                    if item[0] != "start":
-                        await self.step(item, inside)
-                        continue
-                    for child in self.children_of(item):
-                        spawner.start_soon(child.spawned, item[3], inside)
+                await self.items(items, {**scopes, name: own}, spawner)
         except BaseExceptionGroup as group:
             raise BaseExceptionGroup(label, group.exceptions)
         finally:
             self.entries.append(f"nursery {label} {now()} {'caught' if own.cancelled_caught else 'passed'}")
+
+
+    async def items(self, items, scopes, spawner):
+        """The steps and starts of a nursery, or of one pass of a loop in it."""
+        for item in items:
+            match item:
+                case ("start", _, _, body):
+                    for child in self.children_of(item):
+                        spawner.start_soon(child.spawned, body, scopes)
+                case ("repeat", count, body):
+                    await self.repeat(count, body, scopes, lambda body, scopes: self.items(body, scopes, spawner))
+                case _:
+                    await self.step(item, scopes)
 
 
 @contextlib.contextmanager
@@ -388,19 +407,33 @@ def compared_by_rounds(given):
     return number, text, comparable(by_nursery(program, text)), in_plain_trio(steps)
 
 
+def has_race(program, text):
+    """Whether `nursery races` has a line for a job."""
+    with tempfile.TemporaryDirectory() as folder:
+        job, data = os.path.join(folder, "job"), os.path.join(folder, "input")
+        with open(job, "w", encoding="ascii") as file:
+            file.write(text)
+        with open(data, "wb") as file:
+            file.write(INPUT)
+        return subprocess.run([program, "races", job, data, "--deny"], capture_output=True).returncode == 1
+
+
 def by_rounds(program, jobs, seed):
-    """How many jobs of format 3 have another report than the one outcome in plain Trio."""
+    """How many jobs of format 3 have another report than the one outcome in plain Trio, and no race by an event."""
     given = [(program, seed * 1_000_000 + n) for n in range(jobs)]
     with ProcessPoolExecutor(os.cpu_count()) as pool:
         results = list(pool.map(compared_by_rounds, given, chunksize=20))
     single = [(number, text, ours, found) for number, text, ours, found in results if len(found) == 1]
-    differ = 0
+    races = differ = 0
     for number, text, ours, found in single:
-        if ours not in found:
-            differ += 1
-            print(f"job {number} differs:\n{text}\n-- nursery\n{ours}-- Trio\n{next(iter(found))}")
+        if ours in found:
+            continue
+        is_race = " set " in text and has_race(program, text)
+        races, differ = races + is_race, differ + (not is_race)
+        print(f"job {number} differs{', and has a race' * is_race}:\n{text}\n-- nursery\n{ours}-- Trio\n{next(iter(found))}")
     among = sum(ours in found for _, _, ours, found in results if len(found) > 1)
-    print(f"{jobs} jobs: {len(single)} have one outcome in plain Trio under eight seeds, and {differ} of them differ")
+    print(f"{jobs} jobs: {len(single)} have one outcome in plain Trio under eight seeds, and {differ} of them differ without a race")
+    print(f"{races} of them differ and have an event and a race")
     print(f"{jobs - len(single)} have several outcomes, and the report of {among} is one of them")
     return differ
 

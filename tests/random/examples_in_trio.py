@@ -66,6 +66,8 @@ class Reader:
             return kind, self.word(), int(self.word()) if self.has("over") else None, self.block()
         if kind == "repeat":
             return kind, int(self.word()), self.block()
+        if kind == "event":
+            return kind, self.word(), self.block()
         if kind == "try":
             body = self.block()
             handler = (self.word(), self.block()) if self.has("except") else None
@@ -122,7 +124,7 @@ def is_right(feed):
 
 
 def main():
-    feeds = sys.argv[1:] or [path for folder in ("examples", "tests/rounds") for path in sorted(glob.glob(f"{ROOT}/{folder}/*.feed"))]
+    feeds = sys.argv[1:] or [path for folder in ("examples", "tests/rounds", "tests/events") for path in sorted(glob.glob(f"{ROOT}/{folder}/*.feed"))]
     return 0 if all([is_right(feed) for feed in feeds]) else 1
 
 

@@ -11,19 +11,23 @@ NAMES = ["A", "B", "C"]
 
 
 class Jobs:
-    """Random jobs of one format: nested lists of steps, each a tuple whose first part is its keyword."""
+    """Random jobs of one format: nested lists of steps, each a tuple whose first part is its keyword. Those of format 3 have events, unless
+    the jobs are wanted without, and start tasks in loops."""
 
     def __init__(self, seed, format_=None):
         self.random = random.Random(seed)
         self.format = format_ or self.random.choice([1, 2])
         self.names = 0
+        self.events = []  # those around the step that is made next
 
     def job(self):
-        self.names = 0
+        self.names, self.events = 0, []
         return self.block(5, [], 4)
 
     def name(self, kind):
         self.names += 1
+        if self.format >= 3 and self.names <= 3 and self.random.random() < 0.05:
+            return ["event", "set", "wait"][self.names - 1]  # names, where no step may begin
         return f"{kind}{self.names}"
 
     def block(self, depth, around, most):
@@ -39,10 +43,22 @@ class Jobs:
             return self.scope(depth, around)
         if pick < 0.75:
             return self.nursery(depth, around)
+        if self.format >= 3 and pick < 0.85:
+            return self.event(depth, around)
         return self.handled(depth, around)
+
+    def event(self, depth, around):
+        """An event, most often with tasks that use it."""
+        name = self.name("e")
+        self.events.append(name)
+        body = [self.nursery(depth - 1, around)] if depth > 1 and self.random.random() < 0.7 else self.block(depth - 1, around, 3)
+        self.events.pop()
+        return ("event", name, body)
 
     def leaf(self, around):
         r = self.random
+        if self.events and r.random() < 0.5:
+            return (r.choice(["set", "wait", "wait"]), r.choice(self.events))
         pick = r.random()
         if pick < 0.50:
             return ("sleep", r.randint(0, 5))
@@ -74,14 +90,21 @@ class Jobs:
         name = self.name("n")
         after = r.choice([None, r.randint(0, 6)]) if self.format >= 2 else None
         shield = self.format >= 2 and r.random() < 0.3
+        return ("nursery", name, after, shield, self.items(depth - 1, around + [name], 5))
+
+    def items(self, depth, around, most):
+        """The steps and starts of a nursery, or of a loop in it that starts tasks."""
+        r = self.random
         items = []
-        for _ in range(r.randint(1, 5)):
-            if r.random() < 0.7:
+        for _ in range(r.randint(1, most)):
+            if self.format >= 3 and depth > 0 and r.random() < 0.15:
+                items.append(("repeat", r.randint(0, 3), self.items(depth - 1, around, 2)))
+            elif r.random() < 0.7:
                 over = r.choice([None, None, None, 1, 2, 3])
-                items.append(("start", self.name("t"), over, self.block(depth - 1, around + [name], 3)))
+                items.append(("start", self.name("t"), over, self.block(depth, around, 3)))
             else:
-                items.append(self.step(depth - 1, around + [name]))
-        return ("nursery", name, after, shield, items)
+                items.append(self.step(depth, around))
+        return items
 
     def handled(self, depth, around):
         r = self.random
@@ -127,6 +150,8 @@ def text_of(step):
             return f"nursery {name} " + (f"after {after} " if after is not None else "") + "shield " * shield + text_of_block(items)
         case ("repeat", count, body):
             return f"repeat {count} " + text_of_block(body)
+        case ("event", name, body):
+            return f"event {name} " + text_of_block(body)
         case ("start", name, over, body):
             return f"start {name} " + (f"over {over} " if over else "") + text_of_block(body)
         case ("try", body, handler, cleanup):

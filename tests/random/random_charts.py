@@ -29,11 +29,11 @@ class Wrong(Exception):
 
 
 class Bar:
-    """A row: its name, when it starts and ends (None if that is not printed), its outcome, and the ticks of its crosses and dots."""
+    """A row: its name, when it starts and ends (None if that is not printed), its outcome, and the ticks of its crosses, dots and pluses."""
 
     def __init__(self, kind, label, start):
         self.kind, self.label, self.start, self.end = kind, label, start, None
-        self.outcome, self.crosses, self.dots, self.blocks, self.cancelled = "", [], [], [], None
+        self.outcome, self.crosses, self.dots, self.pluses, self.blocks, self.cancelled = "", [], [], [], [], None
 
     def name(self):
         return self.label if self.kind == "task" else f"  {self.kind} {self.label}"
@@ -62,7 +62,9 @@ def bars_of(events):
             tasks[task] = Bar("task", task, tick)
             continue
         bar = tasks[task]
-        if word == "enters":
+        if word == "sets":
+            bar.pluses.append(tick)
+        elif word == "enters" and not sentence.startswith("enters event "):
             kind, label = sentence.split(" ")[1:3]
             block = blocks[label] = Bar(kind, label, tick)
             bar.blocks.append(block)
@@ -121,14 +123,15 @@ def line_of(ticks, bar, names):
     if bar.cancelled is not None and bar.start <= bar.cancelled and (bar.end is None or bar.cancelled <= bar.end):
         crosses.add(bar.cancelled)
     dots = {column_at(ticks, tick) for tick in bar.dots}
+    pluses = {column_at(ticks, tick) for tick in bar.pluses}
     text = bar.name().ljust(names) + "  "
     for tick, following in zip(ticks, [*ticks[1:], None]):
         room = 1 if following is None else gap(tick, following)
         if tick < start:
             text += " " * room
             continue
-        mark = "x" if tick in crosses else "!" if tick in dots else first if tick == start else last if tick == end and bar.end is not None else line
-        text += mark
+        mark = "x" if tick in crosses else "!" if tick in dots else "+" if tick in pluses else None
+        text += mark or (first if tick == start else last if tick == end and bar.end is not None else line)
         if tick >= end:
             break
         text += line * (room - 1)

@@ -28,6 +28,7 @@ KINDS = {
     "checkpoint": ["fails", "hangs", "cancelled"],
     "forever": ["fails", "cancelled"],
     "need": ["misses"],
+    "wait": ["fails", "fails late", "hangs", "cancelled"],
 }
 
 
@@ -115,7 +116,8 @@ class Runs:
         _, story = self.call("explain", text)
         if status == 3:
             told, running = story.split(f"limit {self.limit}\n")
-            sleeping = [line.split()[0] for line in running.splitlines() if line.split(maxsplit=1)[1].startswith("sleeping forever")]
+            endless = ("sleeping forever", "waiting for event ")
+            sleeping = [line.split()[0] for line in running.splitlines() if line.split(maxsplit=1)[1].startswith(endless)]
             events = events_in(told)
             cut, lost = cut_in(events), bool(raised) and self.is_replaced(raised, events)
             notes = names("sleeping forever", sleeping) + names("cleanup cut", cut) + ("; fault lost" if lost else "")
@@ -163,7 +165,7 @@ def table(runs, text, name="Fault"):
     start, end = next(at for token, at in tokens if token == "{"), tokens[-1][1]
     rows, kinds = [], []
     for n, (token, at) in enumerate(tokens):
-        for kind in KINDS.get(token, []):
+        for kind in KINDS.get(token, []) if tokens[n - 1][0] in "{};" else []:  # (where no step may begin it is a name)
             step, to = step_text(tokens, n)
             missed = tokens[n + 2][0] if token == "need" else None
             changed = {

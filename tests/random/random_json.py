@@ -24,16 +24,20 @@ LIMIT = "60"
 WORDS = {
     "starts": "starts",
     "enters": "enters",
+    "enters_event": "enters event",
     "sleeps": "sleeps",
     "cancelled": "is cancelled",
     "finds": "finds",
     "misses": "misses",
     "raises": "raises",
     "cancels": "cancels",
+    "sets": "sets event",
+    "waits_for_event": "waits for event",
+    "goes_on": "goes on: event",
     "handles": "handles",
     "cleanup": "runs cleanup",
     "replaces": "replaces",
-    "waits": "waits",
+    "waits": "waits for nursery",
     "leaves": "leaves",
     "ends": "ends",
 }
@@ -57,6 +61,8 @@ def entry_text(entry):
     if "line" in entry:
         line = entry["line"]
         return f"  line {line['at']}+{line['length']} {line['text']}"
+    if "wait" in entry:
+        return f"  wait {entry['wait']} {entry['tick']}"
     kind = "scope" if "scope" in entry else "nursery"
     return f"  {kind} {entry[kind]} {entry['exit']} {'caught' if entry['caught'] else 'passed'}"
 
@@ -103,7 +109,7 @@ def compare_story(document, text):
     for event, (tick, task, sentence) in zip(document["events"], events):
         if (event["tick"], event["task"]) != (tick, task) or not sentence.startswith(WORDS[event["event"]]):
             raise Wrong(f"{event} is printed as: tick {tick}, {task} {sentence}")
-        for key in ("scope", "nursery", "name", "by"):
+        for key in ("scope", "nursery", "name", "by", "label", "waiting_for"):
             named = event.get(key)
             if named and not re.search(rf"(?<!\S){re.escape(named)}(?![\w.])", sentence) and event["event"] != "ends":
                 raise Wrong(f"{event} names {named}, and the story does not: {sentence}")

@@ -5,8 +5,8 @@
     python3 tests/random/random_races.py PROGRAM --table JOB [INPUT]
 
 PROGRAM is the built executable. It wants Python 3.10 or later. Each job text is put into finer ticks here, each of its places is moved by a
-hair, and what `nursery run` reports of two texts is compared apart from ticks; which copies of a `start .. over` meet is read from
-`nursery explain`. Each byte that `races` writes has to be what comes of that, with 1, 3 and 64 workers. The second form writes the table that
+hair, and what `nursery run` reports of two texts is compared apart from ticks; which copies of a `start .. over`, or of a `start` in a
+`repeat`, meet is read from `nursery explain`. Each byte that `races` writes has to be what comes of that, with 1, 3 and 64 workers. The second form writes the table that
 this script makes of a job.
 """
 
@@ -18,7 +18,7 @@ import tempfile
 from concurrent.futures import ThreadPoolExecutor
 
 from jobs import job_of_any_format
-from random_faults import LIMIT, Runs, Wrong, refusal_in, tokens_of
+from random_faults import LIMIT, Runs, Wrong, fresh, refusal_in, tokens_of
 
 MOST = 1_000_000_000
 FOREVER = 1_099_511_627_776
@@ -38,6 +38,8 @@ def places_of(tokens):
             yield at, "pace", f"pace {after[0]}", tokens[n + 2]
         elif token == "start":
             yield at, "start", f"start {after[0]}", next(t for t in tokens[n:] if t[0] == "{")
+        elif token in ("set", "wait") and tokens[n - 1][0] in "{};":  # (where no step may begin they are names)
+            yield at, token, f"{token} {after[0]}", (fresh("hair", tokens), at) if token == "set" else tokens[n + 2]
 
 
 def changes_of(place, factor, moved):
@@ -50,8 +52,10 @@ def changes_of(place, factor, moved):
     elif kind == "pace":
         yield at, at, f"repeat {factor} {{ "
         yield where + 1, where + 1, " }" + (f" sleep {moved};" if moved else "")
-    elif kind == "start" and moved:
+    elif kind in ("start", "wait") and moved:
         yield where + 1, where + 1, f" sleep {moved};"
+    elif kind == "set" and moved:
+        yield at, at, f"scope {token} shield {{ sleep {moved}; }} "
 
 
 def is_by_rounds(text):
@@ -66,9 +70,10 @@ def finer(text, places, factor, which=None, moved=0):
 
 
 class Shown:
-    """What a text shows by a limit: refused, or each task's outcome and entries without ticks; of a job that does not end, only that."""
+    """What a text shows by a limit: refused, or each task's outcome and entries without ticks; of a job that does not end, only that.
+    The scope in which a `set` waits for a hair is left out."""
 
-    def __init__(self, runs, text, limit):
+    def __init__(self, runs, text, limit, hair_scope):
         runs.limit = str(limit)
         status, report = runs.call("run", text)
         self.refused, self.stuck, self.tasks = refusal_in(report) if status == 2 else "", status == 3, {}
@@ -80,8 +85,9 @@ class Shown:
             elif line.startswith("  line "):
                 self.tasks[label].append(line)
             elif line.startswith("  "):
-                kind, name, _, caught = line.split()
-                self.tasks[label].append((kind, name, caught))
+                kind, name, _, *caught = line.split()
+                if kind != "scope" or name.split(".")[0] != hair_scope:
+                    self.tasks[label].append((kind, name, *caught))
 
 
 def compared(before, after, root):
@@ -103,27 +109,33 @@ def compared(before, after, root):
 
 
 def copies_of(tokens):
-    """Each `start .. over`: its place, its name, its number of copies, how many indices come before theirs, and the tasks below it."""
+    """Each `start .. over`, and each `start` in a `repeat`: its place, its text, its name, how many indices come before those of its
+    copies, and the tasks below it."""
     depth, loops, opened = 0, [], []
+    repeats, is_repeat = [], False  # of each open block, whether it is that of a `repeat`; and of the next one
     found = []
     for n, (token, at) in enumerate(tokens):
         if token == "{":
             depth += 1
             loops += [depth] * opened.pop() if opened else []
+            repeats.append(is_repeat)
+            is_repeat = False
         elif token == "}":
+            repeats.pop()
             loops = [loop for loop in loops if loop < depth]
             for start in found:
                 start["open"] = start["open"] and depth > start["depth"] + 1
             depth -= 1
         elif token == "repeat":
-            opened = [1]
+            opened, is_repeat = [1], True
         elif token == "start":
             over = tokens[n + 2][0] == "over"
             name = tokens[n + 1][0]
             for start in found:
                 start["below"] += [name] * start["open"]
-            if over:
-                found.append({"at": at, "name": name, "count": tokens[n + 3][0], "before": len(loops), "below": [name], "depth": depth, "open": True})
+            if over or repeats[-1]:
+                step, before = f"start {name} over {tokens[n + 3][0]}" if over else f"start {name}", len(loops) - (not over)
+                found.append({"at": at, "step": step, "name": name, "before": before, "below": [name], "depth": depth, "open": True})
             opened = [1] if over else []
     return found
 
@@ -163,21 +175,22 @@ def place_text(text, at):
 def table(runs, text, limit=LIMIT):
     """The lines of a job that ends by the limit, or the line of the limit."""
     tokens = tokens_of(text)
-    root, first = tokens[1][0], Shown(runs, text, limit)
+    scope = fresh("hair", tokens)
+    root, first = tokens[1][0], Shown(runs, text, limit, scope)
     if first.stuck:
         return f"limit {limit}\n"
     places = list(places_of(tokens))
     most = max((int(p[3][0]) for p in places if p[1] == "number"), default=0)
     factor = next(f for f in ((10,) if is_by_rounds(text) else (1000, 100, 10)) if most * f + f // 10 <= MOST and limit * f < FOREVER)
     hair, end = factor // 10, limit * factor
-    base = Shown(runs, finer(text, places, factor), end)
+    base = Shown(runs, finer(text, places, factor), end, scope)
     lines = [("", "", "finer", compared(first, base, root))]
     hairs = 0
     for n, place in enumerate(places):
         less = place[1] == "number" and int(place[3][0]) > 0
         for name, moved in [("earlier", -hair)] * less + [("later", hair)]:
             hairs += 1
-            found = compared(base, Shown(runs, finer(text, places, factor, n, moved), end), root)
+            found = compared(base, Shown(runs, finer(text, places, factor, n, moved), end, scope), root)
             lines.append((place_text(text, place[0]), place[2], name, found))
     if not base.refused:
         events = list(events_of(runs, finer(text, places, factor), end))
@@ -185,7 +198,7 @@ def table(runs, text, limit=LIMIT):
             met = meeting(start, events, hair)
             if met and met[0] <= end:
                 one, other = (".".join([start["name"], *map(str, copy)]) for copy in met[1:])
-                lines.append((place_text(text, start["at"]), f"start {start['name']} over {start['count']}", "copies", f"{one} and {other} meet at {met[0] // factor}"))
+                lines.append((place_text(text, start["at"]), start["step"], "copies", f"{one} and {other} meet at {met[0] // factor}"))
     return laid_out(lines, hairs)
 
 

@@ -22,7 +22,7 @@ use Rattle.turn_semantics.specs.Placed.{Placed}
 use Rattle.turn_semantics.proofs.Names.{new_job}
 use Rattle.task_machine.specs.States.{state_of}
 use Rattle.task_machine.specs.declared.stop.TaskState.{TaskState}
-use Rattle.task_machine.specs.declared.stop.TaskState.TheVariants.{ToBegin, Asked, Asleep, GivingUp, Awaits, Over}
+use Rattle.task_machine.specs.declared.stop.TaskState.TheVariants.{ToBegin, Asked, Asleep, Waiting, GivingUp, Awaits, Over}
 use Rattle.task_machine.specs.declared.stop.Stop.{Stop}
 use Rattle.task_machine.specs.declared.stop.Stop.TheVariants.{Sleep}
 use Rattle.task_machine.specs.declared.stop.Wake.TheVariants.{Begin, Due}
@@ -38,7 +38,7 @@ use Rattle.task_machine.specs.Standing.{HasBlock, Stands, TookTo, TurnsAs, woken
 use Rattle.task_machine.specs.Stops.{Numbers, IsTaskState, StopsAs}
 use Rattle.task_machine.specs.Tasks.{home_scope, scope_of}
 use Rattle.task_machine.specs.Waking.{WakesFrom}
-use Rattle.task_machine.specs.Worlds.{label_at}
+use Rattle.task_machine.specs.Worlds.{label_at, event_at}
 use Rattle.task_machine.proofs.Stopping.{no_blocks_begun}
 
 abbrev no_numbers : Numbers
@@ -89,11 +89,12 @@ module _ (job : Job) (root : Task) (home : root.home ≡ None) (own : root.own.i
       Stands (state_of root world) no_froms no_numbers (Some rest.to_begin) []
   root_stands world starting names =
       record {
-        places = subst (λ (st : Stack). AreAt (label_at world) no_froms st []) (sym (ap (outer_of world.scopes) no_scope)) tt;
+        places = subst (λ (st : Stack). AreAt (label_at world) (event_at world) no_froms st []) (sym (ap (outer_of world.scopes) no_scope)) tt;
         numbered = λ id i. absurd (let h : ⊥ = subst (λ (bs : List Block). HasBlock id bs) blocks i in h);
         placed = subst (λ (fs : List rest.Frame). Placed fs []) (sym (frames no_numbers)) (starting, tt);
         new = subst (λ (fs : List rest.Frame). NewIn fs []) (sym (frames no_numbers)) (new_job job names);
         own = tt;
+        event = tt;
       }
 
   -- so it continues when it is due, if its first turn said that it sleeps
@@ -109,6 +110,7 @@ module _ (job : Job) (root : Task) (home : root.home ≡ None) (own : root.own.i
       by_task_state numbers (Some s) (ToBegin at) says = absurd says.1
       by_task_state numbers (Some s) (Asked kernel purpose) says = absurd says.1
       by_task_state numbers (Some s) (Asleep paced ticks since) says = tt
+      by_task_state numbers (Some s) (Waiting event since) says = absurd says.1
       by_task_state numbers (Some s) (GivingUp since) says = absurd says.1
       by_task_state numbers (Some s) (Awaits id since) says = absurd says.1
       by_task_state numbers (Some s) Over says = absurd says.1

@@ -1,8 +1,8 @@
-//! `job_checks`: names given twice, a `cancel` that no block of its name encloses, reserved names, and the
+//! `job_checks`: names given twice, a `cancel` or `set` that no block of its name encloses, reserved names, and the
 //! sizes of jobs.
 
 use crate::fixtures::{word, wrong};
-use job_checks::{given_twice, reserved_name, size_of, stray_cancel};
+use job_checks::{given_twice, reserved_name, size_of, stray_use};
 use job_syntax::Role;
 use job_tokens::{Shape, Token};
 use job_tree::{Body, Deadline, Handler, Name, Step};
@@ -64,11 +64,11 @@ fn nursery(alloc: Global, child: &[u8], over: Option<u64>, step: Step) -> Result
     })
 }
 
-// The place where a `cancel` of that name is stray, which is at 9 after the job's name.
+// The place where a `cancel` or `set` of that name is stray, which is at 9 after the job's name.
 fn place_of_stray(body: &Body, name: &[u8]) -> Result<Option<usize>, Fail> {
     let tokens = [token(3, word(b"main")?), token(9, word(name)?)];
     let roles = [Role::Given, Role::Target];
-    Ok(stray_cancel(body.as_slice(), &tokens, &roles))
+    Ok(stray_use(body.as_slice(), &tokens, &roles))
 }
 
 // The place where a name is given twice among `a b a b`, of which the first two are given.
@@ -145,6 +145,43 @@ fn a_cancel_cannot_name_a_task(rt: HostRuntime) -> Result<(), Fail> {
     Ok(())
 }
 
+// An event of one step.
+fn event(alloc: Global, name: &[u8], step: Step) -> Result<Step, Fail> {
+    let name = word(name)?;
+    let body = block(alloc, step)?;
+    Ok(Step::Event { name, body })
+}
+
+// A `wait` for an event in a child that is started inside the event.
+fn wait_across_a_start(alloc: Global) -> Result<Body, Fail> {
+    let inner = nursery(alloc, b"t", None, Step::Wait(word(b"e")?))?;
+    let outer = event(alloc, b"e", inner)?;
+    block(alloc, outer)
+}
+
+#[test]
+fn an_event_is_waited_for_across_a_start(rt: HostRuntime) -> Result<(), Fail> {
+    let steps = wait_across_a_start(rt.alloc())?;
+    assert!(rt; place_of_stray(&steps, b"e")? == None);
+    Ok(())
+}
+
+#[test]
+fn a_scope_cannot_be_set(rt: HostRuntime) -> Result<(), Fail> {
+    let inside = scope(rt.alloc(), b"s", Step::Set(word(b"s")?))?;
+    let steps = block(rt.alloc(), inside)?;
+    assert!(rt; place_of_stray(&steps, b"s")? == Some(9));
+    Ok(())
+}
+
+#[test]
+fn an_event_cannot_be_cancelled(rt: HostRuntime) -> Result<(), Fail> {
+    let inside = event(rt.alloc(), b"e", Step::Cancel(word(b"e")?))?;
+    let steps = block(rt.alloc(), inside)?;
+    assert!(rt; place_of_stray(&steps, b"e")? == Some(9));
+    Ok(())
+}
+
 // The place of a name that is reserved where its token at 5 has that role.
 fn place_of_reserved(text: &[u8], role: Role) -> Result<Option<usize>, Fail> {
     let tokens = [token(5, word(text)?)];
@@ -161,6 +198,9 @@ const RESERVED: &[(&'static [u8], Role, Option<usize>)] = &[
     (b"over", Role::Target, Some(5)),
     (b"over", Role::Plain, None),
     (b"Over", Role::Given, None),
+    (b"event", Role::Given, None),
+    (b"set", Role::Target, None),
+    (b"wait", Role::Raised, None),
 ];
 
 #[test]

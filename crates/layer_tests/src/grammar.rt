@@ -335,6 +335,10 @@ const CANONICAL: &[Pair] = &[
         b"trio-job 1\njob m { try { raise A; } except A { forever; } finally { } try { } finally { } }",
         b"trio-job 1\njob m{try{raise A;}except A{forever;}finally{}try{}finally{}}",
     ),
+    (
+        b"trio-job 3\njob m { event e { nursery n { repeat 2 { start a { wait e; } } set e; } } }",
+        b"trio-job 3\njob m{event e{nursery n{repeat 2{start a{wait e;}}set e;}}}",
+    ),
 ];
 
 #[test]
@@ -387,6 +391,83 @@ const FORMATS: &[Row] = &[
 #[test]
 fn each_format_has_its_own_rules(rt: HostRuntime) -> Result<(), Fail> {
     are_answered(rt.alloc(), FORMATS)
+}
+
+// Texts with events, and with names that format 3 uses as keywords.
+const EVENTS: &[Row] = &[
+    (b"trio-job 3\njob main { event e { set e; wait e; } }", 0, 0),
+    (
+        b"trio-job 3\njob main { event e { nursery n { start a { wait e; } set e; } } }",
+        0,
+        0,
+    ),
+    (b"trio-job 2\njob main { event e { } }", 6, 22),
+    (b"trio-job 1\njob main { set e; }", 6, 22),
+    (b"trio-job 2\njob event { scope set { raise wait; } }", 0, 0),
+    (b"trio-job 3\njob event { scope set { raise wait; } }", 0, 0),
+    (
+        b"trio-job 3\njob main { event event { set event; wait event; } }",
+        0,
+        0,
+    ),
+    (b"trio-job 3\njob main { event e e { } }", 6, 30),
+    (b"trio-job 3\njob main { set e }", 6, 28),
+    (b"trio-job 3\njob main { event forever { } }", 10, 28),
+    (b"trio-job 3\njob main { scope e { } event e { } }", 8, 40),
+    (b"trio-job 3\njob main { set e; }", 9, 26),
+    (b"trio-job 3\njob main { event e { } wait e; }", 9, 39),
+    (b"trio-job 3\njob main { event e { cancel e; } }", 9, 39),
+    (b"trio-job 3\njob main { scope s { wait s; } }", 9, 37),
+];
+
+#[test]
+fn events_are_read_in_format_3(rt: HostRuntime) -> Result<(), Fail> {
+    are_answered(rt.alloc(), EVENTS)
+}
+
+// Texts with a `start` in a loop.
+const LOOPS: &[Row] = &[
+    (
+        b"trio-job 3\njob main { nursery n { repeat 2 { start a { } } } }",
+        0,
+        0,
+    ),
+    (
+        b"trio-job 3\njob main { nursery n { repeat 2 { repeat 3 { start a { } } sleep 1; } } }",
+        0,
+        0,
+    ),
+    (
+        b"trio-job 2\njob main { nursery n { repeat 2 { start a { } } } }",
+        6,
+        45,
+    ),
+    (b"trio-job 3\njob main { repeat 2 { start a { } } }", 6, 33),
+    (
+        b"trio-job 3\njob main { nursery n { repeat 2 { scope s { start a { } } } } }",
+        6,
+        55,
+    ),
+    (
+        b"trio-job 3\njob main { nursery n { event e { start a { } } } }",
+        6,
+        44,
+    ),
+    (
+        b"trio-job 3\njob main { nursery n { start a { repeat 2 { start b { } } } } }",
+        6,
+        55,
+    ),
+    (
+        b"trio-job 3\njob main { nursery n { try { repeat 2 { start a { } } } finally { } } }",
+        6,
+        51,
+    ),
+];
+
+#[test]
+fn a_loop_in_a_nursery_starts_tasks_in_format_3(rt: HostRuntime) -> Result<(), Fail> {
+    are_answered(rt.alloc(), LOOPS)
 }
 
 // A job of format 2.

@@ -71,6 +71,10 @@ fn push_entry(text: &mut Vec<u8>, entry: &Entry<'_>) -> Result<(), AllocError> {
             tick,
             caught,
         } => push_left(text, label, *tick, *caught),
+        Entry::Wait { label, tick } => {
+            push_bytes(text, b"wait ")?;
+            push_left(text, label, *tick, false)
+        }
     }
 }
 
@@ -103,6 +107,7 @@ fn push_stop(text: &mut Vec<u8>, stop: &Stop<'_>) -> Result<(), AllocError> {
         Stop::Sleep(_) => push_bytes(text, b"sleep"),
         Stop::GiveUp(_) => push_bytes(text, b"give up"),
         Stop::Wait(_) => push_bytes(text, b"wait"),
+        Stop::WaitFor(_) => push_bytes(text, b"wait for"),
         Stop::Ended(None) => push_bytes(text, b"end"),
         Stop::Ended(Some(exc)) => push_exc(text, exc),
     }

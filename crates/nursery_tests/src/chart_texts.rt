@@ -1,10 +1,11 @@
-//! `chart_text`: what happens in different rounds of a tick is shown in the column of the tick.
+//! `chart_text`: what happens in different rounds of a tick is shown in the column of the tick, and an event that is set as a `+`. The
+//! expected charts are drawn by hand.
 
 use crate::fixtures::same;
-use crate::story_events::{froms_of, label, push_entry, push_event, push_start, walk};
+use crate::story_events::{froms_of, label, push_entry, push_event, push_start, walk, word};
 use chart_bars::StoryIndex;
 use chart_text::chart_text;
-use job_story::{Event, Froms, Happening, Kind, What};
+use job_story::{During, Event, Froms, Happening, Kind, What};
 use moments::{Clock, ROUNDS_IN_A_TICK};
 use std::alloc::Global;
 use std::test::Fail;
@@ -17,7 +18,7 @@ fn push_cancelled(alloc: Global, events: &mut Vec<Event>, moment: u64) -> Result
     let label = label(alloc, b"s")?;
     let is_cancelled = Happening::IsCancelled {
         by: Some(label),
-        since: None,
+        during: During::Checkpoint,
         in_cleanup: false,
     };
     push_event(alloc, events, moment, What::Happens(is_cancelled))
@@ -82,4 +83,60 @@ m          |--x done
 fn rounds_of_a_tick_share_a_column(rt: HostRuntime) -> Result<(), Fail> {
     let text = chart_by_rounds(rt.alloc())?;
     same("the chart", text.as_slice(), CHART)
+}
+
+// Appends that a task sets the event `e`.
+fn push_set(alloc: Global, events: &mut Vec<Event>, moment: u64) -> Result<(), Fail> {
+    let label = label(alloc, b"e")?;
+    let sets = Happening::Sets { label: Some(label) };
+    push_event(alloc, events, moment, What::Happens(sets))
+}
+
+// The story of a task that sets an event in tick 2, and ends a tick later.
+fn story_of_a_set(alloc: Global) -> Result<Vec<Event>, Fail> {
+    let mut events = Vec::new(alloc);
+    push_start(alloc, &mut events, 0)?;
+    push_set(alloc, &mut events, TWO)?;
+    push_end(alloc, &mut events, 3 * ROUNDS_IN_A_TICK)?;
+    Ok(events)
+}
+
+// The chart of a story in which nothing is cancelled before tick 9.
+fn chart_of(alloc: Global, events: &[Event]) -> Result<Vec<u8>, Fail> {
+    let walked = walk(alloc, events)?;
+    let froms = froms_of(alloc, 9 * ROUNDS_IN_A_TICK)?;
+    chart_with(alloc, &froms, walked.as_slice())
+}
+
+const SET: &[u8] = b"   0  2 3
+m  |--+-| done
+";
+
+#[test]
+fn an_event_that_is_set_has_a_plus(rt: HostRuntime) -> Result<(), Fail> {
+    let events = story_of_a_set(rt.alloc())?;
+    let text = chart_of(rt.alloc(), events.as_slice())?;
+    same("the chart", text.as_slice(), SET)
+}
+
+// The story of a task that raises an exception in the tick in which it sets an event.
+fn story_of_a_raise(alloc: Global) -> Result<Vec<Event>, Fail> {
+    let mut events = Vec::new(alloc);
+    push_start(alloc, &mut events, 0)?;
+    push_set(alloc, &mut events, TWO)?;
+    let raises = Happening::Raises { name: word(b"X")? };
+    push_event(alloc, &mut events, TWO, What::Happens(raises))?;
+    push_end(alloc, &mut events, TWO)?;
+    Ok(events)
+}
+
+const RAISE: &[u8] = b"   0  2
+m  |--! done
+";
+
+#[test]
+fn an_exception_hides_the_plus(rt: HostRuntime) -> Result<(), Fail> {
+    let events = story_of_a_raise(rt.alloc())?;
+    let text = chart_of(rt.alloc(), events.as_slice())?;
+    same("the chart", text.as_slice(), RAISE)
 }

@@ -81,6 +81,18 @@ m  |--! raised A(m..
 1 of 3 ticks are l..
 ";
 
+// A server that sets an event in tick 3, and two tasks that wait for it.
+const READY: &str =
+    "trio-job 3\njob m { event up { nursery n { start server { sleep 3; set up; sleep 2; } start client over 2 { wait up; sleep 1; } } } }";
+
+const SERVED: &[u8] = b"             0  3 4 5
+m            |------| done
+  nursery n  (======) passed
+server       |--+---| done
+client.0     |----| done
+client.1     |----| done
+";
+
 // A job text, the width of its chart, the status, and the chart.
 const CHARTS: &[(&str, usize, u8, &[u8])] = &[
     ("trio-job 1\njob m { }", 80, 0, b"   0\nm  | done\n"),
@@ -94,6 +106,8 @@ const CHARTS: &[(&str, usize, u8, &[u8])] = &[
         b"refused J9 NotEnclosing at 26\n",
     ),
     ("trio-job 1\njob m { sleep 101; }", 80, 3, LATE),
+    (READY, 80, 0, SERVED),
+    ("trio-job 3\njob m { event e { wait e; } }", 80, 3, LATE),
 ];
 
 // Checks the status and the chart of a row, by some workers in one order of picks.
@@ -134,6 +148,25 @@ fn a_drawing_is_an_svg_document(rt: HostRuntime) -> Result<(), Fail> {
             b"</svg>"
         )
     );
+    Ok(())
+}
+
+// How the drawing of the server ends: with an arrow from its row to that of each task that waits.
+const SERVED_ARROWS: &[u8] =
+    b"<line class=\"arrow\" x1=\"158\" y1=\"104\" x2=\"158\" y2=\"128\"><title>tick 3
+  server  sets event up
+  server  sleeps until 5
+</title></line><line class=\"arrow\" x1=\"158\" y1=\"104\" x2=\"158\" y2=\"152\"><title>tick 3
+  server  sets event up
+  server  sleeps until 5
+</title></line></svg>";
+
+#[test]
+fn an_event_that_is_set_has_arrows_to_the_waits(rt: HostRuntime) -> Result<(), Fail> {
+    let form = Form::Svg { width: 80 };
+    let (status, out) = chart_of(&rt, READY.as_bytes(), form, 1, &mut Forward)?;
+    assert!(rt; status == 0);
+    assert!(rt; out.taken().ends_with(SERVED_ARROWS));
     Ok(())
 }
 

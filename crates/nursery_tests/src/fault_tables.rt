@@ -104,9 +104,20 @@ const OF_CLEANS: &[u8] = b"                     as it is   0 raised Other(m@0)
 4 faults: 1 stuck, 0 cut a cleanup, 1 lost, 1 not reached
 ";
 
+const WAITS: &str = "trio-job 3\njob m { event e { set e; wait e; } }";
+
+const OF_WAITS: &[u8] = b"              as it is    0 done
+2:26  wait e  fails       0 raised Fault(m@0)
+2:26  wait e  fails late  0 raised Fault(m@0)
+2:26  wait e  hangs       stuck at 100; sleeping forever: m
+2:26  wait e  cancelled   0 done
+4 faults: 1 stuck, 0 cut a cleanup, 0 lost, 0 not reached
+";
+
 // A job text, the status, and what is written.
 const TABLES: &[(&str, u8, &[u8])] = &[
     (FAILS, 1, OF_FAILS),
+    (WAITS, 1, OF_WAITS),
     (CLEANS, 1, OF_CLEANS),
     (
         "trio-job 1\njob m { }",

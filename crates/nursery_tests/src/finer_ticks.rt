@@ -1,9 +1,14 @@
-//! `job_edits`: how much finer ticks are, and the texts in finer ticks, where time is counted by ticks and by rounds.
+//! `job_edits`: how much finer ticks are, and the texts in finer ticks, where time is counted by ticks and by rounds; and the
+//! starts of several tasks.
 
 use crate::fixtures::{same, wrong};
-use job_edits::{Change, Finer, Site, changed_text, finer_changes, shifted_changes, shifts, sites};
+use job_edits::{
+    Change, CopiedStart, Finer, Site, changed_text, copied_starts, finer_changes, hair_scope,
+    shifted_changes, shifts, sites,
+};
 use job_grammar::format_of;
 use job_tokens::{Token, lex};
+use job_tree::Name;
 use moments::Clock;
 use std::alloc::{AllocError, Global};
 use std::test::Fail;
@@ -106,12 +111,13 @@ fn push_moved(
     texts: &mut Vec<u8>,
     clock: Clock,
     text: &[u8],
+    scope: Name,
     sites: &[Site],
 ) -> Result<(), Fail> {
     let finer = finer_of(clock, sites)?;
     let shifts = shifts(alloc, sites)?;
     for shift in shifts.as_slice() {
-        let changes = shifted_changes(alloc, clock, finer, shift, sites)?;
+        let changes = shifted_changes(alloc, clock, finer, scope, shift, sites)?;
         push_changed(alloc, texts, text, changes.as_slice())?;
     }
     Ok(())
@@ -120,9 +126,16 @@ fn push_moved(
 // The same as one text.
 fn moved_texts(alloc: Global, clock: Clock, text: &[u8]) -> Result<Vec<u8>, Fail> {
     let sites = sites_of(alloc, text)?;
+    let scope = scope_of(alloc, text)?;
     let mut texts = Vec::new(alloc);
-    push_moved(alloc, &mut texts, clock, text, sites.as_slice())?;
+    push_moved(alloc, &mut texts, clock, text, scope, sites.as_slice())?;
     Ok(texts)
+}
+
+// The name of the scope of a hair in a text.
+fn scope_of(alloc: Global, text: &[u8]) -> Result<Name, AllocError> {
+    let tokens = tokens_of(alloc, text)?;
+    hair_scope(alloc, tokens.as_slice())
 }
 
 #[test]
@@ -161,4 +174,56 @@ trio-job 3\njob m { sleep 21; checkpoint; repeat 10 { pace 4; } }
 trio-job 3\njob m { sleep 20; sleep 1; repeat 10 { pace 4; } }
 trio-job 3\njob m { sleep 20; checkpoint; repeat 10 { pace 4; } sleep 1; }\n",
     )
+}
+
+#[test]
+fn a_set_is_moved_by_a_shielded_sleep(rt: HostRuntime) -> Result<(), Fail> {
+    let text = b"trio-job 3\njob m { event e { set e; wait e; } }\n";
+    let moved = moved_texts(rt.alloc(), Clock::ByRounds, text)?;
+    same(
+        "the texts moved by a hair",
+        moved.as_slice(),
+        b"trio-job 3\njob m { event e { scope hair shield { sleep 1; } set e; wait e; } }
+trio-job 3\njob m { event e { set e; wait e; sleep 1; } }\n",
+    )
+}
+
+#[test]
+fn a_name_that_is_spelled_as_a_keyword_is_no_step(rt: HostRuntime) -> Result<(), Fail> {
+    let text = b"trio-job 3\njob wait { event set { set set; wait set; raise hair; } }\n";
+    let moved = moved_texts(rt.alloc(), Clock::ByRounds, text)?;
+    same(
+        "the texts moved by a hair",
+        moved.as_slice(),
+        b"trio-job 3\njob wait { event set { scope hair_1 shield { sleep 1; } set set; wait set; raise hair; } }
+trio-job 3\njob wait { event set { set set; wait set; sleep 1; raise hair; } }\n",
+    )
+}
+
+// A job that starts tasks in several ways.
+const STARTS: &[u8] = b"trio-job 3
+job m{nursery n{repeat 2{start a{}start b over 2{}}start c{}start d over 3{}}}";
+
+// The places and the numbers of the starts of several tasks.
+const SEVERAL: &[(usize, Option<u64>)] = &[(36, None), (45, Some(2)), (71, Some(3))];
+
+// Fails at the first start that is another one.
+fn starts_are(starts: &[CopiedStart]) -> Result<(), Fail> {
+    if starts.len() != SEVERAL.len() {
+        return Err("another number of starts")?;
+    }
+    for i in 0..SEVERAL.len() {
+        let (from, count) = SEVERAL[i];
+        if starts[i].from != from || starts[i].count != count {
+            return Err(wrong(i));
+        }
+    }
+    Ok(())
+}
+
+#[test]
+fn a_start_in_a_loop_starts_several_tasks(rt: HostRuntime) -> Result<(), Fail> {
+    let tokens = tokens_of(rt.alloc(), STARTS)?;
+    let starts = copied_starts(rt.alloc(), tokens.as_slice())?;
+    starts_are(starts.as_slice())
 }

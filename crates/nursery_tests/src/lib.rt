@@ -20,6 +20,8 @@ mod charts;
 #[cfg(test)]
 mod command_words;
 #[cfg(test)]
+mod event_reports;
+#[cfg(test)]
 mod fault_tables;
 #[cfg(test)]
 mod finer_ticks;

@@ -108,6 +108,35 @@ const HANDLERS: &[Row] = &[
     ),
 ];
 
+// Events that nothing sets, or that nothing waits for; a wait for an event in a cleanup; and names that are spelled as keywords.
+const EVENTS: &[Row] = &[
+    (
+        b"trio-job 3\njob m{event e{nursery n{start a{wait e;}}}}",
+        b"17 nothing sets the event e: no `set e` is in it\n",
+    ),
+    (
+        b"trio-job 3\njob m{event e{set e;}}",
+        b"17 nothing waits for the event e: no `wait e` is in it\n",
+    ),
+    (
+        b"trio-job 3\njob m{event e{}}",
+        b"17 nothing sets the event e: no `set e` is in it\n",
+    ),
+    (b"trio-job 3\njob m{event e{set e;wait e;sleep 1;}}", b""),
+    (
+        b"trio-job 3\njob m{event e{nursery n{repeat 2{start a{wait e;}}set e;}}}",
+        b"",
+    ),
+    (
+        b"trio-job 3\njob m{event e{set e;try{}finally{wait e;}}}",
+        b"44 a cleanup that waits here is cut off when its task is cancelled: put the wait into a scope with a deadline and `shield`\n",
+    ),
+    (
+        b"trio-job 3\njob set{event wait{set wait;wait wait;raise event;sleep 1;}}",
+        b"61 this step never runs: the step before it never ends well\n",
+    ),
+];
+
 // Several warnings, in the order of their keywords.
 const SEVERAL: &[Row] = &[(
     b"trio-job 1\njob m{try{}finally{forever;raise A;}scope s{}}",
@@ -185,6 +214,11 @@ fn scopes_that_nothing_cancels(rt: HostRuntime) -> Result<(), Fail> {
 #[test]
 fn handlers_of_what_nothing_raises(rt: HostRuntime) -> Result<(), Fail> {
     assert_lines(rt.alloc(), HANDLERS)
+}
+
+#[test]
+fn events_that_nothing_sets_or_waits_for(rt: HostRuntime) -> Result<(), Fail> {
+    assert_lines(rt.alloc(), EVENTS)
 }
 
 #[test]

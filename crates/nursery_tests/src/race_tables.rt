@@ -114,9 +114,35 @@ const OF_BOTH: &[u8] = b"4:15  sleep 5  earlier  both: other lines or scopes; b:
 6 hairs: 3 races
 ";
 
+// An event that is set in the round in which the nursery of its waiter is cancelled.
+const ROUND: &str = "trio-job 3
+job m{event e{nursery n{start a{wait e;}start b{checkpoint;cancel n;}checkpoint;checkpoint;set e;}}}";
+
+const OF_ROUND: &[u8] = b"2:25  start a     later  m: other lines or scopes; a: done -> cancelled
+2:33  wait e      later  m: other lines or scopes; a: done -> cancelled
+2:70  checkpoint  later  m: other lines or scopes; a: done -> cancelled
+2:81  checkpoint  later  m: other lines or scopes; a: done -> cancelled
+2:92  set e       later  m: other lines or scopes; a: done -> cancelled
+7 hairs: 5 races
+";
+
+const LOOPS: &str = "trio-job 3
+job m{nursery n{repeat 3{start w{sleep 1;cancel n;}}}}";
+
+const OF_LOOPS: &[u8] = b"2:26  start w  copies  w.0 and w.1 meet at 1
+3 hairs: 1 races
+";
+
 // A job text, the status, and what is written.
 const TABLES: &[(&str, u8, &[u8])] = &[
     (MEETS, 1, OF_MEETS),
+    (ROUND, 1, OF_ROUND),
+    (LOOPS, 1, OF_LOOPS),
+    (
+        "trio-job 3\njob m { event e { set e; wait e; } }",
+        0,
+        b"2 hairs: no race\n",
+    ),
     (LATE, 1, OF_LATE),
     (LOST, 1, OF_LOST),
     (BOTH, 1, OF_BOTH),

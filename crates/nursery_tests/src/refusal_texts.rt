@@ -15,7 +15,7 @@ pub(crate) const EXPECTED: &[Row] = &[
     ),
     (
         "trio-job 1\njob main {\n  sleep 1;\n",
-        "f:4:1: expected a step, as `sleep 1;`, or `}` (a `start` is allowed only directly inside a nursery)\n\n^\nthe innermost block that is not closed begins at f:2:10\n",
+        "f:4:1: expected a step, as `sleep 1;`, or `}` (a `start` only directly inside a nursery or a `repeat` there)\n\n^\nthe innermost block that is not closed begins at f:2:10\n",
     ),
     (
         "trio-job 1\njob main { } }",
@@ -27,7 +27,7 @@ pub(crate) const EXPECTED: &[Row] = &[
     ),
     (
         "trio-job 1\njob { }",
-        "f:2:5: expected a name\njob { }\n    ^\neach job, scope, nursery and start has a name, as in `scope work after 5 { .. }`\n",
+        "f:2:5: expected a name\njob { }\n    ^\neach job, scope, nursery, event and start has a name, as in `scope work after 5 { .. }`\n",
     ),
     (
         "trio-job 1\njob a { scope s; }",
@@ -99,11 +99,15 @@ pub(crate) const WRONG: &[Row] = &[
     ),
     (
         "trio-job 1\njob a { scope a { } }",
-        "f:2:15: this name was given before: jobs, scopes, nurseries and starts need names of their own\njob a { scope a { } }\n              ^\nit was first given at f:2:5\n",
+        "f:2:15: this name was given before: jobs, scopes, nurseries, events and starts need names of their own\njob a { scope a { } }\n              ^\nit was first given at f:2:5\n",
     ),
     (
         "trio-job 1\njob a { cancel b; }",
         "f:2:16: no enclosing scope or nursery has this name\njob a { cancel b; }\n               ^\nno scope or nursery is around this `cancel`\n",
+    ),
+    (
+        "trio-job 3\njob a { set b; }",
+        "f:2:13: no enclosing event has this name\njob a { set b; }\n            ^\nno event is around this step\n",
     ),
     (
         "trio-job 1\njob a { raise sleep; }",
@@ -168,6 +172,42 @@ pub(crate) const HELPED: &[Row] = &[
         "\nwhat can be cancelled here: `c`, `b`\n",
     ),
     (
+        "trio-job 3\njob a { event b { scope c { } } wait b; }",
+        "\nno event is around this step\n",
+    ),
+    (
+        "trio-job 3\njob a { event b { scope s { event c { wait d; } } } }",
+        "\nthe events around this step: `c`, `b`\n",
+    ),
+    (
+        "trio-job 3\njob a { event b { scope s { cancel b; } } }",
+        "\nwhat can be cancelled here: `s`\n",
+    ),
+    (
+        "trio-job 2\njob a { event b { } }",
+        "\nformat 3 has this: begin the job text with the line `trio-job 3`\n",
+    ),
+    (
+        "trio-job 3\njob a { repeat 2 { start b { } } }",
+        "\na `start` is directly inside a nursery, in format 3 also in a `repeat` there: `nursery NAME { repeat 3 { start NAME { .. } } }`\n",
+    ),
+    (
+        "trio-job 3\njob a { evnt b { } }",
+        "\ndid you mean `event`?\n",
+    ),
+    (
+        "trio-job 3\njob a { Event b; }",
+        "\nTrio's `Event` is `event NAME { .. }` here, around the tasks that use it\n",
+    ),
+    (
+        "trio-job 3\njob a { event b { b.set(); } }",
+        "\nTrio's `NAME.set()` is `set NAME;` here\n",
+    ),
+    (
+        "trio-job 3\njob a { event b { await b.wait(); } }",
+        "\nTrio's `await NAME.wait()` is `wait NAME;` here\n",
+    ),
+    (
         "trio-job 1\njob a { move_on_after(5) { } }",
         "\nTrio's `move_on_after` is `scope NAME after N { .. }` here\n",
     ),
@@ -182,7 +222,7 @@ pub(crate) const HELPED: &[Row] = &[
     ),
     (
         "trio-job 1\njob a { scope fail { } }",
-        "\neach job, scope, nursery and start has a name, as in `scope work after 5 { .. }`\n",
+        "\neach job, scope, nursery, event and start has a name, as in `scope work after 5 { .. }`\n",
     ),
     (
         "trio-job 1\njob a { raise Cancelled; }",
