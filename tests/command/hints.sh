@@ -24,9 +24,6 @@ job_hints() {
     hints "$1" "trio-job 1\njob main {\n  $2\n}\n"
 }
 
-feed='this is a feed, which holds its input: write `nursery < FILE`, or put the job and the input into two files'
-hints "$feed" 'trio-job 1\njob main {\n  sleep 1;\n}\n%%input\nx\n'
-hints "$feed" 'trio-job 1\njob main {\n  sleep 1;\n}\n%%input\n\303\251\n'
 hints 'the text begins with a byte order mark: save it as plain ASCII' '\357\273\277trio-job 1\njob main { sleep 1; }\n'
 hints 'the text begins with a byte order mark: save it as plain ASCII' '\377\376t\000'
 hints 'a blank follows the number: the first line ends right after it' 'trio-job 1 \njob main { sleep 1; }\n'
@@ -94,6 +91,93 @@ job_hints 'the job has 532609 steps' \
 hints 'the innermost block that is not closed begins at text.job:2:10' 'trio-job 1\njob main {\n  sleep 1;\n'
 job_hints 'it was first given at text.job:3:9' 'scope work { scope work { sleep 1; } }'
 
+# ---- words of other languages and libraries, where a step may begin and where they are called
+
+# words HINT WORD..: each of these words, where a step may begin, has this hint.
+words() {
+    hint=$1
+    shift
+    for word in "$@"; do
+        job_hints "$hint" "$word task { sleep 1; }"
+        job_hints "$hint" "nursery tasks { $word(task); }"
+    done
+}
+
+words 'there are no channels, queues, locks and limiters: where a signal between tasks is enough, format 3 has `event NAME { .. }`' \
+    send receive acquire open_memory_channel CapacityLimiter Semaphore Lock Queue
+job_hints 'there are no channels, queues, locks and limiters: where a signal between tasks is enough, format 3 has `event NAME { .. }`' \
+    'channel.send(1);'
+words 'there are no conditions: only an exception or a cancellation changes the course of a job' if else elif
+words 'a loop is `repeat N { .. }`, in formats 2 and 3; a `raise` in it leaves it, with a `try` around it' while for loop
+words 'a loop or a block is left by `raise NAME;`, with `try { .. } except NAME { .. }` around it' break continue return
+words 'a handler is `try { .. } except NAME { .. }` here' catch
+job_hints 'a handler is `try { .. } except NAME { .. }` here' 'try { sleep 1; } catch Failed { }'
+job_hints 'a handler is `try { .. } except NAME { .. }` here' 'try { sleep 1; } except Failed { } catch Missing { }'
+words 'a task is `start NAME { .. }` here, right inside a nursery' launch go spawn create_task
+words 'leave out `with`: a block is `scope NAME after 5 { .. }` or `nursery NAME { .. }` here' with
+words 'a timeout is `scope NAME after N fail { .. }` here' timeout withTimeout wait_for
+words '`defer` is `try { .. } finally { .. }` here' defer
+words '`select` is a nursery here which its first task cancels: `nursery first { start a { sleep 1; cancel first; } .. }`' select
+words 'a group of tasks is `nursery NAME { .. }` here' TaskGroup create_task_group coroutineScope
+
+# ---- numbers
+
+unit='a number is digits alone: times are whole ticks without a unit, as in `sleep 500;`'
+job_hints "$unit" 'sleep 500ms;'
+job_hints "$unit" 'scope work after 1s { sleep 9; }'
+job_hints 'a number is digits alone: `1000`, and not `1_000`' 'sleep 1_000;'
+job_hints 'a number has no leading zero: `5`, and not `05`' 'sleep 05;'
+job_hints 'the number after `over` is from 1 to 64' 'nursery tasks { start task over 65 { sleep 1; } }'
+job_hints 'the number after `over` is from 1 to 64' 'nursery tasks { start task over 0 { sleep 1; } }'
+job_hints 'the number after `pace` is from 1 to 1000000' 'pace 0;'
+hints 'the number after `repeat` is from 0 to 1000' 'trio-job 3\njob main { repeat 1001 { sleep 1; } }\n'
+job_hints 'the number here is from 0 to 1000000000' 'sleep 1000000001;'
+job_hints 'the number here is from 0 to 1000000000' 'scope work after 99999999999999999999 { sleep 1; }'
+
+# ---- the first line
+
+unknown='the formats are 1, 2 and 3: begin a new job text with the line `trio-job 3`'
+hints "$unknown" 'trio-job 4\njob main { sleep 1; }\n'
+hints "$unknown" 'trio-job 10\njob main { sleep 1; }\n'
+hints "$unknown" 'trio-job\njob main { sleep 1; }\n'
+missing='the line with the format is missing: begin a new job text with the line `trio-job 3`'
+hints "$missing" 'job main { sleep 1; }\n'
+hints "$missing" '# A comment.\ntrio-job 3\njob main { sleep 1; }\n'
+hints "$missing" ''
+hints '^' 'trio-job 3'
+
+# ---- steps and blocks in another form
+
+semicolon='a `;` is missing after the step before it'
+job_hints "$semicolon" 'sleep 1'
+job_hints "$semicolon" 'sleep 1\n  find "x";'
+job_hints "$semicolon" 'nursery tasks { raise Failed start task { sleep 1; } }'
+bounded='a nursery has neither `at` nor `fail`: put a scope around it, as in `scope NAME at 5 fail { nursery NAME { .. } }`'
+job_hints "$bounded" 'nursery tasks fail { sleep 1; }'
+hints "$bounded" 'trio-job 3\njob main { nursery tasks at 5 { sleep 1; } }\n'
+hints "$bounded" 'trio-job 3\njob main { nursery tasks after 5 fail { sleep 1; } }\n'
+hints "$bounded" 'trio-job 3\njob main { nursery tasks shield fail { sleep 1; } }\n'
+job_hints 'format 2 has this: begin the job text with the line `trio-job 2`' 'nursery tasks after 5 { sleep 1; }'
+task='a task has no deadline and no shield: put a scope into it, as in `start NAME { scope NAME after 5 { .. } }`'
+job_hints "$task" 'nursery tasks { start task after 5 { sleep 1; } }'
+job_hints "$task" 'nursery tasks { start task shield { sleep 1; } }'
+block='only scopes and nurseries have deadlines and shields: put a scope into the block, as in `job NAME { scope NAME after 5 { .. } }`'
+hints "$block" 'trio-job 3\njob main after 5 { sleep 1; }\n'
+hints "$block" 'trio-job 3\njob main { repeat 3 after 5 { sleep 1; } }\n'
+job_hints "$block" 'try shield { sleep 1; } finally { }'
+job_hints 'a `try` has one handler: for another exception, put a second `try` around this one' \
+    'try { sleep 1; } except Failed { } except Missing { }'
+job_hints 'a handler names its exception: `except NAME { .. }`' 'try { sleep 1; } except { }'
+job_hints 'there are no variables: a job has steps and blocks alone' 'ticks = 5;'
+job_hints 'there are no lists: each step ends with `;`, as in `cancel first; cancel second;`' 'scope a { scope b { cancel a, b; } }'
+
+# The last two lines: a task cannot be cancelled by its name, and what can be cancelled.
+job_hints 'what can be cancelled here: `tasks`' 'nursery tasks { start task { sleep 1; } cancel task; }'
+by_name='a task cannot be cancelled by its name: put a scope into the task, and the `cancel` into that scope'
+[ "$(tail -n 2 err | head -n 1)" = "$by_name" ] || { echo "hints.sh: wanted: $by_name" >&2; cat err >&2; exit 1; }
+job_hints 'what can be cancelled here: `tasks`' 'nursery tasks { start task { cancel tsak; } }'
+! grep -Fqx "$by_name" err || { echo 'hints.sh: no task has that name' >&2; exit 1; }
+
 # says STATUS ERR WORD..: the program writes exactly these lines to standard error, a format of printf.
 says() {
     wanted=$1 text=$2
@@ -112,8 +196,8 @@ says 4 'cannot read the job file\na_folder: is a directory\n' check a_folder
 says 4 'cannot read the job file\nwait.job/x: not a directory\n' check wait.job/x
 says 4 'cannot read the input file\nnone.txt: no such file\n' run wait.job none.txt
 says 4 'cannot read the input file\na_folder: is a directory\n' run wait.job a_folder
-says 2 'error: `wait.job` is no command: to run a job file, write `nursery run wait.job INPUT`\n' wait.job
-says 2 'error: `jobs/wait` is no command: to run a job file, write `nursery run jobs/wait INPUT`\n' jobs/wait
-says 2 'error: `wait.feed` is no command: a feed is read from standard input, with `nursery < wait.feed`\n' wait.feed
+says 2 'error: `wait.job` is no command: to run a job file, write `nursery run wait.job`\n' wait.job
+says 2 'error: `jobs/wait` is no command: to run a job file, write `nursery run jobs/wait`\n' jobs/wait
+says 2 'error: `wait.feed` is no command: to run a job file, write `nursery run wait.feed`\n' wait.feed
 
 echo "hints.sh: $cases cases"

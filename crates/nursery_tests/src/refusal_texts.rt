@@ -11,7 +11,7 @@ pub(crate) const EXPECTED: &[Row] = &[
     ),
     (
         "trio-job 1\njob main { sleep 1 }",
-        "f:2:20: expected `;`\njob main { sleep 1 }\n                   ^\n",
+        "f:2:20: expected `;`\njob main { sleep 1 }\n                   ^\na `;` is missing after the step before it\n",
     ),
     (
         "trio-job 1\njob main {\n  sleep 1;\n",
@@ -47,7 +47,7 @@ pub(crate) const EXPECTED: &[Row] = &[
     ),
     (
         "trio-job 1\njob a { nursery n { start b at 1 { } } }",
-        "f:2:29: expected `over N` or `{`\njob a { nursery n { start b at 1 { } } }\n                            ^\n",
+        "f:2:29: expected `over N` or `{`\njob a { nursery n { start b at 1 { } } }\n                            ^\na task has no deadline and no shield: put a scope into it, as in `start NAME { scope NAME after 5 { .. } }`\n",
     ),
     (
         "trio-job 1\njob a { nursery n { 5 } }",
@@ -67,19 +67,19 @@ pub(crate) const WRONG: &[Row] = &[
     ),
     (
         "job a { }",
-        "f:1:1: a job text begins with the line `trio-job 1`, `trio-job 2` or `trio-job 3`, ended by a newline alone\njob a { }\n^\n",
+        "f:1:1: a job text begins with the line `trio-job 1`, `trio-job 2` or `trio-job 3`, ended by a newline alone\njob a { }\n^\nthe line with the format is missing: begin a new job text with the line `trio-job 3`\n",
     ),
     (
         "",
-        "f:1:1: a job text begins with the line `trio-job 1`, `trio-job 2` or `trio-job 3`, ended by a newline alone\n\n^\n",
+        "f:1:1: a job text begins with the line `trio-job 1`, `trio-job 2` or `trio-job 3`, ended by a newline alone\n\n^\nthe line with the format is missing: begin a new job text with the line `trio-job 3`\n",
     ),
     (
         "trio-job 1\njob a { sleep 1s; }",
-        "f:2:15: a letter or `_` directly follows this number\njob a { sleep 1s; }\n              ^\n",
+        "f:2:15: a letter or `_` directly follows this number\njob a { sleep 1s; }\n              ^\na number is digits alone: times are whole ticks without a unit, as in `sleep 500;`\n",
     ),
     (
         "trio-job 1\njob a { sleep 1_; }",
-        "f:2:15: a letter or `_` directly follows this number\njob a { sleep 1_; }\n              ^\n",
+        "f:2:15: a letter or `_` directly follows this number\njob a { sleep 1_; }\n              ^\na number is digits alone: `1000`, and not `1_000`\n",
     ),
     (
         "trio-job 1\njob a { find \"x; }",
@@ -95,7 +95,7 @@ pub(crate) const WRONG: &[Row] = &[
     ),
     (
         "trio-job 1\njob a { sleep 01; }\r\n",
-        "f:2:15: a number out of its range: `over` takes 1 to 64, `pace` 1 to 1000000, `repeat` 0 to 1000, others 0 to 1000000000; no leading zero\njob a { sleep 01; } \n              ^\n",
+        "f:2:15: a number that is out of its range or has a leading zero\njob a { sleep 01; } \n              ^\na number has no leading zero: `5`, and not `05`\n",
     ),
     (
         "trio-job 1\njob a { scope a { } }",
@@ -214,6 +214,69 @@ pub(crate) const HELPED: &[Row] = &[
     (
         "trio-job 2\njob a { repaet 2 { } }",
         "\ndid you mean `repeat`?\n",
+    ),
+    (
+        "trio-job 4\njob a { }",
+        "\nthe formats are 1, 2 and 3: begin a new job text with the line `trio-job 3`\n",
+    ),
+    ("trio-job 3", "\n^\n"),
+    (
+        "trio-job 1\njob a { while b { } }",
+        "\na loop is `repeat N { .. }`, in formats 2 and 3; a `raise` in it leaves it, with a `try` around it\n",
+    ),
+    (
+        "trio-job 1\njob a { try { } catch b { } }",
+        "\na handler is `try { .. } except NAME { .. }` here\n",
+    ),
+    (
+        "trio-job 1\njob a { withTimeout(5) { } }",
+        "\na timeout is `scope NAME after N fail { .. }` here\n",
+    ),
+    (
+        "trio-job 1\njob a { try { } except b { } except c { } }",
+        "\na `try` has one handler: for another exception, put a second `try` around this one\n",
+    ),
+    (
+        "trio-job 1\njob a { try { } except { } }",
+        "\na handler names its exception: `except NAME { .. }`\n",
+    ),
+    (
+        "trio-job 2\njob a { nursery b shield fail { } }",
+        "\na nursery has neither `at` nor `fail`: put a scope around it, as in `scope NAME at 5 fail { nursery NAME { .. } }`\n",
+    ),
+    (
+        "trio-job 1\njob a { scope b fail shield { } }",
+        "\nthe head of a scope is `scope NAME after N shield fail`, in this order\n",
+    ),
+    (
+        "trio-job 3\njob a after 5 { }",
+        "\nonly scopes and nurseries have deadlines and shields: put a scope into the block, as in `job NAME { scope NAME after 5 { .. } }`\n",
+    ),
+    // A task that has the name of a `cancel` is no scope or nursery around it; for an event there is no such hint.
+    (
+        "trio-job 1\njob a { nursery b { start c { } cancel c; } }",
+        "\na task cannot be cancelled by its name: put a scope into the task, and the `cancel` into that scope\nwhat can be cancelled here: `b`\n",
+    ),
+    (
+        "trio-job 3\njob a { nursery b { start c { } set c; } }",
+        "\n                                    ^\nno event is around this step\n",
+    ),
+    (
+        "trio-job 1\njob a { cancel, b; }",
+        "\nthere are no lists: each step ends with `;`, as in `cancel first; cancel second;`\n",
+    ),
+    (
+        "trio-job 1\njob a { nursery b { start c over 0 { } } }",
+        "\nthe number after `over` is from 1 to 64\n",
+    ),
+    (
+        "trio-job 2\njob a { repeat 1001 { } }",
+        "\nthe number after `repeat` is from 0 to 1000\n",
+    ),
+    // In format 1 `repeat` begins no step, so the number after it is one like any other.
+    (
+        "trio-job 1\njob a { repeat 1000000001 { } }",
+        "\nthe number here is from 0 to 1000000000\n",
     ),
     // A keyword may be the next word of a head whose name is missing.
     (

@@ -8,7 +8,7 @@ use Rattle.job_syntax.specs.Keywords.{spelling_of}
 use Rattle.refusal_text.specs.declared.hinting.Hint.{Hint}
 use Rattle.refusal_text.specs.declared.hinting.Hint.TheVariants as hint
 use Rattle.refusal_text.specs.Expecting.{IsAsked}
-use Rattle.refusal_text.specs.Advice.{advice_text}
+use Rattle.job_hints.specs.Advice.{advice_text}
 use Rattle.refusal_text.specs.Hinting.{IsHint}
 use Rattle.refusal_text.specs.Scopes.{IsListed, IsStray}
 use Rattle.refusal_text.specs.Sentences.{sentence_of}

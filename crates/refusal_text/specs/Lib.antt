@@ -1,9 +1,6 @@
 pub mod Sentences
 pub mod Expecting
-pub mod Nearness
 pub mod Scanning
-pub mod Advice
-pub mod ByBytes
 pub mod Hinting
 pub mod Scopes
 pub mod Positions

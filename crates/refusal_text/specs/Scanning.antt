@@ -1,13 +1,16 @@
 -- The token at a place, the blocks that tokens leave open, and where they give a name.
-use Rattle.std.specs.Prelude.{ℕ, ◌==◌, nat_lt, Bool, false, if◌then◌else◌, List, [], ◌∷◌, drop, Option, Some, None}
+use Rattle.std.specs.Prelude.{ℕ, ◌==◌, nat_lt, Bool, true, false, if◌then◌else◌, List, [], ◌∷◌, drop, Option, Some, None}
 use Rattle.std.specs.Str.{bytes_eq}
 use Rattle.job_tokens.specs.declared.token.Mark.{Mark}
 use Rattle.job_tokens.specs.declared.token.Mark.TheVariants as mark
 use Rattle.job_tokens.specs.declared.token.Shape.{Shape}
 use Rattle.job_tokens.specs.declared.token.Token.{Token}
 use Rattle.job_tokens.specs.Shapes.{word_in, mark_in}
+use Rattle.job_syntax.specs.declared.keyword.Keyword.{Keyword}
+use Rattle.job_syntax.specs.declared.keyword.Keyword.TheVariants as keyword
 use Rattle.job_syntax.specs.declared.role.Role.{Role}
 use Rattle.job_syntax.specs.declared.role.Role.TheVariants as role
+use Rattle.job_hints.specs.ByGrammar.{keyword_in}
 
 -- the token at a place
 abbrev pub shape_at : ℕ → List Token → Option Shape
@@ -42,3 +45,14 @@ abbrev pub first_given_place : List ℕ → List Token → List Role → Option 
 first_given_place name [] roles = None
 first_given_place name (t ∷ ts) [] = None
 first_given_place name (t ∷ ts) (r ∷ rs) = if gives r (word_in t.shape) name then Some t.at else first_given_place name ts rs
+
+-- a word after this keyword is the name of a task, and is this name
+abbrev pub begins_task : Option Keyword → Option (List ℕ) → List ℕ → Bool
+begins_task (Some keyword.Start) (Some w) name = bytes_eq w name
+begins_task _ _ name = false
+
+-- a task with this name is started, given the token before these
+abbrev pub is_started : List ℕ → Option Shape → List Token → Bool
+is_started name before [] = false
+is_started name before (t ∷ ts) =
+    if begins_task (keyword_in before) (word_in t.shape) name then true else is_started name (Some t.shape) ts

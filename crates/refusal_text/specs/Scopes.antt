@@ -13,7 +13,7 @@ use Rattle.job_checks.specs.Uses.{Use, uses_of}
 use Rattle.job_grammar.specs.declared.fault.JobKind.{JobKind}
 use Rattle.job_grammar.specs.declared.fault.JobKind.TheVariants as kind
 use Rattle.job_grammar.specs.Refusals.{HasTokens, format_of}
-use Rattle.refusal_text.specs.Hinting.{keyword_in, if_keyword}
+use Rattle.job_hints.specs.ByGrammar.{keyword_in, if_keyword}
 use Rattle.refusal_text.specs.Scanning.{last_before}
 use Rattle.refusal_text.specs.declared.scopes.Around.{Around, Nothing, Inside'}
 

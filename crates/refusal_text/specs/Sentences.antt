@@ -57,8 +57,7 @@ sentence_of TooLong byte asked of_event = codes "the job text has more than 6553
 sentence_of NotAscii byte asked of_event = byte_sentence byte
 sentence_of Version byte asked of_event = codes "a job text begins with the line `trio-job 1`, `trio-job 2` or `trio-job 3`, ended by a newline alone"
 sentence_of Token byte asked of_event = token_sentence byte
-sentence_of Number byte asked of_event =
-    codes "a number out of its range: `over` takes 1 to 64, `pace` 1 to 1000000, `repeat` 0 to 1000, others 0 to 1000000000; no leading zero"
+sentence_of Number byte asked of_event = codes "a number that is out of its range or has a leading zero"
 sentence_of Syntax byte asked of_event = expected_sentence asked
 sentence_of Depth byte asked of_event = codes "blocks are nested more than 32 deep"
 sentence_of Twice byte asked of_event = codes "this name was given before: jobs, scopes, nurseries, events and starts need names of their own"

@@ -1,16 +1,19 @@
 ghost use Rattle.std.specs.Prelude.{◌≡◌, None, false, IfOk};
 ghost use Rattle.refusal_text.specs.Expecting.{IsAsked, IsExpected};
-ghost use Rattle.refusal_text.specs.Hinting.{IsHint, IsSyntaxHint};
+ghost use Rattle.refusal_text.specs.Hinting.{IsHint, IsSyntaxHint, IsStrayHint};
 ghost use Rattle.refusal_text.specs.Scopes.{IsListed, IsEnclosing, IsOfEvent, IsStray, names_held};
 
-use crate::by_bytes::{ascii_advice, feed_advice, version_advice};
 use crate::expecting::expected_nonterminal;
-use crate::hinting::{Hint, advice_hint, reserved_hint, syntax_hint, token_hint, twice_hint};
+use crate::hinting::{
+    Hint, advice_hint, ascii_advice, number_hint, reserved_hint, stray_hint, syntax_hint,
+    token_hint, twice_hint,
+};
 use crate::lexed_text::LexedText;
 use crate::scanning::last_before;
 use crate::scopes::{enclosing_names, is_of_event};
 use crate::size::size_hint;
 use job_grammar::{JobFault, JobKind};
+use job_hints::version_advice;
 use job_syntax::Nonterminal;
 use job_tree::Name;
 use std::alloc::{AllocError, Global};
@@ -61,16 +64,16 @@ pub(crate) fn findings_of(
 {
     let at = fault.at;
     match fault.kind {
-        JobKind::TooLong => Ok(Findings::with_hint(advice_hint(feed_advice(text, at)))),
-        JobKind::NotAscii => Ok(Findings::with_hint(advice_hint(ascii_advice(text, at)))),
+        JobKind::NotAscii => Ok(Findings::with_hint(advice_hint(ascii_advice(text)))),
         JobKind::Version => Ok(Findings::with_hint(advice_hint(version_advice(text)))),
         JobKind::Token => Ok(Findings::with_hint(token_hint(alloc, text, at)?)),
+        JobKind::Number => Ok(Findings::with_hint(number_hint(alloc, text, at)?)),
         JobKind::Syntax => syntax_findings(alloc, text, at),
         JobKind::Twice => Ok(Findings::with_hint(twice_hint(alloc, text, at)?)),
         JobKind::NotEnclosing => stray_findings(alloc, text, at),
         JobKind::Reserved => Ok(Findings::with_hint(reserved_hint(alloc, text, at)?)),
         JobKind::TooLarge => Ok(Findings::with_hint(size_hint(alloc, text)?)),
-        JobKind::Number | JobKind::Depth | JobKind::NoMemory => Ok(Findings::with_hint(None)),
+        JobKind::TooLong | JobKind::Depth | JobKind::NoMemory => Ok(Findings::with_hint(None)),
     }
 }
 
@@ -92,19 +95,21 @@ fn syntax_findings(alloc: Global, text: &[u8], at: usize) -> Result<Findings, Al
     })
 }
 
-// Returns what could be named at a place whose name nothing of its kind around it has.
+// Returns what could be named at a place whose name nothing of its kind around it has, and that the name in a `cancel` is that of a
+// task.
 fn stray_findings(alloc: Global, text: &[u8], at: usize) -> Result<Findings, AllocError>
     ensures asked { IfOk result (λ found. found.asked ≡ None) }
-    ensures hint { IfOk result (λ found. found.hint ≡ None) }
+    ensures hint { IfOk result (λ found. IsStrayHint text.now at found.hint) }
     ensures of_event { IfOk result (λ found. IsOfEvent text.now at found.of_event) }
     ensures names { IfOk result (λ found. IsEnclosing text.now (names_held found.names)) }
 {
     let lexed = LexedText::new(alloc, text)?;
     let tokens = lexed.tokens.as_slice();
+    let hint = stray_hint(tokens, at);
     let names = enclosing_names(alloc, tokens)?;
     Ok(Findings {
         asked: None,
-        hint: None,
+        hint,
         of_event: is_of_event(last_before(tokens, at)),
         names,
     })

@@ -1,17 +1,17 @@
-ghost use Rattle.std.specs.Prelude.{◌≡◌, ◌-◌, None, IfOk, drop, is_some, slice_get};
+ghost use Rattle.std.specs.Prelude.{◌≡◌, ◌-◌, None, IfOk, drop, slice_get};
 ghost use Rattle.refusal_text.specs.Expecting.{expected_nonterminal};
 ghost use Rattle.refusal_text.specs.Scanning.{last_before, shape_at};
-ghost use Rattle.refusal_text.specs.Hinting.{IsTokenHint, IsTwiceHint, IsReservedHint, advice_hint, token_advice, call_or_byte_advice, near_hint, nonterminal_hint, newer_advice, any_advice, or_near_hint, step_advice, nonterminal_advice, unnamed_advice, order_advice, word_advice, keyword_in, is_head_word, is_head, is_unnamed, reserved_name_hint, syntax_hint, twice_hint};
-ghost use Rattle.job_tree.specs.declared.format.Format.TheVariants.{Two, Three};
-ghost use Rattle.job_syntax.specs.Nonterminals.{next};
+ghost use Rattle.refusal_text.specs.Hinting.{IsTokenHint, IsNumberHint, IsTwiceHint, IsReservedHint, IsStrayHint, advice_hint, ascii_advice, token_advice, near_hint, nonterminal_hint, or_near_hint, is_unnamed, reserved_name_hint, syntax_hint, twice_hint, is_cancel, task_advice};
+ghost use Rattle.job_hints.specs.ByGrammar.{if_keyword};
 ghost use Rattle.job_syntax.specs.Syntax.{whole_job};
 
-use crate::advice::{Advice, trio_advice};
-use crate::by_bytes::{byte_advice, feed_advice, method_advice};
 use crate::lexed_text::LexedText;
-use crate::nearness::near_keyword;
-use crate::scanning::{first_given_place, innermost_open_block, last_before, shape_at};
+use crate::scanning::{first_given_place, innermost_open_block, is_started, last_before, shape_at};
 use job_grammar::Format;
+use job_hints::{
+    Advice, BlockAdvice, has_order_mark, keyword_in, lexical_advice, near_keyword, number_advice,
+    syntax_advice,
+};
 use job_syntax::{Keyword, Nonterminal, Role, check_grammar};
 use job_tokens::{Shape, Token};
 use std::alloc::{AllocError, Global};
@@ -43,6 +43,16 @@ pub(crate) fn advice_hint(advice: Option<Advice>) -> Option<Hint>
     }
 }
 
+// Returns the hint for a byte that is not ASCII.
+pub(crate) fn ascii_advice(text: &[u8]) -> Option<Advice>
+    ensures { result ≡ ascii_advice text.now }
+{
+    if has_order_mark(text) {
+        return Some(Advice::ByteOrderMark);
+    }
+    None
+}
+
 // Returns the hint for a place where no token begins.
 pub(crate) fn token_hint(alloc: Global, text: &[u8], at: usize) -> Result<Option<Hint>, AllocError>
     ensures { IfOk result (IsTokenHint text.now at) }
@@ -56,13 +66,7 @@ pub(crate) fn token_hint(alloc: Global, text: &[u8], at: usize) -> Result<Option
 fn token_advice(text: &[u8], at: usize, before: Option<Shape>) -> Option<Advice>
     ensures { result ≡ token_advice text.now at before }
 {
-    if let Some(advice) = feed_advice(text, at) {
-        return Some(advice);
-    }
-    if let Some(advice) = method_advice(rest_from(text, at)) {
-        return Some(advice);
-    }
-    call_or_byte_advice(before, byte_before(text, at), text.get(at).copied())
+    lexical_advice(before, byte_before(text, at), rest_from(text, at))
 }
 
 // Returns the bytes from a place on.
@@ -79,24 +83,14 @@ fn byte_before(text: &[u8], at: usize) -> Option<u8>
     text.get(at.saturating_sub(1)).copied()
 }
 
-// Returns the hint for a byte after another one: for a word of Trio that is called, or otherwise for the bytes.
-fn call_or_byte_advice(word: Option<Shape>, before: Option<u8>, byte: Option<u8>) -> Option<Advice>
-    ensures { result ≡ call_or_byte_advice word before byte }
+// Returns the hint for a number that has a leading zero or is out of its range.
+pub(crate) fn number_hint(alloc: Global, text: &[u8], at: usize) -> Result<Option<Hint>, AllocError>
+    ensures { IfOk result (IsNumberHint text.now at) }
 {
-    if byte == Some(b'(') {
-        if let Some(advice) = word_advice(word) {
-            return Some(advice);
-        }
-    }
-    byte_advice(before, byte)
-}
-
-// Returns what a job has in place of a token that is a word of a program on Trio.
-fn word_advice(shape: Option<Shape>) -> Option<Advice>
-    ensures { result ≡ word_advice shape }
-{
-    let word = shape?.word()?;
-    trio_advice(word)
+    let lexed = LexedText::new(alloc, text)?;
+    let before = last_before(lexed.tokens.as_slice(), at);
+    let advice = number_advice(lexed.format, before, rest_from(text, at));
+    Ok(Some(Hint::Advice(advice)))
 }
 
 // Returns the hint for a syntax fault, where the grammar expects `asked`: what is allowed there in format 2, a word that is
@@ -152,24 +146,8 @@ fn nonterminal_hint(
     ensures { result ≡ nonterminal_hint format nonterminal before shape.now }
 {
     let nonterminal = nonterminal?;
-    let advice = any_advice(format, nonterminal, before, shape);
+    let advice = syntax_advice(format, nonterminal, before, shape);
     or_near_hint(advice, format, nonterminal, shape)
-}
-
-// Returns the sentence for a token that cannot be read for the nonterminal, if there is one: first of all that a newer format has
-// it.
-fn any_advice(
-    format: Format,
-    nonterminal: Nonterminal,
-    before: Option<Shape>,
-    shape: &Shape,
-) -> Option<Advice>
-    ensures { result ≡ any_advice format nonterminal before shape.now }
-{
-    if let Some(advice) = newer_advice(format, nonterminal, shape) {
-        return Some(advice);
-    }
-    nonterminal_advice(nonterminal, before, shape)
 }
 
 // Returns a sentence, or otherwise the keyword that a token nearly is.
@@ -187,39 +165,6 @@ fn or_near_hint(
     }
 }
 
-// Returns that a newer format than that of the text has the token there, if one has.
-fn newer_advice(format: Format, nonterminal: Nonterminal, shape: &Shape) -> Option<Advice>
-    ensures { result ≡ newer_advice format (next Two nonterminal shape.now) (next Three nonterminal shape.now) }
-{
-    match format {
-        Format::One => {
-            if is_allowed(Format::Two, nonterminal, shape) {
-                return Some(Advice::NewerFormat);
-            }
-            newest_advice(nonterminal, shape)
-        }
-        Format::Two => newest_advice(nonterminal, shape),
-        Format::Three => None,
-    }
-}
-
-// Returns that format 3 has the token there, if it has.
-fn newest_advice(nonterminal: Nonterminal, shape: &Shape) -> Option<Advice>
-    ensures { result ≡ newer_advice Two (next Two nonterminal shape.now) (next Three nonterminal shape.now) }
-{
-    if is_allowed(Format::Three, nonterminal, shape) {
-        return Some(Advice::NewestFormat);
-    }
-    None
-}
-
-// Returns whether a token can be read for the nonterminal in a format.
-fn is_allowed(format: Format, nonterminal: Nonterminal, shape: &Shape) -> bool
-    ensures { result ≡ is_some (next format nonterminal shape.now) }
-{
-    nonterminal.next(format, *shape).is_some()
-}
-
 // Returns the keyword that a token nearly is, among those that may be read for the nonterminal.
 fn near_hint(format: Format, nonterminal: Nonterminal, shape: &Shape) -> Option<Hint>
     ensures { result ≡ near_hint format nonterminal shape.now }
@@ -227,91 +172,6 @@ fn near_hint(format: Format, nonterminal: Nonterminal, shape: &Shape) -> Option<
     let word = shape.word()?;
     let keyword = near_keyword(format, nonterminal, word.bytes())?;
     Some(Hint::Meant(keyword))
-}
-
-// Returns the sentence for a token that cannot be read for the nonterminal, after another token.
-fn nonterminal_advice(
-    nonterminal: Nonterminal,
-    before: Option<Shape>,
-    shape: &Shape,
-) -> Option<Advice>
-    ensures { result ≡ nonterminal_advice nonterminal before shape.now }
-{
-    match nonterminal {
-        Nonterminal::Given => Some(Advice::Unnamed),
-        Nonterminal::Scope | Nonterminal::Nursery | Nonterminal::Over => unnamed_advice(before),
-        Nonterminal::Shield | Nonterminal::Fail | Nonterminal::NurseryShield | Nonterminal::Open =>
-            order_advice(shape),
-        Nonterminal::Steps | Nonterminal::StepsCleanup => step_advice(shape),
-        Nonterminal::Items | Nonterminal::ItemsCleanup => word_advice(Some(*shape)),
-        Nonterminal::Job
-        | Nonterminal::StepsTail
-        | Nonterminal::ItemsTail
-        | Nonterminal::Raised
-        | Nonterminal::Handled
-        | Nonterminal::Target
-        | Nonterminal::Number
-        | Nonterminal::Text
-        | Nonterminal::Semicolon => None,
-    }
-}
-
-// Returns the sentence for a `start` where none may be, or for a word of a program on Trio.
-fn step_advice(shape: &Shape) -> Option<Advice>
-    ensures { result ≡ step_advice shape.now }
-{
-    match keyword_in(Some(*shape)) {
-        Some(Keyword::Start) => Some(Advice::StartInside),
-        _ => word_advice(Some(*shape)),
-    }
-}
-
-// Returns the sentence after a name that is a word of a head: the name is missing.
-fn unnamed_advice(before: Option<Shape>) -> Option<Advice>
-    ensures { result ≡ unnamed_advice before }
-{
-    if is_head_word(before) {
-        return Some(Advice::Unnamed);
-    }
-    None
-}
-
-// Returns the sentence for a word of a head that comes too late in it.
-fn order_advice(shape: &Shape) -> Option<Advice>
-    ensures { result ≡ order_advice shape.now }
-{
-    if is_head_word(Some(*shape)) {
-        return Some(Advice::HeadOrder);
-    }
-    None
-}
-
-// Returns whether a token is one of the words that may follow the name of a scope, a nursery or a start.
-fn is_head_word(shape: Option<Shape>) -> bool
-    ensures { result ≡ is_head_word shape }
-{
-    match keyword_in(shape) {
-        Some(keyword) => is_head(keyword),
-        None => false,
-    }
-}
-
-// Returns the keyword that a token is, if it is one.
-pub(crate) fn keyword_in(shape: Option<Shape>) -> Option<Keyword>
-    ensures { result ≡ keyword_in shape }
-{
-    let word = shape?.word()?;
-    Keyword::of(word)
-}
-
-// Returns whether a keyword may follow the name of a scope, a nursery or a start.
-fn is_head(keyword: Keyword) -> bool
-    ensures { result ≡ is_head keyword }
-{
-    matches!(
-        keyword,
-        Keyword::After | Keyword::At | Keyword::Shield | Keyword::Fail | Keyword::Over
-    )
 }
 
 // Returns the hint for a name that is reserved.
@@ -370,4 +230,32 @@ fn first_given_hint(tokens: &[Token], roles: &[Role], shape: Option<Shape>) -> O
     let name = shape?.word()?;
     let at = first_given_place(tokens, roles, name)?;
     Some(Hint::GivenAt(at))
+}
+
+// Returns the hint for the name at a place that nothing around it has.
+pub(crate) fn stray_hint(tokens: &[Token], at: usize) -> Option<Hint>
+    ensures { result ≡ advice_hint (task_advice (last_before at None tokens.now) (shape_at at tokens.now) tokens.now) }
+{
+    advice_hint(task_advice(last_before(tokens, at), shape_at(tokens, at), tokens))
+}
+
+// Returns that a task has the name in a `cancel`, given the token before the name, the name, and all tokens.
+fn task_advice(before: Option<Shape>, shape: Option<Shape>, tokens: &[Token]) -> Option<Advice>
+    ensures { result ≡ task_advice before shape tokens.now }
+{
+    let name = shape?.word()?;
+    if is_cancel(keyword_in(before)) && is_started(tokens, name) {
+        return Some(Advice::Block(BlockAdvice::TaskByName));
+    }
+    None
+}
+
+// Returns whether there is a keyword, and it is `cancel`.
+fn is_cancel(keyword: Option<Keyword>) -> bool
+    ensures { result ≡ if_keyword is_cancel keyword }
+{
+    match keyword {
+        Some(Keyword::Cancel) => true,
+        _ => false,
+    }
 }

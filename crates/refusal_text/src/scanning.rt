@@ -1,7 +1,9 @@
 ghost use Rattle.std.specs.Prelude.{◌≡◌, [], None, IfOk, slice_get};
-ghost use Rattle.refusal_text.specs.Scanning.{shape_at, last_before, open_blocks, gives, first_given_place};
+ghost use Rattle.job_hints.specs.ByGrammar.{keyword_in};
+ghost use Rattle.refusal_text.specs.Scanning.{shape_at, last_before, open_blocks, gives, first_given_place, is_started, begins_task};
 
-use job_syntax::Role;
+use job_hints::keyword_in;
+use job_syntax::{Keyword, Role};
 use job_tokens::{Mark, Shape, Token};
 use job_tree::Name;
 use std::alloc::{AllocError, Global};
@@ -73,6 +75,30 @@ fn gives(role: Role, word: Option<Name>, name: Name) -> bool
 {
     match (role, word) {
         (Role::Given, Some(word)) => word == name,
+        _ => false,
+    }
+}
+
+// Returns whether a task with this name is started: whether the name follows the keyword `start`.
+pub(crate) fn is_started(tokens: &[Token], name: Name) -> bool
+    ensures { result ≡ is_started name None tokens.now }
+{
+    let mut before = None;
+    'tokens: for token in tokens {
+        if begins_task(before, token.shape.word(), name) {
+            return true;
+        }
+        before = Some(token.shape);
+    }
+    false
+}
+
+// Returns whether a word after this token is the name of a task, and is this name.
+fn begins_task(before: Option<Shape>, word: Option<Name>, name: Name) -> bool
+    ensures { result ≡ begins_task (keyword_in before) word name }
+{
+    match (keyword_in(before), word) {
+        (Some(Keyword::Start), Some(word)) => word == name,
         _ => false,
     }
 }

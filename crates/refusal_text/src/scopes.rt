@@ -5,10 +5,10 @@ ghost use Rattle.job_tokens.specs.Shapes.{shapes_of};
 ghost use Rattle.job_syntax.specs.Reading.{job_at};
 ghost use Rattle.job_checks.specs.Given.{is_among};
 ghost use Rattle.job_checks.specs.Uses.{Use, uses_of, uses_in, handled_uses, cleaned_uses};
-ghost use Rattle.refusal_text.specs.Hinting.{keyword_in, if_keyword};
+ghost use Rattle.job_hints.specs.ByGrammar.{keyword_in, if_keyword};
 ghost use Rattle.refusal_text.specs.Scopes.{around_stray, enclosing_names, uses_event, names_around, names_held, or_names};
 
-use crate::hinting::keyword_in;
+use job_hints::keyword_in;
 use job_syntax::{Keyword, job_at};
 use job_tokens::{Shape, Token};
 use job_tree::{Body, Handler, Name, Step};

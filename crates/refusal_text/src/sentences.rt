@@ -20,9 +20,7 @@ pub(crate) fn sentence_of(
         JobKind::Version =>
             "a job text begins with the line `trio-job 1`, `trio-job 2` or `trio-job 3`, ended by a newline alone",
         JobKind::Token => token_sentence(byte),
-        JobKind::Number => {
-            "a number out of its range: `over` takes 1 to 64, `pace` 1 to 1000000, `repeat` 0 to 1000, others 0 to 1000000000; no leading zero"
-        }
+        JobKind::Number => "a number that is out of its range or has a leading zero",
         JobKind::Syntax => expected_sentence(asked),
         JobKind::Depth => "blocks are nested more than 32 deep",
         JobKind::Twice =>

@@ -4,8 +4,9 @@ use Rattle.job_tokens.specs.declared.token.Token.{Token}
 use Rattle.job_tokens.specs.Shapes.{shapes_of}
 use Rattle.job_syntax.specs.Reading.{job_at}
 use Rattle.job_grammar.specs.Refusals.{format_of}
-use Rattle.refusal_text.specs.Hinting.{keyword_in, if_keyword}
-use Rattle.refusal_text.specs.Scanning.{last_before}
+use Rattle.job_hints.specs.ByGrammar.{keyword_in, if_keyword}
+use Rattle.refusal_text.specs.Hinting.{advice_hint, task_advice}
+use Rattle.refusal_text.specs.Scanning.{last_before, shape_at}
 use Rattle.refusal_text.specs.Scopes.{enclosing_names, uses_event, names_held}
 use Rattle.refusal_text.proofs.Told.{of_tokens}
 use Rattle.refusal_text.proofs.findings.stray_findings.Goals as goal
@@ -24,3 +25,11 @@ returns-clause-names c =
     of_tokens text _ c.as_slice-tokens.result.now c.in_ok-lexed.lexed.fault
     (λ (ts : List Token). names_held c.in_ok-names.names ≡ enclosing_names (job_at (format_of text) (shapes_of ts)))
     c.in_ok-lexed.ensures.tokens c.as_slice-tokens.ensures.value (c.in_ok-names.ensures (format_of text))
+
+pub returns-clause-hint : goal.returns-clause-hint
+returns-clause-hint c =
+    let at = c.args.at in
+    of_tokens c.args.text.now _ c.as_slice-tokens.result.now c.in_ok-lexed.lexed.fault
+    (λ (ts : List Token). c.stray_hint-hint.result ≡ advice_hint (task_advice (last_before at None ts) (shape_at at ts) ts))
+    c.in_ok-lexed.ensures.tokens c.as_slice-tokens.ensures.value
+    c.stray_hint-hint.ensures
