@@ -2,3 +2,4 @@ pub mod Halvings
 pub mod Lists
 pub mod Counts
 pub mod Fits
+pub mod Narrower

@@ -1,10 +1,9 @@
--- The last of a list, and its first ones.
-use Rattle.std.proofs.Common.{◌≡◌, ℕ, zero, suc, ◌-◌, List, [], ◌∷◌, ◌++◌, length, refl, sym, ap, ◌∙◌, arith, append_assoc}
+-- The last of a list, and a list backwards.
+use Rattle.std.proofs.Common.{◌≡◌, ℕ, zero, suc, ◌-◌, List, [], ◌∷◌, ◌++◌, length, refl, sym, ap, ◌∙◌, arith}
 use Rattle.std.specs.Prelude.{map, reverse, Some, None}
 use Rattle.std.specs.List.{slice_get}
 use Rattle.std.proofs.lemmas.List.{map-append, reverse-append}
-use Rattle.chart_columns.specs.Columns as columns
-use Rattle.chart_columns.specs.Columns.{with_last, dropped_to_fit, dropped_in, last_tick}
+use Rattle.chart_columns.specs.Columns.{last_tick}
 use Rattle.chart_columns.specs.Held.{column_of}
 use Rattle.chart_columns.specs.declared.column.Column.{Column}
 
@@ -26,32 +25,6 @@ last_tick_is (a ∷ xs) zero x whole is = absurd (omega (arith, whole))
 last_tick_is (a ∷ xs) (suc n) x whole is =
     let less : suc n - 1 ≡ n = omega arith in
     last_tick_at (a ∷ xs) n x whole (is ∙ ap (slice_get (a ∷ xs)) less)
-
--- ---- a list taken through to its last element
-
--- the walk to the last element passes on the first, all between, and the last
-with_last_is : (go : columns.Column → List columns.Column → columns.Column → List columns.Column) (first : columns.Column)
-    (between : List columns.Column) (b : columns.Column) (bs : List columns.Column) (z : columns.Column) →
-    with_last go first between b (bs ++ z ∷ []) ≡ go first (between ++ b ∷ bs) z
-with_last_is go first between b [] z = refl
-with_last_is go first between b (c ∷ cs) z =
-    with_last_is go first (between ++ b ∷ []) c cs z ∙ ap (λ l. go first l z) (append_assoc between (b ∷ []) (c ∷ cs))
-
-dropped_at_last : (room : ℕ) (first : columns.Column) (between : List columns.Column) (last : columns.Column) →
-    dropped_to_fit room first between last ≡ dropped_in room (first ∷ (between ++ last ∷ []))
-dropped_at_last room first [] last = refl
-dropped_at_last room first (b ∷ bs) last = sym (with_last_is (dropped_to_fit room) first [] b bs last)
-
--- what is dropped of columns that are taken apart into the first, those between and the last
-pub dropped_by_parts : (room : ℕ) (first last : Column) (xs others between : List Column) → xs ≡ first ∷ others →
-    others ≡ between ++ last ∷ [] →
-    dropped_to_fit room (column_of first) (map column_of between) (column_of last) ≡ dropped_in room (map column_of xs)
-dropped_by_parts room first last xs others between front back =
-    let ends = map-append column_of between (last ∷ []) in
-    dropped_at_last room (column_of first) (map column_of between) (column_of last)
-    ∙ ap (λ l. dropped_in room (column_of first ∷ l)) (sym ends)
-    ∙ ap (λ l. dropped_in room (map column_of (first ∷ l))) (sym back)
-    ∙ ap (λ l. dropped_in room (map column_of l)) (sym front)
 
 -- ---- a list backwards
 

@@ -1,17 +1,11 @@
--- The columns of a chart: the ticks at which something happens, or as many of them as there is room for.
-use Rattle.std.specs.Prelude.{ℕ, zero, suc, ◌+◌, ◌-◌, ◌*◌, ◌/◌, ◌==◌, Bool, true, ◌&&◌, List, [], ◌∷◌, ◌++◌, length, decimal, nat_le, if◌then◌else◌}
+-- The columns of a chart: the ticks at which something happens, and the room from each to the next.
+use Rattle.std.specs.Prelude.{ℕ, zero, suc, ◌+◌, ◌-◌, ◌/◌, ◌==◌, Bool, true, ◌&&◌, List, [], ◌∷◌, length, decimal, max, nat_le, if◌then◌else◌}
 use Rattle.stable_sort.specs.Sorting.{sorted_by}
 
 -- a tick, and the number of things that happen at it
 pub record Column : Type 0 where
   pub tick : ℕ
   pub count : ℕ
-
-abbrev pub tick_of : Column → ℕ
-tick_of c = c.tick
-
-abbrev pub count_of : Column → ℕ
-count_of c = c.count
 
 -- ---- all columns
 
@@ -46,45 +40,30 @@ log2 n = halvings 64 n
 abbrev pub gap : ℕ → ℕ → ℕ
 gap t u = length (decimal t) + 1 + log2 (u - t)
 
+-- the same with so much less room, but at least one character
+abbrev pub gap_less : ℕ → ℕ → ℕ → ℕ
+gap_less less t u = max 1 (gap t u - less)
+
 -- whether a tick and the columns after it fit into the room, including the digits of the last one
-abbrev pub fits_from : ℕ → ℕ → List Column → Bool
-fits_from room t [] = nat_le (length (decimal t)) room
-fits_from room t (c ∷ cs) = nat_le (gap t c.tick) room && fits_from (room - gap t c.tick) c.tick cs
+abbrev pub fits_from : ℕ → ℕ → ℕ → List Column → Bool
+fits_from less room t [] = nat_le (length (decimal t)) room
+fits_from less room t (c ∷ cs) = nat_le (gap_less less t c.tick) room && fits_from less (room - gap_less less t c.tick) c.tick cs
 
--- whether columns fit into the room, where each takes at least two characters
-abbrev pub fits : ℕ → List Column → Bool
-fits room [] = true
-fits room (c ∷ cs) = nat_le (2 * length (c ∷ cs)) room && fits_from room c.tick cs
+-- ---- narrower gaps, with which all columns are shown
 
--- ---- the columns for which there is room
+-- whether columns fit into the room with gaps that are so much smaller
+abbrev pub fits_less : ℕ → ℕ → List Column → Bool
+fits_less less room [] = true
+fits_less less room (c ∷ cs) = fits_from less room c.tick cs
 
--- the first column, some of those between, and the last
-abbrev pub framed_columns : Column → Column → List Column → List Column
-framed_columns first last between = first ∷ (sorted_by tick_of between ++ last ∷ [])
+-- the least number, from `less` on, with which the columns fit; `more` further ones are tried, and the last of them is given if none suffices
+unfoldable pub less_from : ℕ → ℕ → ℕ → List Column → ℕ
+less_from zero less room cs = less
+less_from (suc more) less room cs = if fits_less less room cs then less else less_from more (less + 1) room cs
 
--- the columns that fit, where those between are dropped from the front
-abbrev pub fitting_columns : ℕ → Column → Column → List Column → List Column
-fitting_columns room first last [] = framed_columns first last []
-fitting_columns room first last (c ∷ cs) =
-    if fits room (framed_columns first last (c ∷ cs)) then framed_columns first last (c ∷ cs) else fitting_columns room first last cs
-
--- the columns with the least counts are dropped first, but never the first and the last column
-abbrev pub dropped_to_fit : ℕ → Column → List Column → Column → List Column
-dropped_to_fit room first between last = fitting_columns room first last (sorted_by count_of between)
-
--- applies a function to the first column of a list, those between, and the last
-abbrev pub with_last : (Column → List Column → Column → List Column) → Column → List Column → Column → List Column → List Column
-with_last go first between last [] = go first between last
-with_last go first between last (c ∷ cs) = with_last go first (between ++ last ∷ []) c cs
-
-abbrev pub dropped_in : ℕ → List Column → List Column
-dropped_in room [] = []
-dropped_in room (c ∷ []) = c ∷ []
-dropped_in room (c ∷ d ∷ cs) = with_last (dropped_to_fit room) c [] d cs
-
--- the columns that are shown
-abbrev pub shown_columns : ℕ → List Column → List Column
-shown_columns room cs = if fits room cs then cs else dropped_in room cs
+-- by how much gaps are made smaller so that the columns fit into the room; no gap is above 84, so with 83 each is one character
+abbrev pub less_for : ℕ → List Column → ℕ
+less_for room cs = less_from 83 0 room cs
 
 -- ---- where something is shown
 
@@ -112,7 +91,7 @@ column_by_or last (c ∷ cs) t = if nat_le t c.tick then c.tick else column_by_o
 abbrev pub column_by : List Column → ℕ → ℕ
 column_by cs t = column_by_or (last_tick cs) cs t
 
--- the room from a column to the next, and 1 for the last
-abbrev pub gap_to : Column → List Column → ℕ
-gap_to c [] = 1
-gap_to c (d ∷ cs) = gap c.tick d.tick
+-- the room from a column to the next with gaps that are so much smaller, and 1 for the last
+abbrev pub gap_less_to : ℕ → Column → List Column → ℕ
+gap_less_to less c [] = 1
+gap_less_to less c (d ∷ cs) = gap_less less c.tick d.tick

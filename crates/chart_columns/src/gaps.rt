@@ -1,5 +1,5 @@
 ghost use Rattle.std.specs.Prelude.{◌≡◌, ◌≤◌, length, map};
-ghost use Rattle.chart_columns.specs.Columns.{log2, gap, gap_to};
+ghost use Rattle.chart_columns.specs.Columns.{log2, gap, gap_less, gap_less_to};
 ghost use Rattle.chart_columns.specs.Held.{column_of};
 
 use crate::column::Column;
@@ -13,14 +13,21 @@ pub fn gap(tick: u64, next: u64) -> usize
     digit_count(tick) + 1 + log2(next.saturating_sub(tick))
 }
 
-/// Returns the room from a column to the first of those in `after`, in characters, or 1 if `after` is empty.
-pub fn gap_to(column: &Column, after: &[Column]) -> usize
-    ensures { result ≡ gap_to (column_of column.now) (map column_of after.now) }
+/// Returns the room from a tick to the next one with `less` characters less than `gap` returns, but at least one.
+pub fn gap_less(less: usize, tick: u64, next: u64) -> usize
+    ensures { result ≡ gap_less less tick next }
 {
-    match after.first() {
-        Some(next) => gap(column.tick, next.tick),
-        None => 1,
-    }
+    gap(tick, next).saturating_sub(less).max(1)
+}
+
+/// Returns the room from a column to the first of those in `after`, as `gap_less` does, or 1 if `after` is empty.
+pub fn gap_less_to(less: usize, column: &Column, after: &[Column]) -> usize
+    ensures { result ≡ gap_less_to less (column_of column.now) (map column_of after.now) }
+{
+    let Some(next) = after.first() else {
+        return 1;
+    };
+    gap_less(less, column.tick, next.tick)
 }
 
 // Returns the logarithm of a number to base 2, rounded down, and 0 for 0.

@@ -1,5 +1,7 @@
 -- The rows of the code, as the definitions see them.
+use Rattle.std.specs.Prelude.{ℕ, List, [], ◌∷◌}
 use Rattle.chart_text.specs.Marks as marks
+use Rattle.chart_text.specs.declared.numbers.NumberRows.{NumberRows}
 use Rattle.chart_text.specs.declared.row.Row.{Row}
 use Rattle.chart_text.specs.declared.row.Strokes.{Strokes}
 
@@ -17,3 +19,6 @@ row_held row =
       dots = row.dots.items;
       pluses = row.pluses.items;
     }
+
+abbrev pub rows_held : NumberRows → List (List ℕ)
+rows_held rows = rows.first.items ∷ rows.second.items ∷ rows.third.items ∷ rows.fourth.items ∷ []

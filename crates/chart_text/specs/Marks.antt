@@ -1,11 +1,11 @@
--- The characters at each column of a row: a mark for what happens there, and a line to the next column.
+-- The characters at each column of a row: a mark for what happens at its tick, and a line to the next column.
 use Rattle.std.specs.Prelude.{ℕ, ◌-◌, ◌==◌, Bool, true, false, ◌&&◌, ◌||◌, Option, Some, None, List, [], ◌∷◌, ◌++◌, nat_le, nat_lt, is_some, replicate, if◌then◌else◌}
 use Rattle.moments.specs.Moments.{tick_of}
 use Rattle.moments.specs.declared.clock.Clock.{Clock}
 use Rattle.job_story.specs.Story.{is_cancelled, misses, raises, sets}
 use Rattle.job_story.specs.Events.{What, starts, happens, Event}
 use Rattle.chart_bars.specs.Bars.{Bar}
-use Rattle.chart_columns.specs.Columns.{Column, column_at, last_tick, gap_to}
+use Rattle.chart_columns.specs.Columns.{Column, gap_less_to}
 
 -- ---- strokes
 
@@ -38,25 +38,22 @@ abbrev pub is_plus : What → Bool
 is_plus (happens (sets label)) = true
 is_plus _ = false
 
--- the columns of the events of a kind
-abbrev pub columns_where : Clock → (What → Bool) → List Column → List Event → List ℕ
-columns_where clock wanted cols [] = []
-columns_where clock wanted cols (e ∷ es) =
-    if wanted e.what then column_at cols (tick_of clock e.tick) ∷ columns_where clock wanted cols es
-    else columns_where clock wanted cols es
+-- the ticks of the events of a kind
+abbrev pub ticks_where : Clock → (What → Bool) → List Event → List ℕ
+ticks_where clock wanted [] = []
+ticks_where clock wanted (e ∷ es) = if wanted e.what then tick_of clock e.tick ∷ ticks_where clock wanted es else ticks_where clock wanted es
 
 -- with the tick of the moment from which a scope or nursery is cancelled; its cross is drawn if that is a column
 abbrev pub with_cancelled : Clock → Option ℕ → List ℕ → List ℕ
 with_cancelled clock None ts = ts
 with_cancelled clock (Some m) ts = tick_of clock m ∷ ts
 
--- the column at which a bar ends, or the last column where it has no end
-abbrev pub end_column : Clock → List Column → Option Event → ℕ
-end_column clock cols None = last_tick cols
-end_column clock cols (Some e) = column_at cols (tick_of clock e.tick)
+-- the tick at which a bar ends, or the last one of the chart where it has no end
+abbrev pub end_tick : Clock → (last : ℕ) → Option Event → ℕ
+end_tick clock last None = last
+end_tick clock last (Some e) = tick_of clock e.tick
 
--- A bar on the columns, which are given by their ticks: where it starts and ends, whether it has an end, and its crosses, dots
--- and pluses.
+-- The ticks of a bar: at which it starts and ends, whether it has an end, and its crosses, dots and pluses.
 pub record Row : Type 0 where
   pub strokes : Strokes
   pub start : ℕ
@@ -66,16 +63,17 @@ pub record Row : Type 0 where
   pub dots : List ℕ
   pub pluses : List ℕ
 
-abbrev pub row_of : Clock → List Column → Bar → Row
-row_of clock cols bar =
+-- the row of a bar in a chart with this last tick
+abbrev pub row_of : Clock → (last : ℕ) → Bar → Row
+row_of clock last bar =
     record {
       strokes = strokes_of bar.first.what;
-      start = column_at cols (tick_of clock bar.first.tick);
-      end = end_column clock cols bar.last;
+      start = tick_of clock bar.first.tick;
+      end = end_tick clock last bar.last;
       closed = is_some bar.last;
-      crosses = with_cancelled clock bar.cancelled (columns_where clock is_cross cols bar.own);
-      dots = columns_where clock is_dot cols bar.own;
-      pluses = columns_where clock is_plus cols bar.own;
+      crosses = with_cancelled clock bar.cancelled (ticks_where clock is_cross bar.own);
+      dots = ticks_where clock is_dot bar.own;
+      pluses = ticks_where clock is_plus bar.own;
     }
 
 -- ---- marks
@@ -96,10 +94,10 @@ mark_at row t =
     else row.strokes.line))))
 
 -- Spaces up to the column where a row starts, then a mark at each column, with the line to the next, and nothing after the column
--- where it ends.
-abbrev pub cells : Row → List Column → List ℕ
-cells row [] = []
-cells row (c ∷ cs) =
-    if nat_lt c.tick row.start then replicate (gap_to c cs) 32 ++ cells row cs
+-- where it ends. The gaps are `less` smaller than they would be with ample room.
+abbrev pub cells : (less : ℕ) → Row → List Column → List ℕ
+cells less row [] = []
+cells less row (c ∷ cs) =
+    if nat_lt c.tick row.start then replicate (gap_less_to less c cs) 32 ++ cells less row cs
     else (if nat_le row.end c.tick then mark_at row c.tick ∷ []
-    else mark_at row c.tick ∷ (replicate (gap_to c cs - 1) row.strokes.line ++ cells row cs))
+    else mark_at row c.tick ∷ (replicate (gap_less_to less c cs - 1) row.strokes.line ++ cells less row cs))

@@ -4,17 +4,22 @@ ghost use Rattle.chart_text.specs.Marks.{has, mark_at, cells};
 ghost use Rattle.chart_text.specs.Held.{row_held};
 
 use crate::row::Row;
-use chart_columns::{Column, gap_to};
+use chart_columns::{Column, gap_less_to};
 use std::alloc::AllocError;
 
-// Appends the marks of a row at these columns, and the lines between them.
-pub(crate) fn push_cells(out: &mut Vec<u8>, row: &Row, columns: &[Column]) -> Result<(), AllocError>
-    ensures { OnOk result (out.new.items ≡ out.old.items ++ cells (row_held row.now) (map column_of columns.now)) }
+// Appends the marks of a row at these columns, and the lines between them, with gaps that are `less` smaller.
+pub(crate) fn push_cells(
+    out: &mut Vec<u8>,
+    less: usize,
+    row: &Row,
+    columns: &[Column],
+) -> Result<(), AllocError>
+    ensures { OnOk result (out.new.items ≡ out.old.items ++ cells less (row_held row.now) (map column_of columns.now)) }
 {
     let mut rest = columns;
     'columns: while let Some((column, others)) = rest.split_first() {
         if column.tick < row.start {
-            push_times(out, gap_to(column, others), b' ')?;
+            push_times(out, gap_less_to(less, column, others), b' ')?;
             rest = others;
             continue 'columns;
         }
@@ -24,7 +29,7 @@ pub(crate) fn push_cells(out: &mut Vec<u8>, row: &Row, columns: &[Column]) -> Re
         }
         push_times(
             out,
-            gap_to(column, others).saturating_sub(1),
+            gap_less_to(less, column, others).saturating_sub(1),
             row.strokes.line,
         )?;
         rest = others;

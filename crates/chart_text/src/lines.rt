@@ -1,15 +1,15 @@
-ghost use Rattle.std.specs.Prelude.{◌≡◌, ◌+◌, ◌++◌, ◌==◌, IfOk, OnOk, map, decimal, replicate, length};
-ghost use Rattle.job_story.specs.Sentences.{padded_text};
+ghost use Rattle.std.specs.Prelude.{◌≡◌, ◌+◌, ◌++◌, ℕ, List, IfOk, OnOk, map, replicate};
 ghost use Rattle.chart_bars.specs.Held.{bar_of};
 ghost use Rattle.chart_columns.specs.Held.{column_of};
-ghost use Rattle.chart_text.specs.Text.{cut_line, header, row_text, rows_text, limit_text, left_text};
+ghost use Rattle.chart_text.specs.Text.{cut_line, number_line, header, first_tick, is_there, mark_before, text_after, row_text, line_if_there, row_line, rows_text, limit_text};
+ghost use Rattle.chart_text.specs.Held.{row_held, rows_held};
 
 use crate::cells::{push_cells, push_times};
-use crate::left_out::push_left_out;
 use crate::names::{push_name, push_outcome};
-use crate::row::row_of;
+use crate::numbers::NumberRows;
+use crate::row::{Row, row_of};
 use chart_bars::Bar;
-use chart_columns::{Column, gap_to};
+use chart_columns::{Column, last_tick};
 use digits::push_number;
 use moments::Clock;
 use std::alloc::{AllocError, Global};
@@ -26,19 +26,38 @@ pub(crate) fn push_cut(out: &mut Vec<u8>, width: usize, line: &[u8]) -> Result<(
     out.extend_from_slice(b"..\n")
 }
 
-// Appends the line with the ticks of the columns.
+// Appends the rows of numbers that are not empty, a line each.
 pub(crate) fn push_header(
     alloc: Global,
     out: &mut Vec<u8>,
     width: usize,
     names: usize,
-    columns: &[Column],
+    rows: &NumberRows,
 ) -> Result<(), AllocError>
-    ensures { OnOk result (out.new.items ≡ out.old.items ++ cut_line width (replicate (names + 2) 32 ++ header (map column_of columns.now))) }
+    ensures { OnOk result (out.new.items ≡ out.old.items ++ header width names (rows_held rows.now)) }
 {
+    push_numbers(alloc, out, width, names, rows.first.as_slice())?;
+    push_numbers(alloc, out, width, names, rows.second.as_slice())?;
+    push_numbers(alloc, out, width, names, rows.third.as_slice())?;
+    push_numbers(alloc, out, width, names, rows.fourth.as_slice())
+}
+
+// Appends a row of numbers as a line, unless it is empty.
+fn push_numbers(
+    alloc: Global,
+    out: &mut Vec<u8>,
+    width: usize,
+    names: usize,
+    row: &[u8],
+) -> Result<(), AllocError>
+    ensures { OnOk result ((others : List ℕ) → out.new.items ++ others ≡ out.old.items ++ (number_line width names row.now ++ others)) }
+{
+    if row.is_empty() {
+        return Ok(());
+    }
     let mut line = Vec::new(alloc);
     push_margin(&mut line, names)?;
-    push_ticks(&mut line, columns)?;
+    line.extend_from_slice(row)?;
     push_cut(out, width, line.as_slice())
 }
 
@@ -52,67 +71,135 @@ fn push_margin(line: &mut Vec<u8>, names: usize) -> Result<(), AllocError>
     Ok(())
 }
 
-// Appends the tick of each column, with room up to the next.
-fn push_ticks(line: &mut Vec<u8>, columns: &[Column]) -> Result<(), AllocError>
-    ensures { OnOk result (line.new.items ≡ line.old.items ++ header (map column_of columns.now)) }
-{
-    let mut rest = columns;
-    'columns: while let Some((column, others)) = rest.split_first() {
-        push_padded_number(line, gap_to(column, others), column.tick)?;
-        rest = others;
-    }
-    Ok(())
+// How a chart is laid out: the clock of its story, how wide it is, its last tick, by how much its gaps are smaller than they would be
+// with ample room, and the length of its longest name.
+#[derive(Clone, Copy)]
+pub(crate) struct Sheet {
+    pub clock: Clock,
+    pub width: usize,
+    pub last: u64,
+    pub less: usize,
+    pub names: usize,
 }
 
-// Appends a number, and spaces up to a width.
-fn push_padded_number(line: &mut Vec<u8>, width: usize, n: u64) -> Result<(), AllocError>
-    ensures { OnOk result (line.new.items ≡ line.old.items ++ padded_text width (decimal n)) }
-{
-    let start = line.len();
-    push_number(line, n)?;
-    let len = line.len() - start;
-    push_times(line, width.saturating_sub(len), b' ')
-}
-
-// Appends the line of each bar.
+// Appends the line of each bar that has a part at these columns.
 pub(crate) fn push_rows(
     alloc: Global,
     out: &mut Vec<u8>,
-    clock: Clock,
-    width: usize,
+    sheet: Sheet,
     columns: &[Column],
-    names: usize,
     bars: &[Bar<'_, '_>],
 ) -> Result<(), AllocError>
-    ensures { OnOk result (out.new.items ≡ out.old.items ++ rows_text clock width (map column_of columns.now) names (map bar_of bars.now)) }
+    ensures { OnOk result (out.new.items ≡ out.old.items
+        ++ rows_text sheet.clock sheet.width sheet.last sheet.less (map column_of columns.now) sheet.names (map bar_of bars.now)) }
 {
     'bars: for bar in bars {
-        let line = row_text(alloc, clock, columns, names, bar)?;
-        push_cut(out, width, line.as_slice())?;
+        push_row(alloc, out, sheet, columns, bar)?;
     }
     Ok(())
 }
 
-// Returns the line of a bar, of any length.
+// Appends the line of a bar, if it has a part at these columns.
+fn push_row(
+    alloc: Global,
+    out: &mut Vec<u8>,
+    sheet: Sheet,
+    columns: &[Column],
+    bar: &Bar<'_, '_>,
+) -> Result<(), AllocError>
+    ensures { OnOk result ((others : List ℕ) → out.new.items ++ others ≡ out.old.items
+        ++ (row_line sheet.clock sheet.width sheet.last sheet.less (map column_of columns.now) sheet.names (bar_of bar.now) ++ others)) }
+{
+    let row = row_of(alloc, sheet.clock, sheet.last, bar)?;
+    push_if_there(alloc, out, sheet, &row, columns, bar)?;
+    Ok(())
+}
+
+// Appends the line of a row, if it has a part at these columns.
+fn push_if_there(
+    alloc: Global,
+    out: &mut Vec<u8>,
+    sheet: Sheet,
+    row: &Row,
+    columns: &[Column],
+    bar: &Bar<'_, '_>,
+) -> Result<(), AllocError>
+    ensures { OnOk result ((others : List ℕ) → out.new.items ++ others ≡ out.old.items
+        ++ (line_if_there sheet.width sheet.less (row_held row.now) (map column_of columns.now) sheet.names (bar_of bar.now) ++ others)) }
+{
+    if !row.is_there(columns) {
+        return Ok(());
+    }
+    let line = row_text(alloc, sheet, row, columns, bar)?;
+    push_cut(out, sheet.width, line.as_slice())?;
+    Ok(())
+}
+
+impl Row {
+    // Returns whether the row has a part at these columns.
+    fn is_there(&self, columns: &[Column]) -> bool
+        ensures { result ≡ is_there (row_held self.now) (map column_of columns.now) }
+    {
+        self.start <= last_tick(columns) && first_tick(columns) <= self.end
+    }
+}
+
+// Returns the tick of the first column, or 0 if there is none.
+fn first_tick(columns: &[Column]) -> u64
+    ensures { result ≡ first_tick (map column_of columns.now) }
+{
+    match columns.first() {
+        Some(column) => column.tick,
+        None => 0,
+    }
+}
+
+// Returns the line of a bar at these columns, of any length.
 fn row_text(
     alloc: Global,
-    clock: Clock,
+    sheet: Sheet,
+    row: &Row,
     columns: &[Column],
-    names: usize,
     bar: &Bar<'_, '_>,
 ) -> Result<Vec<u8>, AllocError>
-    ensures { IfOk result (λ line. line.items ≡ row_text clock (map column_of columns.now) names (bar_of bar.now)) }
+    ensures { IfOk result (λ line. line.items ≡ row_text sheet.less (row_held row.now) (map column_of columns.now) sheet.names (bar_of bar.now)) }
 {
     let mut line = Vec::new(alloc);
     push_name(&mut line, bar)?;
     let len = line.len();
-    push_times(&mut line, names.saturating_sub(len), b' ')?;
-    line.extend_from_slice(b"  ")?;
-    let row = row_of(alloc, clock, columns, bar)?;
-    push_cells(&mut line, &row, columns)?;
+    push_times(&mut line, sheet.names.saturating_sub(len), b' ')?;
     line.extend_from_slice(b" ")?;
-    push_outcome(&mut line, bar)?;
+    line.extend_from_slice(mark_before(row, columns))?;
+    push_cells(&mut line, sheet.less, row, columns)?;
+    push_after(&mut line, row, columns, bar)?;
     Ok(line)
+}
+
+// Returns the mark before the first of these columns: `~` if the row began before it.
+fn mark_before(row: &Row, columns: &[Column]) -> &'static [u8]
+    ensures { result.now ≡ mark_before (row_held row.now) (map column_of columns.now) }
+{
+    if row.start < first_tick(columns) {
+        b"~"
+    } else {
+        b" "
+    }
+}
+
+// Appends what is after the last of these columns: the outcome of a bar, or `~` if it goes on.
+fn push_after(
+    line: &mut Vec<u8>,
+    row: &Row,
+    columns: &[Column],
+    bar: &Bar<'_, '_>,
+) -> Result<(), AllocError>
+    ensures { OnOk result (line.new.items ≡ line.old.items ++ text_after (row_held row.now) (map column_of columns.now) (bar_of bar.now)) }
+{
+    if row.end <= last_tick(columns) {
+        line.extend_from_slice(b" ")?;
+        return push_outcome(line, bar);
+    }
+    line.extend_from_slice(b"~")
 }
 
 // Appends the line for the limit, if the story is cut off at one.
@@ -129,23 +216,5 @@ pub(crate) fn push_limit(
     };
     let mut line = Vec::from_slice(alloc, b"limit ")?;
     push_number(&mut line, limit)?;
-    push_cut(out, width, line.as_slice())
-}
-
-// Appends the line that says how many columns are not shown, if there are any.
-pub(crate) fn push_left(
-    alloc: Global,
-    out: &mut Vec<u8>,
-    width: usize,
-    shown: usize,
-    all: usize,
-) -> Result<(), AllocError>
-    ensures { OnOk result (out.new.items ≡ out.old.items ++ left_text width shown all) }
-{
-    if shown == all {
-        return Ok(());
-    }
-    let mut line = Vec::new(alloc);
-    push_left_out(&mut line, shown, all)?;
     push_cut(out, width, line.as_slice())
 }

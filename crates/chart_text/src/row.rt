@@ -2,13 +2,11 @@ ghost use Rattle.std.specs.Prelude.{◌≡◌, ◌++◌, ℕ, List, ◌∷◌, I
 ghost use Rattle.job_story.specs.Held.{what_of};
 ghost use Rattle.story_causes.specs.Seen.{event_in};
 ghost use Rattle.chart_bars.specs.Held.{bar_of, event_seen};
-ghost use Rattle.chart_columns.specs.Held.{column_of};
-ghost use Rattle.chart_text.specs.Marks.{strokes_of, is_cross, is_dot, is_plus, columns_where, with_cancelled, end_column, row_of};
+ghost use Rattle.chart_text.specs.Marks.{strokes_of, is_cross, is_dot, is_plus, ticks_where, with_cancelled, end_tick, row_of};
 ghost use Rattle.chart_text.specs.Held.{strokes_held, row_held};
 
 use crate::kinds::{is_cross, is_dot, is_plus};
 use chart_bars::Bar;
-use chart_columns::{Column, column_at, last_tick};
 use job_story::{Event, What};
 use moments::Clock;
 use std::alloc::{AllocError, Global};
@@ -33,7 +31,7 @@ const BLOCK: Strokes = Strokes {
     end: b')',
 };
 
-// A bar on the columns. Columns are given by their ticks.
+// The ticks of a bar.
 #[derive(Drop)]
 pub(crate) struct Row {
     pub strokes: Strokes,
@@ -41,34 +39,34 @@ pub(crate) struct Row {
     pub end: u64,
     // Whether the bar has an end.
     pub closed: bool,
-    // The columns at which it is cancelled.
+    // The ticks at which it is cancelled.
     pub crosses: Vec<u64>,
-    // The columns at which it raises an exception.
+    // The ticks at which it raises an exception.
     pub dots: Vec<u64>,
-    // The columns at which it sets an event of the job.
+    // The ticks at which it sets an event of the job.
     pub pluses: Vec<u64>,
 }
 
-// Returns the row of a bar on these columns.
+// Returns the row of a bar in a chart with this last tick.
 pub(crate) fn row_of(
     alloc: Global,
     clock: Clock,
-    columns: &[Column],
+    last: u64,
     bar: &Bar<'_, '_>,
 ) -> Result<Row, AllocError>
-    ensures { IfOk result (λ row. row_held row ≡ row_of clock (map column_of columns.now) (bar_of bar.now)) }
+    ensures { IfOk result (λ row. row_held row ≡ row_of clock last (bar_of bar.now)) }
 {
     let mut crosses = Vec::new(alloc);
     push_cancelled(&mut crosses, clock, bar.cancelled)?;
-    push_crosses(&mut crosses, clock, columns, bar.own)?;
+    push_crosses(&mut crosses, clock, bar.own)?;
     let mut dots = Vec::new(alloc);
-    push_dots(&mut dots, clock, columns, bar.own)?;
+    push_dots(&mut dots, clock, bar.own)?;
     let mut pluses = Vec::new(alloc);
-    push_pluses(&mut pluses, clock, columns, bar.own)?;
+    push_pluses(&mut pluses, clock, bar.own)?;
     Ok(Row {
         strokes: strokes_of(&bar.first.what),
-        start: column_at(columns, clock.tick_of(bar.first.tick)),
-        end: end_column(clock, columns, bar.last),
+        start: clock.tick_of(bar.first.tick),
+        end: end_tick(clock, last, bar.last),
         closed: bar.last.is_some(),
         crosses,
         dots,
@@ -86,18 +84,18 @@ fn strokes_of(what: &What) -> Strokes
     }
 }
 
-// Returns the column at which a bar ends, or the last column if it has no end.
-fn end_column(clock: Clock, columns: &[Column], last: Option<&Event>) -> u64
-    ensures { result ≡ end_column clock (map column_of columns.now) (event_seen last.entry) }
+// Returns the tick at which a bar ends, or the last one of the chart if it has no end.
+fn end_tick(clock: Clock, last: u64, event: Option<&Event>) -> u64
+    ensures { result ≡ end_tick clock last (event_seen event.entry) }
 {
-    match last {
-        Some(event) => column_at(columns, clock.tick_of(event.tick)),
-        None => last_tick(columns),
+    match event {
+        Some(event) => clock.tick_of(event.tick),
+        None => last,
     }
 }
 
-// Appends the tick of the moment from which a scope or nursery is cancelled, if there is one. A cross is drawn there if that is a
-// column.
+// Appends the tick of the moment from which a scope or nursery is cancelled, if there is one. A cross is drawn there if something
+// happens at that tick.
 fn push_cancelled(
     ticks: &mut Vec<u64>,
     clock: Clock,
@@ -111,53 +109,32 @@ fn push_cancelled(
     Ok(())
 }
 
-// Appends the column of each event with which a task is cancelled.
-fn push_crosses(
-    ticks: &mut Vec<u64>,
-    clock: Clock,
-    columns: &[Column],
-    events: &[&Event],
-) -> Result<(), AllocError>
-    ensures { OnOk result (ticks.new.items
-        ≡ ticks.old.items ++ columns_where clock is_cross (map column_of columns.now) (map event_in events.now)) }
+// Appends the tick of each event with which a task is cancelled.
+fn push_crosses(ticks: &mut Vec<u64>, clock: Clock, events: &[&Event]) -> Result<(), AllocError>
+    ensures { OnOk result (ticks.new.items ≡ ticks.old.items ++ ticks_where clock is_cross (map event_in events.now)) }
 {
     'events: for event in events {
-        let column = column_at(columns, clock.tick_of(event.tick));
-        push_if(ticks, is_cross(&event.what), column)?;
+        push_if(ticks, is_cross(&event.what), clock.tick_of(event.tick))?;
     }
     Ok(())
 }
 
-// Appends the column of each event with which a task raises an exception.
-fn push_dots(
-    ticks: &mut Vec<u64>,
-    clock: Clock,
-    columns: &[Column],
-    events: &[&Event],
-) -> Result<(), AllocError>
-    ensures { OnOk result (ticks.new.items
-        ≡ ticks.old.items ++ columns_where clock is_dot (map column_of columns.now) (map event_in events.now)) }
+// Appends the tick of each event with which a task raises an exception.
+fn push_dots(ticks: &mut Vec<u64>, clock: Clock, events: &[&Event]) -> Result<(), AllocError>
+    ensures { OnOk result (ticks.new.items ≡ ticks.old.items ++ ticks_where clock is_dot (map event_in events.now)) }
 {
     'events: for event in events {
-        let column = column_at(columns, clock.tick_of(event.tick));
-        push_if(ticks, is_dot(&event.what), column)?;
+        push_if(ticks, is_dot(&event.what), clock.tick_of(event.tick))?;
     }
     Ok(())
 }
 
-// Appends the column of each event with which a task sets an event of the job.
-fn push_pluses(
-    ticks: &mut Vec<u64>,
-    clock: Clock,
-    columns: &[Column],
-    events: &[&Event],
-) -> Result<(), AllocError>
-    ensures { OnOk result (ticks.new.items
-        ≡ ticks.old.items ++ columns_where clock is_plus (map column_of columns.now) (map event_in events.now)) }
+// Appends the tick of each event with which a task sets an event of the job.
+fn push_pluses(ticks: &mut Vec<u64>, clock: Clock, events: &[&Event]) -> Result<(), AllocError>
+    ensures { OnOk result (ticks.new.items ≡ ticks.old.items ++ ticks_where clock is_plus (map event_in events.now)) }
 {
     'events: for event in events {
-        let column = column_at(columns, clock.tick_of(event.tick));
-        push_if(ticks, is_plus(&event.what), column)?;
+        push_if(ticks, is_plus(&event.what), clock.tick_of(event.tick))?;
     }
     Ok(())
 }

@@ -1,21 +1,30 @@
-ghost use Rattle.std.specs.Prelude.{◌≡◌, IfOk, map};
+ghost use Rattle.std.specs.Prelude.{◌≡◌, ◌++◌, ◌<◌, IfOk, map, length};
 ghost use Rattle.story_causes.specs.Seen.{event_in};
 ghost use Rattle.chart_bars.specs.Held.{bar_of};
 ghost use Rattle.chart_columns.specs.Held.{column_of};
-ghost use Rattle.chart_text.specs.Text.{text_with, chart_text};
+ghost use Rattle.chart_text.specs.Text.{limit_text, panel_size, panel_count, panels_text, chart_text};
 
-use crate::lines::{push_header, push_left, push_limit, push_rows};
-use crate::widths::{columns_for, longest_name};
+use crate::lines::{Sheet, push_limit};
+use crate::panels::push_panels;
+use crate::widths::{longest_name, room_for};
 use chart_bars::{Bar, all_ticks};
-use chart_columns::{Column, columns_of};
+use chart_columns::{Column, columns_of, fits_less, last_tick, less_for};
+use digits::digit_count;
 use job_story::Event;
 use moments::Clock;
 use std::alloc::{AllocError, Global};
 
-/// Returns the text of a chart with these events, in the order of the walk, and their bars: a line with the ticks of the columns,
-/// and a line for each bar. `clock` says how the moments of the events are counted. What happens in different rounds of a tick is
-/// shown in the column of the tick. If the story is cut off at a limit (`until`), a line says so. If not all ticks fit, those at
-/// which the fewest things happen are dropped, and the last line says how many.
+/// The minimum number of columns in a panel.
+const LEAST_PANEL: usize = 10;
+
+/// Returns the text of a chart with these events, in the order of the walk, and their bars: up to four lines with the ticks of the
+/// columns, and a line for each bar. There is a column for each tick at which something happens. `clock` says how the moments of the
+/// events are counted. What happens in different rounds of a tick is shown in the column of the tick. If the story is cut off at a
+/// limit (`until`), a line says so.
+///
+/// The gaps between columns grow with the logarithm of the time between them; if the columns do not fit so, each gap is smaller by the
+/// same number of characters, but at least one character. If they do not fit even with gaps of one character, the chart has
+/// several panels, one below the other; a bar that goes on in another panel is marked by `~`.
 ///
 /// No line is longer than `width` bytes, not counting its newline, if `width` is at least 2. Returns `AllocError` if memory is
 /// refused.
@@ -30,39 +39,48 @@ pub fn chart_text(
     ensures { IfOk result (λ text. text.items ≡ chart_text clock width until (map event_in walked.now) (map bar_of bars.now)) }
 {
     let ticks = all_ticks(alloc, clock, walked, until)?;
-    let all = columns_of(alloc, ticks.as_slice())?;
+    let columns = columns_of(alloc, ticks.as_slice())?;
     let names = longest_name(alloc, bars)?;
-    let columns = columns_for(alloc, width, all.as_slice(), bars)?;
-    text_with(
-        alloc,
+    let room = room_for(alloc, width, names, bars)?;
+    let less = less_for(room, columns.as_slice());
+    let sheet = Sheet {
         clock,
         width,
-        until,
-        all.len(),
-        columns.as_slice(),
+        last: last_tick(columns.as_slice()),
+        less,
         names,
-        bars,
-    )
+    };
+    let size = panel_size(room, less, columns.as_slice());
+    text_in_panels(alloc, sheet, until, size, columns.as_slice(), bars)
 }
 
-// Returns the text with these columns, of `all` columns.
-fn text_with(
+// Returns the number of columns in a panel.
+fn panel_size(room: usize, less: usize, columns: &[Column]) -> usize
+    ensures { result ≡ panel_size room less (map column_of columns.now) }
+{
+    if fits_less(less, room, columns) {
+        return columns.len().max(1);
+    }
+    room.saturating_sub(digit_count(last_tick(columns)))
+        .max(LEAST_PANEL)
+}
+
+// Returns the text with these columns in panels of a size. The sheet has the last of these columns.
+fn text_in_panels(
     alloc: Global,
-    clock: Clock,
-    width: usize,
+    sheet: Sheet,
     until: Option<u64>,
-    all: usize,
+    size: usize,
     columns: &[Column],
-    names: usize,
     bars: &[Bar<'_, '_>],
 ) -> Result<Vec<u8>, AllocError>
-    ensures { IfOk result (λ text. text.items
-        ≡ text_with clock width until all (map column_of columns.now) names (map bar_of bars.now)) }
+    requires { 0 < size }
+    ensures { IfOk result (λ text. text.items ≡ panels_text sheet.clock sheet.width sheet.last sheet.less sheet.names (map bar_of bars.now) size
+        (panel_count size (length columns.now)) (map column_of columns.now) ++ limit_text sheet.width until) }
 {
     let mut out = Vec::new(alloc);
-    push_header(alloc, &mut out, width, names, columns)?;
-    push_rows(alloc, &mut out, clock, width, columns, names, bars)?;
-    push_limit(alloc, &mut out, width, until)?;
-    push_left(alloc, &mut out, width, columns.len(), all)?;
+    let count = columns.len().div_ceil(size);
+    push_panels(alloc, &mut out, sheet, bars, size, count, columns)?;
+    push_limit(alloc, &mut out, sheet.width, until)?;
     Ok(out)
 }

@@ -1,34 +1,49 @@
 ghost use Rattle.std.specs.Prelude.{◌≡◌, length, IfOk, map};
 ghost use Rattle.chart_bars.specs.Held.{bar_of};
 ghost use Rattle.chart_columns.specs.Held.{column_of};
-ghost use Rattle.chart_text.specs.Text.{name_of, outcome_of, longest_name, longest_outcome, columns_for};
+ghost use Rattle.chart_text.specs.Text.{name_of, outcome_of, longest_name, longest_outcome, room_for, less_to_fit};
 
 use crate::names::{push_name, push_outcome};
 use chart_bars::Bar;
-use chart_columns::{Column, shown_columns};
+use chart_columns::{Column, less_for};
 use std::alloc::{AllocError, Global};
 
 /// The maximum room that is kept for outcomes, in bytes. A longer outcome is cut if it does not fit.
 pub const MAX_OUTCOME: usize = 24;
 
-/// Returns the columns for which there is room in a width, in bytes, beside the names and outcomes of these bars. A long outcome
-/// is cut before a column is dropped for it. Returns `AllocError` if memory is refused.
-pub fn columns_for(
+/// Returns by how many characters gaps are made smaller so that these columns fit into a width, in characters, beside the names and
+/// outcomes of these bars: the least number that suffices, or the one with which each gap is one character if none does. Long outcomes
+/// take no more than 24 characters. Returns `AllocError` if memory is refused.
+pub fn less_to_fit(
     alloc: Global,
     width: usize,
     all: &[Column],
     bars: &[Bar<'_, '_>],
-) -> Result<Vec<Column>, AllocError>
-    ensures { IfOk result (λ columns. map column_of columns.items ≡ columns_for width (map column_of all.now) (map bar_of bars.now)) }
+) -> Result<usize, AllocError>
+    ensures { IfOk result (λ less. less ≡ less_to_fit width (map column_of all.now) (map bar_of bars.now)) }
 {
     let names = longest_name(alloc, bars)?;
+    let room = room_for(alloc, width, names, bars)?;
+    Ok(less_for(room, all))
+}
+
+// Returns the room for columns in a width, beside names of this length and the outcomes of these bars.
+pub(crate) fn room_for(
+    alloc: Global,
+    width: usize,
+    names: usize,
+    bars: &[Bar<'_, '_>],
+) -> Result<usize, AllocError>
+    ensures { IfOk result (λ room. room ≡ room_for width names (map bar_of bars.now)) }
+{
     let outcomes = longest_outcome(alloc, bars)?.min(MAX_OUTCOME);
-    let room = width
-        .saturating_sub(names)
-        .saturating_sub(2)
-        .saturating_sub(outcomes)
-        .saturating_sub(1);
-    shown_columns(alloc, room, all)
+    Ok(
+        width
+            .saturating_sub(names)
+            .saturating_sub(2)
+            .saturating_sub(outcomes)
+            .saturating_sub(1),
+    )
 }
 
 /// Returns the length of the longest name of these bars, in bytes, or 0 if there are no bars. Returns `AllocError` if memory is

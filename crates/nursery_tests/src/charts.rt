@@ -76,9 +76,9 @@ limit 100
 // There is space for two ticks.
 const NARROW: &str = "trio-job 1\njob m { sleep 1; sleep 1; raise A; }";
 
-const NARROWED: &[u8] = b"   0  2
-m  |--! raised A(m..
-1 of 3 ticks are l..
+const NARROWED: &[u8] = b"   0 2
+    1
+m  |-! raised A(m@2)
 ";
 
 // A server that sets an event in tick 3, and two tasks that wait for it.
@@ -151,22 +151,23 @@ fn a_drawing_is_an_svg_document(rt: HostRuntime) -> Result<(), Fail> {
     Ok(())
 }
 
-// How the drawing of the server ends: with an arrow from its row to that of each task that waits.
-const SERVED_ARROWS: &[u8] =
-    b"<line class=\"arrow\" x1=\"158\" y1=\"104\" x2=\"158\" y2=\"128\"><title>tick 3
+// What the drawing of the server has: an arrow from its row to that of each task that waits.
+const SERVED_ARROWS: &str =
+    "<line class=\"arrow\" x1=\"158\" y1=\"104\" x2=\"158\" y2=\"128\"><title>tick 3
   server  sets event up
   server  sleeps until 5
 </title></line><line class=\"arrow\" x1=\"158\" y1=\"104\" x2=\"158\" y2=\"152\"><title>tick 3
   server  sets event up
   server  sleeps until 5
-</title></line></svg>";
+</title></line>";
 
 #[test]
 fn an_event_that_is_set_has_arrows_to_the_waits(rt: HostRuntime) -> Result<(), Fail> {
     let form = Form::Svg { width: 80 };
     let (status, out) = chart_of(&rt, READY.as_bytes(), form, 1, &mut Forward)?;
     assert!(rt; status == 0);
-    assert!(rt; out.taken().ends_with(SERVED_ARROWS));
+    let drawn = str::from_utf8(out.taken()).unwrap_or("?");
+    assert!(rt; drawn.contains(SERVED_ARROWS));
     Ok(())
 }
 

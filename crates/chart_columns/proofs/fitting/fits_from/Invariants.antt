@@ -5,4 +5,4 @@ use Rattle.chart_columns.proofs.fitting.fits_from.Given as goal
 
 abbrev pub invariant-columns : goal.invariant-columns
 invariant-columns l =
-    fits_from l.left l.at (map column_of (drop l.column-index l.after)) ≡ fits_from l.room l.tick (map column_of l.after)
+    fits_from l.less l.left l.at (map column_of (drop l.column-index l.after)) ≡ fits_from l.less l.room l.tick (map column_of l.after)

@@ -7,8 +7,8 @@ use Rattle.chart_text.proofs.cells.push_cells.Given as goal
 
 abbrev pub invariant-columns : goal.invariant-columns
 invariant-columns l =
-    l.out.items ++ cells (row_held l.row) (map column_of l.rest)
-    ≡ l.fn.out.items ++ cells (row_held l.row) (map column_of l.columns)
+    l.out.items ++ cells l.less (row_held l.row) (map column_of l.rest)
+    ≡ l.fn.out.items ++ cells l.less (row_held l.row) (map column_of l.columns)
 
 abbrev pub decreases-columns : goal.decreases-columns
 decreases-columns l = length l.rest

@@ -7,5 +7,5 @@ use Rattle.chart_text.proofs.lines.push_rows.Given as goal
 
 abbrev pub invariant-bars : goal.invariant-bars
 invariant-bars l =
-    l.out.items ++ rows_text l.clock l.width (map column_of l.columns) l.names (map bar_of (drop l.bar-index l.bars))
-    ≡ l.fn.out.items ++ rows_text l.clock l.width (map column_of l.columns) l.names (map bar_of l.bars)
+    l.out.items ++ rows_text l.sheet.clock l.sheet.width l.sheet.last l.sheet.less (map column_of l.columns) l.sheet.names (map bar_of (drop l.bar-index l.bars))
+    ≡ l.fn.out.items ++ rows_text l.sheet.clock l.sheet.width l.sheet.last l.sheet.less (map column_of l.columns) l.sheet.names (map bar_of l.bars)

@@ -1,11 +1,10 @@
 use Rattle.std.proofs.Common.{◌≡◌, ◌++◌, drop}
 use Rattle.std.specs.Prelude.{map}
 use Rattle.story_causes.specs.Seen.{event_in}
-use Rattle.chart_columns.specs.Held.{column_of}
-use Rattle.chart_text.specs.Marks.{is_dot, columns_where}
+use Rattle.chart_text.specs.Marks.{is_dot, ticks_where}
 use Rattle.chart_text.proofs.row.push_dots.Given as goal
 
 abbrev pub invariant-events : goal.invariant-events
 invariant-events l =
-    l.ticks.items ++ columns_where l.clock is_dot (map column_of l.columns) (map event_in (drop l.event-index l.events))
-    ≡ l.fn.ticks.items ++ columns_where l.clock is_dot (map column_of l.columns) (map event_in l.events)
+    l.ticks.items ++ ticks_where l.clock is_dot (map event_in (drop l.event-index l.events))
+    ≡ l.fn.ticks.items ++ ticks_where l.clock is_dot (map event_in l.events)
