@@ -19,11 +19,11 @@ import tempfile
 
 ROOT = os.path.join(os.path.dirname(os.path.abspath(__file__)), "..", "..")
 
-# What each picture has: its rows in order, its crosses, dots and arrows, and titles that are somewhere in it.
+# What each picture has: its rows in order, its crosses, flags, dots and arrows, and titles that are somewhere in it.
 WANTED = {
     "supervisor": (
         ["supervisor", "nursery workers", "reader", "scope flush", "writer"],
-        (1, 1, 1),
+        (1, 0, 1, 1),
         [
             "reader  is cancelled while sleeping since 0 by nursery workers (writer failed at 4)",
             "writer  raises DiskFull",
@@ -32,12 +32,12 @@ WANTED = {
     ),
     "shutdown": (
         ["shutdown", "scope serving", "nursery workers", "upload", "scope drain_upload", "query", "scope drain_query"],
-        (3, 0, 1),
+        (3, 2, 0, 0),
         ["query  is cancelled during cleanup while sleeping since 10 by scope drain_query (deadline)"],
     ),
     "retry": (
         ["retry", "scope budget", "scope attempt.0", "scope attempt.1", "scope attempt.2", "scope attempt.3"],
-        (4, 0, 0),
+        (4, 4, 0, 0),
         ["retry  leaves scope attempt.0: cancellation caught, raises TooSlow(attempt.0@4)"],
     ),
 }
@@ -49,7 +49,7 @@ document.getElementById('seen').textContent = JSON.stringify({
   title: svg.querySelector(':scope > title').textContent,
   names: all('text.name').map(it => it.textContent.trim()),
   bars: all('rect.task, rect.scope, rect.nursery').length,
-  marks: [all('use').length, all('circle.dot').length, all('line.arrow').length],
+  marks: [all('use[href="#cross"]').length, all('use[href="#deadline"]').length, all('circle.dot').length, all('line.arrow').length],
   titles: all('title').map(it => it.textContent),
   scripts: all('script, image, foreignObject').length,
   view: box(svg),
@@ -91,10 +91,11 @@ def compare(name, svg):
     if "parsererror" in alone or alone.count("<rect") != svg.count("<rect"):
         raise Wrong(f"{name}: Chromium cannot read it as a document: {alone[:500]!r}")
     light, dark = seen_of(svg), seen_of(svg, "--blink-settings=preferredColorScheme=0")
-    if light["title"] != name or light["names"] != names or light["bars"] != len(names):
+    # the legend has four bars, two marks, a dot and an arrow
+    if light["title"] != name or light["names"] != names or light["bars"] != len(names) + 4:
         raise Wrong(f"{name}: the rows are {light['title']}: {light['names']}, {light['bars']} bars")
-    if tuple(light["marks"]) != marks:
-        raise Wrong(f"{name}: crosses, dots and arrows are {light['marks']}")
+    if tuple(count - 1 for count in light["marks"]) != marks:
+        raise Wrong(f"{name}: crosses, flags, dots and arrows, with those of the legend, are {light['marks']}")
     if light["scripts"]:
         raise Wrong(f"{name}: it has {light['scripts']} scripts or images")
     for title in titles:

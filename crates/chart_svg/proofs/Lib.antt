@@ -2,3 +2,4 @@ pub mod Pieces
 pub mod Taken
 pub mod WellFormed
 pub mod Drawn
+pub mod Behind

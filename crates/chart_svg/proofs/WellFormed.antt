@@ -1,7 +1,7 @@
 -- A drawing is well formed.
 use Rattle.std.proofs.Common.{◌≡◌, ℕ, ◌+◌, ◌*◌, length, take, List, [], ◌∷◌, true, refl, ◌∙◌, inl, inr}
 use Rattle.std.proofs.lemmas.Bool.{cases_Bool, and_from}
-use Rattle.std.specs.Prelude.{Option, Some, None, ◌&&◌}
+use Rattle.std.specs.Prelude.{Bool, Option, Some, None, ◌&&◌}
 use Rattle.exc_groups.specs.Exceptions.{Label}
 use Rattle.cancel_scopes.specs.Sight.{Tick}
 use Rattle.job_meaning.specs.Log.{same_label}
@@ -9,17 +9,19 @@ use Rattle.job_story.specs.Story.{enters, enters_event, sleeps, is_cancelled, fi
 use Rattle.job_story.specs.Tell.{is_from}
 use Rattle.job_story.specs.Events.{What, starts, happens, ends, Event}
 use Rattle.job_story.specs.Limit.{is_start}
-use Rattle.job_story.specs.Causes.{cause_of}
+use Rattle.job_story.specs.Causes.{Cause, by_deadline, by_task, by_set, by_failure, by_cancellation, cause_of}
 use Rattle.chart_bars.specs.Bars.{Bar}
 use Rattle.chart_columns.specs.Columns.{Column}
 use Rattle.chart_text.specs.Marks.{is_cross, is_dot}
 use Rattle.svg_text.specs.Content.{Content, nothing, content_text, is_well_formed, IsDocument}
 use Rattle.svg_text.specs.declared.names.Tag.TheVariants as tags
-use Rattle.chart_svg.specs.Sheets.{Sheet, x_of, x_by}
+use Rattle.chart_svg.specs.Sheets.{Sheet, x_of, x_by, next_place, is_linear}
 use Rattle.chart_svg.specs.Rows.{cancelled_part, mark, marks, row, rows}
-use Rattle.chart_svg.specs.Arrows.{Source, source_of, arrow_from, arrow_by, arrow_at, event_set, beside, wait_arrow, wait_arrows, arrows}
+use Rattle.chart_svg.specs.Arrows.{Source, source_of, culprit, arrow_from, arrow_by, cancelled_at, arrow_at, event_set, beside, wait_arrow, wait_arrows, arrows}
+use Rattle.chart_svg.specs.Legend.{legend}
 use Rattle.chart_svg.specs.declared.layout.TheConstants.{ROW, MAX_ROWS}
-use Rattle.chart_svg.specs.Drawing.{tick_lines, note, limit_note, columns_note, rows_note, notes, bottom_of, svg_attributes, inside_of, document, width_of, height_of}
+use Rattle.chart_svg.specs.declared.culprits.TheConstants.{MAX_DEPTH}
+use Rattle.chart_svg.specs.Drawing.{tick_lines, note, limit_note, axis_note, rows_note, notes, bottom_of, svg_attributes, inside_of, document, width_of, height_of}
 
 -- ---- rows
 
@@ -66,10 +68,23 @@ arrow_by_well : (sheet : Sheet) (all : List Bar) (i x : ℕ) (source : Option So
 arrow_by_well sheet all i x None rest = refl
 arrow_by_well sheet all i x (Some source) rest = arrow_from_well sheet i x source 0 all rest
 
+cancelled_at_well : (sheet : Sheet) (all : List Bar) (i m : ℕ) (cause : Option Cause) (rest : Content) →
+    is_well_formed (cancelled_at sheet all i m cause rest) ≡ is_well_formed rest
+cancelled_at_well sheet all i m None rest = arrow_by_well sheet all i (x_by sheet m) (culprit sheet all MAX_DEPTH None) rest
+cancelled_at_well sheet all i m (Some by_deadline) rest = refl
+cancelled_at_well sheet all i m (Some (by_task task t)) rest =
+    arrow_by_well sheet all i (x_by sheet m) (culprit sheet all MAX_DEPTH (Some (by_task task t))) rest
+cancelled_at_well sheet all i m (Some (by_set task t)) rest =
+    arrow_by_well sheet all i (x_by sheet m) (culprit sheet all MAX_DEPTH (Some (by_set task t))) rest
+cancelled_at_well sheet all i m (Some (by_failure task t)) rest =
+    arrow_by_well sheet all i (x_by sheet m) (culprit sheet all MAX_DEPTH (Some (by_failure task t))) rest
+cancelled_at_well sheet all i m (Some (by_cancellation task t)) rest =
+    arrow_by_well sheet all i (x_by sheet m) (culprit sheet all MAX_DEPTH (Some (by_cancellation task t))) rest
+
 arrow_at_well : (sheet : Sheet) (all : List Bar) (i : ℕ) (what : What) (from : Option ℕ) (rest : Content) →
     is_well_formed (arrow_at sheet all i what from rest) ≡ is_well_formed rest
 arrow_at_well sheet all i (happens (enters kind label deadline shield)) (Some m) rest =
-    arrow_by_well sheet all i (x_by sheet m) (source_of (cause_of sheet.table sheet.events label)) rest
+    cancelled_at_well sheet all i m (cause_of sheet.table sheet.events label) rest
 arrow_at_well sheet all i (happens (enters kind label deadline shield)) None rest = refl
 arrow_at_well sheet all i (happens (enters_event label)) from rest = refl
 arrow_at_well sheet all i (happens (sleeps until)) from rest = refl
@@ -117,39 +132,45 @@ arrows_well sheet all i (b ∷ bs) rest =
 
 -- ---- the document
 
-tick_lines_well : (sheet : Sheet) (bottom : ℕ) (columns : List Column) (rest : Content) →
-    is_well_formed (tick_lines sheet bottom columns rest) ≡ is_well_formed rest
-tick_lines_well sheet bottom [] rest = refl
-tick_lines_well sheet bottom (c ∷ cs) rest = tick_lines_well sheet bottom cs rest
+tick_lines_well : (sheet : Sheet) (bottom at : ℕ) (columns : List Column) (rest : Content) →
+    is_well_formed (tick_lines sheet bottom at columns rest) ≡ is_well_formed rest
+tick_lines_well sheet bottom at [] rest = refl
+tick_lines_well sheet bottom at (c ∷ cs) rest = tick_lines_well sheet bottom (next_place sheet.less at c cs) cs rest
 
 note_well : (y : ℕ) (bytes : List ℕ) (rest : Content) → is_well_formed (note y bytes rest) ≡ is_well_formed rest
 note_well y [] rest = refl
 note_well y (b ∷ bs) rest = refl
 
-notes_well : (until : Tick) (bottom shown all n : ℕ) → is_well_formed (notes until bottom shown all n) ≡ true
-notes_well until bottom shown all n =
+notes_well : (until : Tick) (bottom : ℕ) (linear : Bool) (n : ℕ) (rest : Content) →
+    is_well_formed (notes until bottom linear n rest) ≡ is_well_formed rest
+notes_well until bottom linear n rest =
     note_well (bottom + ROW) (limit_note until)
-    (note (bottom + ROW * 2) (columns_note shown all) (note (bottom + ROW * 3) (rows_note n) nothing))
-    ∙ note_well (bottom + ROW * 2) (columns_note shown all) (note (bottom + ROW * 3) (rows_note n) nothing)
-    ∙ note_well (bottom + ROW * 3) (rows_note n) nothing
+    (note (bottom + ROW * 2) (axis_note linear) (note (bottom + ROW * 3) (rows_note n) rest))
+    ∙ note_well (bottom + ROW * 2) (axis_note linear) (note (bottom + ROW * 3) (rows_note n) rest)
+    ∙ note_well (bottom + ROW * 3) (rows_note n) rest
 
-inside_well : (sheet : Sheet) (until : Tick) (all : ℕ) (bars : List Bar) → is_well_formed (inside_of sheet until all bars) ≡ true
-inside_well sheet until all bars =
+legend_well : (y : ℕ) → is_well_formed (legend y nothing) ≡ true
+legend_well y = refl
+
+inside_well : (sheet : Sheet) (until : Tick) (bars : List Bar) → is_well_formed (inside_of sheet until bars) ≡ true
+inside_well sheet until bars =
     let shown = take MAX_ROWS bars in
-    let last = notes until (bottom_of bars) (length sheet.columns) all (length bars) in
-    tick_lines_well sheet (bottom_of bars) sheet.columns (rows sheet 0 shown (arrows sheet shown 0 shown last))
+    let below = legend (bottom_of bars + ROW * 3 + 12) nothing in
+    let last = notes until (bottom_of bars) (is_linear sheet.less sheet.columns) (length bars) below in
+    tick_lines_well sheet (bottom_of bars) 0 sheet.columns (rows sheet 0 shown (arrows sheet shown 0 shown last))
     ∙ rows_well sheet 0 shown (arrows sheet shown 0 shown last)
     ∙ arrows_well sheet shown 0 shown last
-    ∙ notes_well until (bottom_of bars) (length sheet.columns) all (length bars)
+    ∙ notes_well until (bottom_of bars) (is_linear sheet.less sheet.columns) (length bars) below
+    ∙ legend_well (bottom_of bars + ROW * 3 + 12)
 
 -- What is written of a drawing is a well-formed document.
-pub is_document : (sheet : Sheet) (until : Tick) (all : ℕ) (bars : List Bar) (svg : List ℕ) → svg ≡ content_text (document sheet until all bars) →
+pub is_document : (sheet : Sheet) (until : Tick) (bars : List Bar) (svg : List ℕ) → svg ≡ content_text (document sheet until bars) →
     IsDocument svg
-is_document sheet until all bars svg written_so =
+is_document sheet until bars svg written_so =
     record {
       tag = tags.Svg;
       attributes = svg_attributes (width_of sheet bars) (height_of bars);
-      inside = inside_of sheet until all bars;
+      inside = inside_of sheet until bars;
       is_written = written_so;
-      well = and_from _ _ (inside_well sheet until all bars) refl;
+      well = and_from _ _ (inside_well sheet until bars) refl;
     }

@@ -1,31 +1,35 @@
--- Arrows from the task that cancelled something to what it cancelled, and from the task that set an event to the waits that end then.
-use Rattle.std.specs.Prelude.{ℕ, ◌+◌, ◌==◌, ◌&&◌, Option, Some, None, List, [], ◌∷◌, codes, decimal, if◌then◌else◌}
+-- Arrows from the task that cancelled something to what it cancelled, and from the task that set an event to the waits that end then,
+-- and the marks of deadlines.
+use Rattle.std.specs.Prelude.{ℕ, zero, suc, ◌+◌, ◌==◌, ◌&&◌, Option, Some, None, List, [], ◌∷◌, ◌++◌, codes, decimal, nat_le, if◌then◌else◌}
 use Rattle.exc_groups.specs.Exceptions.{Label}
 use Rattle.job_meaning.specs.Log.{same_label}
-use Rattle.job_story.specs.Story.{enters, was_set}
+use Rattle.job_meaning.specs.Moments.{Clock, tick_of}
+use Rattle.job_story.specs.Story.{enters, is_cancelled, was_set}
 use Rattle.job_story.specs.Tell.{is_from}
 use Rattle.job_story.specs.Events.{What, happens, Event}
 use Rattle.job_story.specs.Limit.{is_start}
 use Rattle.job_story.specs.Causes.{Cause, by_deadline, by_task, by_set, by_failure, by_cancellation, cause_of}
 use Rattle.chart_bars.specs.Bars.{Bar}
-use Rattle.svg_text.specs.Content.{Content, element, Attribute, attribute}
+use Rattle.svg_text.specs.Content.{Content, nothing, text, element, Attribute, attribute}
 use Rattle.svg_text.specs.declared.names.Tag.TheVariants as tags
 use Rattle.svg_text.specs.declared.names.Attr.TheVariants as attrs
 use Rattle.chart_svg.specs.Sheets.{Sheet, x_of, x_by, middle_of, events_title}
+use Rattle.chart_svg.specs.Rows.{used}
+use Rattle.chart_svg.specs.declared.culprits.TheConstants.{MAX_DEPTH}
 
 -- the task that cancelled or set something, and the moment in which it did
 pub record Source : Type 0 where
   pub task : Label
   pub tick : ℕ
 
--- the task of a cause, or `None` where the cause is a deadline
+-- the task of a cause, or `None` where the cause is a deadline, or a task that was itself merely cancelled
 abbrev pub source_of : Option Cause → Option Source
 source_of None = None
 source_of (Some by_deadline) = None
 source_of (Some (by_task task m)) = Some (record { task = task; tick = m })
 source_of (Some (by_set task m)) = Some (record { task = task; tick = m })
 source_of (Some (by_failure task m)) = Some (record { task = task; tick = m })
-source_of (Some (by_cancellation task m)) = Some (record { task = task; tick = m })
+source_of (Some (by_cancellation task m)) = None
 
 -- the events in a moment
 abbrev pub at_moment : ℕ → List Event → List Event
@@ -59,12 +63,58 @@ abbrev pub arrow_by : Sheet → List Bar → ℕ → ℕ → Option Source → C
 arrow_by sheet all i x None rest = rest
 arrow_by sheet all i x (Some source) rest = arrow_from sheet i x source 0 all rest
 
+-- ---- what cancelled a task that was merely cancelled
+
+-- the scope or nursery whose cancellation a task saw with this event, or else the one that was found before
+abbrev pub canceller_by : Option Label → What → Option Label
+canceller_by found (happens (is_cancelled by during in_cleanup)) = by
+canceller_by found _ = found
+
+-- the scope or nursery whose cancellation a task saw last by this moment, in these events or before
+abbrev pub canceller : ℕ → Option Label → List Event → Option Label
+canceller m found [] = found
+canceller m found (e ∷ es) = canceller m (if nat_le e.tick m then canceller_by found e.what else found) es
+
+-- the events of a task, by the first of these bars that is its own
+abbrev pub own_of : List Bar → Label → List Event
+own_of [] task = []
+own_of (b ∷ bs) task = if is_start b.first.what && same_label task b.first.task then b.own else own_of bs task
+
+abbrev pub cause_of_label : Sheet → Option Label → Option Cause
+cause_of_label sheet None = None
+cause_of_label sheet (Some label) = cause_of sheet.table sheet.events label
+
+-- a cause, or, where that is a task that was merely cancelled, why the scope or nursery is cancelled that cancelled the task
+abbrev pub cause_behind : Sheet → List Bar → Option Cause → Option Cause
+cause_behind sheet all None = None
+cause_behind sheet all (Some by_deadline) = Some by_deadline
+cause_behind sheet all (Some (by_task task m)) = Some (by_task task m)
+cause_behind sheet all (Some (by_set task m)) = Some (by_set task m)
+cause_behind sheet all (Some (by_failure task m)) = Some (by_failure task m)
+cause_behind sheet all (Some (by_cancellation task m)) = cause_of_label sheet (canceller m None (own_of all task))
+
+-- The task that cancelled something, where so many tasks at most were merely cancelled by one another. What cancels a task lies around
+-- the nursery that its end cancels, and blocks are nested at most `MAX_DEPTH` deep.
+unfoldable pub culprit : Sheet → List Bar → ℕ → Option Cause → Option Source
+culprit sheet all zero cause = source_of cause
+culprit sheet all (suc k) cause = culprit sheet all k (cause_behind sheet all cause)
+
 -- ---- to what is cancelled
 
--- an arrow to a scope or nursery, where it is cancelled from this moment on and a task cancelled it
+-- the title of the mark of a deadline
+abbrev pub deadline_title : Clock → ℕ → Content
+deadline_title clock m = element tags.Title [] (text (codes "deadline " ++ decimal (tick_of clock m)) nothing) nothing
+
+-- a mark on a scope or nursery that its own deadline cancelled, or else an arrow to it from the task that cancelled it
+abbrev pub cancelled_at : Sheet → List Bar → ℕ → ℕ → Option Cause → Content → Content
+cancelled_at sheet all i m (Some by_deadline) rest =
+    element tags.Use (used (codes "#deadline") (x_by sheet m) (middle_of i)) (deadline_title sheet.clock m) rest
+cancelled_at sheet all i m cause rest = arrow_by sheet all i (x_by sheet m) (culprit sheet all MAX_DEPTH cause) rest
+
+-- the mark on a scope or nursery, or the arrow to it, where it is cancelled from this moment on
 abbrev pub arrow_at : Sheet → List Bar → ℕ → What → Option ℕ → Content → Content
 arrow_at sheet all i (happens (enters kind label deadline shield)) (Some m) rest =
-    arrow_by sheet all i (x_by sheet m) (source_of (cause_of sheet.table sheet.events label)) rest
+    cancelled_at sheet all i m (cause_of sheet.table sheet.events label) rest
 arrow_at sheet all i _ _ rest = rest
 
 -- ---- to waits

@@ -1,5 +1,5 @@
 -- A chart as an SVG document.
-use Rattle.std.specs.Prelude.{ℕ, ◌+◌, ◌-◌, ◌*◌, ◌==◌, Some, None, List, [], ◌∷◌, ◌++◌, length, codes, decimal, min, nat_le, take, if◌then◌else◌}
+use Rattle.std.specs.Prelude.{ℕ, ◌+◌, ◌-◌, ◌*◌, Bool, true, false, Some, None, List, [], ◌∷◌, ◌++◌, length, codes, decimal, max, min, nat_le, take, if◌then◌else◌}
 use Rattle.cancel_scopes.specs.Sight.{Tick}
 use Rattle.job_meaning.specs.Log.{Table}
 use Rattle.job_meaning.specs.Moments.{Clock}
@@ -7,14 +7,15 @@ use Rattle.job_story.specs.Events.{Event, in_order}
 use Rattle.chart_bars.specs.Bars.{Bar}
 use Rattle.chart_bars.specs.Ticks.{all_ticks}
 use Rattle.chart_columns.specs.Columns.{Column, columns_of, last_tick}
-use Rattle.chart_text.specs.Text.{name_of, longest_name, longest_outcome, columns_for, left_out_note}
+use Rattle.chart_text.specs.Text.{name_of, longest_name, longest_outcome, less_to_fit}
 use Rattle.svg_text.specs.Content.{Content, nothing, text, element, Attribute, attribute, content_text}
 use Rattle.svg_text.specs.declared.names.Tag.TheVariants as tags
 use Rattle.svg_text.specs.declared.names.Attr.TheVariants as attrs
-use Rattle.chart_svg.specs.Sheets.{Sheet, x_at, y_of}
+use Rattle.chart_svg.specs.Sheets.{Sheet, x_from, x_at, y_of, next_place, is_linear}
 use Rattle.chart_svg.specs.Rows.{words, rows}
 use Rattle.chart_svg.specs.Arrows.{segment, arrows}
-use Rattle.chart_svg.specs.declared.layout.TheConstants.{LEFT, TOP, ROW, LETTER, MAX_ROWS, MAX_SHOWN}
+use Rattle.chart_svg.specs.Legend.{legend}
+use Rattle.chart_svg.specs.declared.layout.TheConstants.{LEFT, TOP, ROW, LETTER, MAX_ROWS, MAX_SHOWN, LEGEND}
 use Rattle.chart_svg.specs.declared.style.TheConstants.{STYLE}
 
 -- ---- the style sheet and the definitions
@@ -50,12 +51,13 @@ fill id steps rest =
     ∷ [])
     (path id steps nothing) rest
 
--- the cross, with the point where it is used at its centre
-abbrev pub cross_path : Content → Content
-cross_path rest =
-    element tags.Path
-    (attribute attrs.Id (codes "cross") ∷ attribute attrs.Class (codes "cross") ∷ attribute attrs.D (codes "M-4-4 4 4M-4 4 4-4") ∷ [])
-    nothing rest
+-- a mark, with the point where it is used at its centre
+abbrev pub mark_path : List ℕ → List ℕ → Content → Content
+mark_path id steps rest = element tags.Path (attribute attrs.Id id ∷ attribute attrs.Class id ∷ attribute attrs.D steps ∷ []) nothing rest
+
+-- the cross, and the flag of a deadline
+abbrev pub mark_paths : Content → Content
+mark_paths rest = mark_path (codes "cross") (codes "M-4-4 4 4M-4 4 4-4") (mark_path (codes "deadline") (codes "M0 8V-8L7-4 0 0") rest)
 
 abbrev pub definitions : Content → Content
 definitions rest =
@@ -63,20 +65,21 @@ definitions rest =
     (arrow_head
     (fill (codes "slanted") (codes "M0 6 6 0")
     (fill (codes "crossed") (codes "M0 6 6 0M0 0 6 6")
-    (cross_path nothing))))
+    (mark_paths nothing))))
     rest
 
 -- ---- the ticks, with a line down from each
 
-abbrev pub tick_line : Sheet → ℕ → Column → Content → Content
-tick_line sheet bottom c rest =
-    let x = x_at sheet c.tick in
+abbrev pub tick_line : ℕ → ℕ → Column → Content → Content
+tick_line x bottom c rest =
     element tags.Line (segment (codes "tick") x TOP x bottom) nothing
     (words (codes "tick") x (TOP - 6) (decimal c.tick) (text (codes "\n") rest))
 
-abbrev pub tick_lines : Sheet → ℕ → List Column → Content → Content
-tick_lines sheet bottom [] rest = rest
-tick_lines sheet bottom (c ∷ cs) rest = tick_line sheet bottom c (tick_lines sheet bottom cs rest)
+-- those of these columns, which begin so far from the first one
+abbrev pub tick_lines : Sheet → ℕ → ℕ → List Column → Content → Content
+tick_lines sheet bottom at [] rest = rest
+tick_lines sheet bottom at (c ∷ cs) rest =
+    tick_line (x_from sheet at) bottom c (tick_lines sheet bottom (next_place sheet.less at c cs) cs rest)
 
 -- ---- notes
 
@@ -89,17 +92,19 @@ abbrev pub limit_note : Tick → List ℕ
 limit_note None = []
 limit_note (Some limit) = codes "limit " ++ decimal limit
 
--- the note that says how many of all columns are not shown, if there are any
-abbrev pub columns_note : ℕ → ℕ → List ℕ
-columns_note shown all = if shown == all then [] else left_out_note shown all
+-- the note that the axis is not linear, if it is not
+abbrev pub axis_note : Bool → List ℕ
+axis_note true = []
+axis_note false = codes "gaps between ticks grow with the logarithm of the time, and are not to scale"
 
 -- the note that says how many rows are not shown, if there are any
 abbrev pub rows_note : ℕ → List ℕ
 rows_note n = if nat_le n MAX_ROWS then [] else decimal (n - MAX_ROWS) ++ codes " rows are left out"
 
-abbrev pub notes : Tick → ℕ → ℕ → ℕ → ℕ → Content
-notes until bottom shown all n =
-    note (bottom + ROW) (limit_note until) (note (bottom + ROW * 2) (columns_note shown all) (note (bottom + ROW * 3) (rows_note n) nothing))
+-- the notes about a story that is cut off or not, an axis that is linear or not, and so many rows
+abbrev pub notes : Tick → ℕ → Bool → ℕ → Content → Content
+notes until bottom linear n rest =
+    note (bottom + ROW) (limit_note until) (note (bottom + ROW * 2) (axis_note linear) (note (bottom + ROW * 3) (rows_note n) rest))
 
 -- ---- the document
 
@@ -113,10 +118,11 @@ abbrev pub bottom_of : List Bar → ℕ
 bottom_of bars = y_of (length (take MAX_ROWS bars))
 
 abbrev pub width_of : Sheet → List Bar → ℕ
-width_of sheet bars = x_at sheet (last_tick sheet.columns) + LETTER * (min MAX_SHOWN (longest_outcome bars) + 4)
+width_of sheet bars =
+    max (LEFT + LEGEND) (x_at sheet (last_tick sheet.columns) + LETTER * (min MAX_SHOWN (longest_outcome bars) + 4))
 
 abbrev pub height_of : List Bar → ℕ
-height_of bars = bottom_of bars + ROW * 4
+height_of bars = bottom_of bars + ROW * 7
 
 abbrev pub svg_attributes : ℕ → ℕ → List Attribute
 svg_attributes width height =
@@ -126,32 +132,37 @@ svg_attributes width height =
     ∷ attribute attrs.Height (decimal height)
     ∷ []
 
--- the content of the document, where `all` is the number of all columns
-abbrev pub inside_of : Sheet → Tick → ℕ → List Bar → Content
-inside_of sheet until all bars =
+abbrev pub inside_of : Sheet → Tick → List Bar → Content
+inside_of sheet until bars =
     let shown = take MAX_ROWS bars in
     element tags.Title [] (text (title_bytes bars) nothing)
     (style
     (definitions
-    (tick_lines sheet (bottom_of bars) sheet.columns
+    (tick_lines sheet (bottom_of bars) 0 sheet.columns
     (rows sheet 0 shown
     (arrows sheet shown 0 shown
-    (notes until (bottom_of bars) (length sheet.columns) all (length bars)))))))
+    (notes until (bottom_of bars) (is_linear sheet.less sheet.columns) (length bars)
+    (legend (bottom_of bars + ROW * 3 + 12) nothing)))))))
 
-abbrev pub document : Sheet → Tick → ℕ → List Bar → Content
-document sheet until all bars =
-    element tags.Svg (svg_attributes (width_of sheet bars) (height_of bars)) (inside_of sheet until all bars) nothing
+abbrev pub document : Sheet → Tick → List Bar → Content
+document sheet until bars = element tags.Svg (svg_attributes (width_of sheet bars) (height_of bars)) (inside_of sheet until bars) nothing
 
--- the sheet of a chart with room for as many columns as a text chart of this width
+-- the sheet of a chart with these columns, whose gaps are as much smaller as they are in a text chart of this width
 abbrev pub sheet_of : Clock → ℕ → Table → List Event → List Column → List Bar → Sheet
 sheet_of clock width table sorted all bars =
-    record { names = longest_name bars; columns = columns_for width all bars; clock = clock; table = table; events = sorted }
+    record {
+      names = longest_name bars;
+      columns = all;
+      less = less_to_fit width all bars;
+      clock = clock;
+      table = table;
+      events = sorted;
+    }
 
--- the drawing of a story, from its events in the order of the walk and their bars
+-- the drawing of a story, from its events in the order of the walk and their bars, with a column for each tick at which something happens
 abbrev pub drawing_of : Clock → ℕ → Table → Tick → List Event → List Bar → Content
 drawing_of clock width table until walked bars =
-    let all = columns_of (all_ticks clock walked until) in
-    document (sheet_of clock width table (in_order walked) all bars) until (length all) bars
+    document (sheet_of clock width table (in_order walked) (columns_of (all_ticks clock walked until)) bars) until bars
 
 abbrev pub chart_svg : Clock → ℕ → Table → Tick → List Event → List Bar → List ℕ
 chart_svg clock width table until walked bars = content_text (drawing_of clock width table until walked bars)

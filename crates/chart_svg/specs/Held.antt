@@ -1,5 +1,8 @@
 -- The sheets, sizes and sources of the code, as the definitions see them.
-use Rattle.std.specs.Prelude.{map}
+use Rattle.std.specs.Prelude.{Option, map}
+use Rattle.std.specs.Borrow.{Bor}
+use Rattle.std.specs.Option.{option_map}
+use Rattle.exc_groups.specs.Exceptions.{Label}
 use Rattle.story_text.specs.Told.{clock_in, events_in, froms_in}
 use Rattle.chart_columns.specs.Held.{column_of}
 use Rattle.chart_svg.specs.Sheets as sheets
@@ -14,6 +17,7 @@ sheet_held sheet =
     record {
       names = sheet.names;
       columns = map column_of sheet.columns.now;
+      less = sheet.less;
       clock = clock_in sheet.known.now;
       table = froms_in sheet.known.now;
       events = events_in sheet.known.now;
@@ -21,6 +25,10 @@ sheet_held sheet =
 
 abbrev pub size_held : Size → rows.Size
 size_held s = record { indent = s.indent; down = s.down; height = s.height }
+
+-- a borrowed label, if there is one
+abbrev pub label_seen : Option (Bor Label) → Option Label
+label_seen label = option_map (λ (b : Bor Label). b.now) label
 
 abbrev pub source_held : Source → arrows.Source
 source_held s = record { task = s.task.now; tick = s.tick }

@@ -1,5 +1,6 @@
 pub mod Sheets
 pub mod Rows
 pub mod Arrows
+pub mod Legend
 pub mod Drawing
 pub mod Held

@@ -1,17 +1,20 @@
 -- The row of a bar.
 use Rattle.std.specs.Prelude.{ℕ, ◌+◌, ◌-◌, ◌*◌, Bool, true, false, Option, Some, None, List, [], ◌∷◌, ◌++◌, length, codes, decimal, max, nat_le, take, if◌then◌else◌}
+use Rattle.moments.specs.Moments.{tick_of}
+use Rattle.moments.specs.declared.clock.Clock.{Clock}
 use Rattle.exc_groups.specs.Exceptions.{Exc, cancelled}
 use Rattle.job_meaning.specs.Walk.{a_scope, a_nursery}
 use Rattle.job_story.specs.Story.{enters}
 use Rattle.job_story.specs.Events.{What, starts, happens, ends, Event}
 use Rattle.job_story.specs.Sentences.{kept_text}
 use Rattle.chart_bars.specs.Bars.{Bar}
-use Rattle.chart_text.specs.Marks.{is_cross, is_dot, end_column}
+use Rattle.chart_columns.specs.Columns.{Column, column_at, last_tick}
+use Rattle.chart_text.specs.Marks.{is_cross, is_dot}
 use Rattle.chart_text.specs.Text.{name_of, outcome_of}
 use Rattle.svg_text.specs.Content.{Content, nothing, text, element, Attribute, attribute}
 use Rattle.svg_text.specs.declared.names.Tag.TheVariants as tags
 use Rattle.svg_text.specs.declared.names.Attr.TheVariants as attrs
-use Rattle.chart_svg.specs.Sheets.{Sheet, x_at, x_of, x_by, y_of, middle_of, events_title}
+use Rattle.chart_svg.specs.Sheets.{Sheet, x_at, x_of, x_by, outcome_x, y_of, middle_of, events_title}
 use Rattle.chart_svg.specs.declared.layout.TheConstants.{LEFT, LETTER, MAX_TOLD}
 
 -- ---- words for the style sheet
@@ -50,9 +53,15 @@ pub record Size : Type 0 where
   pub down : ℕ
   pub height : ℕ
 
+abbrev pub task_size : Size
+task_size = record { indent = 0; down = 5; height = 14 }
+
+abbrev pub block_size : Size
+block_size = record { indent = 2; down = 8; height = 8 }
+
 abbrev pub size_by : What → Size
-size_by (starts home lent) = record { indent = 0; down = 5; height = 14 }
-size_by _ = record { indent = 2; down = 8; height = 8 }
+size_by (starts home lent) = task_size
+size_by _ = block_size
 
 abbrev pub size_of : Bar → Size
 size_of bar = size_by bar.first.what
@@ -86,6 +95,11 @@ bar_title sheet bar =
 abbrev pub start_x : Sheet → Bar → ℕ
 start_x sheet bar = x_of sheet bar.first.tick
 
+-- the column at which a bar ends, or the last column where it has no end
+abbrev pub end_column : Clock → List Column → Option Event → ℕ
+end_column clock cols None = last_tick cols
+end_column clock cols (Some e) = column_at cols (tick_of clock e.tick)
+
 abbrev pub end_x : Sheet → Bar → ℕ
 end_x sheet bar = x_at sheet (end_column sheet.clock sheet.columns bar.last)
 
@@ -93,16 +107,20 @@ end_x sheet bar = x_at sheet (end_column sheet.clock sheet.columns bar.last)
 abbrev pub width_to : ℕ → ℕ → ℕ
 width_to x end = max 2 (end - x)
 
--- a rectangle on a row
-abbrev pub rectangle : ℕ → Size → List ℕ → ℕ → ℕ → List Attribute
-rectangle i size class x end =
+-- a rectangle at a point, of this width and height
+abbrev pub box : List ℕ → ℕ → ℕ → ℕ → ℕ → List Attribute
+box class x y width height =
     attribute attrs.Class class
     ∷ attribute attrs.X (decimal x)
-    ∷ attribute attrs.Y (decimal (y_of i + size.down))
-    ∷ attribute attrs.Width (decimal (width_to x end))
-    ∷ attribute attrs.Height (decimal size.height)
+    ∷ attribute attrs.Y (decimal y)
+    ∷ attribute attrs.Width (decimal width)
+    ∷ attribute attrs.Height (decimal height)
     ∷ attribute attrs.Rx (codes "3")
     ∷ []
+
+-- a rectangle on a row
+abbrev pub rectangle : ℕ → Size → List ℕ → ℕ → ℕ → List Attribute
+rectangle i size class x end = box class x (y_of i + size.down) (width_to x end) size.height
 
 -- a text at a point
 abbrev pub words : List ℕ → ℕ → ℕ → List ℕ → Content → Content
@@ -116,9 +134,13 @@ cancelled_part sheet i bar None rest = rest
 cancelled_part sheet i bar (Some m) rest =
     element tags.Rect (rectangle i (size_of bar) (codes "from") (x_by sheet m) (end_x sheet bar)) nothing rest
 
+-- one of the definitions, by its reference, at a point
+abbrev pub used : List ℕ → ℕ → ℕ → List Attribute
+used reference x y = attribute attrs.Href reference ∷ attribute attrs.X (decimal x) ∷ attribute attrs.Y (decimal y) ∷ []
+
 -- a cross where a task is cancelled, and a dot where it raises an exception
 abbrev pub cross : ℕ → ℕ → List Attribute
-cross x y = attribute attrs.Href (codes "#cross") ∷ attribute attrs.X (decimal x) ∷ attribute attrs.Y (decimal y) ∷ []
+cross x y = used (codes "#cross") x y
 
 abbrev pub dot : ℕ → ℕ → List Attribute
 dot x y =
@@ -146,7 +168,7 @@ row sheet i bar rest =
     (element tags.Rect (rectangle i (size_of bar) (class_of bar) (start_x sheet bar) (end_x sheet bar)) (bar_title sheet bar)
     (cancelled_part sheet i bar bar.cancelled
     (marks sheet i bar.own
-    (words (codes "outcome") (end_x sheet bar + LETTER) (y_of i + 16) (outcome_of bar) (text (codes "\n") rest)))))
+    (words (codes "outcome") (outcome_x sheet) (y_of i + 16) (outcome_of bar) (text (codes "\n") rest)))))
 
 abbrev pub rows : Sheet → ℕ → List Bar → Content → Content
 rows sheet i [] rest = rest

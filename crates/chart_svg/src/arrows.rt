@@ -1,19 +1,19 @@
 ghost use Rattle.std.specs.Prelude.{◌≡◌, ◌&&◌, ◌++◌, IfOk, OnOk, map};
 ghost use Rattle.std.specs.Option.{option_map};
-ghost use Rattle.job_meaning.specs.Log.{Table, same_label};
-ghost use Rattle.job_story.specs.Froms.{table_in};
+ghost use Rattle.job_meaning.specs.Log.{same_label};
 ghost use Rattle.job_story.specs.Held.{what_of};
 ghost use Rattle.job_story.specs.Limit.{is_start};
-ghost use Rattle.job_story.specs.Causes.{cause_of};
 ghost use Rattle.story_causes.specs.Found.{cause_in_code};
 ghost use Rattle.story_causes.specs.Knows.{Knows};
 ghost use Rattle.story_causes.specs.Seen.{event_in};
 ghost use Rattle.story_text.specs.Told.{events_in, froms_in};
 ghost use Rattle.chart_bars.specs.Held.{bar_of};
 ghost use Rattle.svg_text.specs.Content.{Content, content_text};
-ghost use Rattle.chart_svg.specs.Arrows.{source_of, at_moment, arrow, arrow_from, arrow_by, arrow_at, arrows_to, arrows};
+ghost use Rattle.chart_svg.specs.Arrows.{source_of, at_moment, arrow, arrow_from, arrow_by, arrow_at, cancelled_at, arrows_to, arrows};
 ghost use Rattle.chart_svg.specs.Held.{sheet_held, source_held};
 
+use crate::culprits::{MAX_DEPTH, culprit};
+use crate::deadlines::push_deadline;
 use crate::shapes::begin_line;
 use crate::sheet::{Sheet, middle_of};
 use crate::titles::push_told;
@@ -32,8 +32,8 @@ pub(crate) struct Source<'e> {
     pub tick: u64,
 }
 
-// Appends an arrow to each of these bars that a task cancelled, and to each wait that ends because a task set the event, from the first
-// bar that is that task's.
+// Appends an arrow to each of these bars that a task cancelled, a mark to each that its own deadline cancelled, and an arrow to each
+// wait that ends because a task set the event. An arrow comes from the first bar that is the task's.
 pub(crate) fn push_arrows(
     alloc: Global,
     out: &mut Vec<u8>,
@@ -53,7 +53,8 @@ pub(crate) fn push_arrows(
     Ok(())
 }
 
-// Appends the arrows to a bar: one if it is that of a scope or nursery and a task cancelled it, and one to each wait of its task.
+// Appends the arrows to a bar: one if it is that of a scope or nursery and a task cancelled it, or the mark of its deadline, and one
+// to each wait of its task.
 fn push_arrows_to(
     alloc: Global,
     out: &mut Vec<u8>,
@@ -71,7 +72,7 @@ fn push_arrows_to(
     push_wait_arrows(alloc, out, sheet, causes, bars, row, bar.own)
 }
 
-// Appends an arrow to a bar, if a task cancelled it.
+// Appends an arrow to a bar, if a task cancelled it, or a mark, if its own deadline did.
 fn push_arrow_to(
     alloc: Global,
     out: &mut Vec<u8>,
@@ -91,13 +92,45 @@ fn push_arrow_to(
     let Some(moment) = bar.cancelled else {
         return Ok(());
     };
-    let Some(source) = source_of(causes.cause(label)) else {
+    push_cancelled_at(
+        alloc,
+        out,
+        sheet,
+        causes,
+        bars,
+        row,
+        moment,
+        causes.cause(label),
+    )
+}
+
+// Appends a mark to a scope or nursery that is cancelled from a moment on, if its own deadline is the cause, or else an arrow from the
+// task that cancelled it, if there is one.
+fn push_cancelled_at(
+    alloc: Global,
+    out: &mut Vec<u8>,
+    sheet: &Sheet<'_, '_, '_>,
+    causes: &Causes<'_>,
+    bars: &[Bar<'_, '_>],
+    row: usize,
+    moment: u64,
+    cause: Option<Cause<'_>>,
+) -> Result<(), AllocError>
+    requires { Knows causes.now (froms_in sheet.now.known.now) (events_in sheet.now.known.now) }
+    ensures { OnOk result ((rest : Content) → out.new.items ++ content_text rest ≡ out.old.items
+        ++ content_text (cancelled_at (sheet_held sheet.now) (map bar_of bars.now) row moment (option_map cause_in_code cause.entry) rest)) }
+{
+    if let Some(Cause::Deadline) = cause {
+        return push_deadline(alloc, out, sheet, row, moment);
+    }
+    let Some(source) = culprit(sheet, causes, bars, MAX_DEPTH, cause) else {
         return Ok(());
     };
     push_arrow_from(alloc, out, sheet, bars, row, sheet.x_by(moment), source)
 }
 
-// Returns the task that cancelled or set something, from the cause of that, or `None` if it was the deadline.
+// Returns the task that cancelled or set something, from the cause of that, or `None` if it was the deadline, or a task that was
+// itself merely cancelled.
 pub(crate) fn source_of<'e>(cause: Option<Cause<'e>>) -> Option<Source<'e>>
     ensures { option_map source_held result ≡ source_of (option_map cause_in_code cause.entry) }
 {
@@ -105,11 +138,10 @@ pub(crate) fn source_of<'e>(cause: Option<Cause<'e>>) -> Option<Source<'e>>
         return None;
     };
     match cause {
-        Cause::Deadline => None,
+        Cause::Deadline | Cause::Cancellation { .. } => None,
         Cause::Task { task, tick } => Some(Source { task, tick }),
         Cause::Set { task, tick } => Some(Source { task, tick }),
         Cause::Failure { task, tick } => Some(Source { task, tick }),
-        Cause::Cancellation { task, tick } => Some(Source { task, tick }),
     }
 }
 
@@ -137,7 +169,7 @@ pub(crate) fn push_arrow_from(
 }
 
 // Returns whether a bar is that of this task.
-fn is_of_task(bar: &Bar<'_, '_>, task: &Label) -> bool
+pub(crate) fn is_of_task(bar: &Bar<'_, '_>, task: &Label) -> bool
     ensures { result ≡ (is_start (what_of bar.now.first.now.what) && same_label task.now bar.now.first.now.task) }
 {
     bar.first.what.is_start() && *task == bar.first.task

@@ -26,13 +26,15 @@ use std::alloc::{AllocError, Global};
 use story_text::kept_text;
 use svg_text::{Tag, begin, end, inside, text};
 
-const TASK: Size = Size {
+// The size of the bar of a task.
+pub(crate) const TASK: Size = Size {
     indent: 0,
     down: 5,
     height: 14,
 };
 
-const BLOCK: Size = Size {
+// The size of the bar of a scope or nursery.
+pub(crate) const BLOCK: Size = Size {
     indent: 2,
     down: 8,
     height: 8,

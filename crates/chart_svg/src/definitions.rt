@@ -2,7 +2,7 @@ ghost use Rattle.std.specs.Prelude.{◌≡◌, [], ◌∷◌, ◌++◌, OnOk, co
 ghost use Rattle.svg_text.specs.Content.{Content, attribute, content_text, start_tag};
 ghost use Rattle.svg_text.specs.declared.names.Tag.TheVariants as tags;
 ghost use Rattle.svg_text.specs.declared.names.Attr.TheVariants as attrs;
-ghost use Rattle.chart_svg.specs.Drawing.{style, path, arrow_head, fill, cross_path, definitions};
+ghost use Rattle.chart_svg.specs.Drawing.{style, path, arrow_head, fill, mark_path, mark_paths, definitions};
 
 use crate::style::STYLE;
 use std::alloc::AllocError;
@@ -18,7 +18,7 @@ pub(crate) fn push_style(out: &mut Vec<u8>) -> Result<(), AllocError>
     end(out, Tag::Style)
 }
 
-// Appends the definitions that are used elsewhere: the head of an arrow, the patterns that fill bars, and the cross.
+// Appends the definitions that are used elsewhere: the head of an arrow, the patterns that fill bars, and the marks.
 pub(crate) fn push_definitions(out: &mut Vec<u8>) -> Result<(), AllocError>
     ensures { OnOk result ((rest : Content) → out.new.items ++ content_text rest ≡ out.old.items ++ content_text (definitions rest)) }
 {
@@ -31,12 +31,12 @@ pub(crate) fn push_definitions(out: &mut Vec<u8>) -> Result<(), AllocError>
 // Appends the definitions one after the other.
 fn push_each(out: &mut Vec<u8>) -> Result<(), AllocError>
     ensures { OnOk result ((rest : Content) → out.new.items ++ content_text rest ≡ out.old.items ++ content_text (arrow_head
-        (fill (codes "slanted") (codes "M0 6 6 0") (fill (codes "crossed") (codes "M0 6 6 0M0 0 6 6") (cross_path rest))))) }
+        (fill (codes "slanted") (codes "M0 6 6 0") (fill (codes "crossed") (codes "M0 6 6 0M0 0 6 6") (mark_paths rest))))) }
 {
     push_arrow_head(out)?;
     push_fill(out, b"slanted", b"M0 6 6 0")?;
     push_fill(out, b"crossed", b"M0 6 6 0M0 0 6 6")?;
-    push_cross_path(out)
+    push_mark_paths(out)
 }
 
 // Appends the head of an arrow.
@@ -100,14 +100,23 @@ fn push_path(out: &mut Vec<u8>, class: &[u8], steps: &[u8]) -> Result<(), AllocE
     end(out, Tag::Path)
 }
 
-// Appends the cross, with the point where it is used at its centre.
-fn push_cross_path(out: &mut Vec<u8>) -> Result<(), AllocError>
-    ensures { OnOk result ((rest : Content) → out.new.items ++ content_text rest ≡ out.old.items ++ content_text (cross_path rest)) }
+// Appends the cross, and the flag of a deadline.
+fn push_mark_paths(out: &mut Vec<u8>) -> Result<(), AllocError>
+    ensures { OnOk result ((rest : Content) → out.new.items ++ content_text rest ≡ out.old.items ++ content_text (mark_paths rest)) }
+{
+    push_mark_path(out, b"cross", b"M-4-4 4 4M-4 4 4-4")?;
+    push_mark_path(out, b"deadline", b"M0 8V-8L7-4 0 0")
+}
+
+// Appends a mark, with the point where it is used at its centre.
+fn push_mark_path(out: &mut Vec<u8>, id: &[u8], steps: &[u8]) -> Result<(), AllocError>
+    ensures { OnOk result ((rest : Content) → out.new.items ++ content_text rest
+        ≡ out.old.items ++ content_text (mark_path id.now steps.now rest)) }
 {
     begin(out, Tag::Path)?;
-    attribute(out, Attr::Id, b"cross")?;
-    attribute(out, Attr::Class, b"cross")?;
-    attribute(out, Attr::D, b"M-4-4 4 4M-4 4 4-4")?;
+    attribute(out, Attr::Id, id)?;
+    attribute(out, Attr::Class, id)?;
+    attribute(out, Attr::D, steps)?;
     inside(out)?;
     end(out, Tag::Path)
 }

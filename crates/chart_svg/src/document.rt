@@ -1,4 +1,4 @@
-ghost use Rattle.std.specs.Prelude.{◌≡◌, ◌≤◌, ◌++◌, [], IfOk, OnOk, length, map, take};
+ghost use Rattle.std.specs.Prelude.{◌≡◌, ◌≤◌, ◌+◌, ◌*◌, ◌++◌, [], IfOk, OnOk, length, map, take};
 ghost use Rattle.job_story.specs.Events.{in_order};
 ghost use Rattle.job_story.specs.Froms.{table_in};
 ghost use Rattle.story_causes.specs.Knows.{Knows};
@@ -10,19 +10,23 @@ ghost use Rattle.svg_text.specs.declared.names.Tag.TheVariants as tags;
 ghost use Rattle.chart_svg.specs.Drawing.{title_bytes, style, definitions, tick_lines, notes, bottom_of, width_of, height_of, svg_attributes, inside_of, document, chart_svg};
 ghost use Rattle.chart_svg.specs.Rows.{rows};
 ghost use Rattle.chart_svg.specs.Arrows.{arrows};
+ghost use Rattle.chart_svg.specs.Legend.{legend};
+ghost use Rattle.chart_svg.specs.Sheets.{is_linear};
 ghost use Rattle.chart_svg.specs.Held.{sheet_held};
-ghost use Rattle.chart_svg.specs.declared.layout.TheConstants.{MAX_ROWS};
+ghost use Rattle.chart_svg.specs.declared.layout.TheConstants.{MAX_ROWS, ROW};
 
 use crate::arrows::push_arrows;
+use crate::axis::is_linear;
 use crate::definitions::{push_definitions, push_style};
-use crate::layout::{LETTER, MAX_ROWS, MAX_SHOWN, ROW};
-use crate::notes::{Missing, push_notes};
+use crate::layout::{LEFT, LEGEND, LETTER, MAX_ROWS, MAX_SHOWN, ROW};
+use crate::legend::push_legend;
+use crate::notes::{Noted, push_notes};
 use crate::rows::push_rows;
 use crate::sheet::{Sheet, y_of};
 use crate::ticks::push_tick_lines;
 use chart_bars::{Bar, all_ticks};
 use chart_columns::{columns_of, last_tick};
-use chart_text::{columns_for, longest_name, longest_outcome, push_name};
+use chart_text::{less_to_fit, longest_name, longest_outcome, push_name};
 use digits::push_number;
 use job_story::{Event, Froms};
 use moments::Clock;
@@ -36,9 +40,10 @@ use svg_text::{Attr, Tag, attribute, begin, end, inside, number, text};
 /// nurseries are cancelled and events of the job set (`froms`), the index of the sorted events and this table (`causes`), and the
 /// bars of the events. The caller must ensure that `sorted` is `in_order` of `walked`, and that `causes` is that index.
 ///
-/// There is room for as many columns as in a text chart of `width` characters. `until` is the limit at which the story is cut
-/// off, or `None` for a whole story. At most 2,000 rows are drawn, and a note says how many are left out. Returns `AllocError` if
-/// memory is refused.
+/// There is a column for each tick at which something happens. The gaps between them are as much smaller as in a text chart of
+/// `width` characters, but not so small that the numbers above them overlap. A note says so if they are not to scale. `until` is the
+/// limit at which the story is cut off, or `None` for a whole story. At most 2,000 rows are drawn, and a note says how many are left
+/// out. Returns `AllocError` if memory is refused.
 pub fn chart_svg<'e>(
     alloc: Global,
     clock: Clock,
@@ -57,35 +62,35 @@ pub fn chart_svg<'e>(
     ensures well_formed { IfOk result (λ svg. IsDocument svg.items) }
 {
     let ticks = all_ticks(alloc, clock, walked, until)?;
-    let all = columns_of(alloc, ticks.as_slice())?;
-    let columns = columns_for(alloc, width, all.as_slice(), bars)?;
+    let columns = columns_of(alloc, ticks.as_slice())?;
+    let less = less_to_fit(alloc, width, columns.as_slice(), bars)?;
     let known = Known::new(clock, sorted, froms, causes);
     let sheet = Sheet {
         names: longest_name(alloc, bars)?,
         columns: columns.as_slice(),
+        less,
         clock,
         known: &known,
     };
-    document(alloc, &sheet, causes, until, all.len(), bars)
+    document(alloc, &sheet, causes, until, bars)
 }
 
-// Returns the document. `all` is the number of all columns, of which the sheet has those that are shown.
+// Returns the document.
 fn document(
     alloc: Global,
     sheet: &Sheet<'_, '_, '_>,
     causes: &Causes<'_>,
     until: Option<u64>,
-    all: usize,
     bars: &[Bar<'_, '_>],
 ) -> Result<Vec<u8>, AllocError>
     requires { Knows causes.now (froms_in sheet.now.known.now) (events_in sheet.now.known.now) }
-    ensures drawing { IfOk result (λ svg. svg.items ≡ content_text (document (sheet_held sheet.now) until all (map bar_of bars.now))) }
+    ensures drawing { IfOk result (λ svg. svg.items ≡ content_text (document (sheet_held sheet.now) until (map bar_of bars.now))) }
     ensures well_formed { IfOk result (λ svg. IsDocument svg.items) }
 {
     let mut out = Vec::new(alloc);
     let width = width_of(alloc, sheet, bars)?;
     begin_svg(alloc, &mut out, width, height_of(bars))?;
-    push_inside(alloc, &mut out, sheet, causes, until, all, bars)?;
+    push_inside(alloc, &mut out, sheet, causes, until, bars)?;
     end(&mut out, Tag::Svg)?;
     Ok(out)
 }
@@ -114,16 +119,16 @@ fn push_inside(
     sheet: &Sheet<'_, '_, '_>,
     causes: &Causes<'_>,
     until: Option<u64>,
-    all: usize,
     bars: &[Bar<'_, '_>],
 ) -> Result<(), AllocError>
     requires { Knows causes.now (froms_in sheet.now.known.now) (events_in sheet.now.known.now) }
-    ensures { OnOk result (out.new.items ≡ out.old.items ++ content_text (inside_of (sheet_held sheet.now) until all (map bar_of bars.now))) }
+    ensures { OnOk result (out.new.items ≡ out.old.items ++ content_text (inside_of (sheet_held sheet.now) until (map bar_of bars.now))) }
 {
     push_head(alloc, out, bars)?;
     push_lines(alloc, out, sheet, bars)?;
     push_shown(alloc, out, sheet, causes, shown_of(bars))?;
-    push_missing(alloc, out, sheet, until, all, bars)
+    push_noted(alloc, out, sheet, until, bars)?;
+    push_legend(out, bottom_of(bars) + ROW * 3 + 12)
 }
 
 // Appends the title, the style sheet and the definitions.
@@ -144,7 +149,7 @@ fn push_lines(
     bars: &[Bar<'_, '_>],
 ) -> Result<(), AllocError>
     ensures { OnOk result ((rest : Content) → out.new.items ++ content_text rest ≡ out.old.items
-        ++ content_text (tick_lines (sheet_held sheet.now) (bottom_of (map bar_of bars.now)) (sheet_held sheet.now).columns rest)) }
+        ++ content_text (tick_lines (sheet_held sheet.now) (bottom_of (map bar_of bars.now)) 0 (sheet_held sheet.now).columns rest)) }
 {
     push_tick_lines(alloc, out, sheet, bottom_of(bars), sheet.columns)
 }
@@ -166,25 +171,24 @@ fn push_shown(
     push_arrows(alloc, out, sheet, causes, shown)
 }
 
-// Appends the notes about what is not shown.
-fn push_missing(
+// Appends the notes.
+fn push_noted(
     alloc: Global,
     out: &mut Vec<u8>,
     sheet: &Sheet<'_, '_, '_>,
     until: Option<u64>,
-    all: usize,
     bars: &[Bar<'_, '_>],
 ) -> Result<(), AllocError>
-    ensures { OnOk result (out.new.items ≡ out.old.items ++ content_text (notes until (bottom_of (map bar_of bars.now))
-        (length (sheet_held sheet.now).columns) all (length (map bar_of bars.now)))) }
+    ensures { OnOk result ((rest : Content) → out.new.items ++ content_text rest ≡ out.old.items
+        ++ content_text (notes until (bottom_of (map bar_of bars.now)) (is_linear (sheet_held sheet.now).less (sheet_held sheet.now).columns)
+        (length (map bar_of bars.now)) rest)) }
 {
-    let missing = Missing {
+    let noted = Noted {
         until,
-        columns: all,
-        shown: sheet.columns.len(),
+        linear: is_linear(sheet.less, sheet.columns),
         rows: bars.len(),
     };
-    push_notes(alloc, out, bottom_of(bars), missing)
+    push_notes(alloc, out, bottom_of(bars), noted)
 }
 
 // Appends the title of the document: the name of the job.
@@ -211,14 +215,15 @@ fn width_of(
     ensures { IfOk result (λ width. width ≡ width_of (sheet_held sheet.now) (map bar_of bars.now)) }
 {
     let outcomes = longest_outcome(alloc, bars)?.min(MAX_SHOWN) as u64;
-    Ok(sheet.x_at(last_tick(sheet.columns)) + LETTER * (outcomes + 4))
+    let drawn = sheet.x_at(last_tick(sheet.columns)) + LETTER * (outcomes + 4);
+    Ok(drawn.max(LEFT + LEGEND))
 }
 
 // Returns the height of the document, in pixels.
 fn height_of(bars: &[Bar<'_, '_>]) -> u64
     ensures { result ≡ height_of (map bar_of bars.now) }
 {
-    bottom_of(bars) + ROW * 4
+    bottom_of(bars) + ROW * 7
 }
 
 // Returns the y coordinate at which the rows end, in pixels.

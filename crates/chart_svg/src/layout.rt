@@ -22,6 +22,12 @@ pub const MAX_NAME: usize = 120;
 /// The maximum room for an outcome, in letters.
 pub const MAX_SHOWN: usize = 80;
 
+/// The width of a column of the legend, in pixels.
+pub const SAMPLE: u64 = 180;
+
+/// The width of the legend, in pixels.
+pub const LEGEND: u64 = 560;
+
 /// The maximum number of events that the title of a task's bar shows.
 pub const MAX_TOLD: usize = 100;
 

@@ -7,7 +7,7 @@ ghost use Rattle.chart_svg.specs.Sheets.{x_of, middle_of, events_title};
 ghost use Rattle.chart_svg.specs.Rows.{cross, dot, mark, marks};
 ghost use Rattle.chart_svg.specs.Held.{sheet_held};
 
-use crate::shapes::{begin_cross, begin_dot};
+use crate::shapes::{begin_dot, begin_use};
 use crate::sheet::{Sheet, middle_of};
 use crate::titles::push_told;
 use chart_text::{is_cross, is_dot};
@@ -64,7 +64,7 @@ fn push_cross(
         ++ content_text (element tags.Use (cross (x_of (sheet_held sheet.now) event.now.tick) (middle_of row))
         (events_title (sheet_held sheet.now) (event_of event.now ∷ [])) rest)) }
 {
-    begin_cross(out, sheet.x_of(event.tick), middle_of(row))?;
+    begin_use(out, b"#cross", sheet.x_of(event.tick), middle_of(row))?;
     push_told(alloc, out, sheet, &[event])?;
     end(out, Tag::Use)
 }

@@ -1,40 +1,38 @@
 ghost use Rattle.std.specs.Prelude.{◌≡◌, ◌+◌, ◌*◌, ◌≤◌, ◌++◌, IfOk, OnOk, codes, decimal};
 ghost use Rattle.svg_text.specs.Content.{Content, nothing, content_text};
-ghost use Rattle.chart_svg.specs.Drawing.{note, limit_note, columns_note, rows_note, notes};
+ghost use Rattle.chart_svg.specs.Drawing.{note, limit_note, axis_note, rows_note, notes};
 ghost use Rattle.chart_svg.specs.declared.layout.TheConstants.{ROW};
 
 use crate::layout::{LEFT, MAX_ROWS, ROW};
 use crate::shapes::push_words;
-use chart_text::push_left_out;
 use digits::push_number;
 use std::alloc::{AllocError, Global};
 
-// Numbers about what a drawing does not show.
+// What the notes below a drawing say of it.
 #[derive(Clone, Copy)]
-pub(crate) struct Missing {
+pub(crate) struct Noted {
     // The limit at which the story is cut off, if it is.
     pub until: Option<u64>,
-    // How many columns there are, and how many of them are shown.
-    pub columns: usize,
-    pub shown: usize,
+    // Whether the axis is linear.
+    pub linear: bool,
     // How many rows there are.
     pub rows: usize,
 }
 
-// Appends the notes about what a drawing does not show, below the rows.
+// Appends the notes below the rows: about what a drawing does not show, and an axis that is not linear.
 pub(crate) fn push_notes(
     alloc: Global,
     out: &mut Vec<u8>,
     bottom: u64,
-    missing: Missing,
+    noted: Noted,
 ) -> Result<(), AllocError>
     requires { bottom ≤ 1000000 }
-    ensures { OnOk result (out.new.items ≡ out.old.items
-        ++ content_text (notes missing.until bottom missing.shown missing.columns missing.rows)) }
+    ensures { OnOk result ((rest : Content) → out.new.items ++ content_text rest
+        ≡ out.old.items ++ content_text (notes noted.until bottom noted.linear noted.rows rest)) }
 {
-    push_limit_note(alloc, out, bottom, missing.until)?;
-    push_columns_note(alloc, out, bottom, missing.shown, missing.columns)?;
-    push_rows_note(alloc, out, bottom, missing.rows)
+    push_limit_note(alloc, out, bottom, noted.until)?;
+    push_note(out, bottom + ROW * 2, axis_note(noted.linear))?;
+    push_rows_note(alloc, out, bottom, noted.rows)
 }
 
 // Appends the note that the story is cut off at a limit, if it is.
@@ -50,22 +48,6 @@ fn push_limit_note(
 {
     let bytes = limit_note(alloc, until)?;
     push_note(out, bottom + ROW, bytes.as_slice())
-}
-
-// Appends the note that says how many columns are not shown, if there are any.
-fn push_columns_note(
-    alloc: Global,
-    out: &mut Vec<u8>,
-    bottom: u64,
-    shown: usize,
-    all: usize,
-) -> Result<(), AllocError>
-    requires { bottom ≤ 1000000 }
-    ensures { OnOk result ((rest : Content) → out.new.items ++ content_text rest
-        ≡ out.old.items ++ content_text (note (bottom + ROW * 2) (columns_note shown all) rest)) }
-{
-    let bytes = columns_note(alloc, shown, all)?;
-    push_note(out, bottom + ROW * 2, bytes.as_slice())
 }
 
 // Appends the note that says how many rows are not shown, if there are any.
@@ -105,15 +87,14 @@ fn limit_note(alloc: Global, until: Option<u64>) -> Result<Vec<u8>, AllocError>
     Ok(text)
 }
 
-// Returns the note that says how many columns are not shown.
-fn columns_note(alloc: Global, shown: usize, all: usize) -> Result<Vec<u8>, AllocError>
-    ensures { IfOk result (λ text. text.items ≡ columns_note shown all) }
+// Returns the note that the axis is not linear, or nothing if it is.
+fn axis_note(linear: bool) -> &'static [u8]
+    ensures { result.now ≡ axis_note linear }
 {
-    let mut text = Vec::new(alloc);
-    if shown != all {
-        push_left_out(&mut text, shown, all)?;
+    if linear {
+        return b"";
     }
-    Ok(text)
+    b"gaps between ticks grow with the logarithm of the time, and are not to scale"
 }
 
 // Returns the note that says how many rows are not shown.

@@ -3,7 +3,7 @@ ghost use Rattle.chart_bars.specs.Held.{bar_of, event_seen};
 ghost use Rattle.chart_text.specs.Text.{name_of, outcome_of};
 ghost use Rattle.svg_text.specs.Content.{Content, content_text, element};
 ghost use Rattle.svg_text.specs.declared.names.Tag.TheVariants as tags;
-ghost use Rattle.chart_svg.specs.Sheets.{x_at, y_of};
+ghost use Rattle.chart_svg.specs.Sheets.{outcome_x, x_at, y_of};
 ghost use Rattle.chart_svg.specs.Rows as drawn;
 ghost use Rattle.chart_svg.specs.Rows.{size_of, class_of, start_x, end_x, bar_title, rectangle, words, cancelled_part, rows};
 ghost use Rattle.chart_svg.specs.declared.layout.TheConstants.{LEFT, LETTER};
@@ -136,11 +136,11 @@ fn push_row_outcome(
     bar: &Bar<'_, '_>,
 ) -> Result<(), AllocError>
     ensures { OnOk result ((rest : Content) → out.new.items ++ content_text rest ≡ out.old.items
-        ++ content_text (words (codes "outcome") (end_x (sheet_held sheet.now) (bar_of bar.now) + LETTER) (y_of row + 16)
+        ++ content_text (words (codes "outcome") (outcome_x (sheet_held sheet.now)) (y_of row + 16)
         (outcome_of (bar_of bar.now)) rest)) }
 {
     let mut outcome = Vec::new(alloc);
     push_outcome(&mut outcome, bar)?;
-    let x = end_x(sheet, bar) + LETTER;
+    let x = sheet.outcome_x();
     push_words(out, b"outcome", x, y_of(row) + 16, outcome.as_slice())
 }

@@ -1,8 +1,8 @@
 ghost use Rattle.std.specs.Prelude.{◌≡◌, ◌≤◌, [], ◌∷◌, ◌++◌, OnOk, codes, decimal};
-ghost use Rattle.svg_text.specs.Content.{Content, attribute, content_text, start_tag};
+ghost use Rattle.svg_text.specs.Content.{Content, nothing, element, attribute, content_text, start_tag};
 ghost use Rattle.svg_text.specs.declared.names.Tag.TheVariants as tags;
 ghost use Rattle.svg_text.specs.declared.names.Attr.TheVariants as attrs;
-ghost use Rattle.chart_svg.specs.Rows.{width_to, rectangle, words, cross, dot};
+ghost use Rattle.chart_svg.specs.Rows.{width_to, box, rectangle, words, used, dot};
 ghost use Rattle.chart_svg.specs.Arrows.{segment};
 ghost use Rattle.chart_svg.specs.Held.{size_held};
 
@@ -34,7 +34,23 @@ pub(crate) fn begin_rectangle(
     begin_box(out, class, x, y, width_to(x, end), size.height)
 }
 
-// Begins a rectangle at a point, of this size.
+// Appends a rectangle at a point, of this width and height.
+pub(crate) fn push_box(
+    out: &mut Vec<u8>,
+    class: &[u8],
+    x: u64,
+    y: u64,
+    width: u64,
+    height: u64,
+) -> Result<(), AllocError>
+    ensures { OnOk result ((rest : Content) → out.new.items ++ content_text rest
+        ≡ out.old.items ++ content_text (element tags.Rect (box class.now x y width height) nothing rest)) }
+{
+    begin_box(out, class, x, y, width, height)?;
+    end(out, Tag::Rect)
+}
+
+// Begins a rectangle at a point, of this width and height.
 fn begin_box(
     out: &mut Vec<u8>,
     class: &[u8],
@@ -43,9 +59,7 @@ fn begin_box(
     width: u64,
     height: u64,
 ) -> Result<(), AllocError>
-    ensures { OnOk result (out.new.items ≡ out.old.items ++ start_tag tags.Rect
-        (attribute attrs.Class class.now ∷ attribute attrs.X (decimal x) ∷ attribute attrs.Y (decimal y)
-        ∷ attribute attrs.Width (decimal width) ∷ attribute attrs.Height (decimal height) ∷ attribute attrs.Rx (codes "3") ∷ [])) }
+    ensures { OnOk result (out.new.items ≡ out.old.items ++ start_tag tags.Rect (box class.now x y width height)) }
 {
     begin(out, Tag::Rect)?;
     attribute(out, Attr::Class, class)?;
@@ -92,6 +106,22 @@ fn begin_words(out: &mut Vec<u8>, class: &[u8], x: u64, y: u64) -> Result<(), Al
     inside(out)
 }
 
+// Appends a line from one point to another.
+pub(crate) fn push_line(
+    out: &mut Vec<u8>,
+    class: &[u8],
+    x1: u64,
+    y1: u64,
+    x2: u64,
+    y2: u64,
+) -> Result<(), AllocError>
+    ensures { OnOk result ((rest : Content) → out.new.items ++ content_text rest
+        ≡ out.old.items ++ content_text (element tags.Line (segment class.now x1 y1 x2 y2) nothing rest)) }
+{
+    begin_line(out, class, x1, y1, x2, y2)?;
+    end(out, Tag::Line)
+}
+
 // Begins a line from one point to another. Its content and its end tag come next.
 pub(crate) fn begin_line(
     out: &mut Vec<u8>,
@@ -112,15 +142,43 @@ pub(crate) fn begin_line(
     inside(out)
 }
 
-// Begins a cross at a point. Its content and its end tag come next.
-pub(crate) fn begin_cross(out: &mut Vec<u8>, x: u64, y: u64) -> Result<(), AllocError>
-    ensures { OnOk result (out.new.items ≡ out.old.items ++ start_tag tags.Use (cross x y)) }
+// Appends one of the definitions at a point, by its reference.
+pub(crate) fn push_use(
+    out: &mut Vec<u8>,
+    reference: &[u8],
+    x: u64,
+    y: u64,
+) -> Result<(), AllocError>
+    ensures { OnOk result ((rest : Content) → out.new.items ++ content_text rest
+        ≡ out.old.items ++ content_text (element tags.Use (used reference.now x y) nothing rest)) }
+{
+    begin_use(out, reference, x, y)?;
+    end(out, Tag::Use)
+}
+
+// Begins one of the definitions at a point, by its reference. Its content and its end tag come next.
+pub(crate) fn begin_use(
+    out: &mut Vec<u8>,
+    reference: &[u8],
+    x: u64,
+    y: u64,
+) -> Result<(), AllocError>
+    ensures { OnOk result (out.new.items ≡ out.old.items ++ start_tag tags.Use (used reference.now x y)) }
 {
     begin(out, Tag::Use)?;
-    attribute(out, Attr::Href, b"#cross")?;
+    attribute(out, Attr::Href, reference)?;
     number(out, Attr::X, x)?;
     number(out, Attr::Y, y)?;
     inside(out)
+}
+
+// Appends a dot at a point.
+pub(crate) fn push_dot(out: &mut Vec<u8>, x: u64, y: u64) -> Result<(), AllocError>
+    ensures { OnOk result ((rest : Content) → out.new.items ++ content_text rest
+        ≡ out.old.items ++ content_text (element tags.Circle (dot x y) nothing rest)) }
+{
+    begin_dot(out, x, y)?;
+    end(out, Tag::Circle)
 }
 
 // Begins a dot at a point. Its content and its end tag come next.

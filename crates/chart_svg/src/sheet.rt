@@ -1,11 +1,11 @@
-ghost use Rattle.std.specs.Prelude.{◌≡◌, ◌≤◌, map};
+ghost use Rattle.std.specs.Prelude.{◌≡◌, ◌≤◌};
 ghost use Rattle.moments.specs.Moments.{tick_of};
 ghost use Rattle.story_text.specs.Told.{clock_in};
-ghost use Rattle.chart_columns.specs.Held.{column_of};
-ghost use Rattle.chart_svg.specs.Sheets.{place, x_at, x_of, x_by, y_of, middle_of};
+ghost use Rattle.chart_svg.specs.Sheets.{x_from, x_at, x_of, x_by, outcome_x, y_of, middle_of};
 
-use crate::layout::{FARTHEST, LEFT, LETTER, MAX_NAME, MAX_ROWS, PLACE, ROW, TOP};
-use chart_columns::{Column, column_at, column_by, gap_to};
+use crate::axis::place;
+use crate::layout::{LEFT, LETTER, MAX_NAME, MAX_ROWS, PLACE, ROW, TOP};
+use chart_columns::{Column, column_at, column_by, last_tick};
 use moments::Clock;
 use story_text::Known;
 
@@ -15,6 +15,8 @@ pub(crate) struct Sheet<'s, 'k, 'e> {
     // The length of the longest name of a row.
     pub names: usize,
     pub columns: &'s [Column],
+    // By how many characters gaps are smaller than with ample room.
+    pub less: usize,
     // The clock of the story's moments, by which the titles are written too.
     pub clock: Clock,
     pub known: &'s Known<'k, 'e>,
@@ -24,13 +26,22 @@ pub(crate) struct Sheet<'s, 'k, 'e> {
 impl<'s, 'k, 'e> Sheet<'s, 'k, 'e> {
     ghost use Rattle.chart_svg.specs.Held.{sheet_held};
 
+    // Returns the x coordinate at this distance from the first column, in pixels.
+    pub(crate) fn x_from(&self, at: u64) -> u64
+        requires { at ≤ 1000000 }
+        ensures value { result ≡ x_from (sheet_held self.now) at }
+        ensures bound { result ≤ 100000000 }
+    {
+        let names = self.names.min(MAX_NAME) as u64;
+        LEFT + LETTER * (names + 2) + PLACE * at
+    }
+
     // Returns the x coordinate of a column, in pixels.
     pub(crate) fn x_at(&self, tick: u64) -> u64
         ensures value { result ≡ x_at (sheet_held self.now) tick }
         ensures bound { result ≤ 100000000 }
     {
-        let names = self.names.min(MAX_NAME) as u64;
-        LEFT + LETTER * (names + 2) + PLACE * place(self.columns, tick)
+        self.x_from(place(self.less, self.columns, tick))
     }
 
     // Returns the x coordinate at which something that happens in a moment is shown, in pixels.
@@ -48,27 +59,19 @@ impl<'s, 'k, 'e> Sheet<'s, 'k, 'e> {
         self.x_at(column_by(self.columns, self.tick_of(moment)))
     }
 
+    // Returns the x coordinate of the outcomes, in pixels.
+    pub(crate) fn outcome_x(&self) -> u64
+        ensures { result ≡ outcome_x (sheet_held self.now) }
+    {
+        self.x_at(last_tick(self.columns)) + LETTER * 2
+    }
+
     // Returns the tick of a moment.
-    fn tick_of(&self, moment: u64) -> u64
+    pub(crate) fn tick_of(&self, moment: u64) -> u64
         ensures { result ≡ tick_of (sheet_held self.now).clock moment }
     {
         self.clock.tick_of(moment)
     }
-}
-
-// Returns the distance of a column from the first of these, in characters.
-fn place(columns: &[Column], tick: u64) -> u64
-    ensures value { result ≡ place (map column_of columns.now) tick }
-    ensures bound { result ≤ 1000000 }
-{
-    let Some((first, others)) = columns.split_first() else {
-        return 0;
-    };
-    if tick <= first.tick {
-        return 0;
-    }
-    let gap = gap_to(first, others) as u64;
-    gap.saturating_add(place(others, tick)).min(FARTHEST)
 }
 
 // Returns the y coordinate of a row, in pixels.

@@ -17,10 +17,11 @@ line.tick{stroke:#d8dee4}
 .shield{stroke-width:3}
 .from{fill:#d4a72c;fill-opacity:.8}
 path{fill:none}
-.slanted,.cross{stroke:#9a6700}
+.slanted,.cross,.deadline{stroke:#9a6700}
 .crossed,.arrow{stroke:#cf222e}
 .slanted,.crossed{stroke-opacity:.55}
 .cross{stroke-width:2.5}
+.deadline{stroke-width:1.5;fill:#9a6700}
 .dot,.head{fill:#cf222e}
 .arrow{stroke-width:1.5;marker-end:url(#arrow)}
 @media (prefers-color-scheme:dark){
@@ -32,7 +33,8 @@ line.tick{stroke:#3d444d}
 .raised{stroke:#f85149}
 .running{stroke:#9198a1}
 .scope,.nursery{stroke:#4493f8;fill:#4493f8}
-.slanted,.cross{stroke:#d29922}
+.slanted,.cross,.deadline{stroke:#d29922}
+.deadline{fill:#d29922}
 .crossed,.arrow{stroke:#f85149}
 .dot,.head{fill:#f85149}
 }

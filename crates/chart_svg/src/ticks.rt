@@ -1,20 +1,19 @@
 ghost use Rattle.std.specs.Prelude.{◌≡◌, ◌-◌, ◌++◌, OnOk, map, codes, decimal};
 ghost use Rattle.chart_columns.specs.Held.{column_of};
-ghost use Rattle.svg_text.specs.Content.{Content, nothing, element, content_text};
-ghost use Rattle.svg_text.specs.declared.names.Tag.TheVariants as tags;
-ghost use Rattle.chart_svg.specs.Arrows.{segment};
+ghost use Rattle.svg_text.specs.Content.{Content, content_text};
 ghost use Rattle.chart_svg.specs.Rows.{words};
 ghost use Rattle.chart_svg.specs.Drawing.{tick_line, tick_lines};
 ghost use Rattle.chart_svg.specs.Held.{sheet_held};
 ghost use Rattle.chart_svg.specs.declared.layout.TheConstants.{TOP};
 
+use crate::axis::next_place;
 use crate::layout::TOP;
-use crate::shapes::{begin_line, push_words};
+use crate::shapes::{push_line, push_words};
 use crate::sheet::Sheet;
 use chart_columns::Column;
 use digits::push_number;
 use std::alloc::{AllocError, Global};
-use svg_text::{Tag, end, text};
+use svg_text::text;
 
 // Appends each of these columns' tick, with a line down to the bottom.
 pub(crate) fn push_tick_lines(
@@ -25,38 +24,32 @@ pub(crate) fn push_tick_lines(
     columns: &[Column],
 ) -> Result<(), AllocError>
     ensures { OnOk result ((rest : Content) → out.new.items ++ content_text rest
-        ≡ out.old.items ++ content_text (tick_lines (sheet_held sheet.now) bottom (map column_of columns.now) rest)) }
+        ≡ out.old.items ++ content_text (tick_lines (sheet_held sheet.now) bottom 0 (map column_of columns.now) rest)) }
 {
-    'columns: for column in columns {
-        push_tick_line(alloc, out, sheet, bottom, column)?;
+    let mut at = 0;
+    let mut rest = columns;
+    'columns: while let Some((column, others)) = rest.split_first() {
+        push_tick_line(alloc, out, sheet.x_from(at), bottom, column)?;
+        at = next_place(sheet.less, at, column, others);
+        rest = others;
     }
     Ok(())
 }
 
-// Appends a column's tick, with a line down to the bottom.
+// Appends a column's tick at an x coordinate, with a line down to the bottom.
 fn push_tick_line(
     alloc: Global,
     out: &mut Vec<u8>,
-    sheet: &Sheet<'_, '_, '_>,
+    x: u64,
     bottom: u64,
     column: &Column,
 ) -> Result<(), AllocError>
     ensures { OnOk result ((rest : Content) → out.new.items ++ content_text rest
-        ≡ out.old.items ++ content_text (tick_line (sheet_held sheet.now) bottom (column_of column.now) rest)) }
+        ≡ out.old.items ++ content_text (tick_line x bottom (column_of column.now) rest)) }
 {
-    let x = sheet.x_at(column.tick);
-    push_line(out, x, bottom)?;
+    push_line(out, b"tick", x, TOP, x, bottom)?;
     push_tick(alloc, out, x, column.tick)?;
     text(out, b"\n")
-}
-
-// Appends a line down to the bottom.
-fn push_line(out: &mut Vec<u8>, x: u64, bottom: u64) -> Result<(), AllocError>
-    ensures { OnOk result ((rest : Content) → out.new.items ++ content_text rest
-        ≡ out.old.items ++ content_text (element tags.Line (segment (codes "tick") x TOP x bottom) nothing rest)) }
-{
-    begin_line(out, b"tick", x, TOP, x, bottom)?;
-    end(out, Tag::Line)
 }
 
 // Appends a tick above its line.

@@ -12,5 +12,5 @@ returns c =
     let sheet = sheet_held c.args.sheet.now in
     let x = x_of sheet c.args.event.now.tick in
     element_ok c.end.result tags.Use (cross x (middle_of c.args.row)) (events_title sheet (event_of c.args.event.now ∷ [])) _ _ _ _
-    (at_place cross tags.Use _ _ c.x_of.result x c.middle_of.result (middle_of c.args.row) c.in_ok-begin_cross.ensures c.x_of.ensures.value
+    (at_place cross tags.Use _ _ c.x_of.result x c.middle_of.result (middle_of c.args.row) c.in_ok-begin_use.ensures c.x_of.ensures.value
     c.middle_of.ensures) c.in_ok-push_told.ensures c.end.ensures

@@ -5,8 +5,7 @@ use Rattle.chart_bars.specs.Held.{bar_of}
 use Rattle.chart_text.specs.Text.{outcome_of}
 use Rattle.svg_text.specs.Content.{text, element}
 use Rattle.svg_text.specs.declared.names.Tag.TheVariants as tags
-use Rattle.chart_svg.specs.declared.layout.TheConstants.{LETTER}
-use Rattle.chart_svg.specs.Sheets.{y_of}
+use Rattle.chart_svg.specs.Sheets.{outcome_x, y_of}
 use Rattle.chart_svg.specs.Rows.{size_of, class_of, bar_title, start_x, end_x, rectangle, words, cancelled_part, marks}
 use Rattle.chart_svg.specs.Held.{sheet_held}
 use Rattle.chart_svg.proofs.Pieces.{text_before}
@@ -20,7 +19,7 @@ returns c =
     let bar = bar_of c.args.bar.now in
     let i = c.args.row in
     let line = text (codes "\n") rest in
-    let outcome = words (codes "outcome") (end_x sheet bar + LETTER) (y_of i + 16) (outcome_of bar) line in
+    let outcome = words (codes "outcome") (outcome_x sheet) (y_of i + 16) (outcome_of bar) line in
     let marked = marks sheet i bar.own outcome in
     let part = cancelled_part sheet i bar bar.cancelled marked in
     let box = element tags.Rect (rectangle i (size_of bar) (class_of bar) (start_x sheet bar) (end_x sheet bar)) (bar_title sheet bar) part in

@@ -1,4 +1,4 @@
-use Rattle.std.proofs.Common.{◌≡◌, ◌++◌, drop, map}
+use Rattle.std.proofs.Common.{◌≡◌, ◌≤◌, ◌++◌, map, length}
 use Rattle.chart_columns.specs.Held.{column_of}
 use Rattle.svg_text.specs.Content.{Content, content_text}
 use Rattle.chart_svg.specs.Drawing.{tick_lines}
@@ -6,6 +6,11 @@ use Rattle.chart_svg.specs.Held.{sheet_held}
 use Rattle.chart_svg.proofs.ticks.push_tick_lines.Given as goal
 
 abbrev pub invariant-columns : goal.invariant-columns
-invariant-columns l = (rest : Content) →
-    l.out.items ++ content_text (tick_lines (sheet_held l.sheet) l.bottom (map column_of (drop l.column-index l.columns)) rest)
-    ≡ l.fn.out.items ++ content_text (tick_lines (sheet_held l.sheet) l.bottom (map column_of l.columns) rest)
+invariant-columns l = record {
+  bounded : l.at ≤ 1000000;
+  appended : (rest : Content) → l.out.items ++ content_text (tick_lines (sheet_held l.sheet) l.bottom l.at (map column_of l.rest) rest)
+      ≡ l.fn.out.items ++ content_text (tick_lines (sheet_held l.sheet) l.bottom 0 (map column_of l.columns) rest);
+}
+
+abbrev pub decreases-columns : goal.decreases-columns
+decreases-columns l = length l.rest
