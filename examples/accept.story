@@ -41,12 +41,12 @@ tick 8
 tick 9
   handler.3  is cancelled while sleeping since 6 by scope patience.3 (deadline)
   handler.3  leaves scope patience.3: Cancelled propagates
-  handler.3  ends: cancelled; nursery serve is cancelled from 9
+  handler.3  ends: cancelled
   handler.4  is cancelled while sleeping since 8 by scope day (deadline)
   handler.4  leaves scope patience.4: Cancelled propagates
-  handler.4  ends: cancelled; nursery serve is cancelled from 9
+  handler.4  ends: cancelled
   accept     is cancelled while sleeping since 8 by scope day (deadline)
-  accept     waits for nursery serve after Cancelled; nursery serve is cancelled from 9
+  accept     waits for nursery serve after Cancelled
   accept     leaves nursery serve: serve[Cancelled, Cancelled, Cancelled] propagates
   accept     leaves scope day: cancellation caught
   accept     ends: done

@@ -12,7 +12,7 @@ tick 0
 tick 1
   shard.0  finds 1 line
   shard.0  ends: done
-  shard.2  finds 0 lines
+  shard.2  finds no line
   shard.2  ends: done
 tick 2
   shard.1  finds 1 line

@@ -1,8 +1,9 @@
--- Definitions for the worked stories, and one of them, proved by computing: a sibling fails, and a cleanup has a shield.
+-- Definitions for the worked stories, and two of them, proved by computing: a sibling fails, and a cleanup has a shield; a search and a
+-- `need` find no line.
 use Rattle.std.specs.Prelude.{◌≡◌, ℕ, List, [], ◌∷◌, ◌++◌, codes, refl}
 use Rattle.std.specs.Fmt.{digits}
 use Rattle.job_tree.specs.declared.format.Format.TheVariants.{Two}
-use Rattle.job_tree.specs.Tree.{Step, sleep, forever, raise, Tree}
+use Rattle.job_tree.specs.Tree.{Step, sleep, forever, find, need, raise, Tree}
 use Rattle.job_meaning.specs.Meaning.{meaning, meaning_table}
 use Rattle.job_meaning.specs.Walk.{walk, and_then, sleep_result, lines_result, raise_result, need_result, cancel_result, set_result, event_wait, block, event_block, with_sign, nursery_result, child, handler_result, cleanup_result}
 use Rattle.job_meaning.specs.Examples.{block_of, nursery_of, start_of, timed_shield, try_finally}
@@ -62,3 +63,16 @@ pub a_sibling_fails :
     ∷ [])
 unfolding told_text digits
 a_sibling_fails = refl
+
+-- job late { find "zz"; need "zz" Gone; }
+pub a_need_finds_no_line :
+    told_text (job_named (codes "late") (find (codes "zz") ∷ need (codes "zz") (codes "Gone") ∷ [])) (lines_of (codes "ok" ∷ []))
+    ≡ lines_of
+    (codes "tick 0"
+    ∷ codes "  late  starts"
+    ∷ codes "  late  finds no line"
+    ∷ codes "  late  finds no line and raises Gone"
+    ∷ codes "  late  ends: raised Gone(late@0)"
+    ∷ [])
+unfolding told_text digits
+a_need_finds_no_line = refl

@@ -1,5 +1,5 @@
 -- The text of a story.
-use Rattle.std.specs.Prelude.{ℕ, ◌+◌, ◌-◌, ◌==◌, Bool, true, false, Option, Some, None, List, [], ◌∷◌, ◌++◌, length, codes, decimal, max, if◌then◌else◌, replicate}
+use Rattle.std.specs.Prelude.{ℕ, ◌+◌, ◌-◌, ◌==◌, Bool, true, false, Option, Some, None, is_none, List, [], ◌∷◌, ◌++◌, length, codes, decimal, max, if◌then◌else◌, replicate}
 use Rattle.exc_groups.specs.Exceptions.{Label, Exc}
 use Rattle.exc_text.specs.Texts.{label_text, exc_text, end_text}
 use Rattle.exc_groups.specs.Split.{is_cancelled as by_cancelled, drop}
@@ -59,7 +59,7 @@ entered_text None l = label_text l
 entered_text (Some e) l = kind_text e.kind ++ label_text l
 
 abbrev pub count_text : ℕ → List ℕ
-count_text n = decimal n ++ (if n == 1 then codes " line" else codes " lines")
+count_text n = if n == 0 then codes "no line" else decimal n ++ (if n == 1 then codes " line" else codes " lines")
 
 -- what propagates where a cancellation was caught: the rest of the exception, or a `TooSlow` where nothing is left
 abbrev pub caught_text : Option Exc → Option Exc → List ℕ
@@ -72,12 +72,17 @@ leaving_text None caught outside = codes "completed"
 leaving_text (Some e) false outside = exc_text e ++ codes " propagates"
 leaving_text (Some e) true outside = codes "cancellation caught" ++ caught_text (drop by_cancelled e) outside
 
--- a task that ends with an exception cancels its nursery from the next tick on, if the table says so
+-- that a nursery is cancelled from the next moment on, if the table says so
+abbrev pub from_text : Clock → Table → Label → ℕ → List ℕ
+from_text clock table l t =
+    if is_from (table l) (t + 1) then codes "; nursery " ++ label_text l ++ codes " is cancelled from " ++ decimal (tick_of clock (t + 1)) else []
+
+-- A task that ends with an exception cancels its nursery. Where each leaf of the exception is `Cancelled` this is not said: the nursery
+-- is cancelled already, or something around it is.
 abbrev pub sign_text : Clock → Table → Option Label → Option Exc → ℕ → List ℕ
 sign_text clock table None e t = []
 sign_text clock table (Some l) None t = []
-sign_text clock table (Some l) (Some e) t =
-    if is_from (table l) (t + 1) then codes "; nursery " ++ label_text l ++ codes " is cancelled from " ++ decimal (tick_of clock (t + 1)) else []
+sign_text clock table (Some l) (Some e) t = if is_none (drop by_cancelled e) then [] else from_text clock table l t
 
 -- a `cancel` of a scope or nursery that is already cancelled changes nothing
 abbrev pub cancel_text : Clock → Table → List Event → Option Label → ℕ → List ℕ
@@ -104,7 +109,7 @@ happening_text clock table es t (sleeps until) = codes "sleeps " ++ until_text c
 happening_text clock table es t (is_cancelled by during in_cleanup) =
     codes "is cancelled" ++ cleanup_text in_cleanup ++ during_text clock during ++ cancelled_text clock table es by
 happening_text clock table es t (finds lines) = codes "finds " ++ count_text (length lines)
-happening_text clock table es t (misses name) = codes "misses " ++ name
+happening_text clock table es t (misses name) = codes "finds no line and raises " ++ name
 happening_text clock table es t (raises name) = codes "raises " ++ name
 happening_text clock table es t (cancels label) = cancel_text clock table es label t
 happening_text clock table es t (sets label) = set_text table label t

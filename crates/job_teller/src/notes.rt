@@ -7,7 +7,7 @@ ghost use Rattle.job_meaning.specs.Walk.{from_for, home_of, left_with, stack_for
 ghost use Rattle.job_story.specs.Events.{event, starts, ends};
 ghost use Rattle.block_exits.specs.Held.{kind_of};
 ghost use Rattle.job_story.specs.Held.{during_of, event_of, happening_of, what_of};
-ghost use Rattle.job_story.specs.Story.{is_cancelled, Tale};
+ghost use Rattle.job_story.specs.Story.{handles, is_cancelled, Tale};
 ghost use Rattle.job_story.specs.Tell.{asleep_for, story_of_one, replacement, seer, tell_gathered, tell_wait};
 ghost use Rattle.job_story.specs.declared.event.Event.{Event as HeldEvent};
 ghost use Rattle.job_teller.specs.Heres.{scopes_of};
@@ -164,6 +164,25 @@ pub(crate) fn note_end<'a>(
     let exc = told.box_exc(here.alloc)?;
     let what = What::Ends { home, exc };
     add(here.alloc, label, told.end(), what, events)?;
+    Ok(())
+}
+
+// Appends the event that a handler runs for a part of an exception, given the other part. It is a function of its own since the time
+// that the proof of `tell_handler` takes grows with the values that are alive at each call that can fail.
+#[inline(never)]
+pub(crate) fn note_handled<'a>(
+    here: Here<'a, '_>,
+    moment: u64,
+    matched: Exc,
+    rest: &Option<Exc>,
+    events: &mut Vec<Event>,
+) -> Result<(), AllocError>
+    ensures { OnOk result (Adds here.entry.task.now events.old.items events.new.items
+        (story_of_one moment (handles (exc_of matched) (option_map exc_of rest.now)))) }
+{
+    let matched = Box::new(here.alloc, matched)?;
+    let rest = boxed_copy(here.alloc, rest)?;
+    note(here, moment, Happening::Handles { matched, rest }, events)?;
     Ok(())
 }
 

@@ -11,10 +11,9 @@ ghost use Rattle.job_teller.specs.Heres.{HasRoom, input_of, label_in, scene_of, 
 ghost use Rattle.job_teller.specs.Tales.{Tells, now_in};
 
 use crate::block::Block;
-use crate::excs::boxed_copy;
 use crate::here::Here;
 use crate::leaves::tell_leaf;
-use crate::notes::{leave, note, note_end, note_replaced, note_start, wait};
+use crate::notes::{leave, note, note_end, note_handled, note_replaced, note_start, wait};
 use crate::progress::Progress;
 use crate::stack::{Level, Stack};
 use crate::told::Told;
@@ -386,13 +385,7 @@ fn tell_handler<'a>(
     let Some(matched) = kept else {
         return Ok(told);
     };
-    let matched = Box::new(here.alloc, matched)?;
-    let left = boxed_copy(here.alloc, &rest)?;
-    let what = Happening::Handles {
-        matched,
-        rest: left,
-    };
-    note(here, told.end(), what, &mut progress.events)?;
+    note_handled(here, told.end(), matched, &rest, &mut progress.events)?;
     let next = tell_steps(handler.body.as_slice(), here, told.end(), progress)?;
     let told = told.join_handler(here.alloc, next, rest)?;
     Ok(told)

@@ -4,7 +4,7 @@ ghost use Rattle.exc_groups.specs.Held.{exc_of};
 ghost use Rattle.exc_groups.specs.Split.{is_cancelled, drop};
 ghost use Rattle.block_exits.specs.Held.{kind_of};
 ghost use Rattle.job_story.specs.Held.{unboxed_exc, during_of, happening_of, what_of};
-ghost use Rattle.job_story.specs.Sentences.{kind_text, with_exc, entering_text, until_text, during_text, cleanup_text, cause_text, entered_text, count_text, caught_text, leaving_text, sign_text, cancel_text, set_text, cancelled_text, happening_text, home_text, what_text};
+ghost use Rattle.job_story.specs.Sentences.{kind_text, with_exc, entering_text, until_text, during_text, cleanup_text, cause_text, entered_text, count_text, caught_text, leaving_text, from_text, sign_text, cancel_text, set_text, cancelled_text, happening_text, home_text, what_text};
 ghost use Rattle.exc_text.specs.Texts.{label_text, exc_text, end_text};
 ghost use Rattle.moments.specs.Moments.{tick_of};
 ghost use Rattle.moments.specs.declared.clock.Clock.{Clock};
@@ -72,7 +72,7 @@ fn push_happening(
             in_cleanup,
         } => push_is_cancelled(out, known, by, during, *in_cleanup),
         Happening::Finds { lines } => push_finds(out, lines.len()),
-        Happening::Misses { name } => push_verb(out, b"misses ", *name),
+        Happening::Misses { name } => push_verb(out, b"finds no line and raises ", *name),
         Happening::Raises { name } => push_verb(out, b"raises ", *name),
         Happening::Cancels { label } => push_cancels(out, known, label, moment),
         Happening::Sets { label } => push_sets(out, known, label, moment),
@@ -342,6 +342,16 @@ fn push_finds(out: &mut Vec<u8>, count: usize) -> Result<(), AllocError>
     ensures { OnOk result (out.new.items ≡ out.old.items ++ (codes "finds " ++ count_text count)) }
 {
     out.extend_from_slice(b"finds ")?;
+    push_count(out, count)
+}
+
+// Appends a number of lines.
+fn push_count(out: &mut Vec<u8>, count: usize) -> Result<(), AllocError>
+    ensures { OnOk result (out.new.items ≡ out.old.items ++ count_text count) }
+{
+    if count == 0 {
+        return out.extend_from_slice(b"no line");
+    }
     push_number(out, count as u64)?;
     if count == 1 {
         out.extend_from_slice(b" line")
@@ -464,7 +474,8 @@ fn push_waits(
     push_sign(out, known, nursery, exc, moment)
 }
 
-// Appends that the nursery is cancelled from the next moment on, if it is and its child or body ends with an exception.
+// Appends that the nursery is cancelled from the next moment on, if it is, and its child or body ends with an exception that has
+// another leaf than `Cancelled`.
 fn push_sign(
     out: &mut Vec<u8>,
     known: &Known<'_, '_>,
@@ -475,9 +486,25 @@ fn push_sign(
     ensures { OnOk result (out.new.items
         ≡ out.old.items ++ sign_text (clock_in known.now) (froms_in known.now) (Some nursery.now) (unboxed_exc exc.now) moment) }
 {
-    let Some(_) = exc else {
+    let Some(exc) = exc else {
         return Ok(());
     };
+    if is_cancellation(exc) {
+        return Ok(());
+    }
+    push_from(out, known, nursery, moment)
+}
+
+// Appends that a nursery is cancelled from the next moment on, if it is.
+fn push_from(
+    out: &mut Vec<u8>,
+    known: &Known<'_, '_>,
+    nursery: &Label,
+    moment: u64,
+) -> Result<(), AllocError>
+    ensures { OnOk result (out.new.items
+        ≡ out.old.items ++ from_text (clock_in known.now) (froms_in known.now) nursery.now moment) }
+{
     let Some(from) = next_from(known, nursery, moment) else {
         return Ok(());
     };

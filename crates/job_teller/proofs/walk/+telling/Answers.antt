@@ -7,7 +7,6 @@ use Rattle.buffer_parts.specs.Lines.{Range}
 use Rattle.buffer_parts.specs.Part.{range_of}
 use Rattle.exc_groups.specs.Exceptions.{Label, Exc}
 use Rattle.exc_groups.specs.Held.{exc_of}
-use Rattle.exc_groups.specs.declared.exc.Exc as held
 use Rattle.job_tree.specs.declared.step.Step.{Step}
 use Rattle.job_tree.specs.Tree.{Steps}
 use Rattle.job_tree.specs.Blocks.{step_of, steps_of, handled_of}
@@ -266,10 +265,8 @@ unfolding tell
 tell_handler-returns t c = λ start (a : Tale) h.
     let e : a.exc ≡ Some (exc_of c.in-Some-2.exc) = sym h.told.exc ∙ (sym c.in_ok-exc.ensures ∙ ap (option_map exc_of) c.in-Some-2.is) in
     let matched = exc_of c.in-Some-kept.matched in
-    let handling = adds_like _ _ _ _ _ c.in_ok-note.ensures
-    (ap (λ (n : ℕ). story_of_one n (handles (exc_of c.in_ok-matched.matched.value) (unboxed_exc c.in_ok-left.left))) c.end.ensures
-    ∙ (ap (λ (x : held.Exc). story_of_one c.args.told.end (handles (exc_of x) (unboxed_exc c.in_ok-left.left))) c.in_ok-matched.ensures.ok
-    ∙ ap (λ (o : Option Exc). story_of_one c.args.told.end (handles matched o)) c.in_ok-left.ensures)) in
+    let handling = adds_like _ _ _ _ _ c.in_ok-note_handled.ensures
+    (ap (λ (n : ℕ). story_of_one n (handles matched (option_map exc_of c.in_ok-kept.rest))) c.end.ensures) in
     let next = tells_at _ _ _ c.in_ok-next.next _ _ _ _ _ _ (now_of a) c.as_slice.ensures
     (same_now _ c.args.progress.now.cancelled.items a.end a.own (c.end-2.ensures ∙ h.told.end) h.own) c.in_ok-next.ensures in
     rw c.in-Some.is
