@@ -28,4 +28,4 @@ keywords_have_places text job tokens spells lexed =
 pub warnings_stand : (text : List ℕ) (job : Tree) (tokens : List Token) → Spells text job → HasTokens text tokens None →
     AllStandAtKeywords (opening_places tokens) (opening_keywords tokens) (job_warnings (numbered_in (opening_places tokens)) job)
 warnings_stand text job tokens spells lexed =
-    all_stand (opening_places tokens) (opening_keywords tokens) in_job job.steps (keywords_of_text text job tokens spells lexed)
+    all_stand (opening_places tokens) (opening_keywords tokens) (in_job job.format) job.steps (keywords_of_text text job tokens spells lexed)

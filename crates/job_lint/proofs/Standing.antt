@@ -7,13 +7,14 @@ use Rattle.std.proofs.Math.Seq.{drop-append_seam}
 use Rattle.job_tree.specs.Tree.{Step, sleep, checkpoint, forever, pace, find, head, longest, need, raise, cancel, set_event, wait_for, scope, nursery, event, start, repeat, attempt, Steps, stop, step, Handled, unhandled, except, Cleaned, uncleaned, finally}
 use Rattle.job_syntax.specs.declared.keyword.Keyword.{Keyword}
 use Rattle.job_syntax.specs.declared.keyword.Keyword.TheVariants as word
+use Rattle.job_checks.specs.Given.{is_among}
 use Rattle.job_lint.specs.declared.around.Around.{Around}
 use Rattle.job_lint.specs.declared.warning.Lint.TheVariants.{UnsetEvent, UnawaitedEvent}
 use Rattle.job_lint.specs.declared.warning.Warning.{Warning}
 use Rattle.job_lint.specs.declared.sought.Sought.TheVariants.{Set, Await}
 use Rattle.job_lint.specs.Seeking.{is_never, has}
 use Rattle.job_lint.specs.Openings.{openings_of, openings_in, handled_openings, cleaned_openings, numbered_in}
-use Rattle.job_lint.specs.Warnings.{in_block, in_cleanup, warn_if, with_warning, never_ends_well, own_warning, endless_shield, idle_scope, can_raise, warnings_at, warnings_of, warnings_in, handled_warnings, cleaned_warnings}
+use Rattle.job_lint.specs.Warnings.{in_block, in_cleanup, in_handler, is_cancelled, is_nursery_cancelled, warn_if, with_warning, never_ends_well, own_warning, endless_shield, idle_scope, can_raise, warnings_at, warnings_of, warnings_in, handled_warnings, cleaned_warnings}
 use Rattle.job_lint.specs.Fitting.{own_keyword, keywords_of, keywords_in, handled_keywords, cleaned_keywords, begins_step, StandsAtKeyword, AllStandAtKeywords}
 
 abbrev Keywords : Type 0
@@ -115,101 +116,107 @@ begins : (s : Step) → begins_step (own_keyword s) ≡ true
 begins (sleep n) = refl
 begins _ = refl
 
-own_stands : (places : List ℕ) (keywords : Keywords) (around : Around) (n : ℕ) (s : Step) (others : List Warning) →
+own_stands : (places : List ℕ) (keywords : Keywords) (around : Around) (opened : List (List ℕ)) (n : ℕ) (s : Step) (others : List Warning) →
     slice_get keywords n ≡ Some (own_keyword s) → AllStandAtKeywords places keywords others →
-    AllStandAtKeywords places keywords (with_warning (own_warning around (numbered_in places n) s) others)
-own_stands places keywords around n (sleep t) others got all =
+    AllStandAtKeywords places keywords (with_warning (own_warning around opened (numbered_in places n) s) others)
+own_stands places keywords around opened n (sleep t) others got all =
     with_if places keywords around.exposed _ others (n, word.Sleep, refl, got, refl) all
-own_stands places keywords around n checkpoint others got all =
+own_stands places keywords around opened n checkpoint others got all =
     with_if places keywords around.exposed _ others (n, word.Checkpoint, refl, got, refl) all
-own_stands places keywords around n forever others got all =
+own_stands places keywords around opened n forever others got all =
     with_if places keywords around.exposed _ others (n, word.Forever, refl, got, refl) all
-own_stands places keywords around n (pace t) others got all =
+own_stands places keywords around opened n (pace t) others got all =
     with_if places keywords around.exposed _ others (n, word.Pace, refl, got, refl) all
-own_stands places keywords around n (find t) others got all = all
-own_stands places keywords around n (head t) others got all = all
-own_stands places keywords around n longest others got all = all
-own_stands places keywords around n (need t x) others got all = all
-own_stands places keywords around n (raise x) others got all =
+own_stands places keywords around opened n (find t) others got all = all
+own_stands places keywords around opened n (head t) others got all = all
+own_stands places keywords around opened n longest others got all = all
+own_stands places keywords around opened n (need t x) others got all = all
+own_stands places keywords around opened n (raise x) others got all =
     with_if places keywords around.cleanup _ others (n, word.Raise, refl, got, refl) all
-own_stands places keywords around n (cancel x) others got all = all
-own_stands places keywords around n (set_event x) others got all = all
-own_stands places keywords around n (wait_for x) others got all =
+own_stands places keywords around opened n (cancel x) others got all =
+    with_if places keywords (around.late && not (is_among opened x)) _ others (n, word.Cancel, refl, got, refl) all
+own_stands places keywords around opened n (set_event x) others got all = all
+own_stands places keywords around opened n (wait_for x) others got all =
     with_if places keywords around.exposed _ others (n, word.Wait, refl, got, refl) all
-own_stands places keywords around n (scope x d shield f body) others got all = by_flags (is_never d) shield
+own_stands places keywords around opened n (scope x d shield f body) others got all = by_flags (is_never d) shield
   where
     by_flags : (never shielded : Bool) → AllStandAtKeywords places keywords
         (with_warning (if not never then None else (if shielded then endless_shield x body (numbered_in places n)
-        else idle_scope x body (numbered_in places n))) others)
+        else idle_scope around x f body (numbered_in places n))) others)
     by_flags false shielded = all
     by_flags true true = with_if places keywords _ _ others (n, word.Scope, refl, got, refl) all
     by_flags true false = with_if places keywords _ _ others (n, word.Scope, refl, got, refl) all
-own_stands places keywords around n (nursery x d shield body) others got all = by_flag (is_never d && shield)
+own_stands places keywords around opened n (nursery x d shield body) others got all = by_flag (is_never d && shield)
   where
     by_flag : (b : Bool) → AllStandAtKeywords places keywords
         (with_warning (if b then endless_shield x body (numbered_in places n) else None) others)
     by_flag false = all
     by_flag true = with_if places keywords _ _ others (n, word.Nursery, refl, got, refl) all
-own_stands places keywords around n (event x body) others got all = by_flag (has (Set x) body)
+own_stands places keywords around opened n (event x body) others got all = by_flag (has (Set x) body)
   where
     by_flag : (b : Bool) → AllStandAtKeywords places keywords
         (with_warning (if b then warn_if (not (has (Await x) body)) (record { at = numbered_in places n; lint = UnawaitedEvent; name = Some x })
         else Some (record { at = numbered_in places n; lint = UnsetEvent; name = Some x })) others)
     by_flag true = with_if places keywords _ _ others (n, word.Event, refl, got, refl) all
     by_flag false = ((n, word.Event, refl, got, refl), all)
-own_stands places keywords around n (start x o body) others got all = all
-own_stands places keywords around n (repeat c body) others got all = all
-own_stands places keywords around n (attempt body h c) others got all = all
+own_stands places keywords around opened n (start x o body) others got all = all
+own_stands places keywords around opened n (repeat c body) others got all = all
+own_stands places keywords around opened n (attempt body h c) others got all = all
 
 -- both warnings of a step
-both_stand : (places : List ℕ) (keywords : Keywords) (around : Around) (unreachable : Bool) (n : ℕ) (s : Step) (others : List Warning) →
+both_stand : (places : List ℕ) (keywords : Keywords) (around : Around) (opened : List (List ℕ)) (unreachable : Bool) (n : ℕ) (s : Step)
+    (others : List Warning) →
     slice_get keywords n ≡ Some (own_keyword s) → AllStandAtKeywords places keywords others →
-    AllStandAtKeywords places keywords (warnings_at unreachable around (numbered_in places n) s others)
-both_stand places keywords around unreachable n s others got all =
-    with_if places keywords unreachable _ _ (n, own_keyword s, refl, got, begins s) (own_stands places keywords around n s others got all)
+    AllStandAtKeywords places keywords (warnings_at unreachable around opened (numbered_in places n) s others)
+both_stand places keywords around opened unreachable n s others got all =
+    with_if places keywords unreachable _ _ (n, own_keyword s, refl, got, begins s)
+    (own_stands places keywords around opened n s others got all)
 
 mutual
   -- the same, given the keywords from a number on: those of the part, followed by others
-  stand_of : (places : List ℕ) (keywords : Keywords) (around : Around) (unreachable : Bool) (n : ℕ) (ss : Steps) (more : Keywords)
-      (others : List Warning) → drop n keywords ≡ keywords_of ss more → AllStandAtKeywords places keywords others →
-      AllStandAtKeywords places keywords (warnings_of (numbered_in places) around unreachable n ss others)
-  stand_of places keywords around unreachable n stop more others e all = all
-  stand_of places keywords around unreachable n (step s ss) more others e all =
+  stand_of : (places : List ℕ) (keywords : Keywords) (around : Around) (opened : List (List ℕ)) (unreachable : Bool) (n : ℕ)
+      (ss : Steps) (more : Keywords) (others : List Warning) → drop n keywords ≡ keywords_of ss more →
+      AllStandAtKeywords places keywords others → AllStandAtKeywords places keywords (warnings_of (numbered_in places) around opened unreachable n ss others)
+  stand_of places keywords around opened unreachable n stop more others e all = all
+  stand_of places keywords around opened unreachable n (step s ss) more others e all =
       let one = at_number keywords n (own_keyword s) (keywords_in s (keywords_of ss more)) e in
       let after = after_part keywords (n + 1) (openings_in s) _ (keywords_of ss more) one.1 (split_in s (keywords_of ss more)) in
-      let rest = stand_of places keywords around (never_ends_well s) (n + 1 + openings_in s) ss more others after all in
-      both_stand places keywords around unreachable n s _ one.0
-      (stand_in places keywords around (n + 1) s (keywords_of ss more) _ one.1 rest)
+      let rest = stand_of places keywords around opened (never_ends_well s) (n + 1 + openings_in s) ss more others after all in
+      both_stand places keywords around opened unreachable n s _ one.0
+      (stand_in places keywords around opened (n + 1) s (keywords_of ss more) _ one.1 rest)
 
-  stand_in : (places : List ℕ) (keywords : Keywords) (around : Around) (n : ℕ) (s : Step) (more : Keywords)
+  stand_in : (places : List ℕ) (keywords : Keywords) (around : Around) (opened : List (List ℕ)) (n : ℕ) (s : Step) (more : Keywords)
       (others : List Warning) → drop n keywords ≡ keywords_in s more → AllStandAtKeywords places keywords others →
-      AllStandAtKeywords places keywords (warnings_in (numbered_in places) around n s others)
-  stand_in places keywords around n (sleep t) more others e all = all
-  stand_in places keywords around n checkpoint more others e all = all
-  stand_in places keywords around n forever more others e all = all
-  stand_in places keywords around n (pace t) more others e all = all
-  stand_in places keywords around n (find t) more others e all = all
-  stand_in places keywords around n (head t) more others e all = all
-  stand_in places keywords around n longest more others e all = all
-  stand_in places keywords around n (need t x) more others e all = all
-  stand_in places keywords around n (raise x) more others e all = all
-  stand_in places keywords around n (cancel x) more others e all = all
-  stand_in places keywords around n (set_event x) more others e all = all
-  stand_in places keywords around n (wait_for x) more others e all = all
-  stand_in places keywords around n (scope x d shield f body) more others e all =
-      stand_of places keywords (in_block shield around) false n body more others e all
-  stand_in places keywords around n (nursery x d shield body) more others e all =
-      stand_of places keywords (in_block shield around) false n body more others e all
-  stand_in places keywords around n (event x body) more others e all = stand_of places keywords around false n body more others e all
-  stand_in places keywords around n (start x o body) more others e all = stand_of places keywords around false n body more others e all
-  stand_in places keywords around n (repeat c body) more others e all = stand_of places keywords around false n body more others e all
-  stand_in places keywords around n (attempt body h c) more others e all =
+      AllStandAtKeywords places keywords (warnings_in (numbered_in places) around opened n s others)
+  stand_in places keywords around opened n (sleep t) more others e all = all
+  stand_in places keywords around opened n checkpoint more others e all = all
+  stand_in places keywords around opened n forever more others e all = all
+  stand_in places keywords around opened n (pace t) more others e all = all
+  stand_in places keywords around opened n (find t) more others e all = all
+  stand_in places keywords around opened n (head t) more others e all = all
+  stand_in places keywords around opened n longest more others e all = all
+  stand_in places keywords around opened n (need t x) more others e all = all
+  stand_in places keywords around opened n (raise x) more others e all = all
+  stand_in places keywords around opened n (cancel x) more others e all = all
+  stand_in places keywords around opened n (set_event x) more others e all = all
+  stand_in places keywords around opened n (wait_for x) more others e all = all
+  stand_in places keywords around opened n (scope x d shield f body) more others e all =
+      stand_of places keywords (in_block shield (is_cancelled x d body) around) (x ∷ opened) false n body more others e all
+  stand_in places keywords around opened n (nursery x d shield body) more others e all =
+      stand_of places keywords (in_block shield (is_nursery_cancelled x d body) around) (x ∷ opened) false n body more others e all
+  stand_in places keywords around opened n (event x body) more others e all =
+      stand_of places keywords around opened false n body more others e all
+  stand_in places keywords around opened n (start x o body) more others e all =
+      stand_of places keywords around opened false n body more others e all
+  stand_in places keywords around opened n (repeat c body) more others e all =
+      stand_of places keywords around opened false n body more others e all
+  stand_in places keywords around opened n (attempt body h c) more others e all =
       let cleaned = cleaned_keywords c more in
       let tried = after_part keywords n (openings_of body) _ (handled_keywords h cleaned) e (split_of body (handled_keywords h cleaned)) in
       let handled = after_part keywords (n + openings_of body) (handled_openings h) _ cleaned tried (split_handled h cleaned) in
-      stand_of places keywords around false n body (handled_keywords h cleaned) _ e
+      stand_of places keywords around opened false n body (handled_keywords h cleaned) _ e
       (stand_handled places keywords around (n + openings_of body) body h cleaned _ tried
-      (stand_cleaned places keywords (n + openings_of body + handled_openings h) c more others handled all))
+      (stand_cleaned places keywords around (n + openings_of body + handled_openings h) c more others handled all))
 
   stand_handled : (places : List ℕ) (keywords : Keywords) (around : Around) (n : ℕ) (tried : Steps) (h : Handled) (more : Keywords)
       (others : List Warning) → drop n keywords ≡ handled_keywords h more → AllStandAtKeywords places keywords others →
@@ -218,17 +225,17 @@ mutual
   stand_handled places keywords around n tried (except x body) more others e all =
       let one = at_number keywords n word.Except (keywords_of body more) e in
       with_if places keywords (not (can_raise x tried)) _ _ (n, word.Except, refl, one.0, refl)
-      (stand_of places keywords around false (n + 1) body more others one.1 all)
+      (stand_of places keywords (in_handler around) [] false (n + 1) body more others one.1 all)
 
-  stand_cleaned : (places : List ℕ) (keywords : Keywords) (n : ℕ) (c : Cleaned) (more : Keywords)
+  stand_cleaned : (places : List ℕ) (keywords : Keywords) (around : Around) (n : ℕ) (c : Cleaned) (more : Keywords)
       (others : List Warning) → drop n keywords ≡ cleaned_keywords c more → AllStandAtKeywords places keywords others →
-      AllStandAtKeywords places keywords (cleaned_warnings (numbered_in places) n c others)
-  stand_cleaned places keywords n uncleaned more others e all = all
-  stand_cleaned places keywords n (finally body) more others e all =
+      AllStandAtKeywords places keywords (cleaned_warnings (numbered_in places) around n c others)
+  stand_cleaned places keywords around n uncleaned more others e all = all
+  stand_cleaned places keywords around n (finally body) more others e all =
       let one = at_number keywords n word.Finally (keywords_of body more) e in
-      stand_of places keywords in_cleanup false (n + 1) body more others one.1 all
+      stand_of places keywords (in_cleanup around) [] false (n + 1) body more others one.1 all
 
 -- the warnings of a block that has all the keywords
 pub all_stand : (places : List ℕ) (keywords : Keywords) (around : Around) (ss : Steps) → keywords ≡ keywords_of ss [] →
-    AllStandAtKeywords places keywords (warnings_of (numbered_in places) around false 0 ss [])
-all_stand places keywords around ss e = stand_of places keywords around false 0 ss [] [] e tt
+    AllStandAtKeywords places keywords (warnings_of (numbered_in places) around [] false 0 ss [])
+all_stand places keywords around ss e = stand_of places keywords around [] false 0 ss [] [] e tt

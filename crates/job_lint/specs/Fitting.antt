@@ -7,7 +7,7 @@ use Rattle.job_syntax.specs.declared.keyword.Keyword.{Keyword}
 use Rattle.job_syntax.specs.declared.keyword.Keyword.TheVariants as keyword
 use Rattle.job_syntax.specs.Keywords.{keyword_of}
 use Rattle.job_lint.specs.declared.warning.Lint.{Lint}
-use Rattle.job_lint.specs.declared.warning.Lint.TheVariants.{Unreachable, ExposedWait, RaiseInCleanup, ShieldWithoutDeadline, IdleScope, IdleHandler, UnsetEvent, UnawaitedEvent}
+use Rattle.job_lint.specs.declared.warning.Lint.TheVariants.{Unreachable, ExposedWait, RaiseInCleanup, ShieldWithoutDeadline, IdleScope, IdleHandler, UnsetEvent, UnawaitedEvent, LateCancel}
 use Rattle.job_lint.specs.declared.warning.Warning.{Warning}
 use Rattle.job_lint.specs.Openings.{is_opening, opens_after, numbered_in}
 
@@ -125,6 +125,10 @@ abbrev pub is_event : Keyword → Bool
 is_event keyword.Event = true
 is_event _ = false
 
+abbrev pub is_cancel : Keyword → Bool
+is_cancel keyword.Cancel = true
+is_cancel _ = false
+
 abbrev pub is_except : Keyword → Bool
 is_except keyword.Except = true
 is_except _ = false
@@ -139,6 +143,7 @@ fits IdleScope k = is_scope k
 fits IdleHandler k = is_except k
 fits UnsetEvent k = is_event k
 fits UnawaitedEvent k = is_event k
+fits LateCancel k = is_cancel k
 
 -- a warning is at the place of an opening keyword that it can be about
 abbrev pub StandsAtKeyword : List ℕ → List Keyword → Warning → Type 0

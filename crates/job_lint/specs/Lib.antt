@@ -1,5 +1,6 @@
 pub mod Openings
 pub mod Seeking
+pub mod Opened
 pub mod Warnings
 pub mod Adding
 pub mod Linted

@@ -5,7 +5,7 @@ use Rattle.job_tree.specs.declared.deadline.Deadline.{Deadline}
 use Rattle.job_tree.specs.declared.deadline.Deadline.TheVariants.{Never, After, At}
 use Rattle.job_tree.specs.Tree.{Step, sleep, checkpoint, forever, pace, find, head, longest, need, raise, cancel, set_event, wait_for, scope, nursery, event, start, repeat, attempt, Steps, stop, step, Handled, unhandled, except, Cleaned, uncleaned, finally}
 use Rattle.job_lint.specs.declared.sought.Sought.{Sought}
-use Rattle.job_lint.specs.declared.sought.Sought.TheVariants.{Cancel, Raise, Fail, Wait, Set, Await}
+use Rattle.job_lint.specs.declared.sought.Sought.TheVariants.{Cancel, Raise, Fail, Failure, Wait, Set, Await}
 
 -- ---- the kinds
 
@@ -22,6 +22,13 @@ raises name _ = false
 abbrev pub fails : Step → Bool
 fails (scope name deadline shield fail body) = fail
 fails _ = false
+
+-- a step that can raise an exception
+abbrev pub can_fail : Step → Bool
+can_fail (raise name) = true
+can_fail (need text name) = true
+can_fail (scope name deadline shield fail body) = fail
+can_fail _ = false
 
 abbrev pub waits : Step → Bool
 waits (sleep n) = true
@@ -43,6 +50,7 @@ abbrev pub is_sought : Sought → Step → Bool
 is_sought (Cancel name) s = cancels name s
 is_sought (Raise name) s = raises name s
 is_sought Fail s = fails s
+is_sought Failure s = can_fail s
 is_sought Wait s = waits s
 is_sought (Set name) s = sets name s
 is_sought (Await name) s = awaits name s
@@ -58,6 +66,7 @@ abbrev pub is_entered : Sought → Deadline → Bool
 is_entered (Cancel name) deadline = true
 is_entered (Raise name) deadline = true
 is_entered Fail deadline = true
+is_entered Failure deadline = true
 is_entered Wait deadline = is_never deadline
 is_entered (Set name) deadline = true
 is_entered (Await name) deadline = true

@@ -1,25 +1,48 @@
 -- What a warning says, in a sentence.
-use Rattle.std.specs.Prelude.{ℕ, List, [], ◌++◌, Option, Some, None, codes, if◌then◌else◌}
+use Rattle.std.specs.Prelude.{ℕ, Bool, ◌||◌, List, [], ◌++◌, Option, Some, None, codes, if◌then◌else◌}
 use Rattle.std.specs.Str.{bytes_eq}
 use Rattle.job_lint.specs.declared.warning.Lint.{Lint}
-use Rattle.job_lint.specs.declared.warning.Lint.TheVariants.{Unreachable, ExposedWait, RaiseInCleanup, ShieldWithoutDeadline, IdleScope, IdleHandler, UnsetEvent, UnawaitedEvent}
+use Rattle.job_lint.specs.declared.warning.Lint.TheVariants.{Unreachable, ExposedWait, RaiseInCleanup, ShieldWithoutDeadline, IdleScope, IdleHandler, UnsetEvent, UnawaitedEvent, LateCancel}
 use Rattle.job_lint.specs.declared.warning.Warning.{Warning}
 
 abbrev pub idle_scope_text : List ℕ → List ℕ
 idle_scope_text name =
     codes "nothing cancels the scope " ++ name ++ codes ": it has no deadline, and no `cancel " ++ name ++ codes "` is in it"
 
+-- names that Trio and Python give to what a scope with `fail` raises, to classes of exceptions, and to groups
+abbrev pub is_timeout : List ℕ → Bool
+is_timeout name = bytes_eq name (codes "TooSlowError") || bytes_eq name (codes "TimeoutError")
+
+abbrev pub is_class : List ℕ → Bool
+is_class name = bytes_eq name (codes "Exception") || bytes_eq name (codes "BaseException")
+
+abbrev pub is_group : List ℕ → Bool
+is_group name = bytes_eq name (codes "ExceptionGroup") || bytes_eq name (codes "BaseExceptionGroup")
+
+-- what a handler of this name may have been meant for, or that it never runs
+abbrev pub idle_reason : List ℕ → List ℕ
+idle_reason name =
+    if is_timeout name then codes ": a scope with `fail` raises TooSlow, which `except TooSlow` handles"
+    else if is_class name then codes ": a handler has the name of one exception, and handles no other"
+    else if is_group name then codes ": a handler has the name of an exception, and handles all of that name in a group"
+    else codes ", so its handler never runs"
+
 abbrev pub idle_handler_text : List ℕ → List ℕ
 idle_handler_text name =
     if bytes_eq name (codes "TooSlow") then
     codes "no scope in this `try` has `fail`, so nothing raises TooSlow and its handler never runs"
-    else codes "nothing in this `try` raises " ++ name ++ codes ", so its handler never runs"
+    else codes "nothing in this `try` raises " ++ name ++ idle_reason name
 
 abbrev pub unset_event_text : List ℕ → List ℕ
 unset_event_text name = codes "nothing sets the event " ++ name ++ codes ": no `set " ++ name ++ codes "` is in it"
 
 abbrev pub unawaited_event_text : List ℕ → List ℕ
 unawaited_event_text name = codes "nothing waits for the event " ++ name ++ codes ": no `wait " ++ name ++ codes "` is in it"
+
+abbrev pub late_cancel_text : List ℕ → List ℕ
+late_cancel_text name =
+    codes "`cancel " ++ name
+    ++ codes "` in a cleanup or handler takes effect a tick later than in Trio, which may change the outcome: format 3 has Trio's outcome"
 
 -- the sentence for a kind of mistake, with the name that it is about
 abbrev pub sentence_for : Lint → List ℕ → List ℕ
@@ -32,6 +55,7 @@ sentence_for IdleScope name = idle_scope_text name
 sentence_for IdleHandler name = idle_handler_text name
 sentence_for UnsetEvent name = unset_event_text name
 sentence_for UnawaitedEvent name = unawaited_event_text name
+sentence_for LateCancel name = late_cancel_text name
 
 abbrev pub name_or_none : Option (List ℕ) → List ℕ
 name_or_none None = []

@@ -1,47 +1,85 @@
 ghost use Rattle.std.specs.Prelude.{◌≡◌};
-ghost use Rattle.job_lint.specs.Warnings.{in_block, in_cleanup, in_job};
+ghost use Rattle.job_lint.specs.Warnings.{counts_ticks, in_block, in_cleanup, in_handler, in_job};
+
+use job_grammar::Format;
 
 // What encloses a block.
 #[derive(Clone, Copy)]
 pub(crate) struct Around {
+    // The job counts time by whole ticks.
+    pub in_ticks: bool,
     // The block is in a cleanup, at any depth.
     pub cleanup: bool,
     // The block is in a cleanup, and in no shield that is inside that cleanup.
     pub exposed: bool,
+    // The block is in a cleanup or a handler, at any depth, of a job that counts time by whole ticks.
+    pub late: bool,
+    // Something outside the block can cancel it.
+    pub cancellable: bool,
 }
 
 impl Around {
-    // Returns what encloses the block of a scope or nursery, with or without a shield.
-    pub(crate) fn in_block(self, shield: bool) -> Around
-        ensures { result ≡ in_block shield self }
+    // Returns what encloses the block of a scope or nursery, with or without a shield, and whether something can cancel the scope or
+    // nursery itself.
+    pub(crate) fn in_block(self, shield: bool, cancelled: bool) -> Around
+        ensures { result ≡ in_block shield cancelled self }
     {
         if shield {
             Around {
-                cleanup: self.cleanup,
                 exposed: false,
+                cancellable: cancelled,
+                ..self
             }
         } else {
-            self
+            Around {
+                cancellable: cancelled || self.cancellable,
+                ..self
+            }
+        }
+    }
+
+    // Returns what encloses the block of a handler.
+    pub(crate) fn in_handler(self) -> Around
+        ensures { result ≡ in_handler self }
+    {
+        Around {
+            late: self.in_ticks,
+            ..self
+        }
+    }
+
+    // Returns what encloses the block of a cleanup.
+    pub(crate) fn in_cleanup(self) -> Around
+        ensures { result ≡ in_cleanup self }
+    {
+        Around {
+            cleanup: true,
+            exposed: true,
+            late: self.in_ticks,
+            ..self
         }
     }
 }
 
-// Returns what encloses the block of a cleanup.
-pub(crate) fn in_cleanup() -> Around
-    ensures { result ≡ in_cleanup }
+// Returns what encloses the block of a job of this format.
+pub(crate) fn in_job(format: Format) -> Around
+    ensures { result ≡ in_job format }
 {
     Around {
-        cleanup: true,
-        exposed: true,
+        in_ticks: counts_ticks(format),
+        cleanup: false,
+        exposed: false,
+        late: false,
+        cancellable: false,
     }
 }
 
-// Returns what encloses the block of a job.
-pub(crate) fn in_job() -> Around
-    ensures { result ≡ in_job }
+// Returns whether a job of this format counts time by whole ticks.
+fn counts_ticks(format: Format) -> bool
+    ensures { result ≡ counts_ticks format }
 {
-    Around {
-        cleanup: false,
-        exposed: false,
+    match format {
+        Format::One | Format::Two => true,
+        Format::Three => false,
     }
 }

@@ -6,6 +6,7 @@ ghost use Rattle.job_lint.specs.Linted.{AreWarnings, IsOkUnlessMemory};
 
 use crate::around::in_job;
 use crate::laws::law_keywords_have_places;
+use crate::opened::Opened;
 use crate::opening::opening_places;
 use crate::walk::walk_steps;
 use crate::warning::Warning;
@@ -46,6 +47,14 @@ fn lints_of_job(alloc: Global, text: &[u8], job: &Job) -> Result<Vec<Warning>, A
     let tokens = spelled_tokens(alloc, text, job)?;
     let places = opening_places(alloc, tokens.as_slice())?;
     let mut found = Vec::new(alloc);
-    walk_steps(job.steps(), places.as_slice(), in_job(), 0, &mut found)?;
+    let around = in_job(job.text_format());
+    walk_steps(
+        job.steps(),
+        places.as_slice(),
+        around,
+        &Opened::Nothing,
+        0,
+        &mut found,
+    )?;
     Ok(found)
 }

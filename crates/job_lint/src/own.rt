@@ -1,9 +1,11 @@
 ghost use Rattle.std.specs.Prelude.{◌≡◌, OnOk};
 ghost use Rattle.job_tree.specs.Blocks.{step_of};
-ghost use Rattle.job_lint.specs.Warnings.{warn_if, own_warning, scope_warning, nursery_warning, event_warning, idle_scope, endless_shield, idle_handler, can_raise, never_ends_well, with_warning, warnings_at};
+ghost use Rattle.job_lint.specs.Opened.{names_opened};
+ghost use Rattle.job_lint.specs.Warnings.{warn_if, own_warning, scope_warning, nursery_warning, event_warning, is_cancelled, is_idle, late_cancel, endless_shield, idle_handler, can_raise, is_nursery_cancelled, never_ends_well, with_warning, warnings_at};
 ghost use Rattle.job_lint.specs.Adding.{Adds};
 
 use crate::around::Around;
+use crate::opened::{Opened, is_opened};
 use crate::sought::{Sought, has, is_never};
 use crate::warning::{Lint, Warning};
 use job_tree::{Body, Deadline, Name, Step};
@@ -14,13 +16,15 @@ pub(crate) fn push_own(
     step: &Step,
     unreachable: bool,
     around: Around,
+    opened: &Opened,
     at: usize,
     found: &mut Vec<Warning>,
 ) -> Result<(), AllocError>
-    ensures { OnOk result (Adds found.old.items found.new.items (warnings_at unreachable around at (step_of step.now))) }
+    ensures { OnOk result (Adds found.old.items found.new.items
+        (warnings_at unreachable around (names_opened opened.now) at (step_of step.now))) }
 {
     push_found(warn_if(unreachable, at, Lint::Unreachable, None), found)?;
-    push_found(own_warning(step, around, at), found)?;
+    push_found(own_warning(step, around, opened, at), found)?;
     Ok(())
 }
 
@@ -50,8 +54,8 @@ pub(crate) fn never_ends_well(step: &Step) -> bool
 }
 
 // Returns the warning at the keyword of a step, except the one that the step is unreachable.
-fn own_warning(step: &Step, around: Around, at: usize) -> Option<Warning>
-    ensures { result ≡ own_warning around at (step_of step.now) }
+fn own_warning(step: &Step, around: Around, opened: &Opened, at: usize) -> Option<Warning>
+    ensures { result ≡ own_warning around (names_opened opened.now) at (step_of step.now) }
 {
     match step {
         Step::Sleep(_) => warn_if(around.exposed, at, Lint::ExposedWait, None),
@@ -60,13 +64,14 @@ fn own_warning(step: &Step, around: Around, at: usize) -> Option<Warning>
         Step::Pace(_) => warn_if(around.exposed, at, Lint::ExposedWait, None),
         Step::Wait(_) => warn_if(around.exposed, at, Lint::ExposedWait, None),
         Step::Raise(_) => warn_if(around.cleanup, at, Lint::RaiseInCleanup, None),
+        Step::Cancel(name) => late_cancel(around, opened, name, at),
         Step::Scope {
             name,
             deadline,
             shield,
+            fail,
             body,
-            ..
-        } => scope_warning(*name, *deadline, *shield, body, at),
+        } => scope_warning(around, *name, *deadline, *shield, *fail, body, at),
         Step::Nursery {
             name,
             deadline,
@@ -80,22 +85,60 @@ fn own_warning(step: &Step, around: Around, at: usize) -> Option<Warning>
 
 // Returns the warning at a scope.
 fn scope_warning(
+    around: Around,
     name: Name,
     deadline: Deadline,
     shield: bool,
+    fail: bool,
     body: &Body,
     at: usize,
 ) -> Option<Warning>
-    ensures { result ≡ scope_warning name deadline shield body.now at }
+    ensures { result ≡ scope_warning around name deadline shield fail body.now at }
 {
     if !is_never(deadline) {
         None
     } else if shield {
         endless_shield(name, body, at)
     } else {
-        let is_idle = !has(body.as_slice(), &Sought::Cancel(name));
-        warn_if(is_idle, at, Lint::IdleScope, Some(name))
+        warn_if(
+            is_idle(around, name, fail, body),
+            at,
+            Lint::IdleScope,
+            Some(name),
+        )
     }
+}
+
+// Returns whether nothing cancels a scope with neither a deadline nor a shield, and, unless it has `fail`, nothing else can end it
+// early either.
+fn is_idle(around: Around, name: Name, fail: bool, body: &Body) -> bool
+    ensures { result ≡ is_idle around name fail body.now }
+{
+    let steps = body.as_slice();
+    !has(steps, &Sought::Cancel(name))
+        && (fail || !(around.cancellable || has(steps, &Sought::Failure)))
+}
+
+// Returns whether something can cancel a scope or nursery: its deadline, or a `cancel` in it that names it.
+pub(crate) fn is_cancelled(name: Name, deadline: Deadline, body: &Body) -> bool
+    ensures { result ≡ is_cancelled name deadline body.now }
+{
+    !is_never(deadline) || has(body.as_slice(), &Sought::Cancel(name))
+}
+
+// Returns the same of a nursery, which a member that ends with an exception cancels too.
+pub(crate) fn is_nursery_cancelled(name: Name, deadline: Deadline, body: &Body) -> bool
+    ensures { result ≡ is_nursery_cancelled name deadline body.now }
+{
+    is_cancelled(name, deadline, body) || has(body.as_slice(), &Sought::Failure)
+}
+
+// Returns the warning at a `cancel`.
+fn late_cancel(around: Around, opened: &Opened, name: &Name, at: usize) -> Option<Warning>
+    ensures { result ≡ late_cancel around (names_opened opened.now) name.now at }
+{
+    let is_late = around.late && !is_opened(name, opened);
+    warn_if(is_late, at, Lint::LateCancel, Some(*name))
 }
 
 // Returns the warning at a nursery.

@@ -1,5 +1,5 @@
 ghost use Rattle.std.specs.Prelude.{◌≡◌, ◌++◌, IfOk, OnOk};
-ghost use Rattle.job_lint.specs.Sentences.{sentence_of, sentence_for, idle_scope_text, idle_handler_text, unset_event_text, unawaited_event_text};
+ghost use Rattle.job_lint.specs.Sentences.{sentence_of, sentence_for, idle_scope_text, idle_handler_text, idle_reason, is_timeout, is_class, is_group, unset_event_text, unawaited_event_text, late_cancel_text};
 
 use crate::warning::{Lint, Warning};
 use std::alloc::{AllocError, Global};
@@ -38,6 +38,7 @@ fn push_sentence(text: &mut Vec<u8>, lint: Lint, name: &[u8]) -> Result<(), Allo
         Lint::IdleHandler => push_idle_handler(text, name),
         Lint::UnsetEvent => push_unset_event(text, name),
         Lint::UnawaitedEvent => push_unawaited_event(text, name),
+        Lint::LateCancel => push_late_cancel(text, name),
     }
 }
 
@@ -81,5 +82,51 @@ fn push_idle_handler(text: &mut Vec<u8>, name: &[u8]) -> Result<(), AllocError>
     }
     text.extend_from_slice(b"nothing in this `try` raises ")?;
     text.extend_from_slice(name)?;
-    text.extend_from_slice(b", so its handler never runs")
+    text.extend_from_slice(idle_reason(name))
+}
+
+// Returns what a handler of this name may have been meant for, or that it never runs.
+fn idle_reason(name: &[u8]) -> &'static [u8]
+    ensures { result.now ≡ idle_reason name.now }
+{
+    if is_timeout(name) {
+        b": a scope with `fail` raises TooSlow, which `except TooSlow` handles"
+    } else if is_class(name) {
+        b": a handler has the name of one exception, and handles no other"
+    } else if is_group(name) {
+        b": a handler has the name of an exception, and handles all of that name in a group"
+    } else {
+        b", so its handler never runs"
+    }
+}
+
+// Returns whether Trio or Python gives this name to what a scope with `fail` raises.
+fn is_timeout(name: &[u8]) -> bool
+    ensures { result ≡ is_timeout name.now }
+{
+    name == b"TooSlowError".as_slice() || name == b"TimeoutError".as_slice()
+}
+
+// Returns whether Python has a class of exceptions with this name.
+fn is_class(name: &[u8]) -> bool
+    ensures { result ≡ is_class name.now }
+{
+    name == b"Exception".as_slice() || name == b"BaseException".as_slice()
+}
+
+// Returns whether Python has groups of exceptions with this name.
+fn is_group(name: &[u8]) -> bool
+    ensures { result ≡ is_group name.now }
+{
+    name == b"ExceptionGroup".as_slice() || name == b"BaseExceptionGroup".as_slice()
+}
+
+fn push_late_cancel(text: &mut Vec<u8>, name: &[u8]) -> Result<(), AllocError>
+    ensures { OnOk result (text.new.items ≡ text.old.items ++ late_cancel_text name.now) }
+{
+    text.extend_from_slice(b"`cancel ")?;
+    text.extend_from_slice(name)?;
+    text.extend_from_slice(
+        b"` in a cleanup or handler takes effect a tick later than in Trio, which may change the outcome: format 3 has Trio's outcome",
+    )
 }

@@ -1,6 +1,6 @@
 ghost use Rattle.std.specs.Prelude.{◌≡◌};
 ghost use Rattle.job_tree.specs.Blocks.{step_of, steps_of, handled_of, cleaned_of};
-ghost use Rattle.job_lint.specs.Seeking.{cancels, raises, fails, waits, sets, awaits, is_never, is_sought, is_entered, has, has_inside, handled_has, cleaned_has};
+ghost use Rattle.job_lint.specs.Seeking.{cancels, raises, fails, can_fail, waits, sets, awaits, is_never, is_sought, is_entered, has, has_inside, handled_has, cleaned_has};
 
 use job_tree::{Body, Deadline, Handler, Name, Step};
 
@@ -13,6 +13,8 @@ pub(crate) enum Sought {
     Raise(Name),
     // A scope with `fail`.
     Fail,
+    // A step that can raise an exception: a `raise`, a `need` or a scope with `fail`.
+    Failure,
     // A step that waits and is not in a scope or nursery with a deadline.
     Wait,
     // A `set` with this name.
@@ -89,6 +91,7 @@ fn is_sought(step: &Step, sought: &Sought) -> bool
         Sought::Cancel(name) => cancels(step, name),
         Sought::Raise(name) => raises(step, name),
         Sought::Fail => fails(step),
+        Sought::Failure => can_fail(step),
         Sought::Wait => waits(step),
         Sought::Set(name) => sets(step, name),
         Sought::Await(name) => awaits(step, name),
@@ -103,6 +106,7 @@ fn is_entered(sought: &Sought, deadline: Deadline) -> bool
         Sought::Cancel(_) => true,
         Sought::Raise(_) => true,
         Sought::Fail => true,
+        Sought::Failure => true,
         Sought::Wait => is_never(deadline),
         Sought::Set(_) => true,
         Sought::Await(_) => true,
@@ -142,6 +146,17 @@ fn fails(step: &Step) -> bool
     ensures { result ≡ fails (step_of step.now) }
 {
     match step {
+        Step::Scope { fail, .. } => *fail,
+        _ => false,
+    }
+}
+
+fn can_fail(step: &Step) -> bool
+    ensures { result ≡ can_fail (step_of step.now) }
+{
+    match step {
+        Step::Raise(_) => true,
+        Step::Need { .. } => true,
         Step::Scope { fail, .. } => *fail,
         _ => false,
     }

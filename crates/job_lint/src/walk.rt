@@ -1,11 +1,15 @@
 ghost use Rattle.std.specs.Prelude.{◌≡◌, ◌+◌, ◌≤◌, false, length, IfOk};
 ghost use Rattle.job_tree.specs.Blocks.{step_of, steps_of, handled_of, cleaned_of};
 ghost use Rattle.job_lint.specs.Openings.{openings_of, openings_in, handled_openings, cleaned_openings, numbered_in};
+ghost use Rattle.job_lint.specs.Opened.{names_opened};
 ghost use Rattle.job_lint.specs.Warnings.{warnings_of, warnings_in, handled_warnings, cleaned_warnings};
 ghost use Rattle.job_lint.specs.Adding.{Adds};
 
-use crate::around::{Around, in_cleanup};
-use crate::own::{idle_handler, never_ends_well, push_found, push_own};
+use crate::around::Around;
+use crate::opened::Opened;
+use crate::own::{
+    idle_handler, is_cancelled, is_nursery_cancelled, never_ends_well, push_found, push_own,
+};
 use crate::warning::Warning;
 use job_tree::{Body, Handler, Step};
 use std::alloc::AllocError;
@@ -19,18 +23,20 @@ pub(crate) fn walk_steps(
     steps: &[Step],
     places: &[usize],
     around: Around,
+    opened: &Opened,
     number: usize,
     found: &mut Vec<Warning>,
 ) -> Result<usize, AllocError>
     requires { number + openings_of (steps_of steps.now) ≤ length places.now }
     ensures { IfOk result (λ next. (next ≡ number + openings_of (steps_of steps.now))
-        × Adds found.old.items found.new.items (warnings_of (numbered_in places.now) around false number (steps_of steps.now))) }
+        × Adds found.old.items found.new.items
+        (warnings_of (numbered_in places.now) around (names_opened opened.now) false number (steps_of steps.now))) }
 {
     let mut next = number;
     let mut unreachable = false;
     'steps: for step in steps {
-        push_own(step, unreachable, around, places[next], found)?;
-        next = walk_inside(step, places, around, next + 1, found)?;
+        push_own(step, unreachable, around, opened, places[next], found)?;
+        next = walk_inside(step, places, around, opened, next + 1, found)?;
         unreachable = never_ends_well(step);
     }
     Ok(next)
@@ -42,34 +48,61 @@ fn walk_inside(
     step: &Step,
     places: &[usize],
     around: Around,
+    opened: &Opened,
     number: usize,
     found: &mut Vec<Warning>,
 ) -> Result<usize, AllocError>
     requires { number + openings_in (step_of step.now) ≤ length places.now }
     ensures { IfOk result (λ next. (next ≡ number + openings_in (step_of step.now))
-        × Adds found.old.items found.new.items (warnings_in (numbered_in places.now) around number (step_of step.now))) }
+        × Adds found.old.items found.new.items
+        (warnings_in (numbered_in places.now) around (names_opened opened.now) number (step_of step.now))) }
 {
     match step {
-        Step::Scope { shield, body, .. } => {
-            let around = around.in_block(*shield);
-            let next = walk_steps(body.as_slice(), places, around, number, found)?;
+        Step::Scope {
+            name,
+            deadline,
+            shield,
+            body,
+            ..
+        } => {
+            let around = around.in_block(*shield, is_cancelled(*name, *deadline, body));
+            let next = walk_steps(
+                body.as_slice(),
+                places,
+                around,
+                &Opened::Block(&*name, &*opened),
+                number,
+                found,
+            )?;
             Ok(next)
         }
-        Step::Nursery { shield, body, .. } => {
-            let around = around.in_block(*shield);
-            let next = walk_steps(body.as_slice(), places, around, number, found)?;
+        Step::Nursery {
+            name,
+            deadline,
+            shield,
+            body,
+        } => {
+            let around = around.in_block(*shield, is_nursery_cancelled(*name, *deadline, body));
+            let next = walk_steps(
+                body.as_slice(),
+                places,
+                around,
+                &Opened::Block(&*name, &*opened),
+                number,
+                found,
+            )?;
             Ok(next)
         }
         Step::Event { body, .. } => {
-            let next = walk_steps(body.as_slice(), places, around, number, found)?;
+            let next = walk_steps(body.as_slice(), places, around, opened, number, found)?;
             Ok(next)
         }
         Step::Start { body, .. } => {
-            let next = walk_steps(body.as_slice(), places, around, number, found)?;
+            let next = walk_steps(body.as_slice(), places, around, opened, number, found)?;
             Ok(next)
         }
         Step::Repeat { body, .. } => {
-            let next = walk_steps(body.as_slice(), places, around, number, found)?;
+            let next = walk_steps(body.as_slice(), places, around, opened, number, found)?;
             Ok(next)
         }
         Step::Try {
@@ -77,9 +110,9 @@ fn walk_inside(
             handler,
             cleanup,
         } => {
-            let next = walk_steps(body.as_slice(), places, around, number, found)?;
+            let next = walk_steps(body.as_slice(), places, around, opened, number, found)?;
             let next = walk_handler(handler, body, places, around, next, found)?;
-            let next = walk_cleanup(cleanup, places, next, found)?;
+            let next = walk_cleanup(cleanup, places, around, next, found)?;
             Ok(next)
         }
         _ => Ok(number),
@@ -105,7 +138,15 @@ fn walk_handler(
         return Ok(number);
     };
     push_found(idle_handler(handler.name, tried, places[number]), found)?;
-    let next = walk_steps(handler.body.as_slice(), places, around, number + 1, found)?;
+    let around = around.in_handler();
+    let next = walk_steps(
+        handler.body.as_slice(),
+        places,
+        around,
+        &Opened::Nothing,
+        number + 1,
+        found,
+    )?;
     Ok(next)
 }
 
@@ -114,16 +155,25 @@ fn walk_handler(
 fn walk_cleanup(
     cleanup: &Option<Body>,
     places: &[usize],
+    around: Around,
     number: usize,
     found: &mut Vec<Warning>,
 ) -> Result<usize, AllocError>
     requires { number + cleaned_openings (cleaned_of cleanup.now) ≤ length places.now }
     ensures { IfOk result (λ next. (next ≡ number + cleaned_openings (cleaned_of cleanup.now))
-        × Adds found.old.items found.new.items (cleaned_warnings (numbered_in places.now) number (cleaned_of cleanup.now))) }
+        × Adds found.old.items found.new.items (cleaned_warnings (numbered_in places.now) around number (cleaned_of cleanup.now))) }
 {
     let Some(body) = cleanup else {
         return Ok(number);
     };
-    let next = walk_steps(body.as_slice(), places, in_cleanup(), number + 1, found)?;
+    let around = around.in_cleanup();
+    let next = walk_steps(
+        body.as_slice(),
+        places,
+        around,
+        &Opened::Nothing,
+        number + 1,
+        found,
+    )?;
     Ok(next)
 }

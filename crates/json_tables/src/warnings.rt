@@ -105,5 +105,6 @@ fn kind_word(lint: Lint) -> &'static str
         Lint::IdleHandler => "idle_handler",
         Lint::UnsetEvent => "unset_event",
         Lint::UnawaitedEvent => "unawaited_event",
+        Lint::LateCancel => "late_cancel",
     }
 }

@@ -77,10 +77,39 @@ const SCOPES: &[Row] = &[
         b"17 nothing cancels the scope s: it has no deadline, and no `cancel s` is in it\n",
     ),
     (
-        b"trio-job 1\njob m{scope s{scope t{nursery n{start a{cancel s;}}}}}",
-        b"25 nothing cancels the scope t: it has no deadline, and no `cancel t` is in it\n",
+        b"trio-job 1\njob m{nursery n{start a{scope s{sleep 1;}}}}",
+        b"35 nothing cancels the scope s: it has no deadline, and no `cancel s` is in it\n",
     ),
     (b"trio-job 1\njob m{scope s{cancel s;}}", b""),
+    // Whatever is around a scope with `fail`, nothing makes it fail.
+    (
+        b"trio-job 1\njob m{scope s after 9{scope t fail{raise A;}}}",
+        b"33 nothing cancels the scope t: it has no deadline, and no `cancel t` is in it\n",
+    ),
+    // The tick in which a scope is left says something if it may be left early: by an exception in it, or a cancellation around it.
+    (b"trio-job 1\njob m{scope s{need \"x\" A;}}", b""),
+    (b"trio-job 1\njob m{scope s{try{raise A;}except A{}}}", b""),
+    (
+        b"trio-job 1\njob m{scope s after 9{scope t{sleep 1;}}}",
+        b"",
+    ),
+    (
+        b"trio-job 1\njob m{scope s{scope t{nursery n{start a{cancel s;}}}}}",
+        b"",
+    ),
+    (
+        b"trio-job 3\njob m{nursery n{start a{repeat 9{scope due{sleep 3;}}}start b{sleep 7;cancel n;}}}",
+        b"",
+    ),
+    (
+        b"trio-job 1\njob m{nursery n{start a{scope s{sleep 1;}}start b{raise A;}}}",
+        b"",
+    ),
+    // A shield hides what is around it.
+    (
+        b"trio-job 1\njob m{scope s after 9{scope t shield{scope u{longest;}}}}",
+        b"48 nothing cancels the scope u: it has no deadline, and no `cancel u` is in it\n",
+    ),
     (b"trio-job 1\njob m{nursery n{start a{sleep 1;}}}", b""),
 ];
 
@@ -96,6 +125,22 @@ const HANDLERS: &[Row] = &[
     ),
     (
         b"trio-job 1\njob m{try{need \"x\" A;}except A{sleep 2;}}",
+        b"",
+    ),
+    (
+        b"trio-job 1\njob m{try{scope s after 1 fail{sleep 2;}}except TooSlowError{}}",
+        b"52 nothing in this `try` raises TooSlowError: a scope with `fail` raises TooSlow, which `except TooSlow` handles\n",
+    ),
+    (
+        b"trio-job 1\njob m{try{raise A;}except Exception{}}",
+        b"30 nothing in this `try` raises Exception: a handler has the name of one exception, and handles no other\n",
+    ),
+    (
+        b"trio-job 1\njob m{try{raise A;}except ExceptionGroup{}}",
+        b"30 nothing in this `try` raises ExceptionGroup: a handler has the name of an exception, and handles all of that name in a group\n",
+    ),
+    (
+        b"trio-job 1\njob m{try{raise Exception;}except Exception{}}",
         b"",
     ),
     (
@@ -135,6 +180,26 @@ const EVENTS: &[Row] = &[
         b"trio-job 3\njob set{event wait{set wait;wait wait;raise event;sleep 1;}}",
         b"61 this step never runs: the step before it never ends well\n",
     ),
+];
+
+// In formats 1 and 2, a `cancel` in a cleanup or handler of what is around that cleanup or handler.
+const LATE: &[Row] = &[
+    (
+        b"trio-job 1\njob m{scope s{try{}finally{cancel s;}}}",
+        b"38 `cancel s` in a cleanup or handler takes effect a tick later than in Trio, which may change the outcome: format 3 has Trio's outcome\n",
+    ),
+    (
+        b"trio-job 2\njob m{nursery n{try{raise A;}except A{nursery o{start a{cancel n;}}}}}",
+        b"67 `cancel n` in a cleanup or handler takes effect a tick later than in Trio, which may change the outcome: format 3 has Trio's outcome\n",
+    ),
+    // The scope is inside the cleanup, but around the handler in it.
+    (
+        b"trio-job 1\njob m{try{}finally{scope s{try{raise A;}except A{cancel s;}}}}",
+        b"42 an exception raised in a cleanup replaces the one that the cleanup began with\n60 `cancel s` in a cleanup or handler takes effect a tick later than in Trio, which may change the outcome: format 3 has Trio's outcome\n",
+    ),
+    (b"trio-job 1\njob m{try{}finally{scope s{cancel s;}}}", b""),
+    (b"trio-job 1\njob m{scope s{try{cancel s;}finally{}}}", b""),
+    (b"trio-job 3\njob m{scope s{try{}finally{cancel s;}}}", b""),
 ];
 
 // Several warnings, in the order of their keywords.
@@ -219,6 +284,11 @@ fn handlers_of_what_nothing_raises(rt: HostRuntime) -> Result<(), Fail> {
 #[test]
 fn events_that_nothing_sets_or_waits_for(rt: HostRuntime) -> Result<(), Fail> {
     assert_lines(rt.alloc(), EVENTS)
+}
+
+#[test]
+fn cancellations_that_come_later_than_in_trio(rt: HostRuntime) -> Result<(), Fail> {
+    assert_lines(rt.alloc(), LATE)
 }
 
 #[test]

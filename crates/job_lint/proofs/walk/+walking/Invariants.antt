@@ -1,13 +1,14 @@
 use Rattle.std.proofs.Common.{◌+◌, drop}
 use Rattle.job_tree.specs.Weigh.{weight_of, weight_in, handled_weight, cleaned_weight}
 use Rattle.job_tree.specs.Blocks.{step_of, steps_of, handled_of, cleaned_of}
+use Rattle.job_lint.specs.Opened.{names_opened}
 use Rattle.job_lint.proofs.Walking_blocks.{AtStep}
 use Rattle.job_lint.proofs.walk.+walking.Given as goal
 
 abbrev pub invariant-walk_steps-steps : goal.invariant-walk_steps-steps
 invariant-walk_steps-steps l =
-    AtStep l.places l.around l.number (steps_of l.steps) l.fn.found.items l.unreachable l.next (steps_of (drop l.step-index l.steps))
-    l.found.items
+    AtStep l.places l.around (names_opened l.opened) l.number (steps_of l.steps) l.fn.found.items l.unreachable l.next
+    (steps_of (drop l.step-index l.steps)) l.found.items
 
 abbrev pub decreases-walk_steps : goal.decreases-walk_steps
 decreases-walk_steps l = weight_of (steps_of l.steps.now)
