@@ -1,3 +1,4 @@
 pub mod PartsLemmas
 pub mod Same
 pub mod PieceLemmas
+pub mod Possible

@@ -1,9 +1,10 @@
 -- Worked texts, patterns and lines, proved by computing.
-use Rattle.std.specs.Prelude.{◌≡◌, true, false, Some, None, [], ◌∷◌, codes, refl}
+use Rattle.std.specs.Prelude.{◌≡◌, ℕ, true, false, Some, None, List, [], ◌∷◌, codes, refl}
 use Rattle.expect_text.specs.Lines.{lines_of, ended_lines}
 use Rattle.expect_text.specs.Differences.{first_difference}
 use Rattle.expect_text.specs.Patterns.{squeezed_text, meets, first_match}
-use Rattle.expect_text.specs.Expectations.{line_meaning, present, absent, no_races, no_faults, nothing, expects, unknown}
+use Rattle.expect_text.specs.Beginnings.{can_match, left_after}
+use Rattle.expect_text.specs.Expectations.{is_without_demands, line_meaning, present, absent, no_races, no_faults, nothing, expects, faulty, unknown_word, wrong_demand, negated_demand, no_such_line}
 
 -- ---- lines and differences
 
@@ -66,31 +67,99 @@ third_line = refl
 no_line_after_the_last : first_match [] (codes "a\n") ≡ None
 no_line_after_the_last = refl
 
+-- ---- beginnings of lines
+
+left_of_a_word : left_after (codes "ta") (codes "task *") ≡ Some (codes "sk *")
+left_of_a_word = refl
+
+left_of_a_star : left_after (codes "task ") (codes "t*done") ≡ Some (codes "*done")
+left_of_a_star = refl
+
+too_short : left_after (codes "task ") (codes "task") ≡ None
+too_short = refl
+
+-- the names of a job `main` with a task `worker`
+abbrev names : List (List ℕ)
+names = codes "main" ∷ codes "worker" ∷ []
+
+a_task : can_match names (codes "task worker * done") ≡ true
+a_task = refl
+
+an_index : can_match names (codes " worker.2  is*") ≡ true
+an_index = refl
+
+an_event : can_match names (codes "worker  ends: done") ≡ true
+an_event = refl
+
+a_tick : can_match names (codes "tick 4") ≡ true
+a_tick = refl
+
+any_line : can_match names (codes "* raised *") ≡ true
+any_line = refl
+
+part_of_a_word : can_match names (codes "w*") ≡ true
+part_of_a_word = refl
+
+no_first_word : can_match names (codes "raised *") ≡ false
+no_first_word = refl
+
+no_such_task : can_match names (codes "reader ends: *") ≡ false
+no_such_task = refl
+
+no_such_event : can_match names (codes "worker raised *") ≡ false
+no_such_event = refl
+
+no_such_scope : can_match names (codes "scope flush * caught") ≡ false
+no_such_scope = refl
+
+no_whole_line : can_match names (codes "task") ≡ false
+no_whole_line = refl
+
 -- ---- expectations
 
-blank_line : line_meaning (codes "  \t\r") ≡ nothing
+blank_line : line_meaning names (codes "  \t\r") ≡ nothing
 blank_line = refl
 
-comment : line_meaning (codes "  # as in the paper") ≡ nothing
+comment : line_meaning names (codes "  # as in the paper") ≡ nothing
 comment = refl
 
-wanted : line_meaning (codes " a ended*") ≡ expects (present (codes " a ended*"))
+wanted : line_meaning names (codes " worker ends*") ≡ expects (present (codes " worker ends*"))
 wanted = refl
 
-unwanted : line_meaning (codes " ! *Cancelled*") ≡ expects (absent (codes "*Cancelled*"))
+unwanted : line_meaning names (codes " ! *Cancelled*") ≡ expects (absent (codes "*Cancelled*"))
 unwanted = refl
 
-races_none : line_meaning (codes "races: none\r") ≡ expects no_races
+wanted_nowhere : line_meaning names (codes "reader ends*") ≡ faulty no_such_line
+wanted_nowhere = refl
+
+unwanted_nowhere : line_meaning names (codes "! raised *") ≡ faulty no_such_line
+unwanted_nowhere = refl
+
+races_none : line_meaning names (codes "races: none\r") ≡ expects no_races
 races_none = refl
 
-races_some : line_meaning (codes "races: some") ≡ unknown
+races_some : line_meaning names (codes "races: some") ≡ faulty wrong_demand
 races_some = refl
 
-two_kinds : line_meaning (codes "faults: no cut , no lost") ≡ expects (no_faults (record { stuck = false; cut = true; lost = true }))
+two_kinds : line_meaning names (codes "faults: no cut , no lost") ≡ expects (no_faults (record { stuck = false; cut = true; lost = true }))
 two_kinds = refl
 
-no_kinds : line_meaning (codes "faults: ") ≡ unknown
+no_kinds : line_meaning names (codes "faults: ") ≡ faulty wrong_demand
 no_kinds = refl
 
-a_comma_too_many : line_meaning (codes "faults: no stuck,") ≡ unknown
+a_comma_too_many : line_meaning names (codes "faults: no stuck,") ≡ faulty wrong_demand
 a_comma_too_many = refl
+
+another_word : line_meaning names (codes "race: none") ≡ faulty unknown_word
+another_word = refl
+
+a_negated_demand : line_meaning names (codes "! races: none") ≡ faulty negated_demand
+a_negated_demand = refl
+
+-- ---- files
+
+only_comments : is_without_demands (codes "# later\n \n") ≡ true
+only_comments = refl
+
+one_demand : is_without_demands (codes "# now\nraces: none\n") ≡ false
+one_demand = refl

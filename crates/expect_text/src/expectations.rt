@@ -1,11 +1,15 @@
-ghost use Rattle.std.specs.Prelude.{◌≡◌, Some};
-ghost use Rattle.expect_text.specs.Expectations.{faults_line, no_kind, races_line, line_meaning, with_kind, with_kinds};
+ghost use Rattle.std.specs.Prelude.{◌≡◌, IfOk, Some};
+ghost use Rattle.std.specs.Option.{option_map};
+ghost use Rattle.expect_text.specs.Expectations.{demand_line, faults_line, from_word, has_colon, is_comment, is_demand, is_letter, is_without_demands, no_kind, races_line, line_meaning, pattern_line, unwanted_line, wanted_line, with_kind, with_kinds};
 ghost use Rattle.expect_text.specs.Lines.{parts_of};
 ghost use Rattle.expect_text.specs.Views.{said_of};
 
+use crate::beginnings::can_match;
 use crate::parts::split_once;
 use crate::words::{from_word, is_word, rest_after};
 use fault_text::Deny;
+use job_tree::Name;
+use std::alloc::{AllocError, Global};
 
 /// What a line of a `.expect` file requires of a job.
 #[derive(Clone, Copy, Debug, PartialEq, Eq)]
@@ -27,34 +31,180 @@ pub enum ExpectLine<'a> {
     Nothing,
     /// An expectation.
     Expects(Expectation<'a>),
-    /// Unknown: the line begins with `races:` or `faults:` and does not continue as such a line does.
-    Unknown,
+    /// The line is wrong, for this reason.
+    Faulty(LineFault),
 }
 
-/// Returns the meaning of a line of a `.expect` file, which is passed without its newline. Blanks are spaces, tabs and carriage
-/// returns, and those at the start of the line do not count.
+/// What is wrong with a line of a `.expect` file.
+#[derive(Clone, Copy, Debug, PartialEq, Eq)]
+pub enum LineFault {
+    /// It begins with a word of letters and a colon, and the word is neither `races` nor `faults`.
+    UnknownWord,
+    /// It begins with `races:` or `faults:` and does not continue as such a line does.
+    WrongDemand,
+    /// A line that begins with a word and a colon follows `! `. Only a pattern can be negated.
+    NegatedDemand,
+    /// It is a pattern, and no line of a report or a story of the job begins as the pattern does.
+    NoSuchLine,
+}
+
+/// Returns the meaning of a line of a `.expect` file, which is passed without its newline, for a job that gives these names to
+/// itself, its tasks, scopes, nurseries and events. Blanks are spaces, tabs and carriage returns, and those at the start of the
+/// line do not count.
 ///
 /// A blank line means nothing, and so does one that begins with `#`. A line that begins with `races:` continues with `none`. A
 /// line that begins with `faults:` continues with one or more of `no stuck`, `no cut` and `no lost`, separated by commas; blanks
-/// around these do not count. After `! ` comes a pattern that no line may match. Any other line as a whole is a pattern that some
-/// line must match. A pattern that begins like one of the other lines is written with a `*` in front.
-pub fn read_expectation(line: &[u8]) -> ExpectLine<'_>
-    ensures { said_of result ≡ line_meaning line.now }
+/// around these do not count. A line that begins with another word of letters and a colon is wrong: no line of a report or a story
+/// begins so. After `! ` comes a pattern that no line may match. Any other line as a whole is a pattern that some line must match.
+///
+/// A pattern is wrong if its beginning, up to its first `*`, can begin no line of a report or a story of the job: such a line begins
+/// with `line`, `tick`, `limit` or `refused`; with `job`, `task`, `scope`, `nursery` or `wait` and a name of the job; or with the
+/// name of a task and what happens to it. Returns `AllocError` if memory is refused.
+pub fn read_expectation<'a>(
+    alloc: Global,
+    names: &[Name],
+    line: &'a [u8],
+) -> Result<ExpectLine<'a>, AllocError>
+    ensures { IfOk result (λ said. said_of said ≡ line_meaning names.now line.now) }
 {
     let text = from_word(line);
-    if text.is_empty() || rest_after(b"#", text).is_some() {
-        return ExpectLine::Nothing;
+    if is_comment(text) {
+        return Ok(ExpectLine::Nothing);
     }
+    match demand_line(text) {
+        Some(said) => Ok(said),
+        None => {
+            let said = pattern_line(alloc, names, line, text)?;
+            Ok(said)
+        }
+    }
+}
+
+/// Returns whether no line of a `.expect` file means anything: each is blank or a comment, so that the file demands nothing.
+pub fn is_without_demands(file: &[u8]) -> bool
+    ensures { result ≡ is_without_demands file.now }
+{
+    let mut left = file;
+    'lines: while let Some((line, rest)) = split_once(left, b'\n') {
+        if !is_comment(from_word(line)) {
+            return false;
+        }
+        left = rest;
+    }
+    is_comment(from_word(left))
+}
+
+// Returns whether a text is empty or a comment.
+fn is_comment(text: &[u8]) -> bool
+    ensures { result ≡ is_comment text.now }
+{
+    match text.split_first() {
+        Some((first, _)) => *first == b'#',
+        None => true,
+    }
+}
+
+// Returns the meaning of a line that begins with `races:` or `faults:`, or `None` if it begins with neither.
+fn demand_line<'a>(text: &[u8]) -> Option<ExpectLine<'a>>
+    ensures { option_map said_of result ≡ demand_line text.now }
+{
     if let Some(rest) = rest_after(b"races:", text) {
-        return races_line(rest);
+        return Some(races_line(rest));
     }
-    if let Some(rest) = rest_after(b"faults:", text) {
-        return faults_line(rest);
+    match rest_after(b"faults:", text) {
+        Some(rest) => Some(faults_line(rest)),
+        None => None,
     }
+}
+
+// Returns the meaning of a line that is neither a comment nor begins with `races:` or `faults:`. `text` is the line from its first
+// byte on that is not a blank.
+fn pattern_line<'a>(
+    alloc: Global,
+    names: &[Name],
+    line: &'a [u8],
+    text: &'a [u8],
+) -> Result<ExpectLine<'a>, AllocError>
+    ensures { IfOk result (λ said. said_of said ≡ pattern_line names.now line.now text.now) }
+{
     match rest_after(b"! ", text) {
-        Some(pattern) => ExpectLine::Expects(Expectation::Absent(pattern)),
-        None => ExpectLine::Expects(Expectation::Present(line)),
+        Some(pattern) => {
+            let said = unwanted_line(alloc, names, pattern)?;
+            Ok(said)
+        }
+        None => {
+            let said = wanted_line(alloc, names, line, text)?;
+            Ok(said)
+        }
     }
+}
+
+// Returns the meaning of a line that is a pattern, or begins with an unknown word and a colon. `text` is the line from its first
+// byte on that is not a blank.
+fn wanted_line<'a>(
+    alloc: Global,
+    names: &[Name],
+    line: &'a [u8],
+    text: &[u8],
+) -> Result<ExpectLine<'a>, AllocError>
+    ensures { IfOk result (λ said. said_of said ≡ wanted_line names.now line.now (is_demand text.now)) }
+{
+    if is_demand(text) {
+        return Ok(ExpectLine::Faulty(LineFault::UnknownWord));
+    }
+    if !can_match(alloc, names, line)? {
+        return Ok(ExpectLine::Faulty(LineFault::NoSuchLine));
+    }
+    Ok(ExpectLine::Expects(Expectation::Present(line)))
+}
+
+// Returns the meaning of a line in which this follows `! `.
+fn unwanted_line<'a>(
+    alloc: Global,
+    names: &[Name],
+    pattern: &'a [u8],
+) -> Result<ExpectLine<'a>, AllocError>
+    ensures { IfOk result (λ said. said_of said ≡ unwanted_line names.now pattern.now (is_demand (from_word pattern.now))) }
+{
+    if is_demand(from_word(pattern)) {
+        return Ok(ExpectLine::Faulty(LineFault::NegatedDemand));
+    }
+    if !can_match(alloc, names, pattern)? {
+        return Ok(ExpectLine::Faulty(LineFault::NoSuchLine));
+    }
+    Ok(ExpectLine::Expects(Expectation::Absent(pattern)))
+}
+
+// Returns whether a text begins with a word of letters and a colon directly after it.
+fn is_demand(text: &[u8]) -> bool
+    ensures { result ≡ is_demand text.now }
+{
+    match text.split_first() {
+        Some((first, rest)) => is_letter(*first) && has_colon(rest),
+        None => false,
+    }
+}
+
+// Returns whether a text is letters, or none, and then a colon and any bytes.
+fn has_colon(text: &[u8]) -> bool
+    ensures { result ≡ has_colon text.now }
+{
+    'bytes: for byte in text {
+        if *byte == b':' {
+            return true;
+        }
+        if !is_letter(*byte) {
+            return false;
+        }
+    }
+    false
+}
+
+// Returns whether a byte is an ASCII letter.
+fn is_letter(b: u8) -> bool
+    ensures { result ≡ is_letter b }
+{
+    (b'a' <= b && b <= b'z') || (b'A' <= b && b <= b'Z')
 }
 
 // Returns the meaning of a line in which this follows `races:`.
@@ -64,7 +214,7 @@ fn races_line<'a>(rest: &[u8]) -> ExpectLine<'a>
     if is_word(b"none", rest) {
         ExpectLine::Expects(Expectation::NoRaces)
     } else {
-        ExpectLine::Unknown
+        ExpectLine::Faulty(LineFault::WrongDemand)
     }
 }
 
@@ -74,7 +224,7 @@ fn faults_line<'a>(rest: &[u8]) -> ExpectLine<'a>
 {
     match kinds_in(rest) {
         Some(kinds) => ExpectLine::Expects(Expectation::NoFaults(kinds)),
-        None => ExpectLine::Unknown,
+        None => ExpectLine::Faulty(LineFault::WrongDemand),
     }
 }
 

@@ -25,25 +25,71 @@ pub(crate) fn test_output<R: Files + Print + Eprint + Threads + Sync + AllocGlob
 ) -> Result<Option<Outcome>, TestStop>
     requires { length feed.now.input.now ≤ MAX_INPUT }
 {
-    let name = name_beside(rt.alloc(), feed.stem, kind.extension())?;
+    let file = match open_kept(rt, feed, kind.extension())? {
+        Beside::Kept(file) => file,
+        Beside::Untested => return Ok(Some(Outcome::Fault)),
+        Beside::Missing => return Ok(None),
+    };
+    let KeptFile {
+        name,
+        target,
+        bytes,
+    } = file;
+    let outcome = test_kept(rt, feed, kind, name.as_str(), target, bytes.as_slice())?;
+    Ok(Some(outcome))
+}
+
+/// A file that is kept beside a feed.
+#[derive(Drop)]
+pub(crate) struct KeptFile {
+    /// Its name.
+    pub name: String,
+    /// The file as it was before it was read, to be replaced, or why it cannot be.
+    pub target: Result<Target, ReplaceFault>,
+    /// Its bytes.
+    pub bytes: Vec<u8>,
+}
+
+/// What there is of a file beside a feed.
+#[derive(Drop)]
+pub(crate) enum Beside {
+    /// The file.
+    Kept(KeptFile),
+    /// A file that cannot be tested, which standard error says.
+    Untested,
+    /// No file.
+    Missing,
+}
+
+// Reads the file with this extension beside a feed. If it cannot be read, or is to be replaced and cannot be, prints that to standard
+// error.
+pub(crate) fn open_kept<R: Files + Eprint + AllocGlobal>(
+    rt: &R,
+    feed: &Feed<'_>,
+    extension: &str,
+) -> Result<Beside, TestStop> {
+    let name = name_beside(rt.alloc(), feed.stem, extension)?;
     let target = match Target::of(rt, name.as_str()) {
         Err(ReplaceFault::NotRegular { reason }) if feed.accept => {
             // It is not read either: a FIFO would be waited for until it has a writer.
-            return Ok(Some(tell_not_kept(rt, name.as_str(), reason.as_str())?));
+            tell_not_kept(rt, name.as_str(), reason.as_str())?;
+            return Ok(Beside::Untested);
         }
         target => target,
     };
-    let kept = match read_kept(rt, name.as_str()) {
-        Ok(kept) => kept,
-        Err(Unread::Missing) => return Ok(None),
-        Err(Unread::NoMemory) => return Err(TestStop::NoMemory),
+    match read_kept(rt, name.as_str()) {
+        Ok(bytes) => Ok(Beside::Kept(KeptFile {
+            name,
+            target,
+            bytes,
+        })),
+        Err(Unread::Missing) => Ok(Beside::Missing),
+        Err(Unread::NoMemory) => Err(TestStop::NoMemory),
         Err(Unread::Fault(line)) => {
             complain(rt, line.as_str());
-            return Ok(Some(Outcome::Fault));
+            Ok(Beside::Untested)
         }
-    };
-    let outcome = test_kept(rt, feed, kind, name.as_str(), target, kept.as_slice())?;
-    Ok(Some(outcome))
+    }
 }
 
 // Compares an output of a feed with the bytes that are kept of it, and returns what that came to. The target is the file with these
@@ -65,7 +111,7 @@ fn test_kept<R: Files + Print + Eprint + Threads + Sync + AllocGlobal>(
 }
 
 // Prints that an output is as it was kept, or where it differs, or keeps it.
-fn compare<R: Files + Print + Eprint + AllocGlobal>(
+pub(crate) fn compare<R: Files + Print + Eprint + AllocGlobal>(
     rt: &R,
     accept: bool,
     name: &str,

@@ -3,16 +3,17 @@ ghost use Rattle.feed_tests.specs.declared.tally.Outcome.TheVariants.{Passed, Fa
 ghost use Rattle.job_meaning.specs.declared.limits.TheConstants.{MAX_INPUT};
 
 use crate::kept::{Unread, name_beside, read_kept, shown_line};
-use crate::showing::show;
+use crate::showing::{push_indented_lines, show};
 use crate::stop::TestStop;
 use crate::tally::Outcome;
 use crate::testing::{Feed, complain};
-use expect_text::{ExpectLine, read_expectation};
+use expect_text::{ExpectLine, LineFault, is_without_demands, read_expectation};
 use job_files::shown_name;
+use job_tree::Name;
 use std::alloc::{AllocError, Global};
 use std::rt::Files;
 use std::thread::Threads;
-use test_app::{Met, Output, meets, output_of};
+use test_app::{Met, Output, given_names, meets, output_of};
 
 // Tests a feed by the expectations that are kept beside it, and returns what that came to, or `None` if there are none.
 pub(crate) fn test_expectations<R: Files + Print + Eprint + Threads + Sync + AllocGlobal>(
@@ -31,7 +32,7 @@ pub(crate) fn test_expectations<R: Files + Print + Eprint + Threads + Sync + All
             return Ok(Some(Outcome::Fault));
         }
     };
-    let told = report_and_story(rt, feed)?;
+    let told = told_of(rt, feed)?;
     let shown = shown_name(rt.alloc(), name.as_str())?;
     let lines = unmet_lines(rt, feed, shown.as_str(), &told, bytes.as_slice())?;
     Ok(Some(report_unmet(rt, shown.as_str(), lines.as_str())?))
@@ -54,28 +55,27 @@ fn report_unmet<R: Print + AllocGlobal>(
     Ok(Outcome::Failed)
 }
 
-// The texts in which patterns are looked for.
+// The texts in which patterns are looked for, and the names with which their lines can begin.
 #[derive(Drop)]
 struct Told {
     report: Vec<u8>,
     story: Vec<u8>,
+    names: Vec<Name>,
 }
 
-// Returns the report and the story of a feed.
-fn report_and_story<R: Threads + Sync + AllocGlobal>(
-    rt: &R,
-    feed: &Feed<'_>,
-) -> Result<Told, AllocError>
+// Returns the report and the story of a feed, and the names that its job text gives.
+fn told_of<R: Threads + Sync + AllocGlobal>(rt: &R, feed: &Feed<'_>) -> Result<Told, AllocError>
     requires { length feed.now.input.now ≤ MAX_INPUT }
 {
     let (alloc, text, input, settings) = (rt.alloc(), feed.text, feed.input, feed.settings);
     Ok(Told {
         report: output_of(rt, alloc, text, input, settings, Output::Report)?,
         story: output_of(rt, alloc, text, input, settings, Output::Story)?,
+        names: given_names(alloc, text)?,
     })
 }
 
-// Returns the lines about what is not as expected; none if all is.
+// Returns the lines about what is not as expected; none if all is. A file that demands nothing is not as expected.
 fn unmet_lines<R: Threads + Sync + AllocGlobal>(
     rt: &R,
     feed: &Feed<'_>,
@@ -85,6 +85,9 @@ fn unmet_lines<R: Threads + Sync + AllocGlobal>(
 ) -> Result<String, TestStop>
     requires { length feed.now.input.now ≤ MAX_INPUT }
 {
+    if is_without_demands(expectations) {
+        return Ok(format!(in rt.alloc(); "{name}: failed: no line of it is an expectation\n")?);
+    }
     let mut lines = String::new(rt.alloc());
     'lines: for (i, line) in expectations.split(|b| *b == b'\n').enumerate() {
         push_unmet(rt, feed, &mut lines, name, told, i.saturating_add(1), line)?;
@@ -106,12 +109,10 @@ fn push_unmet<R: Threads + Sync + AllocGlobal>(
 {
     let alloc = rt.alloc();
     let said = shown_line(alloc, line)?;
-    match read_expectation(line) {
+    match read_expectation(alloc, told.names.as_slice(), line)? {
         ExpectLine::Nothing => Ok(()),
-        ExpectLine::Unknown => {
-            let text = format!(in alloc;
-                "{name}:{number}: failed: `{said}` is neither `races: none` nor `faults:` with `no stuck`, `no cut` and `no lost`\n"
-            )?;
+        ExpectLine::Faulty(fault) => {
+            let text = fault_line(alloc, name, number, said.as_str(), fault)?;
             lines.push_str(text.as_str())?;
             Ok(())
         }
@@ -130,6 +131,30 @@ fn push_unmet<R: Threads + Sync + AllocGlobal>(
             lines.push_str(text.as_str())?;
             Ok(())
         }
+    }
+}
+
+// Returns the line that says what is wrong with a line of a file of expectations.
+fn fault_line(
+    alloc: Global,
+    name: &str,
+    number: usize,
+    said: &str,
+    fault: LineFault,
+) -> Result<String, AllocError> {
+    match fault {
+        LineFault::UnknownWord => format!(in alloc;
+            "{name}:{number}: failed: `{said}`: demands begin with `races:` or `faults:`, and no line of a report or a story begins so\n"
+        ),
+        LineFault::WrongDemand => format!(in alloc;
+            "{name}:{number}: failed: `{said}` is neither `races: none` nor `faults:` with `no stuck`, `no cut` and `no lost`\n"
+        ),
+        LineFault::NegatedDemand => format!(in alloc;
+            "{name}:{number}: failed: `{said}`: only a pattern can be negated, not a demand with `races:` or `faults:`\n"
+        ),
+        LineFault::NoSuchLine => format!(in alloc;
+            "{name}:{number}: failed: `{said}`: no line of this job's report or story begins so; `*` in front stands for any beginning\n"
+        ),
     }
 }
 
@@ -160,26 +185,13 @@ fn met_text(
         }
         Met::Denied(denied) => {
             let mut text = format!(in alloc; "{name}:{number}: failed: `{said}`\n")?;
-            'lines: for line in denied.as_slice().split(|b| *b == b'\n') {
-                push_indented(alloc, &mut text, line)?;
-            }
+            push_indented_lines(alloc, &mut text, denied.as_slice())?;
             Ok(text)
         }
         Met::Untold => format!(in alloc;
             "{name}:{number}: failed: `{said}`: the job is refused, does not end by the limit, or has too large a number of ticks\n"
         ),
     }
-}
-
-// Appends a line after two blanks, if it has bytes.
-fn push_indented(alloc: Global, text: &mut String, line: &[u8]) -> Result<(), AllocError> {
-    if line.is_empty() {
-        return Ok(());
-    }
-    text.push_str("  ")?;
-    text.push_str(shown_line(alloc, line)?.as_str())?;
-    text.push_str("\n")?;
-    Ok(())
 }
 
 // Returns the line with a number, counted from 1, or no bytes if there is none.

@@ -1,8 +1,8 @@
 //! `nursery test`: the feeds of files and folders, each compared with what is kept beside it.
 //!
 //! What is compared is proved in `test_app` (the outputs of a feed) and `expect_text` (where texts differ, what an expectation
-//! says). This layer finds and reads the files, writes the result of each, and keeps new outputs; it is tested on real files
-//! (`tests/command`).
+//! says). The words in the first line of a `.sweep` file are read by `nursery_cli`. This layer finds and reads the files, writes the
+//! result of each, and keeps new outputs; it is tested on real files (`tests/command`).
 #![tactic(auto)]
 
 mod comparing;
@@ -12,6 +12,7 @@ mod kept;
 mod laws;
 mod showing;
 mod stop;
+mod sweeps;
 mod tally;
 mod testing;
 

@@ -10,6 +10,7 @@ use crate::feeds::find_feeds;
 use crate::kept::{Unread, name_beside, read_kept};
 use crate::showing::show;
 use crate::stop::TestStop;
+use crate::sweeps::test_sweep;
 use crate::tally::{Outcome, Tally};
 use job_files::{Target, reason_line, shown_name};
 use nursery_app::{MAX_INPUT, Settings, split_feed};
@@ -160,8 +161,10 @@ fn test_parts<R: Files + Print + Eprint + Threads + Sync + AllocGlobal>(
     requires { length feed.now.input.now ≤ MAX_INPUT }
 {
     let has_output = test_outputs(rt, feed, tally)?;
+    let swept = test_sweep(rt, feed)?;
+    let has_sweep = tally.count_any(swept);
     let expected = test_expectations(rt, feed)?;
-    if tally.count_any(expected) || has_output {
+    if tally.count_any(expected) || has_sweep || has_output {
         return Ok(());
     }
     let outcome = test_nothing(rt, feed)?;
@@ -203,7 +206,7 @@ fn test_nothing<R: Files + Print + Eprint + Threads + Sync + AllocGlobal>(
     }
     let shown = shown_name(alloc, stem)?;
     let line = format!(in alloc;
-        "{shown}.feed: nothing is kept beside it: no .report, .story, .chart, .faults, .races or .expect (`--accept` keeps a report)\n"
+        "{shown}.feed: nothing is kept beside it: no .report, .story, .chart, .faults, .races, .sweep or .expect (`--accept` keeps a report)\n"
     )?;
     complain(rt, line.as_str());
     Ok(Outcome::Fault)

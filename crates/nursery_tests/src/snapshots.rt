@@ -1,12 +1,19 @@
 //! What `nursery test` compares: the outputs of a feed, texts that differ, and expectations. The expected values are worked out by hand.
 
 use crate::fixtures::{LIMIT, wrong};
-use expect_text::{ExpectLine, Expectation, first_difference, first_match, read_expectation};
+use expect_text::{
+    ExpectLine, Expectation, LineFault, first_difference, first_match, is_without_demands,
+    read_expectation,
+};
+use job_edits::Target;
+use job_grammar::Name;
 use job_runner::Settings;
+use std::alloc::{AllocError, Global};
 use std::process::Abort;
 use std::test::Fail;
 use std::thread::Threads;
-use test_app::{Met, Output, meets, output_of};
+use table_app::Form;
+use test_app::{Met, Output, given_names, meets, output_of, sweep_of};
 
 // Two texts, and the number of the first line that differs: 0 if none does.
 const TEXTS: &[(&[u8], &[u8], usize)] = &[
@@ -61,17 +68,24 @@ fn a_pattern_matches_a_whole_line(rt: HostRuntime) -> Result<(), Fail> {
     Ok(())
 }
 
-// Returns the kind of a line of a file of expectations.
-fn word_of(line: &[u8]) -> &'static str {
-    match read_expectation(line) {
-        ExpectLine::Nothing => "nothing",
-        ExpectLine::Unknown => "unknown",
-        ExpectLine::Expects(Expectation::Present(_)) => "present",
-        ExpectLine::Expects(Expectation::Absent(_)) => "absent",
-        ExpectLine::Expects(Expectation::NoRaces) => "races",
-        ExpectLine::Expects(Expectation::NoFaults(_)) => "faults",
+// Returns the kind of a line of a file of expectations, for a job that gives these names.
+fn word_of(alloc: Global, names: &[Name], line: &[u8]) -> Result<&'static str, AllocError> {
+    match read_expectation(alloc, names, line)? {
+        ExpectLine::Nothing => Ok("nothing"),
+        ExpectLine::Faulty(LineFault::UnknownWord) => Ok("unknown"),
+        ExpectLine::Faulty(LineFault::WrongDemand) => Ok("wrong"),
+        ExpectLine::Faulty(LineFault::NegatedDemand) => Ok("negated"),
+        ExpectLine::Faulty(LineFault::NoSuchLine) => Ok("no line"),
+        ExpectLine::Expects(Expectation::Present(_)) => Ok("present"),
+        ExpectLine::Expects(Expectation::Absent(_)) => Ok("absent"),
+        ExpectLine::Expects(Expectation::NoRaces) => Ok("races"),
+        ExpectLine::Expects(Expectation::NoFaults(_)) => Ok("faults"),
     }
 }
+
+// A job with a task, a scope, a nursery and an event beside its own name.
+const NAMED: &[u8] =
+    b"trio-job 3\njob m { event e { scope s { nursery n { start a over 2 { set e; } } } } }";
 
 const LINES: &[(&[u8], &str)] = &[
     (b"", "nothing"),
@@ -79,16 +93,92 @@ const LINES: &[(&[u8], &str)] = &[
     (b"task m * done", "present"),
     (b" ! * raised *", "absent"),
     (b"races:none", "races"),
-    (b"races: some", "unknown"),
+    (b"races: some", "wrong"),
     (b"faults: no stuck , no lost", "faults"),
-    (b"faults: none", "unknown"),
+    (b"faults: none", "wrong"),
+    // Another word and a colon.
+    (b"race: none", "unknown"),
+    (b" sweep: 1..9", "unknown"),
+    (b"ends: done", "unknown"),
+    // Only a pattern is negated.
+    (b"! races: none", "negated"),
+    (b"!  faults: no stuck", "negated"),
+    (b"! race: none", "negated"),
+    // Lines of the report, of each kind, and with an index.
+    (b"job m 3", "present"),
+    (b"task a.1 0 0 done", "present"),
+    (b"  line 0+5 error", "present"),
+    (b"scope s * caught", "present"),
+    (b"! nursery n * caught", "absent"),
+    (b"wait e 3", "present"),
+    (b"refused J6 *", "present"),
+    (b"limit 3", "present"),
+    (b"! task b *", "no line"),
+    (b"! scope n.o * caught", "absent"),
+    (b"! scope t * caught", "no line"),
+    (b"task", "no line"),
+    // Lines of the story.
+    (b"tick 3", "present"),
+    (b"a.0   sets event e", "present"),
+    (b"m  starts", "present"),
+    (b"m ends: *", "present"),
+    (b"! m is*", "absent"),
+    (b"m sleeping forever since 0", "present"),
+    (b"! m raised *", "no line"),
+    (b"! b ends: *", "no line"),
+    (b"! raised *", "no line"),
+    (b"! r*", "absent"),
+    (b"! x*", "no line"),
+    (b"!raised *", "no line"),
+    (b"! ", "no line"),
 ];
 
 #[test]
-fn a_line_is_read_as_an_expectation() -> Result<(), Fail> {
+fn a_line_is_read_as_an_expectation(rt: HostRuntime) -> Result<(), Fail> {
+    let names = given_names(rt.alloc(), NAMED)?;
     for i in 0..LINES.len() {
         let (line, wanted) = LINES[i];
-        if word_of(line) != wanted {
+        if word_of(rt.alloc(), names.as_slice(), line)? != wanted {
+            return Err(wrong(i));
+        }
+    }
+    Ok(())
+}
+
+// A job text, and how many names it gives.
+const NAMES: &[(&[u8], usize)] = &[
+    (NAMED, 5),
+    (b"trio-job 3\n# scope no {\njob m { find \"scope x\"; }", 1),
+    (b"trio-job 2\njob event { repeat 2 { raise X; } }", 1),
+    (b"trio-job 3\njob m { scope }", 0),
+];
+
+#[test]
+fn a_text_gives_names(rt: HostRuntime) -> Result<(), Fail> {
+    for i in 0..NAMES.len() {
+        let (text, wanted) = NAMES[i];
+        if given_names(rt.alloc(), text)?.len() != wanted {
+            return Err(wrong(i));
+        }
+    }
+    Ok(())
+}
+
+// A file of expectations, and whether it demands nothing.
+const FILES: &[(&[u8], bool)] = &[
+    (b"", true),
+    (b"\n \t\r\n", true),
+    (b"# races: none\n  # later", true),
+    (b"# later\nraces: none\n", false),
+    (b"\n*", false),
+    (b"race: none", false),
+];
+
+#[test]
+fn a_file_of_comments_demands_nothing() -> Result<(), Fail> {
+    for i in 0..FILES.len() {
+        let (file, wanted) = FILES[i];
+        if is_without_demands(file) != wanted {
             return Err(wrong(i));
         }
     }
@@ -124,6 +214,50 @@ fn an_output_is_what_the_command_writes(rt: HostRuntime) -> Result<(), Fail> {
     Ok(())
 }
 
+// The values 2 and 3 of the number of ticks, and the tables that are written for the job with the limit 100.
+const SWEPT: &[u8] =
+    b"as it is  done, ends 3\n2..3      done, ends 2..3\n2 values: 0 stuck, 0 cut a cleanup\n";
+
+#[test]
+fn a_sweep_is_what_the_command_writes(rt: HostRuntime) -> Result<(), Fail> {
+    let settings = Settings::new(3, LIMIT).ok_or("settings")?;
+    let number = Target::At {
+        line: 2,
+        column: 13,
+    };
+    let swept = sweep_of(
+        &rt,
+        rt.alloc(),
+        JOB,
+        b"",
+        settings,
+        number,
+        &[2, 3],
+        Form::Text,
+    )?;
+    let bytes = swept.ok_or("no number")?;
+    assert_eq!(rt; bytes.as_slice(), SWEPT);
+    Ok(())
+}
+
+#[test]
+fn a_sweep_needs_its_number(rt: HostRuntime) -> Result<(), Fail> {
+    let settings = Settings::new(1, LIMIT).ok_or("settings")?;
+    let number = Target::At { line: 2, column: 1 };
+    let swept = sweep_of(
+        &rt,
+        rt.alloc(),
+        JOB,
+        b"",
+        settings,
+        number,
+        &[2],
+        Form::Text,
+    )?;
+    assert!(rt; swept.is_none());
+    Ok(())
+}
+
 #[test]
 fn a_chart_has_a_row_for_the_task(rt: HostRuntime) -> Result<(), Fail> {
     let settings = Settings::new(1, LIMIT).ok_or("settings")?;
@@ -139,7 +273,9 @@ fn met_word<R: Abort + Threads + Sync + AllocGlobal>(
     line: &[u8],
 ) -> Result<&'static str, Fail> {
     let settings = Settings::new(2, LIMIT).ok_or("settings")?;
-    let ExpectLine::Expects(expectation) = read_expectation(line) else {
+    let names = given_names(rt.alloc(), JOB)?;
+    let ExpectLine::Expects(expectation) = read_expectation(rt.alloc(), names.as_slice(), line)?
+    else {
         return Ok("no expectation");
     };
     let report = b"job m 3\ntask m 0 3 done\n";

@@ -1,3 +1,4 @@
 pub mod Kepts
 pub mod Outputs
+pub mod Names
 pub mod Mets

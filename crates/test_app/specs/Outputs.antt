@@ -1,5 +1,6 @@
 -- The outputs of a job text over an input that are kept beside a feed.
-use Rattle.std.specs.Prelude.{ℕ, false, None, List, [], ◌∷◌, codes}
+use Rattle.std.specs.Prelude.{◌⊎◌, ℕ, false, Option, Some, None, List, [], ◌∷◌, codes}
+use Rattle.job_grammar.specs.declared.fault.JobFault.{JobFault}
 use Rattle.nursery_app.specs.Verdict as reports
 use Rattle.nursery_app.specs.declared.verdict.Verdict.{Verdict}
 use Rattle.story_app.specs.Stories as stories
@@ -8,9 +9,15 @@ use Rattle.chart_app.specs.Charts as charts
 use Rattle.chart_app.specs.declared.form.Form.TheVariants as drawn
 use Rattle.table_app.specs.Faults as faults
 use Rattle.table_app.specs.Races as races
+use Rattle.table_app.specs.Sweeps as sweeps
+use Rattle.table_app.specs.declared.form.Form.{Form}
 use Rattle.table_app.specs.declared.form.Form.TheVariants.{Text}
 use Rattle.table_app.specs.declared.verdict.FaultsVerdict.{FaultsVerdict}
 use Rattle.table_app.specs.declared.verdict.RacesVerdict.{RacesVerdict}
+use Rattle.table_app.specs.declared.verdict.SweepVerdict.TheVariants.{Told, JobRefused}
+use Rattle.job_edits.specs.declared.number.Target.{Target}
+use Rattle.sweep_app.specs.declared.missing.Missing.{Missing}
+use Rattle.sweep_app.specs.Answers.{IsWithoutTarget}
 use Rattle.expect_text.specs.Expectations.{no_kind}
 use Rattle.test_app.specs.declared.outputs.Output.{Output}
 use Rattle.test_app.specs.declared.outputs.Output.TheVariants.{Report, Story, Chart, Faults, Races}
@@ -54,3 +61,14 @@ extension_text Story = codes "story"
 extension_text Chart = codes "chart"
 extension_text Faults = codes "faults"
 extension_text Races = codes "races"
+
+-- the outcomes of the job for these values of one of its numbers, or the refusal of the text in their place
+abbrev pub IsSweep : Form → (text input : List ℕ) → (limit : ℕ) → Target → (values bytes : List ℕ) → Type 0
+IsSweep form text input limit target values bytes =
+    sweeps.IsVerdict form text input limit target values Told bytes
+    ⊎ ((fault : JobFault) × sweeps.IsVerdict form text input limit target values (JobRefused fault) bytes)
+
+-- the same, or `None` where the text does not have that number
+abbrev pub IsSwept : Form → (text input : List ℕ) → (limit : ℕ) → Target → (values : List ℕ) → (bytes : Option (List ℕ)) → Type 0
+IsSwept form text input limit target values (Some bytes) = IsSweep form text input limit target values bytes
+IsSwept form text input limit target values None = (missing : Missing) × IsWithoutTarget text target missing
