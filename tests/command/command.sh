@@ -82,18 +82,30 @@ wants 0 "$report" '' run find.job log.txt
 for order in forward reverse turn; do
     wants 0 "$report" '' run find.job log.txt --order "$order" --workers 64 --limit 0
 done
-wants 0 'job main 0\ntask main 0 0 done\n' '' run find.job /dev/null
+without='job main 0\ntask main 0 0 done\n'
+wants 0 "$without" '' run find.job /dev/null
+wants 0 "$without" '' run find.job
 wants 1 'job main 2\ntask main 0 2 raised Boom(main@2)\n' '' run raise.job log.txt
-wants 0 'trio-job 1\njob main{find"er";}\n' '' check find.job
+wants 0 'trio-job 1\njob main { find "er"; }\n' '' check find.job
+wants 0 'trio-job 1\njob main{find"er";}\n' '' check find.job --canonical
 
 # Format 3 counts rounds: the failure is seen in its tick. `upgrade` says that the report is another one.
 printf 'trio-job 1\njob a { nursery n { start b { sleep 2; raise X; } forever; } }\n' > late.job
 wants 1 'job a 3\ntask a 0 3 raised n[X(b@2)]\n  nursery n 3 caught\ntask b 0 2 raised X(b@2)\n' '' run late.job log.txt
 wants 0 'trio-job 3\njob a{nursery n{start b{sleep 2;raise X;}forever;}}\n' \
-    'over an empty input the report is another one in format 3; the first lines that differ:\n- job a 3\n+ job a 2\n' upgrade late.job
+    'over an empty input the report is another one in format 3; the first lines that differ:\n- job a 3\n+ job a 2\n' upgrade late.job --canonical
 mv out late3.job
 wants 1 'job a 2\ntask a 0 2 raised n[X(b@2)]\n  nursery n 2 caught\ntask b 0 2 raised X(b@2)\n' '' run late3.job log.txt
-wants 0 'trio-job 3\njob a{nursery n{start b{sleep 2;raise X;}forever;}}\n' '' upgrade late3.job --to 2
+wants 0 'trio-job 3\njob a{nursery n{start b{sleep 2;raise X;}forever;}}\n' '' upgrade late3.job --to 2 --canonical
+late3='trio-job 3\njob a {\n  nursery n {\n    start b {\n      sleep 2;\n      raise X;\n    }\n    forever;\n  }\n}\n'
+wants 0 "$late3" 'over an empty input the report is another one in format 3; the first lines that differ:\n- job a 3\n+ job a 2\n' upgrade late.job
+wants 0 "$late3" '' upgrade late3.job
+wants 0 "$late3" '' check late3.job
+# A text that has the format already keeps its comments.
+printf 'trio-job 3\n# why\njob a{}\n' > why.job
+wants 0 'trio-job 3\n# why\njob a {}\n' '' upgrade why.job
+wants 0 'trio-job 3\n# why\njob a {}\n' '' check why.job
+wants 0 'trio-job 3\njob a{}\n' '' check why.job --canonical
 
 # ---- standard input
 
@@ -101,21 +113,70 @@ cp log.txt in
 wants 0 "$report" '' run find.job -
 cp find.job in
 wants 0 "$report" '' run - log.txt
-wants 0 'trio-job 1\njob main{find"er";}\n' '' check -
-wants 0 'trio-job 2\njob main{find"er";}\n' '' upgrade - --to 2
-wants 0 'trio-job 3\njob main{find"er";}\n' 'over an empty input the report is the same in format 3\n' upgrade -
+wants 0 'trio-job 1\njob main { find "er"; }\n' '' check -
+wants 0 "$without" '' run -
+wants 0 'trio-job 2\njob main { find "er"; }\n' '' upgrade - --to 2
+wants 0 'trio-job 3\njob main { find "er"; }\n' 'over an empty input the report is the same in format 3\n' upgrade -
 { cat find.job; echo %input; cat log.txt; } > in
 wants 0 "$report" ''
 { cat raise.job; echo %input; } > in
 wants 1 'job main 2\ntask main 0 2 raised Boom(main@2)\n' ''
 : > in
-wants 2 'refused J3 Version at 0\n' 'standard input:1:1: a job text begins with the line `trio-job 1`, `trio-job 2` or `trio-job 3`, ended by a newline alone\n\n^\n'
+wants 2 'refused J3 Version at 0\n' 'standard input:1:1: a job text begins with the line `trio-job 1`, `trio-job 2` or `trio-job 3`, ended by a newline alone\n\n^\nthe line with the format is missing: begin a new job text with the line `trio-job 3`\n'
+
+# ---- feeds: a job file that holds its input
+
+{ cat find.job; echo %input; cat log.txt; } > feed.feed
+wants 0 "$report" '' run feed.feed
+wants 0 "$report" '' run feed.feed --workers 64
+cp feed.feed in
+wants 0 "$report" '' run -
+: > in
+wants 0 'tick 0\n  main  starts\n  main  finds 1 line\n  main  ends: done\n' '' explain feed.feed
+wants 0 '      0\nmain  | done\n' '' chart feed.feed
+wants 0 '0 hairs: no race\n' '' races feed.feed
+wants 0 '    as it is  0 done\n0 faults: 0 stuck, 0 cut a cleanup, 0 lost, 0 not reached\n' '' faults feed.feed
+wants 0 '' '' lint feed.feed
+words='trio feed.feed'
+holds 0 out 'import trio'
+two='error: `feed.feed` has its input after the line `%%input`: leave out INPUT, which is `log.txt`\n'
+for command in run explain chart faults races; do
+    wants 2 '' "$two" $command feed.feed log.txt
+done
+wants 2 '' "$two" sweep feed.feed log.txt --at 1:10 --values 1..2
+wants 2 '' 'error: `feed.feed` has its input after the line `%%input`: leave out INPUT, which is `-`\n' run feed.feed -
+wants 4 '' 'cannot read the input file\nnone.txt: no such file\n' run feed.feed none.txt
+# `fmt` and `upgrade` keep the input, byte for byte, and `check` writes the job alone.
+held='%%input\nerror\nok\n'
+find='job main { find "er"; }\n'
+wants 0 "trio-job 1\n$find$held" '' fmt feed.feed
+wants 0 "trio-job 1\n$find" '' check feed.feed
+wants 0 "trio-job 2\n$find$held" '' upgrade feed.feed --to 2
+wants 0 "trio-job 2\njob main{find\"er\";}\n$held" '' upgrade feed.feed --to 2 --canonical
+wants 1 '' 'feed.feed:2:11: not formatted from here on\njob main {\n          ^\n' fmt feed.feed --check
+wants 0 '' '' fmt feed.feed --write
+printf "trio-job 1\n$find$held" | cmp -s - feed.feed || fail 'the feed is not formatted, or has another input'
+wants 0 '' '' fmt feed.feed --check
+printf 'trio-job 1\njob main { find "o"; }\n%%input\n\377\0\no' > bytes.feed
+cp bytes.feed kept.feed
+wants 0 '' '' fmt bytes.feed --write
+cmp -s kept.feed bytes.feed || fail 'a formatted feed was changed'
+printf 'trio-job 1\njob main { sleep }\n%%input\nx\n' > wrong.feed
+for command in run explain check fmt upgrade lint trio; do
+    wants 2 'refused J6 Syntax at 28\n' 'wrong.feed:2:18: expected a number\njob main { sleep }\n                 ^\n' $command wrong.feed
+done
 
 # ---- the story
 
 story='tick 0\n  main  starts\n  main  sleeps until 2\ntick 2\n  main  raises Boom\n  main  ends: raised Boom(main@2)\n'
 wants 0 'tick 0\n  main  starts\n  main  finds 1 line\n  main  ends: done\n' '' explain find.job log.txt
-wants 0 'tick 0\n  main  starts\n  main  finds 0 lines\n  main  ends: done\n' '' explain find.job
+wants 0 'tick 0\n  main  starts\n  main  finds no line\n  main  ends: done\n' '' explain find.job
+printf 'trio-job 3\njob main { need "zz" Gone; }\n' > need.job
+missed='tick 0\n  main  starts\n  main  finds no line and raises Gone\n  main  ends: raised Gone(main@0)\n'
+wants 1 "$missed" '' explain need.job log.txt
+printf 'trio-job 3\njob main { scope s after 2 { nursery n { start a { forever; } forever; } } }\n' > leave.job
+left='tick 0\n  a  starts in nursery n\n  a  sleeps forever\ntick 2\n  a  is cancelled while sleeping since 0 by scope s (deadline)\n  a  ends: cancelled\n'
+wants 0 "$left" '' explain leave.job --task a
 wants 1 "$story" '' explain raise.job log.txt
 wants 1 "$story" '' explain raise.job --limit 2 --order reverse --workers 64
 wants 1 "$story" '' explain raise.job --task main
@@ -204,6 +265,24 @@ printf 'trio-job 3\njob hedge { nursery both { start fast { sleep 2; cancel both
 wants 0 'trio-job 3\njob hedge {\n  nursery both {\n    start fast {\n      sleep 2;\n      cancel both;\n    }\n    start slow { sleep 9; }\n  }\n}\n' '' fmt hedge_in_a_line.job
 helps fmt 'trio-job 3\njob hedge {\n  nursery both {\n    start fast {\n      sleep 2;\n      cancel both;\n    }\n    start slow { sleep 9; }\n  }\n}\n'
 
+# ---- scale
+
+printf 'trio-job 3\njob call {\n  repeat 3 {\n    scope attempt after 2 { sleep 5; }\n  }\n}\n' > call.job
+scaled='trio-job 3\njob call {\n  repeat 3 {\n    scope attempt after 2000 { sleep 5000; }\n  }\n}\n'
+wants 0 "$scaled" '' scale 1000 call.job
+helps scale "$scaled"
+wants 0 "$(cat call.job)\n" '' scale 1 call.job
+printf 'trio-job 3\n# in seconds\njob a { nursery n after 3 { start b over 2 { head 4; pace 7; sleep 0; } } } # end\n' > all.job
+wants 0 'trio-job 3\n# in seconds\njob a { nursery n after 30 { start b over 2 { head 4; repeat 10 { pace 7; } sleep 0; } } } # end\n' '' scale 10 all.job
+printf 'trio-job 1\njob a { scope s at 4 { sleep 1; } }\n%%input\nsleep 1;\n' > held.feed
+wants 0 'trio-job 2\njob a { scope s at 12 { sleep 3; } }\n%%input\nsleep 1;\n' '' scale 3 held.feed
+wants 2 '' 'call.job times 200000001:4:43: a number that is out of its range or has a leading zero\n    scope attempt after 400000002 { sleep 1000000005; }\n                                          ^\nthe number here is from 0 to 1000000000\n' scale 200000001 call.job
+wants 2 'refused J6 Syntax at 28\n' "$wrong" scale 2 wrong.job
+words='scale 0 call.job'; holds 2 err "'<N>'" '1..=1000000000'
+words='scale call.job'; holds 2 err "'call.job'" "'<N>'"
+words='scale 3'; holds 2 err '<JOB>'
+wants 4 '' 'cannot read the job file\nnone.job: no such file\n' scale 2 none.job
+
 # ---- lint, trio, completions, man
 
 printf 'trio-job 3\njob late {\n  try { sleep 5; } except Timeout { find "late"; }\n}\n' > late.job
@@ -214,10 +293,18 @@ printf 'trio-job 1\njob m { try { } except A { }\n\n  try { } except B { } }' > 
 twice='twice.job:2:17: nothing in this `try` raises A, so its handler never runs\njob m { try { } except A { }\n                ^\ntwice.job:4:11: nothing in this `try` raises B, so its handler never runs\n  try { } except B { } }\n          ^\n'
 wants 1 "$twice" '' lint twice.job
 wants 0 '' '' lint raise.job
+# The scope `due` of the heartbeat has no deadline, and shows when its block is cut off.
+sed '/^%input$/,$d' "${nursery%/crates/*}/examples/heartbeat.feed" > heartbeat.job
+wants 0 '' '' lint heartbeat.job
+printf 'trio-job 2\njob late {\n  scope budget fail {\n    scope call after 1 {\n      try { sleep 4; } finally { cancel budget; }\n    }\n  }\n}\n' > outer.job
+outer='outer.job:5:34: `cancel budget` in a cleanup or handler takes effect a tick later than in Trio, which may change the outcome: format 3 has Trio'\''s outcome\n      try { sleep 4; } finally { cancel budget; }\n                                 ^\n'
+wants 1 "$outer" '' lint outer.job
+sed 's/trio-job 2/trio-job 3/' outer.job > outer_in_rounds.job
+wants 0 '' '' lint outer_in_rounds.job
 wants 2 'refused J6 Syntax at 28\n' "$wrong" lint wrong.job
 wants 4 '' 'cannot read the job file\nnone.job: no such file\n' lint none.job
 words='trio raise.job'
-holds 0 out 'as a program on plain Trio' 'import trio' 'await trio.sleep(2)' 'raise Boom'
+holds 0 out 'as a program on plain Trio' 'import trio' 'await trio.sleep(2)' 'raise Boom' '--ticks' '--seeds'
 wants 2 'refused J6 Syntax at 28\n' "$wrong" trio wrong.job
 words='completions bash'
 holds 0 out 'complete -o filenames -F _nursery nursery'
@@ -237,12 +324,20 @@ wants 0 '      0\nmain  | done\n' '' chart find.job log.txt --width 20
 drawn='      0  2\nmain  |--! raised Boom(main@2)\n'
 wants 1 "$drawn" '' chart raise.job log.txt
 wants 1 "$drawn" '' chart raise.job --workers 64
-wants 1 '      0  2\nmain  |--! raised ..\n' '' chart raise.job --width 20
+wants 1 '      0\n       2\nmain  |! raised Bo..\n' '' chart raise.job --width 20
 wants 3 '      0 1\nmain  |-- running\nlimit 1\n' 'these tasks have not ended:\n  main  sleeping until 2 since 0\n' chart raise.job --limit 1
 wants 3 '      0                    1000000\nmain  |--------------------- running\nlimit 1000000\n' 'these tasks have not ended:\n  main  sleeping forever since 0\n' chart forever.job
+# A chart that is too wide is continued below: no tick is left out.
+printf 'trio-job 3\njob main { repeat 30 { sleep 1; } }\n' > ticks.job
+panels='      0 2 4 6 8\n       1 3 5 7 9\nmain  |---------~\n      10 13 16 19\n       11 14 17\n        12 15 18\nmain ~----------~\n'
+panels="$panels"'      20 23 26 29\n       21 24 27\n        22 25 28\nmain ~----------~\n      30\nmain ~| done\n'
+wants 0 "$panels" '' chart ticks.job --width 20
+# Before that the gaps are narrower: here by two places, with which twelve columns fit into 29 places.
+printf 'trio-job 3\njob main { repeat 5 { sleep 1; } sleep 95; repeat 5 { sleep 1; } }\n' > gap.job
+wants 0 '      0 2 4      100 102 104\n       1 3 5       101 103 105\nmain  |--------------------| done\n' '' chart gap.job --width 40
 COLUMNS=20
 export COLUMNS
-wants 1 '      0  2\nmain  |--! raised ..\n' '' chart raise.job
+wants 1 '      0\n       2\nmain  |! raised Bo..\n' '' chart raise.job
 wants 1 "$drawn" '' chart raise.job --width 80
 COLUMNS=wide
 wants 1 "$drawn" '' chart raise.job
@@ -370,17 +465,17 @@ refuses() {
 
 refuses 'trio-job 1\njob main { sleep }\n' 'refused J6 Syntax at 28' \
     '2:18: expected a number\njob main { sleep }\n                 ^'
-refuses 'trio-job 1\njob main {\n  sleep 1\n}\n' 'refused J6 Syntax at 32' '4:1: expected `;`\n}\n^'
+refuses 'trio-job 1\njob main {\n  sleep 1\n}\n' 'refused J6 Syntax at 32' '4:1: expected `;`\n}\n^\na `;` is missing after the step before it'
 refuses 'trio-job 1\njob main {\n\tfind "\303\244";\n}\n' 'refused J2 NotAscii at 29' \
     '3:8: this byte is not ASCII\n find "??";\n       ^'
 refuses 'trio-job 4\n' 'refused J3 Version at 0' \
-    '1:1: a job text begins with the line `trio-job 1`, `trio-job 2` or `trio-job 3`, ended by a newline alone\ntrio-job 4\n^'
+    '1:1: a job text begins with the line `trio-job 1`, `trio-job 2` or `trio-job 3`, ended by a newline alone\ntrio-job 4\n^\nthe formats are 1, 2 and 3: begin a new job text with the line `trio-job 3`'
 refuses 'trio-job 1\r\njob main { }\n' 'refused J3 Version at 0' \
     '1:1: a job text begins with the line `trio-job 1`, `trio-job 2` or `trio-job 3`, ended by a newline alone\ntrio-job 1 \n^\nits line ends are carriage returns and newlines: save it with newlines alone'
 refuses 'trio-job 1\njob main { sleep 1s; }\n' 'refused J4 Token at 28' \
-    '2:18: a letter or `_` directly follows this number\njob main { sleep 1s; }\n                 ^'
+    '2:18: a letter or `_` directly follows this number\njob main { sleep 1s; }\n                 ^\na number is digits alone: times are whole ticks without a unit, as in `sleep 500;`'
 refuses 'trio-job 1\njob main { pace 0; }\n' 'refused J5 Number at 27' \
-    '2:17: a number out of its range: `over` takes 1 to 64, `pace` 1 to 1000000, `repeat` 0 to 1000, others 0 to 1000000000; no leading zero\njob main { pace 0; }\n                ^'
+    '2:17: a number that is out of its range or has a leading zero\njob main { pace 0; }\n                ^\nthe number after `pace` is from 1 to 1000000'
 refuses 'trio-job 1\njob main { scope s { } scope s { } }\n' 'refused J8 Twice at 40' \
     '2:30: this name was given before: jobs, scopes, nurseries, events and starts need names of their own\njob main { scope s { } scope s { } }\n                             ^\nit was first given at bad.job:2:18'
 refuses 'trio-job 1\njob main { slep 1; }\n' 'refused J6 Syntax at 22' \
@@ -447,8 +542,7 @@ escapes completions "$forged"
 # A job text of one byte too many, and one without end.
 { printf 'trio-job 1\njob main { }'; head -c 65600 /dev/zero | tr '\0' ' '; } > long.job
 head -c 65536 long.job > longest.job
-words='check longest.job'
-wants 0 'trio-job 1\njob main{}\n' '' check longest.job
+wants 0 'trio-job 1\njob main {}\n' '' check longest.job
 for job in long.job /dev/zero; do
     name="nursery check $job"
     got=0
@@ -465,8 +559,7 @@ words='run find.job log.txt --workers 0'; holds 2 err "'--workers <N>'" '1..=64'
 words='run find.job log.txt --workers 65'; holds 2 err "'--workers <N>'" '1..=64'
 words='run find.job log.txt --order up'; holds 2 err "'--order <ORDER>'" 'forward, reverse, turn'
 words='run find.job log.txt --limit 4294967296'; holds 2 err "'--limit <T>'" '4294967295'
-words='run find.job'; holds 2 err '<INPUT>' 'Usage: nursery run '
-words='run'; holds 2 err '<JOB>' '<INPUT>'
+words='run'; holds 2 err '<JOB>' 'Usage: nursery run '
 words='explain'; holds 2 err '<JOB>' 'Usage: nursery explain '
 words='explain find.job log.txt --workers 0'; holds 2 err "'--workers <N>'" '1..=64'
 words='explain find.job --limit 4294967296'; holds 2 err "'--limit <T>'" '4294967295'
@@ -501,12 +594,12 @@ words='help'; holds 0 out 'Usage: nursery <COMMAND>'
 for command in $("$nursery" --help | sed -n '/^Commands/,/^$/s/^  \([a-z]*\)  *[A-Z].*/\1/p'); do
     [ "$command" = help ] || { words="help $command"; holds 0 out 'Example' "nursery $command "; }
 done
-words='run --help'; holds 0 out 'Usage: nursery run [OPTIONS] <JOB> <INPUT>' '--workers <N>' '--order <ORDER>' '--limit <T>' '  line 6+10 ERROR disk'
+words='run --help'; holds 0 out 'Usage: nursery run [OPTIONS] <JOB> [INPUT]' '--workers <N>' '--order <ORDER>' '--limit <T>' '  line 6+10 ERROR disk'
 words='faults --help'; holds 0 out 'Usage: nursery faults [OPTIONS] <JOB> [INPUT]' '--name <NAME>' '--deny <KINDS>' '--workers <N>' '--limit <T>'
 words='races --help'; holds 0 out 'Usage: nursery races [OPTIONS] <JOB> [INPUT]' '--deny' '--workers <N>' '--limit <T>'
 words='sweep --help'; holds 0 out 'Usage: nursery sweep [OPTIONS]' '--of <NAME>' '--at <LINE:COL>' '--values <A..B[:STEP]>' '--workers <N>' '--limit <T>'
-words='check --help'; holds 0 out 'Usage: nursery check <JOB>' 'expected a number'
-words='upgrade --help'; holds 0 out 'Usage: nursery upgrade [OPTIONS] <JOB>' '--to <N>' 'job main{find"er";}'
+words='check --help'; holds 0 out 'Usage: nursery check [OPTIONS] <JOB>' '--canonical' 'expected a number'
+words='upgrade --help'; holds 0 out 'Usage: nursery upgrade [OPTIONS] <JOB>' '--to <N>' '--canonical' 'job main { find "er"; }'
 
 # The example that the help of `run` shows is true.
 printf 'trio-job 3\njob watch {\n  scope limit after 10 { pace 2; find "ERROR"; }\n}\n' > watch.job
@@ -522,6 +615,9 @@ helps run "$watched"
 wants 3 'limit 1\n' 'these tasks have not ended:\n  main  sleeping until 2 since 0\n' run raise.job log.txt --limit 1
 wants 3 'limit 1000000\n' 'these tasks have not ended:\n  main  sleeping forever since 0\n' run forever.job log.txt
 wants 3 'limit 4294967295\n' 'these tasks have not ended:\n  main  sleeping forever since 0\n' run forever.job log.txt --limit 4294967295
+# It names ten at most, and counts the others.
+printf 'trio-job 3\njob main { event ready { nursery n { start w over 12 { wait ready; } } } }\n' > stuck.job
+wants 3 'limit 1000000\n' 'these tasks have not ended:\n  main  waiting for nursery n since 0\n  w.0   waiting for event ready since 0; nothing sets it\n  w.1   waiting for event ready since 0; nothing sets it\n  w.2   waiting for event ready since 0; nothing sets it\n  w.3   waiting for event ready since 0; nothing sets it\n  w.4   waiting for event ready since 0; nothing sets it\n  w.5   waiting for event ready since 0; nothing sets it\n  w.6   waiting for event ready since 0; nothing sets it\n  w.7   waiting for event ready since 0; nothing sets it\n  w.8   waiting for event ready since 0; nothing sets it\n  and 3 more\n' run stuck.job
 
 # ---- 4 and 5: files that cannot be read, an input too long, little memory, an output that cannot be written
 
@@ -557,7 +653,7 @@ compare "$got" 4 '' 'cannot read the input file\nstandard input: a read failed\n
 
 head -c 16777216 /dev/zero > most.txt
 { cat most.txt; printf x; } > over.txt
-wants 0 'job main 0\ntask main 0 0 done\n' '' run find.job most.txt
+wants 0 "$without" '' run find.job most.txt
 # 5: the input alone fills the memory that there is.
 if (ulimit -v 16384) 2> /dev/null; then
     name='nursery in little memory'
@@ -572,7 +668,17 @@ wants 4 '' 'input too long\n' run find.job /dev/zero
 { cat find.job; echo %input; cat over.txt; } > in
 wants 4 '' 'input too long\n'
 { cat find.job; echo %input; cat most.txt; } > in
-wants 0 'job main 0\ntask main 0 0 done\n' ''
+wants 0 "$without" ''
+cp in held.feed
+wants 0 "$without" '' run held.feed
+printf x >> held.feed
+for command in run explain chart faults races check fmt upgrade lint trio; do
+    wants 4 '' 'input too long\n' $command held.feed
+done
+cp held.feed kept.feed
+wants 4 '' 'input too long\n' fmt held.feed --write
+cmp -s kept.feed held.feed || fail 'a feed with a too long input was written'
+rm held.feed kept.feed
 rm over.txt most.txt
 : > in
 
@@ -596,6 +702,9 @@ if [ -c /dev/full ]; then
     full check find.job
     full upgrade find.job
     full upgrade find.job --to 2
+    full upgrade find.job --canonical
+    full fmt feed.feed
+    full upgrade feed.feed
     full --help
     full --version
     # Standard error is: the refusal stands on standard output already, and the status stays.

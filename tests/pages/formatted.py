@@ -21,13 +21,11 @@ def jobs_of_examples():
 
 
 def jobs_of_pages():
-    """The blocks that are jobs. A page may leave out a job's first line, which does not change the layout."""
+    """The blocks that are jobs, without the inputs that they hold."""
     for page in PAGES:
         for is_block, piece in pieces_of(content_of(page)):
-            if is_block and piece.startswith("job ") and "{" in piece.partition("\n")[0]:
-                yield page, "trio-job 3\n" + piece
-            elif is_block and piece.startswith("trio-job "):
-                yield page, piece
+            if is_block and piece.startswith("trio-job "):
+                yield page, piece.partition("%input\n")[0]
 
 
 def main():

@@ -79,7 +79,12 @@ from_little_to_enough faults few.job lines.txt
 from_little_to_enough races pair.job lines.txt
 from_little_to_enough sweep few.job lines.txt --at 2:40 --values 1..9
 from_little_to_enough check wide.job
+from_little_to_enough check wide.job --canonical
 from_little_to_enough upgrade wide.job --to 2
+from_little_to_enough upgrade wide.job --to 2 --canonical
+{ cat find.job; echo %input; cat lines.txt; } > find.feed
+from_little_to_enough run find.feed
+from_little_to_enough fmt find.feed
 from_little_to_enough lint wide.job --json
 from_little_to_enough faults few.job lines.txt --json
 from_little_to_enough races pair.job lines.txt --json
@@ -127,12 +132,14 @@ for job in scopes nurseries cleanups handlers sleeps leaves grid; do
     in_little_stack faults $job.job log.txt --workers 2
     in_little_stack races $job.job log.txt --workers 2
     in_little_stack check $job.job
+    in_little_stack check $job.job --canonical
     in_little_stack fmt $job.job
     in_little_stack lint $job.job
     in_little_stack trio $job.job
     in_little_stack run $job.job log.txt --json
     in_little_stack explain $job.job log.txt --json
     in_little_stack upgrade $job.job
+    in_little_stack upgrade $job.job --canonical
     in_little_stack lint $job.job --json
     in_little_stack faults $job.job log.txt --workers 2 --json
     in_little_stack races $job.job log.txt --workers 2 --json

@@ -16,9 +16,13 @@ use Rattle.chart_app.specs.Charts as charts
 use Rattle.format_app.specs.declared.verdict.FormatVerdict.{FormatVerdict}
 use Rattle.format_app.specs.declared.verdict.FormatCheck.{FormatCheck}
 use Rattle.format_app.specs.Formats as formats
+use Rattle.format_app.specs.Scaled.{IsScaled, IsScaleFault}
+use Rattle.format_app.specs.declared.scaling.ScaleFault.{ScaleFault}
 use Rattle.format_app.specs.Statuses.{status_of as format_status_of, check_status_of as format_check_status_of}
 use Rattle.job_grammar.specs.declared.fault.JobFault.{JobFault}
-use Rattle.job_grammar.specs.Refusals.{IsRefused}
+use Rattle.job_grammar.specs.Refusals.{IsRefused, Spells}
+use Rattle.job_tree.specs.declared.format.Format.{Format}
+use Rattle.job_tree.specs.Formats.{in_format}
 use Rattle.job_lint.specs.declared.warning.Warning.{Warning}
 use Rattle.job_lint.specs.Linted.{AreWarnings}
 use Rattle.json_app.specs.Serving as documents
@@ -117,6 +121,22 @@ TellsAnswer shown text status =
 abbrev pub TellsFormat : List ℕ → ℕ → Type 0
 TellsFormat text status =
     (verdict : FormatVerdict) × (bytes : List ℕ) × formats.IsAnswer text verdict bytes × (status ≡ format_status_of verdict)
+
+-- a text that spells the same job in a format, or in its own where that is newer
+abbrev pub IsUpgrade : Format → List ℕ → List ℕ → Type 0
+IsUpgrade format text upgraded = (job : Tree) × Spells text job × Spells upgraded (in_format format job)
+
+-- the status is that of the verdict on the formatted text of such a text, or that of the text's refusal
+abbrev pub TellsUpgrade : Format → List ℕ → ℕ → Type 0
+TellsUpgrade format text status =
+    ((upgraded : List ℕ) × IsUpgrade format text upgraded × TellsFormat upgraded status)
+    ⊎ ((fault : JobFault) × IsRefused text fault.kind fault.at × (status ≡ 2))
+
+-- 0 if the text with its ticks multiplied is a job text, and otherwise 2
+abbrev pub TellsScale : List ℕ → ℕ → ℕ → Type 0
+TellsScale text factor status =
+    ((scaled : List ℕ) × IsScaled text factor scaled × (status ≡ 0))
+    ⊎ ((fault : ScaleFault) × IsScaleFault text factor fault × (status ≡ 2))
 
 -- the status is that of the comparison of a text with its formatted text
 abbrev pub TellsFormatCheck : List ℕ → ℕ → Type 0

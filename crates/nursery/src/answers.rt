@@ -1,19 +1,18 @@
 ghost use Rattle.std.specs.Prelude.{◌≡◌, ◌≤◌, length, vec_len, IfOk};
 ghost use Rattle.std.specs.Option.{option_copied};
 ghost use Rattle.job_meaning.specs.declared.limits.TheConstants.{MAX_INPUT};
-ghost use Rattle.nursery_app.specs.Checking.{as_it_is};
 ghost use Rattle.nursery_app.specs.Statuses.{status_of};
 ghost use Rattle.story_app.specs.Statuses.{story_status_of};
-ghost use Rattle.nursery.specs.Statuses.{TellsVerdict, TellsStory, TellsAnswer};
+ghost use Rattle.nursery.specs.Statuses.{TellsVerdict, TellsStory};
 
 use crate::documents::{explain_as_json, run_as_json};
-use crate::sources::{read_feed, read_input, read_job_text};
+use crate::sources::{Given, read_both, read_feed};
 use crate::stop::Stop;
 use job_files::shown_name;
 use job_grammar::JobFault;
 use nursery_app::{
-    CheckVerdict, Forward, MAX_INPUT, NoGate, Pick, Reverse, Settings, Turn, Verdict, WriteOut,
-    check, send, serve, split_feed,
+    Forward, MAX_INPUT, NoGate, Pick, Reverse, Settings, Turn, Verdict, WriteOut, send, serve,
+    split_feed,
 };
 use nursery_cli::{DEFAULT_LIMIT, ExplainArgs, Order, RunArgs};
 use refusal_text::refusal_message;
@@ -22,6 +21,9 @@ use std::io::{self, IsTerminal};
 use std::rt::Files;
 use std::thread::Threads;
 use story_app::{StoryVerdict, explain, running_at_limit};
+
+/// How many of the tasks that have not ended at the limit are shown.
+const MAX_RUNNING: usize = 10;
 
 /// What is printed at a terminal if the program runs without arguments and waits for its input.
 const AWAITED: &str =
@@ -49,47 +51,17 @@ where
     run_text(rt, "standard input", text, input, settings, &mut Forward)
 }
 
-/// The text of a job file, and its input.
-#[derive(Drop)]
-pub(crate) struct Given {
-    pub text: Vec<u8>,
-    pub input: Vec<u8>,
-}
-
-// Reads a job file and an input file, or no input if none is named. Both are read before anything is reported: first a too long
-// input, then a job file that cannot be read, then such an input.
-pub(crate) fn read_both<R: Files + Input + AllocGlobal>(
-    rt: &R,
-    job: &str,
-    input: Option<&str>,
-) -> Result<Given, Stop>
-    ensures { IfOk result (λ given. vec_len given.input ≤ MAX_INPUT) }
-{
-    let text = read_job_text(rt, job);
-    let input = match input {
-        Some(name) => read_input(rt, name),
-        None => Ok(Vec::new(rt.alloc())),
-    };
-    if matches!(input, Err(Stop::TooLong)) {
-        return Err(Stop::TooLong);
-    }
-    Ok(Given {
-        text: text?,
-        input: input?,
-    })
-}
-
 // Returns the word that a command was given, if it was given one.
 pub(crate) fn word_of(word: &Option<String>) -> Option<&str> {
     word.as_ref().map(|name| name.as_str())
 }
 
-// Runs a job file over an input file, and returns the status.
+// Runs a job file over its input, and returns the status.
 pub(crate) fn run_job<R: Files + Input + Print + Eprint + Threads + Sync + AllocGlobal>(
     rt: &R,
     args: &RunArgs,
 ) -> Result<u8, Stop> {
-    let given = read_both(rt, args.job.as_str(), Some(args.input.as_str()))?;
+    let given = read_both(rt, args.job.as_str(), word_of(&args.input))?;
     match args.order {
         Order::Forward => run_given(rt, args, &given, &mut Forward),
         Order::Reverse => run_given(rt, args, &given, &mut Reverse),
@@ -114,7 +86,7 @@ fn run_given<R: Print + Eprint + Threads + Sync + AllocGlobal, P: Pick>(
     run_text(rt, job, text, input, settings, picker)
 }
 
-// Writes the story of a job file over an input file, or over no input, and returns the status.
+// Writes the story of a job file over its input, and returns the status.
 pub(crate) fn explain_job<R: Files + Input + Print + Eprint + Threads + Sync + AllocGlobal>(
     rt: &R,
     args: &ExplainArgs,
@@ -252,29 +224,9 @@ pub(crate) fn conclude_run<R: Eprint + Threads + Sync + AllocGlobal, P: Pick>(
     verdict.status()
 }
 
-// Writes the canonical text of a job file, and returns the status.
-pub(crate) fn check_job<R: Files + Input + Print + Eprint + AllocGlobal>(
-    rt: &R,
-    job: &str,
-) -> Result<u8, Stop> {
-    let text = read_job_text(rt, job)?;
-    check_text(rt, job, text.as_slice())
-}
-
-// Writes the canonical text of a job text, and returns the status.
-fn check_text<R: Print + Eprint + AllocGlobal>(rt: &R, job: &str, text: &[u8]) -> Result<u8, Stop>
-    ensures { IfOk result (TellsAnswer as_it_is text.now) }
-{
-    let mut out = WriteOut::new(io::writer(rt));
-    let verdict = check(rt.alloc(), text, &mut out)?;
-    if let CheckVerdict::JobRefused(fault) = verdict {
-        tell_refusal(rt, job, text, fault);
-    }
-    Ok(verdict.status())
-}
-
-// Prints to standard error which tasks have not ended at the limit, and what each is doing. The limit's line is on standard
-// output already, so if memory or a write fails here nothing more is printed.
+// Prints to standard error which tasks have not ended at the limit, and what each is doing: a line for each of the first `MAX_RUNNING`
+// tasks, and then how many there are beyond them. The limit's line is on standard output already, so if memory or a write fails here
+// nothing more is printed.
 pub(crate) fn tell_running<R: Eprint + Threads + Sync + AllocGlobal, P: Pick>(
     rt: &R,
     text: &[u8],
@@ -289,7 +241,24 @@ pub(crate) fn tell_running<R: Eprint + Threads + Sync + AllocGlobal, P: Pick>(
     };
     if let Ok(lines) = String::from_utf8(lines) {
         let _ = rt.eprint("these tasks have not ended:\n");
-        let _ = rt.eprint(lines.as_str());
+        show_first_lines(rt, lines.as_str());
+    }
+}
+
+// Prints the first lines of a text to standard error, and how many more there are.
+fn show_first_lines<R: Eprint>(rt: &R, text: &str) {
+    let mut shown = 0;
+    let mut more = 0_usize;
+    'lines: for line in text.lines() {
+        if shown < MAX_RUNNING {
+            let _ = eprint!(rt; "{line}\n");
+            shown += 1;
+        } else {
+            more = more.saturating_add(1);
+        }
+    }
+    if more > 0 {
+        let _ = eprint!(rt; "  and {more} more\n");
     }
 }
 

@@ -2,7 +2,8 @@ ghost use Rattle.std.specs.Prelude.{◌≤◌, length, IfOk};
 ghost use Rattle.job_meaning.specs.declared.limits.TheConstants.{MAX_INPUT};
 ghost use Rattle.nursery.specs.Statuses.{TellsChart};
 
-use crate::answers::{conclude_run, read_both, word_of};
+use crate::answers::{conclude_run, word_of};
+use crate::sources::read_both;
 use crate::stop::Stop;
 use chart_app::{Form, chart};
 use nursery_app::{Forward, NoGate, Settings, WriteOut};

@@ -3,9 +3,10 @@ ghost use Rattle.job_meaning.specs.declared.limits.TheConstants.{MAX_INPUT};
 ghost use Rattle.table_app.specs.Statuses.{faults_status_of};
 ghost use Rattle.nursery.specs.Statuses.{TellsFaults, TellsReadFaults, table_form};
 
-use crate::answers::{read_both, tell_refusal, word_of};
+use crate::answers::{tell_refusal, word_of};
 use crate::documents::table_form;
 use crate::progress::Progress;
+use crate::sources::read_both;
 use crate::stop::Stop;
 use nursery_app::WriteOut;
 use nursery_cli::FaultsArgs;

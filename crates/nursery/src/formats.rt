@@ -2,7 +2,7 @@ ghost use Rattle.std.specs.Prelude.{◌≡◌, IfOk};
 ghost use Rattle.nursery.specs.Statuses.{TellsFormat, TellsFormatCheck};
 
 use crate::answers::tell_refusal;
-use crate::sources::read_job_text;
+use crate::sources::{JobFile, print_held, read_job_file, read_job_text, with_held};
 use crate::stop::Stop;
 use format_app::{FormatCheck, FormatFault, FormatVerdict, check_format, format, format_text};
 use job_files::{ReplaceFault, Target, shown_name};
@@ -16,7 +16,7 @@ use std::rt::Files;
 /// What is printed about a job file that is not formatted.
 const NOT_FORMATTED: &str = "not formatted from here on";
 
-// Formats a job file, and returns the status.
+// Formats a job file, and returns the status. The input that a feed holds is kept as it is.
 pub(crate) fn format_job_file<R: Files + Input + Print + Eprint + AllocGlobal>(
     rt: &R,
     job: &str,
@@ -24,8 +24,9 @@ pub(crate) fn format_job_file<R: Files + Input + Print + Eprint + AllocGlobal>(
 ) -> Result<u8, Stop> {
     match mode {
         FormatMode::Print => {
-            let text = read_job_text(rt, job)?;
-            print_formatted(rt, job, text.as_slice())
+            let file = read_job_file(rt, job)?;
+            let status = print_formatted(rt, job, file.text.as_slice())?;
+            print_held(rt, status, &file)
         }
         FormatMode::Check => {
             let text = read_job_text(rt, job)?;
@@ -33,8 +34,8 @@ pub(crate) fn format_job_file<R: Files + Input + Print + Eprint + AllocGlobal>(
         }
         FormatMode::Write => {
             let target = target_of(rt, job)?;
-            let text = read_job_text(rt, job)?;
-            write_formatted(rt, job, target, text.as_slice())
+            let file = read_job_file(rt, job)?;
+            write_formatted(rt, job, target, &file)
         }
     }
 }
@@ -52,7 +53,7 @@ fn target_of<R: Files + AllocGlobal>(
 }
 
 // Writes the formatted text of a job text, and returns the status.
-fn print_formatted<R: Print + Eprint + AllocGlobal>(
+pub(crate) fn print_formatted<R: Print + Eprint + AllocGlobal>(
     rt: &R,
     job: &str,
     text: &[u8],
@@ -86,18 +87,22 @@ fn compare<R: Eprint + AllocGlobal>(rt: &R, job: &str, text: &[u8]) -> Result<u8
     Ok(check.status())
 }
 
-// Replaces a job file that differs from its formatted text by that text, and returns the status. A text that is refused, or whose
+// Replaces the job text of a job file by its formatted text if they differ, and returns the status. A text that is refused, or whose
 // formatted text is too long, stays as it is. The target is the file as it was before it was read.
 fn write_formatted<R: Files + Eprint + AllocGlobal>(
     rt: &R,
     job: &str,
     target: Result<Target, ReplaceFault>,
-    text: &[u8],
+    file: &JobFile,
 ) -> Result<u8, Stop> {
+    let text = file.text.as_slice();
     match format_text(rt.alloc(), text) {
         Ok(formatted) => {
             if formatted.as_slice() != text {
-                replace_job_file(rt, target, formatted.as_slice())?;
+                let Ok(bytes) = with_held(formatted, file) else {
+                    return Err(Stop::NoMemory);
+                };
+                replace_job_file(rt, target, bytes.as_slice())?;
             }
             Ok(0)
         }

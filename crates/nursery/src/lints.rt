@@ -1,4 +1,5 @@
-ghost use Rattle.std.specs.Prelude.{IfOk};
+ghost use Rattle.std.specs.Prelude.{◌≡◌, IfOk};
+ghost use Rattle.job_grammar.specs.Refusals.{IsFair, IsRefused};
 ghost use Rattle.nursery.specs.Statuses.{TellsLints, TellsJsonLints};
 
 use crate::answers::tell_refusal;
@@ -35,13 +36,7 @@ fn lint_text<R: Print + Eprint + AllocGlobal>(rt: &R, job: &str, text: &[u8]) ->
             show_warnings(rt, job, text, warnings.as_slice())?;
             if warnings.is_empty() { Ok(0) } else { Ok(1) }
         }
-        Err(fault) => {
-            if fault.kind == JobKind::NoMemory {
-                return Err(Stop::NoMemory);
-            }
-            show_refusal(rt, job, text, fault)?;
-            Ok(2)
-        }
+        Err(fault) => refuse(rt, job, text, fault),
     }
 }
 
@@ -60,6 +55,23 @@ fn lints_as_json<R: Print + Eprint + AllocGlobal>(
         tell_refusal(rt, job, text, fault);
     }
     Ok(status)
+}
+
+// Writes the line of a refusal, prints it to standard error, and returns the status.
+pub(crate) fn refuse<R: Print + Eprint + AllocGlobal>(
+    rt: &R,
+    job: &str,
+    text: &[u8],
+    fault: JobFault,
+) -> Result<u8, Stop>
+    requires { IsFair text.now fault }
+    ensures { IfOk result (λ status. IsRefused text.now fault.kind fault.at × (status ≡ 2)) }
+{
+    if fault.kind == JobKind::NoMemory {
+        return Err(Stop::NoMemory);
+    }
+    show_refusal(rt, job, text, fault)?;
+    Ok(2)
 }
 
 // Writes the line of a refusal, and prints it to standard error.

@@ -8,6 +8,7 @@
 
 mod answers;
 mod charts;
+mod checks;
 mod documents;
 mod exports;
 mod faults;
@@ -15,6 +16,7 @@ mod formats;
 mod lints;
 mod progress;
 mod races;
+mod scales;
 mod sources;
 mod stop;
 mod sweep;
@@ -22,13 +24,15 @@ mod texts;
 mod upgrades;
 mod warnings;
 
-use crate::answers::{check_job, explain_job, run_feed, run_job, show_help};
+use crate::answers::{explain_job, run_feed, run_job, show_help};
 use crate::charts::chart_job;
+use crate::checks::check_job;
 use crate::exports::trio_job;
 use crate::faults::faults_job;
 use crate::formats::format_job_file;
 use crate::lints::lint_job;
 use crate::races::races_job;
+use crate::scales::scale_job;
 use crate::stop::Stop;
 use crate::sweep::sweep_job;
 use crate::texts::{show_completions, show_man_page};
@@ -83,8 +87,15 @@ where
             },
         ) => Ok(test_paths(rt, paths.as_slice(), accept, settings)?),
         Ok(Command::Trio { job }) => trio_job(rt, job.as_str()),
-        Ok(Command::Check { job }) => check_job(rt, job.as_str()),
-        Ok(Command::Upgrade { job, format }) => upgrade_job(rt, job.as_str(), format),
+        Ok(Command::Check { job, canonical }) => check_job(rt, job.as_str(), canonical),
+        Ok(
+            Command::Upgrade {
+                job,
+                format,
+                canonical,
+            },
+        ) => upgrade_job(rt, job.as_str(), format, canonical),
+        Ok(Command::Scale { factor, job }) => scale_job(rt, job.as_str(), factor),
         Ok(Command::Completions { shell }) => show_completions(rt, shell),
         Ok(Command::Man) => show_man_page(rt),
         Ok(Command::Help { text }) => show_help(rt, text.as_str()),

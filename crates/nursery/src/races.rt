@@ -3,10 +3,11 @@ ghost use Rattle.job_meaning.specs.declared.limits.TheConstants.{MAX_INPUT};
 ghost use Rattle.table_app.specs.Statuses.{races_status_of};
 ghost use Rattle.nursery.specs.Statuses.{TellsRaces, TellsReadRaces, table_form};
 
-use crate::answers::{read_both, tell_refusal, tell_running, word_of};
+use crate::answers::{tell_refusal, tell_running, word_of};
 use crate::documents::table_form;
 use crate::faults::tell_denied;
 use crate::progress::Progress;
+use crate::sources::read_both;
 use crate::stop::Stop;
 use nursery_app::{Forward, WriteOut};
 use nursery_cli::RacesArgs;

@@ -1,12 +1,15 @@
-ghost use Rattle.std.specs.Prelude.{IfOk};
-ghost use Rattle.job_tree.specs.Formats.{in_format};
-ghost use Rattle.nursery.specs.Statuses.{TellsAnswer};
+ghost use Rattle.std.specs.Prelude.{◌≡◌, IfOk, IsTrue, MatchResult};
+ghost use Rattle.job_tree.specs.Formats.{in_format, newer};
+ghost use Rattle.job_grammar.specs.Refusals.{IsFair};
+ghost use Rattle.nursery.specs.Statuses.{TellsAnswer, IsUpgrade, TellsUpgrade};
 
 use crate::answers::tell_refusal;
-use crate::sources::read_job_text;
+use crate::formats::print_formatted;
+use crate::lints::refuse;
+use crate::sources::{print_held, read_job_file};
 use crate::stop::Stop;
 use expect_text::first_difference;
-use job_grammar::{Format, read_job, write_job};
+use job_grammar::{Format, JobFault, read_job, write_job};
 use moments::Clock;
 use nursery_app::{CheckVerdict, Settings, WriteOut, upgrade};
 use nursery_cli::DEFAULT_LIMIT;
@@ -16,19 +19,68 @@ use std::rt::Files;
 use std::thread::Threads;
 use test_app::{Output, output_of};
 
-// Writes the canonical text of the same job in a newer format, and returns the status. Standard error says whether its report
-// changes.
+// Writes the formatted or the canonical text of the same job in a newer format, and returns the status. Standard error says whether its
+// report changes. The input that a feed holds follows as it is.
 pub(crate) fn upgrade_job<R: Files + Input + Print + Eprint + Threads + Sync + AllocGlobal>(
     rt: &R,
     job: &str,
     format: Format,
+    canonical: bool,
 ) -> Result<u8, Stop> {
-    let text = read_job_text(rt, job)?;
-    upgrade_text(rt, job, text.as_slice(), format)
+    let file = read_job_file(rt, job)?;
+    let text = file.text.as_slice();
+    let status = if canonical {
+        print_canonical(rt, job, text, format)?
+    } else {
+        print_upgraded(rt, job, text, format)?
+    };
+    let status = print_held(rt, status, &file)?;
+    if status == 0 {
+        tell_change(rt, text, format);
+    }
+    Ok(status)
 }
 
-// Writes the canonical text of a job text in a newer format, and returns the status.
-fn upgrade_text<R: Print + Eprint + Threads + Sync + AllocGlobal>(
+// Writes the formatted text of a job in a newer format, and returns the status.
+fn print_upgraded<R: Print + Eprint + AllocGlobal>(
+    rt: &R,
+    job: &str,
+    text: &[u8],
+    format: Format,
+) -> Result<u8, Stop>
+    ensures { IfOk result (TellsUpgrade format text.now) }
+{
+    match upgraded_text(rt.alloc(), text, format) {
+        Ok(upgraded) => print_formatted(rt, job, upgraded.as_slice()),
+        Err(fault) => refuse(rt, job, text, fault),
+    }
+}
+
+// Returns a text of the same job in a newer format: the text itself, with its comments, if it is in that format or in a newer one, and
+// otherwise the canonical text.
+fn upgraded_text(alloc: Global, text: &[u8], format: Format) -> Result<Vec<u8>, JobFault>
+    ensures { MatchResult result (λ upgraded. IsUpgrade format text.now upgraded.items) (IsFair text.now) }
+{
+    let job = read_job(alloc, text)?;
+    if is_no_older(job.text_format(), format) {
+        return Ok(Vec::from_slice(alloc, text)?);
+    }
+    Ok(write_job(alloc, &job.in_format(format))?)
+}
+
+// Returns whether a format is another one or a newer one.
+fn is_no_older(own: Format, format: Format) -> bool
+    ensures { IsTrue result → newer format own ≡ own }
+{
+    match own {
+        Format::One => format == Format::One,
+        Format::Two => format != Format::Three,
+        Format::Three => true,
+    }
+}
+
+// Writes the canonical text of a job in a newer format, and returns the status.
+fn print_canonical<R: Print + Eprint + AllocGlobal>(
     rt: &R,
     job: &str,
     text: &[u8],
@@ -38,9 +90,8 @@ fn upgrade_text<R: Print + Eprint + Threads + Sync + AllocGlobal>(
 {
     let mut out = WriteOut::new(io::writer(rt));
     let verdict = upgrade(rt.alloc(), text, format, &mut out)?;
-    match verdict {
-        CheckVerdict::JobRefused(fault) => tell_refusal(rt, job, text, fault),
-        CheckVerdict::Fine => tell_change(rt, text, format),
+    if let CheckVerdict::JobRefused(fault) = verdict {
+        tell_refusal(rt, job, text, fault);
     }
     Ok(verdict.status())
 }

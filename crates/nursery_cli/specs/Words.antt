@@ -5,7 +5,7 @@ use Rattle.std.specs.Str.{bytes_eq}
 use Rattle.job_tree.specs.Formats.{extends_format_1}
 use Rattle.job_syntax.specs.Keywords.{keyword_of}
 use Rattle.nursery_cli.specs.declared.command.Command.{Command}
-use Rattle.nursery_cli.specs.declared.command.Command.TheVariants.{Feed, Run, Explain, Chart, Faults, Races, Sweep, Fmt, Lint, Test, Trio, Check, Upgrade, Completions, Man, Help}
+use Rattle.nursery_cli.specs.declared.command.Command.TheVariants.{Feed, Run, Explain, Chart, Faults, Races, Sweep, Fmt, Lint, Test, Trio, Check, Upgrade, Scale, Completions, Man, Help}
 use Rattle.std.specs.String.{string_bytes}
 use Rattle.nursery_cli.specs.declared.command.FormatMode.{FormatMode}
 use Rattle.nursery_cli.specs.declared.command.FormatMode.TheVariants as modes
@@ -47,7 +47,8 @@ IsWritten job modes.Write = IsTrue (not (bytes_eq job (codes "-")))
 IsWritten job modes.Check = Unit {0}
 
 -- A label is short enough, a chart has a width in its range or none, a faulty step can raise its exception, a sweep has values, a
--- file that is formatted in place is not standard input, a job is upgraded to format 2 or 3, and there is something to test.
+-- file that is formatted in place is not standard input, a job is upgraded to format 2 or 3, ticks are multiplied by 1 to
+-- 1,000,000,000, and there is something to test.
 abbrev pub IsFit : Command → Type 0
 IsFit Feed = Unit {0}
 IsFit (Run args) = Unit {0}
@@ -60,8 +61,9 @@ IsFit (Fmt job mode) = IsWritten (string_bytes job) mode
 IsFit (Lint job json) = Unit {0}
 IsFit (Test paths accept settings) = 1 ≤ length paths.items
 IsFit (Trio job) = Unit {0}
-IsFit (Check job) = Unit {0}
-IsFit (Upgrade job format) = IsTrue (extends_format_1 format)
+IsFit (Check job canonical) = Unit {0}
+IsFit (Upgrade job format canonical) = IsTrue (extends_format_1 format)
+IsFit (Scale factor job) = (1 ≤ factor) × (factor ≤ 1000000000)
 IsFit (Completions shell) = Unit {0}
 IsFit Man = Unit {0}
 IsFit (Help text) = Unit {0}

@@ -17,10 +17,10 @@ pub enum Order {
 /// The arguments of `run`.
 #[derive(Drop)]
 pub struct RunArgs {
-    /// The job file.
+    /// The job file, or `-` for standard input.
     pub job: String,
-    /// The input file.
-    pub input: String,
+    /// The input file, or `-` for standard input. `None` is the input that the job file holds, or else an empty one.
+    pub input: Option<String>,
     /// The number of workers, and the last tick at which the job may end.
     pub settings: Settings,
     /// The order in which ready tasks get their turns.
@@ -34,7 +34,7 @@ pub struct RunArgs {
 pub struct ExplainArgs {
     /// The job file, or `-` for standard input.
     pub job: String,
-    /// The input file, or `-` for standard input. `None` is an empty input.
+    /// The input file, or `-` for standard input. `None` is the input that the job file holds, or else an empty one.
     pub input: Option<String>,
     /// The label of the only task that the story is about, of at most `MAX_LABEL` bytes. `None` is all tasks.
     pub task: Option<String>,
@@ -51,7 +51,7 @@ pub struct ExplainArgs {
 pub struct ChartArgs {
     /// The job file, or `-` for standard input.
     pub job: String,
-    /// The input file, or `-` for standard input. `None` is an empty input.
+    /// The input file, or `-` for standard input. `None` is the input that the job file holds, or else an empty one.
     pub input: Option<String>,
     /// The maximum width of the chart, in columns of text, from `LEAST_WIDTH` to `MAX_WIDTH`. `None` is the
     /// default.
@@ -67,7 +67,7 @@ pub struct ChartArgs {
 pub struct FaultsArgs {
     /// The job file, or `-` for standard input.
     pub job: String,
-    /// The input file, or `-` for standard input. `None` is an empty input.
+    /// The input file, or `-` for standard input. `None` is the input that the job file holds, or else an empty one.
     pub input: Option<String>,
     /// The name of the exception that a faulty step raises. It is a name that a step may raise.
     pub name: Name,
@@ -84,7 +84,7 @@ pub struct FaultsArgs {
 pub struct RacesArgs {
     /// The job file, or `-` for standard input.
     pub job: String,
-    /// The input file, or `-` for standard input. `None` is an empty input.
+    /// The input file, or `-` for standard input. `None` is the input that the job file holds, or else an empty one.
     pub input: Option<String>,
     /// Whether races are denied.
     pub deny: bool,
@@ -99,7 +99,7 @@ pub struct RacesArgs {
 pub struct SweepArgs {
     /// The job file, or `-` for standard input.
     pub job: String,
-    /// The input file, or `-` for standard input. `None` is an empty input.
+    /// The input file, or `-` for standard input. `None` is the input that the job file holds, or else an empty one.
     pub input: Option<String>,
     /// The number that takes the values.
     pub target: Target,

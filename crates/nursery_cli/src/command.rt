@@ -35,7 +35,7 @@ pub enum Command {
     /// No words: a feed on standard input.
     Feed,
     /// Runs a job over an input. Each is named by its file, or `-` for standard input; at most one of them is standard
-    /// input.
+    /// input. A job file may hold its input.
     Run(RunArgs),
     /// Prints the story of a job over an input: why each task ended as it did.
     Explain(ExplainArgs),
@@ -75,17 +75,28 @@ pub enum Command {
         /// The job file, or `-` for standard input.
         job: String,
     },
-    /// Prints the canonical text of a job.
+    /// Prints the formatted or the canonical text of a job.
     Check {
         /// The job file, or `-` for standard input.
         job: String,
+        /// Whether it is the canonical text.
+        canonical: bool,
     },
-    /// Prints the canonical text of the same job in a newer format.
+    /// Prints the formatted or the canonical text of the same job in a newer format.
     Upgrade {
         /// The job file, or `-` for standard input.
         job: String,
         /// The format, 2 or 3.
         format: Format,
+        /// Whether it is the canonical text.
+        canonical: bool,
+    },
+    /// Prints a job with its ticks multiplied.
+    Scale {
+        /// The number by which each number of ticks is multiplied, 1 to 1,000,000,000.
+        factor: u64,
+        /// The job file, or `-` for standard input.
+        job: String,
     },
     /// Prints the script that completes the program's words in a shell.
     Completions {

@@ -17,6 +17,7 @@ pub(crate) fn example_of(command: &str) -> &'static str {
         "trio" => TRIO_EXAMPLE,
         "check" => CHECK_EXAMPLE,
         "upgrade" => UPGRADE_EXAMPLE,
+        "scale" => SCALE_EXAMPLE,
         "completions" => COMPLETIONS_EXAMPLE,
         "man" => MAN_EXAMPLE,
         _ => "",
@@ -24,8 +25,8 @@ pub(crate) fn example_of(command: &str) -> &'static str {
 }
 
 pub(crate) const EXAMPLE: &str =
-    "With no words at all, nursery reads standard input: a job text, a line that is exactly `%input`,
-and the input.
+    "A job file may hold its input, after a line that is exactly `%input`. With no words at all, nursery runs
+the job on standard input.
 
 Example: `first.job` shows each line of its input that holds \"er\".
 
@@ -82,8 +83,8 @@ const EXPLAIN_EXAMPLE: &str = "Example: who cancelled `slow`, and when?
 
 const CHART_EXAMPLE: &str =
     "A task is drawn as `|---|`, a scope or nursery as `(===)`; `x` is where a task is cancelled, or from where a
-scope or nursery is, and `!` where an exception is raised. If the ticks do not all fit, those at which
-the fewest things happen are left out.
+scope or nursery is, and `!` where an exception is raised. Each tick at which something happens has a column.
+If they do not fit, the chart is continued below, and `~` marks what goes on.
 
 Example: one of two calls fails.
 
@@ -186,7 +187,7 @@ Exit status: 0; the others are those of `run`.";
 const FMT_EXAMPLE: &str =
     "A block that is empty or holds one step without a block is written on one line, if there is no comment in
 it and that ends at column 80 or before. The formatted text spells the same job, with the same comments,
-and formatting it again changes nothing.
+and formatting it again changes nothing. The input that JOB holds is kept as it is.
 
 Example:
 
@@ -215,7 +216,9 @@ longer than a job text may be; 4 if a file could not be read or written; 5 no me
 const LINT_EXAMPLE: &str =
     "A job with warnings runs as it is. There are warnings about a step after a `forever` or a `raise`; in a
 `finally`, a wait with no shield around it, or a `raise`; a shield without a deadline around a wait; a
-scope that nothing cancels; and a handler of an exception that nothing raises.
+scope that nothing cancels; a handler of an exception that nothing raises; an event that nothing sets, or
+that nothing waits for; and, in formats 1 and 2, a `cancel` in a `finally` or handler of what is around
+that, since it takes effect a tick later than in Trio.
 
 Example:
 
@@ -234,9 +237,11 @@ Exit status: 0; 1 if there is a warning; the others are those of `check`.";
 const TEST_EXAMPLE: &str =
     "A feed is a job text, a line `%input` and the input, in a file NAME.feed. NAME.report, NAME.story,
 NAME.chart, NAME.faults and NAME.races beside it are compared with what `nursery`, `explain`, `chart`,
-`faults` and `races` write for it. Each line of NAME.expect is a pattern, in which `*` matches anything:
-some line of the report or the story must match it, or with `! ` in front none may. `races: none` and
-`faults: no stuck, no cut, no lost` demand that of the whole job.
+`faults` and `races` write for it, and NAME.sweep with what `sweep` writes with the options in its first
+line. Each line of NAME.expect is a pattern, in which `*` matches anything: some line of the report or the
+story must match it, or with `! ` in front none may. `races: none` and `faults: no stuck, no cut, no lost`
+demand that of the whole job. A file that demands nothing has failed, and so has a line that no job could
+meet: an unknown word and a colon, or a pattern that no line of its report or story can match.
 
 Example:
 
@@ -253,17 +258,24 @@ Exit status: 0; 1 if something differs or is not as expected; 4 if a file could 
 or there is nothing to compare with.";
 
 const TRIO_EXAMPLE: &str =
-    "The program is plain Trio, to start real code from: its first lines say how it is run.
+    "The program is plain Trio, to start real code from: its first lines say how it is run. With `--ticks` it
+prints the task lines of the report, but for what exceptions say. It prints the version of Trio on standard
+error, and warns where that is below 0.23.
 
 Example:
 
     $ nursery trio hedge.job > hedge.py
     $ python3 hedge.py
+    $ python3 hedge.py --ticks
     $ python3 hedge.py --seeds 20
 
 Exit status: 0; the others are those of `check`.";
 
-const CHECK_EXAMPLE: &str = "Example:
+const CHECK_EXAMPLE: &str =
+    "The text is the one that `nursery fmt` writes. If that is longer than a job text may be, the status is 2, and
+`--canonical` writes the job on one line.
+
+Example:
 
     $ cat wait.job
     trio-job 3
@@ -283,11 +295,35 @@ const UPGRADE_EXAMPLE: &str = "Example:
     }
     $ nursery upgrade first.job
     trio-job 3
-    job main{find\"er\";}
+    job main { find \"er\"; }
 
 Standard error says whether the job's report over an empty input is another one in the new format. In
 format 3 a cancellation is seen in the tick in which it is made, as in Trio; in format 2 a job means what
-it meant in format 1.";
+it meant in format 1. The input that JOB holds is written too.";
+
+const SCALE_EXAMPLE: &str =
+    "The numbers of `sleep`, `after` and `at` are multiplied, and a `pace` is repeated N times. Numbers that
+count something else, as those of `repeat`, `over` and `head`, stay. The input that JOB holds is written too.
+
+Example: a design in seconds becomes one in milliseconds.
+
+    $ cat call.job
+    trio-job 3
+    job call {
+      repeat 3 {
+        scope attempt after 2 { sleep 5; }
+      }
+    }
+    $ nursery scale 1000 call.job
+    trio-job 3
+    job call {
+      repeat 3 {
+        scope attempt after 2000 { sleep 5000; }
+      }
+    }
+
+Exit status: 0; 2 if the job is refused, or would be with its ticks multiplied; the others are those of
+`check`.";
 
 const COMPLETIONS_EXAMPLE: &str = "Example: for bash, from now on in each new shell:
 

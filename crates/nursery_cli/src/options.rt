@@ -1,4 +1,4 @@
-use crate::parser::{DEFAULT_FAULT, LEAST_WIDTH, MAX_WIDTH, SHOWN_LIMIT};
+use crate::parser::{DEFAULT_FAULT, LEAST_WIDTH, MAX_FACTOR, MAX_WIDTH, SHOWN_LIMIT};
 use job_runner::{MAX_LIMIT, MAX_WORKERS};
 
 // The words that an argument or option takes.
@@ -56,21 +56,16 @@ const FLAG: ArgRow = ArgRow {
 pub(crate) const JOB: ArgRow = ArgRow {
     name: "job",
     value_name: "JOB",
-    help: "The job file, or `-` for standard input",
+    help: "The job file, or `-` for standard input; what follows a line `%input` in it is its input",
     ..ARGUMENT
 };
 
 pub(crate) const INPUT: ArgRow = ArgRow {
     name: "input",
     value_name: "INPUT",
-    help: "The input file, or `-` for standard input",
-    ..ARGUMENT
-};
-
-pub(crate) const OPTIONAL_INPUT: ArgRow = ArgRow {
     required: false,
-    help: "The input file, or `-` for standard input; without one the input is empty",
-    ..INPUT
+    help: "The input file, or `-` for standard input; without one the input is the one in the job file, or else empty",
+    ..ARGUMENT
 };
 
 pub(crate) const WORKERS: ArgRow = ArgRow {
@@ -119,6 +114,20 @@ pub(crate) const WIDTH: ArgRow = ArgRow {
     value_name: "N",
     help: "The maximum width of the chart, 20 to 1000 columns; without it the value of COLUMNS or else 80, and 400 for an SVG document",
     ..OPTION
+};
+
+pub(crate) const FACTOR: ArgRow = ArgRow {
+    name: "factor",
+    takes: Takes::Number(1, MAX_FACTOR),
+    value_name: "N",
+    help: "The number by which each number of ticks is multiplied, 1 to 1000000000",
+    ..ARGUMENT
+};
+
+pub(crate) const CANONICAL: ArgRow = ArgRow {
+    name: "canonical",
+    help: "Writes the canonical text: the job on one line, without comments",
+    ..FLAG
 };
 
 pub(crate) const SVG: ArgRow = ArgRow {

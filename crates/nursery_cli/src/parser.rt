@@ -1,6 +1,6 @@
 use crate::examples::{EXAMPLE, example_of};
 use crate::options::{ArgRow, Takes};
-use crate::table::{COMMANDS, CommandRow, GroupRow};
+use crate::table::{CommandRow, GroupRow, runs, tables, texts};
 use clap::builder::ValueParser;
 use clap::{Arg, ArgAction, ArgGroup, Command};
 use std::alloc::{AllocError, Global};
@@ -21,6 +21,9 @@ pub const MAX_WIDTH: usize = 1_000;
 /// 32 blocks around the task, a dot and a number of at most 10 digits.
 pub const MAX_LABEL: usize = 384;
 
+/// The greatest number by which ticks are multiplied.
+pub(crate) const MAX_FACTOR: u64 = 1_000_000_000;
+
 /// The name of the exception that a faulty step raises if none is given.
 pub(crate) const DEFAULT_FAULT: &str = "Fault";
 
@@ -33,14 +36,21 @@ pub const VERSION: &str = "0.1.0";
 /// Returns the parser of the words after the program's name: each command with its description, its options and its help. The
 /// only error is that memory was refused.
 pub fn command_line<'a>(alloc: Global) -> Result<Command<'a>, AllocError> {
-    let command = Command::new(alloc, "nursery")
+    let program = bare_program(alloc)?;
+    let program = with_commands(alloc, program, runs())?;
+    let program = with_commands(alloc, program, tables())?;
+    with_commands(alloc, program, texts())
+}
+
+// Returns the parser without any command.
+fn bare_program<'a>(alloc: Global) -> Result<Command<'a>, AllocError> {
+    let program = Command::new(alloc, "nursery")
         .no_binary_name(true)
-        .bin_name("nursery")?
         .version(VERSION)
         .about(ABOUT)
         .after_help(EXAMPLE)
         .subcommand_required(true);
-    with_commands(alloc, command, COMMANDS)
+    program.bin_name("nursery")
 }
 
 // Adds the commands of these rows.

@@ -11,7 +11,7 @@ use crate::arguments::{ChartArgs, ExplainArgs, FaultsArgs, Order, RacesArgs, Run
 use crate::command::{Command, CommandFault, FormatMode, Shell};
 use crate::common::{OUT_OF_RANGE, owned_copy, refusal, settings_of};
 use crate::denying::denied_kinds;
-use crate::parser::{DEFAULT_FAULT, LEAST_WIDTH, MAX_LABEL, MAX_WIDTH, command_line};
+use crate::parser::{DEFAULT_FAULT, LEAST_WIDTH, MAX_FACTOR, MAX_LABEL, MAX_WIDTH, command_line};
 use crate::showing::{have_control, shown_words};
 use crate::sweeping::{target_of, values_of};
 use clap::ArgMatches;
@@ -79,15 +79,9 @@ fn is_path(word: &str) -> bool {
 
 // Returns the refusal of a file name in place of a command. It says which command runs the file.
 fn path_refusal(alloc: Global, path: &str) -> CommandFault {
-    let text = if path.ends_with(".feed") {
-        format!(in alloc;
-            "error: `{path}` is no command: a feed is read from standard input, with `nursery < {path}`\n"
-        )
-    } else {
-        format!(in alloc;
-            "error: `{path}` is no command: to run a job file, write `nursery run {path} INPUT`\n"
-        )
-    };
+    let text = format!(in alloc;
+        "error: `{path}` is no command: to run a job file, write `nursery run {path}`\n"
+    );
     match text {
         Ok(text) => CommandFault::Refused { text },
         Err(_) => CommandFault::NoMemory,
@@ -180,6 +174,7 @@ fn job_command(alloc: Global, name: &str, inner: &ArgMatches<'_>) -> Result<Comm
         "races" => races_command(alloc, job, inner),
         "sweep" => sweep_command(alloc, job, inner),
         "fmt" => fmt_command(alloc, job, inner),
+        "scale" => scale_command(alloc, job, inner),
         "lint" => Ok(Command::Lint {
             job: String::from_str(alloc, job)?,
             json: inner.get_flag("json"),
@@ -190,9 +185,11 @@ fn job_command(alloc: Global, name: &str, inner: &ArgMatches<'_>) -> Result<Comm
         "upgrade" => Ok(Command::Upgrade {
             job: String::from_str(alloc, job)?,
             format: format_named(inner.get_str("to")),
+            canonical: inner.get_flag("canonical"),
         }),
         _ => Ok(Command::Check {
             job: String::from_str(alloc, job)?,
+            canonical: inner.get_flag("canonical"),
         }),
     }
 }
@@ -220,18 +217,11 @@ fn job_run(alloc: Global, job: &str, matches: &ArgMatches<'_>) -> Result<JobRun,
 fn run_command(alloc: Global, job: &str, matches: &ArgMatches<'_>) -> Result<Command, CommandFault>
     ensures { IfOk result IsAsked }
 {
-    let JobRun {
-        job,
-        input,
-        settings,
-    } = job_run(alloc, job, matches)?;
-    let Some(input) = input else {
-        return Err(refusal(alloc, "error: name the input file\n"));
-    };
+    let run = job_run(alloc, job, matches)?;
     Ok(Command::Run(RunArgs {
-        job,
-        input,
-        settings,
+        job: run.job,
+        input: run.input,
+        settings: run.settings,
         order: order_named(matches.get_str("order")),
         json: matches.get_flag("json"),
     }))
@@ -400,6 +390,24 @@ fn fmt_command(alloc: Global, job: &str, matches: &ArgMatches<'_>) -> Result<Com
     Ok(Command::Fmt {
         job: String::from_str(alloc, job)?,
         mode,
+    })
+}
+
+// Returns the command `scale` with its factor.
+fn scale_command(
+    alloc: Global,
+    job: &str,
+    matches: &ArgMatches<'_>,
+) -> Result<Command, CommandFault>
+    ensures { IfOk result IsAsked }
+{
+    let factor = matches.get_one::<usize>("factor").unwrap_or(1) as u64;
+    if factor < 1 || MAX_FACTOR < factor {
+        return Err(refusal(alloc, OUT_OF_RANGE));
+    }
+    Ok(Command::Scale {
+        factor,
+        job: String::from_str(alloc, job)?,
     })
 }
 

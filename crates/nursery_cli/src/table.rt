@@ -1,6 +1,6 @@
 use crate::options::{
-    ACCEPT, ArgRow, CHECK, DENIED_KINDS, DENY_RACES, FAULT_NAME, FORMAT, INPUT, JOB, JSON, LIMIT,
-    OPTIONAL_INPUT, ORDER, PATHS, SHELL, SVG, TARGET_NAME, TARGET_PLACE, TASK, VALUES, WIDTH,
+    ACCEPT, ArgRow, CANONICAL, CHECK, DENIED_KINDS, DENY_RACES, FACTOR, FAULT_NAME, FORMAT, INPUT,
+    JOB, JSON, LIMIT, ORDER, PATHS, SHELL, SVG, TARGET_NAME, TARGET_PLACE, TASK, VALUES, WIDTH,
     WORKERS, WRITE,
 };
 
@@ -21,8 +21,12 @@ pub(crate) struct CommandRow {
     pub(crate) group: Option<GroupRow>,
 }
 
-// The commands, in the order in which the help shows them.
-pub(crate) const COMMANDS: &[CommandRow] = &[
+// The commands stand in three tables, and each table is named by one function alone: the proof of a function that names a table has
+// all of it, and takes a time that grows with the square of its rows. One after the other the tables have the commands in the order in
+// which the help shows them.
+
+// The commands that show one run of a job.
+const RUNS: &[CommandRow] = &[
     CommandRow {
         name: "run",
         about: "Runs a job over an input and writes the report",
@@ -32,33 +36,29 @@ pub(crate) const COMMANDS: &[CommandRow] = &[
     CommandRow {
         name: "explain",
         about: "Runs a job over an input and reports what happened to each task, when and why",
-        args: &[JOB, OPTIONAL_INPUT, TASK, WORKERS, ORDER, LIMIT, JSON],
+        args: &[JOB, INPUT, TASK, WORKERS, ORDER, LIMIT, JSON],
         group: None,
     },
     CommandRow {
         name: "chart",
         about: "Runs a job over an input and draws who ran when, and what was cancelled",
-        args: &[JOB, OPTIONAL_INPUT, WIDTH, SVG, WORKERS, LIMIT],
+        args: &[JOB, INPUT, WIDTH, SVG, WORKERS, LIMIT],
         group: None,
     },
+];
+
+// The commands that compare many runs of a job.
+const TABLES: &[CommandRow] = &[
     CommandRow {
         name: "faults",
         about: "Shows the outcome of a job if any one of its waiting steps fails, hangs or is cancelled",
-        args: &[
-            JOB,
-            OPTIONAL_INPUT,
-            FAULT_NAME,
-            DENIED_KINDS,
-            WORKERS,
-            LIMIT,
-            JSON,
-        ],
+        args: &[JOB, INPUT, FAULT_NAME, DENIED_KINDS, WORKERS, LIMIT, JSON],
         group: None,
     },
     CommandRow {
         name: "races",
         about: "Shows where the outcome of a job changes if one step takes a hair more or less time",
-        args: &[JOB, OPTIONAL_INPUT, DENY_RACES, WORKERS, LIMIT, JSON],
+        args: &[JOB, INPUT, DENY_RACES, WORKERS, LIMIT, JSON],
         group: None,
     },
     CommandRow {
@@ -66,7 +66,7 @@ pub(crate) const COMMANDS: &[CommandRow] = &[
         about: "Shows the outcome of a job for each value of one of its numbers",
         args: &[
             JOB,
-            OPTIONAL_INPUT,
+            INPUT,
             TARGET_NAME,
             TARGET_PLACE,
             VALUES,
@@ -80,6 +80,10 @@ pub(crate) const COMMANDS: &[CommandRow] = &[
             required: true,
         }),
     },
+];
+
+// The other commands.
+const TEXTS: &[CommandRow] = &[
     CommandRow {
         name: "fmt",
         about: "Formats a job: two spaces for each level, and one step on each line",
@@ -110,14 +114,20 @@ pub(crate) const COMMANDS: &[CommandRow] = &[
     },
     CommandRow {
         name: "check",
-        about: "Writes the canonical text of a job, or says where it is refused and why",
-        args: &[JOB],
+        about: "Writes the formatted text of a job, or says where it is refused and why",
+        args: &[JOB, CANONICAL],
         group: None,
     },
     CommandRow {
         name: "upgrade",
-        about: "Writes the canonical text of the same job in a newer format, and says whether its report changes",
-        args: &[JOB, FORMAT],
+        about: "Writes the formatted text of the same job in a newer format, and says whether its report changes",
+        args: &[JOB, FORMAT, CANONICAL],
+        group: None,
+    },
+    CommandRow {
+        name: "scale",
+        about: "Writes a job with each number of ticks multiplied by N",
+        args: &[FACTOR, JOB],
         group: None,
     },
     CommandRow {
@@ -133,3 +143,18 @@ pub(crate) const COMMANDS: &[CommandRow] = &[
         group: None,
     },
 ];
+
+// Returns the commands that show one run of a job.
+pub(crate) fn runs() -> &'static [CommandRow] {
+    RUNS
+}
+
+// Returns the commands that compare many runs of a job.
+pub(crate) fn tables() -> &'static [CommandRow] {
+    TABLES
+}
+
+// Returns the other commands.
+pub(crate) fn texts() -> &'static [CommandRow] {
+    TEXTS
+}

@@ -62,6 +62,7 @@ fn word_of(command: &Command) -> &'static str {
         Command::Man => "man",
         Command::Check { .. } => "check",
         Command::Upgrade { .. } => "upgrade",
+        Command::Scale { .. } => "scale",
         Command::Help { .. } => "help",
     }
 }
@@ -82,8 +83,9 @@ fn text_of(command: &Command) -> &str {
         Command::Trio { job } => job.as_str(),
         Command::Completions { .. } => "",
         Command::Man => "",
-        Command::Check { job } => job.as_str(),
+        Command::Check { job, .. } => job.as_str(),
         Command::Upgrade { job, .. } => job.as_str(),
+        Command::Scale { job, .. } => job.as_str(),
         Command::Help { text } => text.as_str(),
     }
 }
@@ -101,6 +103,11 @@ const NAMED: &[(&str, &str, &str)] = &[
     ("", "feed", ""),
     ("check j", "check", "j"),
     ("check -", "check", "-"),
+    ("check j --canonical", "check", "j"),
+    ("upgrade j --canonical --to 2", "upgrade", "j"),
+    ("scale 10 j", "scale", "j"),
+    ("scale 1000000000 -", "scale", "-"),
+    ("run j", "run", "j"),
     ("upgrade j", "upgrade", "j"),
     ("lint j", "lint", "j"),
     ("lint j --json", "lint", "j"),
@@ -153,12 +160,20 @@ fn words_are_read_as_a_command_and_its_job(rt: HostRuntime) -> Result<(), Fail> 
     Ok(())
 }
 
+// Returns whether the input `i` is named.
+fn is_input(input: &Option<String>) -> bool {
+    match input {
+        Some(name) => name.as_str() == "i",
+        None => false,
+    }
+}
+
 // Returns whether a command runs the job `j` over the input `i` with these settings.
 fn is_run(command: &Command, wanted: (usize, Order, u64)) -> bool {
     match command {
         Command::Run(args) => {
             let found = (args.settings.workers(), args.order, args.settings.limit());
-            args.job.as_str() == "j" && args.input.as_str() == "i" && found == wanted
+            args.job.as_str() == "j" && is_input(&args.input) && found == wanted
         }
         _other => false,
     }
@@ -233,7 +248,10 @@ const REFUSED: &[Row] = &[
         "run j i --limit 1 --limit 2",
         "cannot be used multiple times",
     ),
-    ("run j", "<INPUT>"),
+    ("scale j", "invalid value 'j' for '<N>'"),
+    ("scale 3", "<JOB>"),
+    ("scale 0 j", "0 is not in 1..=1000000000"),
+    ("scale 1000000001 j", "1000000001 is not in 1..=1000000000"),
     ("run", "<JOB>"),
     ("run j i k", "'k'"),
     ("explain", "<JOB>"),
@@ -269,16 +287,16 @@ const REFUSED: &[Row] = &[
 
 const HELP: &[Row] = &[
     ("--help", " Runs a job over an input and writes the report"),
-    ("--help", " Writes the canonical text of a job, or says"),
+    ("--help", " Writes the formatted text of a job, or says"),
     (
         "--help",
-        " Writes the canonical text of the same job in a newer format",
+        " Writes the formatted text of the same job in a newer format",
     ),
     ("-h", "$ nursery run first.job log.txt\n    job main 0\n"),
     ("help", "  line 0+5 error\n"),
     ("--help", " Shows the outcome of a job for each value"),
     ("sweep --help", "3:21 --values 7..8"),
-    ("run --help", "Usage: nursery run [OPTIONS] <JOB> <INPUT>"),
+    ("run --help", "Usage: nursery run [OPTIONS] <JOB> [INPUT]"),
     ("run --help", "--workers <N>"),
     ("run --help", "--order <ORDER>"),
     ("run --help", "--limit <T>"),
@@ -288,7 +306,8 @@ const HELP: &[Row] = &[
     ("fmt --help", "hedge.job:2:12: not formatted from here on\n"),
     ("trio --help", "$ nursery trio hedge.job > hedge.py\n"),
     ("check --help", "wait.job:2:18: expected a number\n"),
-    ("upgrade --help", "job main{find\"er\";}"),
+    ("upgrade --help", "job main { find \"er\"; }"),
+    ("scale --help", "scope attempt after 2000 { sleep 5000; }"),
 ];
 
 // Fails if a text does not have that part, and prints the line that it answers and itself.

@@ -1,7 +1,10 @@
 //! The formatted texts of jobs: what `format_text` returns, and where `check_format` finds that a text differs.
 
 use crate::fixtures::{call_again, same, same_answer};
-use format_app::{FormatCheck, FormatFault, FormatVerdict, check_format, format, format_text};
+use format_app::{
+    FormatCheck, FormatFault, FormatVerdict, ScaleFault, check_format, format, format_text,
+    scaled_text,
+};
 use job_grammar::JobKind;
 use job_report::{MemOut, Out};
 use nursery_app::ServeFault;
@@ -184,4 +187,80 @@ fn the_formatted_text_or_the_refusal_is_written(rt: HostRuntime) -> Result<(), F
         same_answer(text, &answer, status, expected.as_bytes())?;
     }
     Ok(())
+}
+
+// A job text, a factor, and the text with its ticks multiplied.
+const SCALED: &[(&str, u64, &str)] = &[
+    (
+        "trio-job 3\n# in s\njob a{ sleep 3 ; }",
+        1000,
+        "trio-job 3\n# in s\njob a{ sleep 3000 ; }",
+    ),
+    (
+        "trio-job 2\njob a { repeat 3 { head 4; pace 7; } }",
+        10,
+        "trio-job 2\njob a { repeat 3 { head 4; repeat 10 { pace 7; } } }",
+    ),
+    (
+        "trio-job 1\njob a { scope s at 4 { nursery n { start b over 2 { sleep 0; } } } }",
+        2,
+        "trio-job 2\njob a { scope s at 8 { nursery n { start b over 2 { sleep 0; } } } }",
+    ),
+];
+
+#[test]
+fn ticks_are_multiplied(rt: HostRuntime) -> Result<(), Fail> {
+    for i in 0..SCALED.len() {
+        let (text, factor, wanted) = SCALED[i];
+        match scaled_text(rt.alloc(), text.as_bytes(), factor) {
+            Ok(scaled) => same(text, scaled.as_slice(), wanted.as_bytes())?,
+            Err(_) => Err(text)?,
+        }
+    }
+    Ok(())
+}
+
+// Returns the kind of a refusal, and the text with its ticks multiplied, which is empty if the text itself is refused.
+fn refusal_of(alloc: Global, fault: ScaleFault) -> (JobKind, Vec<u8>) {
+    match fault {
+        ScaleFault::Refused(fault) => (fault.kind, Vec::new(alloc)),
+        ScaleFault::TooLarge { fault, text } => (fault.kind, text),
+    }
+}
+
+// Fails if the ticks of a text can be multiplied by a factor, or cannot for another reason than this. A refused text has no scaled text.
+fn is_not_scaled(
+    alloc: Global,
+    text: &str,
+    factor: u64,
+    scaled: &str,
+    kind: JobKind,
+) -> Result<(), Fail> {
+    match scaled_text(alloc, text.as_bytes(), factor) {
+        Ok(_scaled) => Err(text)?,
+        Err(fault) => {
+            let (found, bytes) = refusal_of(alloc, fault);
+            if found == kind {
+                same(text, bytes.as_slice(), scaled.as_bytes())
+            } else {
+                Err(text)?
+            }
+        }
+    }
+}
+
+#[test]
+fn ticks_that_are_too_large_are_refused(rt: HostRuntime) -> Result<(), Fail> {
+    let alloc = rt.alloc();
+    let (slow, slower) = (
+        "trio-job 3\njob a { sleep 2; }",
+        "trio-job 3\njob a { sleep 2000000000; }",
+    );
+    is_not_scaled(alloc, slow, 1_000_000_000, slower, JobKind::Number)?;
+    let (many, more) = (
+        "trio-job 3\njob a { pace 2; }",
+        "trio-job 3\njob a { repeat 1001 { pace 2; } }",
+    );
+    is_not_scaled(alloc, many, 1001, more, JobKind::Number)?;
+    is_not_scaled(alloc, "trio-job 3\njob a { sleep }", 2, "", JobKind::Syntax)
 }
