@@ -91,11 +91,16 @@ def plain(exc):
     return "Cancelled" if set(parts) == {"Cancelled"} else f"[{', '.join(parts)}]"
 
 
-def row(label, ending):
-    if ending.startswith("raised "):
-        ending = "raised " + plain(re.sub(r"\([^()]*\)", "", ending[7:]))
-        ending = "cancelled" if ending == "raised Cancelled" else ending
-    return f"task {label.split('.')[0]} {ending}"
+def plain_outcome(outcome):
+    """The outcome of a task as programs print it: an exception has no labels and ticks, and nothing but `Cancelled` is `cancelled`."""
+    if not outcome.startswith("raised "):
+        return outcome
+    exception = plain(re.sub(r"\([^()]*\)", "", outcome[7:]))
+    return "cancelled" if exception == "Cancelled" else f"raised {exception}"
+
+
+def row(label, outcome):
+    return f"task {label.split('.')[0]} {plain_outcome(outcome)}"
 
 
 def line(text):
@@ -284,6 +289,13 @@ def fixed(program, exporter):
     return faults
 
 
+def is_version(told):
+    """Whether a program printed to standard error its version of Trio, and a warning if that is older than 0.23, and nothing else."""
+    lines = told.splitlines()
+    is_old = trio.__version__.startswith("0.22.")
+    return lines[:1] == [f"Trio {trio.__version__}"] and [line.split(":")[0] for line in lines[1:]] == ["warning"] * is_old
+
+
 def fault_of_words(text, input_, several):
     """What is wrong with how a program answers its command line."""
     with tempfile.TemporaryDirectory() as folder:
@@ -293,7 +305,7 @@ def fault_of_words(text, input_, several):
         with open(lines, "wb") as file:
             file.write(input_)
         run = subprocess.run([sys.executable, program, lines], capture_output=True, text=True)
-        if run.returncode != 0 or run.stderr or not run.stdout.startswith("task "):
+        if run.returncode != 0 or not is_version(run.stderr) or not run.stdout.startswith("task "):
             return f"does not run: {run.stderr}"
         run = subprocess.run([sys.executable, program, lines, "--seeds", "8"], capture_output=True, text=True)
         last = run.stdout.splitlines()[-1]

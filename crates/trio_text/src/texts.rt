@@ -7,6 +7,7 @@ pub(crate) const HEADER: &[u8] =
 #
 #     pip install trio                  0.23 or newer: with 0.22 the end of a nursery may raise a Cancelled of its own
 #     python3 FILE [INPUT]              runs it on the lines of INPUT, and prints how each task ended
+#     python3 FILE [INPUT] --ticks      prints when each task started and ended, too, as the report of `nursery run` does
 #     python3 FILE [INPUT] --seeds N    runs it under N seeds of Trio's scheduler, and counts the outcomes
 
 ";
@@ -125,31 +126,35 @@ LIMIT = 1_000_000  # the last tick at which the root task may end
 
 
 class Note:
-    \"\"\"The record of a task: how it ended, the lines that it showed, and the tasks that it started.\"\"\"
+    \"\"\"The record of a task: when it began and ended, and how, the lines that it showed, and the tasks that it started.\"\"\"
 
-    def __init__(self, name):
-        self.name = name[:-1] if name.endswith(\"_\") else name
-        self.outcome, self.lines, self.started = \"running\", [], []
+    def __init__(self, name, is_copy=False):
+        self.name, self.is_copy = name[:-1] if name.endswith(\"_\") else name, is_copy
+        self.begin, self.end, self.outcome = None, None, \"running\"
+        self.lines, self.started = [], []
 
 
 current_note = contextvars.ContextVar(\"current_note\")
 
 
 def reported(task):
-    \"\"\"Records each run of a task with the task that starts it.\"\"\"
+    \"\"\"Records each run of a task with the task that starts it. Each pass of a loop defines the task anew.\"\"\"
+    runs = []
+    current_note.get().started.append((task.__name__, runs))
 
     @functools.wraps(task)
     def noted(*arguments):
-        note = Note(task.__name__)
-        current_note.get().started.append(note)
+        note = Note(task.__name__, is_copy=len(arguments) > 0)
+        runs.append(note)
         return run_noted(note, task, arguments)
 
     return noted
 
 
 async def run_noted(note, task, arguments):
-    \"\"\"Runs a task, and records how it ended.\"\"\"
+    \"\"\"Runs a task, and records when it began and ended, and how.\"\"\"
     current_note.set(note)
+    note.begin = int(trio.current_time())
     try:
         await task(*arguments)
         note.outcome = \"done\"
@@ -157,6 +162,8 @@ async def run_noted(note, task, arguments):
         text = exception_text(error)
         note.outcome = \"cancelled\" if text == \"Cancelled\" else f\"raised {text}\"
         raise
+    finally:
+        note.end = int(trio.current_time())
 
 
 def exception_text(error):
@@ -173,41 +180,45 @@ def exception_text(error):
     return \"Cancelled\" if all(part == \"Cancelled\" for part in parts) else f\"[{', '.join(parts)}]\"
 
 
-def rows_of(note, indices=()):
-    \"\"\"A line for each task, in the order of their starts, and for each line that it showed.\"\"\"
-    yield f\"task {'.'.join([note.name, *indices])} {note.outcome}\"
-    for line in note.lines:
-        yield \"  line \" + line.decode(\"latin-1\").encode(\"unicode_escape\").decode()
-    copies = collections.Counter(child.name for child in note.started)
+def rows_of(note, ticks, indices=()):
+    \"\"\"A line for each task, in the order of their starts: with the ticks, or without them and with the lines that it showed.\"\"\"
+    label = \".\".join([note.name, *indices])
+    if not ticks:
+        yield f\"task {label} {note.outcome}\"
+        for line in note.lines:
+            yield \"  line \" + line.decode(\"latin-1\").encode(\"unicode_escape\").decode()
+    elif note.end is not None:
+        yield f\"task {label} {note.begin} {note.end} {note.outcome}\"
+    passes = collections.Counter(name for name, _ in note.started)
     numbers = collections.Counter()
-    for child in note.started:
-        index = [str(numbers[child.name])] if copies[child.name] > 1 else []
-        numbers[child.name] += 1
-        yield from rows_of(child, [*indices, *index])
+    for name, runs in note.started:
+        number = [str(numbers[name])] if passes[name] > 1 else []
+        numbers[name] += 1
+        for copy, child in enumerate(runs):
+            yield from rows_of(child, ticks, [*indices, *number, *([str(copy)] if child.is_copy else [])])
 
 
-async def run_watched(root, part, results):
-    \"\"\"Runs the root task and prints how each task ended, or which tasks are unfinished at the limit.\"\"\"
-    note = Note(\"\")
-    current_note.set(note)
+async def run_watched(root, part, ticks, results):
+    \"\"\"Runs the root task and reports how each task ended, or which tasks are unfinished at the limit.\"\"\"
+    note = Note(root.__name__)
 
     async def watch():
         await trio.sleep(LIMIT)
-        results.put([*rows_of(note.started[0]), f\"limit {LIMIT}\"])
+        results.put([*rows_of(note, ticks), f\"limit {LIMIT}\"])
         watcher.cancel_scope.cancel()
 
     async with trio.open_nursery() as watcher:
         watcher.start_soon(watch)
         try:
-            await reported(root)(part)
+            await run_noted(note, root, [part])
         except BaseException:
             pass  # it is recorded
         watcher.cancel_scope.cancel()
-    results.put(list(rows_of(note.started[0])))
+    results.put(list(rows_of(note, ticks)))
 
 
-def run_once(root, part, seed=None):
-    \"\"\"Runs the job under a seed of Trio's scheduler, if there is one, and prints how each task ended.\"\"\"
+def run_once(root, part, seed=None, ticks=False):
+    \"\"\"Runs the job under a seed of Trio's scheduler, if there is one, and returns how each task ended, as text.\"\"\"
     if seed is not None:
         trio._core._run._ALLOW_DETERMINISTIC_SCHEDULING = True
         trio._core._run._r.seed(seed)
@@ -216,7 +227,7 @@ def run_once(root, part, seed=None):
     def run():
         clock = trio.testing.MockClock(autojump_threshold=0)
         try:
-            trio.run(run_watched, root, part, results, clock=clock, strict_exception_groups=True)
+            trio.run(run_watched, root, part, ticks, results, clock=clock, strict_exception_groups=True)
         finally:
             results.put([])
 
@@ -228,17 +239,27 @@ def run_once(root, part, seed=None):
     return \"\\n\".join(rows)
 
 
+def show_version():
+    \"\"\"Prints to standard error under which Trio the job runs, with a warning if that is older than 0.23.\"\"\"
+    print(f\"Trio {trio.__version__}\", file=sys.stderr)
+    if [int(number) for number in trio.__version__.split(\".\")[:2]] < [0, 23]:
+        warning = \"before Trio 0.23 the end of a nursery may add a `Cancelled` of its own to an exception group\"
+        print(f\"warning: {warning}, so outcomes may differ from those of `nursery run`\", file=sys.stderr)
+
+
 def run_program(root):
     \"\"\"Runs the job as often as the command line says.\"\"\"
     words = argparse.ArgumentParser(description=f\"Runs {root.__name__} under Trio's test clock.\")
     words.add_argument(\"input\", nargs=\"?\", metavar=\"INPUT\", help=\"the file whose lines the tasks work on\")
+    words.add_argument(\"--ticks\", action=\"store_true\", help=\"print when each task started and ended, too, and no lines\")
     words.add_argument(\"--seeds\", type=int, metavar=\"N\", help=\"run it under N seeds of Trio's scheduler\")
     given = words.parse_args()
+    show_version()
     part = pathlib.Path(given.input).read_bytes() if given.input else b\"\"
     if given.seeds is None:
-        print(run_once(root, part))
+        print(run_once(root, part, ticks=given.ticks))
         return
-    outcomes = collections.Counter(run_once(root, part, seed) for seed in range(given.seeds))
+    outcomes = collections.Counter(run_once(root, part, seed, given.ticks) for seed in range(given.seeds))
     for outcome, times in outcomes.most_common():
         print(f\"{times} of {given.seeds} seeds:\\n{outcome}\\n\")
     print(f\"{given.seeds} seeds: {len(outcomes)} outcome{'s' if len(outcomes) != 1 else ''}\")

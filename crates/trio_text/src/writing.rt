@@ -19,8 +19,8 @@ use std::alloc::{AllocError, Global};
 /// Returns the job as a Python program on plain Trio (Python 3.8 or newer, Trio 0.22 or newer; with Trio 0.22 the end of a
 /// nursery may raise a `Cancelled` of its own). Its first lines name the job and say how to run the program. Then come a class
 /// for each exception, a function for the root task with those of the other tasks inside it, where they are started, helpers
-/// for what the job language has and Trio does not have, and the lines that run the job and report how each task ended. The
-/// only error is that memory was refused.
+/// for what the job language has and Trio does not have, and the lines that run the job and report how each task ended, with
+/// `--ticks` also when. Returns `AllocError` if out of memory.
 pub fn program(alloc: Global, job: &Job) -> Result<Vec<u8>, AllocError>
     ensures { IfOk result (λ text. IsProgram job.now text.items) }
 {
