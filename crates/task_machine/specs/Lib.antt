@@ -1,5 +1,6 @@
 pub mod Labels
 pub mod Frames
+pub mod Handling
 pub mod Tasks
 pub mod Worlds
 pub mod Events

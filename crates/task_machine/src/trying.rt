@@ -7,6 +7,8 @@ ghost use Rattle.job_meaning.specs.Walk.{handler_exc as raised_in_handler};
 ghost use Rattle.job_tree.specs.Tree.{unhandled};
 ghost use Rattle.turn_semantics.specs.Midway.{Place};
 ghost use Rattle.turn_semantics.specs.Steps.{onward, step_try};
+ghost use Rattle.exc_groups.specs.Split.{keep, drop, named};
+ghost use Rattle.task_machine.specs.Handling.{rest_of, rest_if};
 ghost use Rattle.task_machine.specs.Fitting.{blocks_of};
 ghost use Rattle.task_machine.specs.Frames.{frames_of, unboxed_exc};
 ghost use Rattle.task_machine.specs.Stops.{Numbers};
@@ -16,8 +18,8 @@ use crate::frame::Frame;
 use crate::task::Task;
 use block_exits::handler_exc;
 use exc_groups::{Exc, Match, split};
-use job_tree::{Body, Handler};
-use std::alloc::AllocError;
+use job_tree::{Body, Handler, Name};
+use std::alloc::{AllocError, Global};
 
 impl<'a> Task<'a> {
     // A `try` begins.
@@ -61,16 +63,11 @@ impl<'a> Task<'a> {
             self.without_handler(cleanup)?;
             return Ok(None);
         };
-        let (matched, rest) = split(
-            self.alloc,
-            exc.copy(self.alloc)?,
-            &Match::Name(handler.name),
-        )?;
-        if matched.is_none() {
+        let Some(rest) = rest_at(self.alloc, handler.name, &exc)? else {
             self.without_handler(cleanup)?;
             return Ok(Some(exc));
-        }
-        let rest = box_exc(self.alloc, rest)?;
+        };
+        drop(exc);
         self.push(Frame::Handler { rest, cleanup })?;
         self.push(Frame::Steps(handler.body.as_slice()))?;
         Ok(None)
@@ -125,5 +122,28 @@ impl<'a> Task<'a> {
         self.push(Frame::Cleanup { outcome })?;
         self.push(Frame::Steps(body.as_slice()))?;
         Ok(None)
+    }
+}
+
+// Returns the part of an exception that a handler with this name does not handle, in a box, or `None` if it handles nothing of it.
+fn rest_at(alloc: Global, name: Name, exc: &Exc) -> Result<Option<Option<Box<Exc>>>, AllocError>
+    ensures { IfOk result (λ rest. option_map rest_of rest ≡ rest_if (keep (named name) (exc_of exc.now)) (drop (named name) (exc_of exc.now))) }
+{
+    let sides = split(alloc, exc.copy(alloc)?, &Match::Name(name))?;
+    let Some(rest) = rest_if(sides) else {
+        return Ok(None);
+    };
+    let rest = box_exc(alloc, rest)?;
+    Ok(Some(rest))
+}
+
+// Returns the second of two sides, if there is a first one.
+fn rest_if(sides: (Option<Exc>, Option<Exc>)) -> Option<Option<Exc>>
+    ensures { option_map (λ rest. option_map exc_of rest) result ≡ rest_if (option_map exc_of sides.0) (option_map exc_of sides.1) }
+{
+    let (matched, rest) = sides;
+    match matched {
+        Some(_) => Some(rest),
+        None => None,
     }
 }
