@@ -15,6 +15,7 @@ into which `crates/*/out` were copied. It gives no verdict: only `rt ci` does. E
 import argparse
 import copy
 import functools
+import glob
 import importlib.machinery
 import importlib.util
 import os
@@ -46,12 +47,21 @@ def remember(crate_type):
         setattr(crate_type, name, functools.cache(getattr(crate_type, name)))
 
 
-def heights(crates):
-    """The length of the longest chain of crates that begins with each one and leads upward."""
-    found = {it.name: 0 for it in crates}
+def weight(crate):
+    """About what a crate's proof costs: its functions, which take some seconds each, and as much as ten of them for its start."""
+    functions = 10
+    for path in glob.glob(f"{crate.folder}/src/**/*.rt", recursive=True):
+        with open(path, encoding="utf-8") as source:
+            functions += sum("fn " in line and not line.lstrip().startswith("//") for line in source)
+    return functions
+
+
+def heights(crates, own):
+    """The weight of the heaviest chain of crates that begins with each one and leads upward."""
+    found = dict(own)
     for crate in sorted(crates, key=lambda it: -len(it.below())):
         for lower in crate.deps:
-            found[lower.name] = max(found[lower.name], found[crate.name] + 1)
+            found[lower.name] = max(found[lower.name], found[crate.name] + own[lower.name])
     return found
 
 
@@ -82,21 +92,31 @@ def build(crate, jobs):
     return status == 0
 
 
-def shares(ready, free):
-    """The crates to begin with, and how many of the free lanes each takes: if the crates are fewer, the first ones take more."""
-    begun = ready[:free]
-    return [(crate, free // len(begun) + (at < free % len(begun))) for at, crate in enumerate(begun)]
+def shares(ready, free, lanes, height, left):
+    """The crates to begin with, and how many of the free lanes each takes. A crate takes several where the chain that begins with it would
+    otherwise take longer than all lanes take for what is left, and where there are fewer crates than lanes."""
+    begun = []
+    for crate in ready:
+        jobs = min(free, max(1, round(height[crate.name] * lanes / left)))
+        if jobs > 0:
+            begun.append([crate, jobs])
+            free -= jobs
+    for at in range(free if begun else 0):
+        begun[at % len(begun)][1] += 1
+    return begun
 
 
 def build_all(crates, lanes):
     """Builds the crates, each after those below it, and returns whether all could be built."""
-    height = heights(crates)
+    own = {it.name: weight(it) for it in crates}
+    height = heights(crates, own)
     left = sorted(crates, key=lambda it: -height[it.name])
     done, running = set(), {}
     with ThreadPoolExecutor(lanes) as pool:
         while left or running:
             ready = [it for it in left if {dep.name for dep in it.deps} <= done]
-            for crate, jobs in shares(ready, lanes - sum(jobs for _, jobs in running.values())):
+            free = lanes - sum(jobs for _, jobs in running.values())
+            for crate, jobs in shares(ready, free, lanes, height, sum(own[it.name] for it in left)):
                 left.remove(crate)
                 running[pool.submit(build, crate, jobs)] = crate.name, jobs
             if not running:

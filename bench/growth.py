@@ -21,6 +21,11 @@ def job(body):
     return b"trio-job 2\njob main {" + body + b"}\n"
 
 
+def newest(body):
+    """A job of format 3, which has events and starts in loops."""
+    return b"trio-job 3\njob main {" + body + b"}\n"
+
+
 def each(part, count):
     """The part so many times, with its number in the place of each `#`: names are given once in a job."""
     return b"".join(part.replace(b"#", b"%d" % i) for i in range(count))
@@ -29,6 +34,11 @@ def each(part, count):
 def children(body, count, nursery=b"nursery n"):
     """Tasks of one nursery, 64 for each `start`."""
     return job(nursery + b"{" + each(b"start r# over 64{" + body + b"}", count) + b"}")
+
+
+def waiting(last, count):
+    """Tasks that wait for one event, 64 for each `start`, and another task after them."""
+    return newest(b"event e{nursery n{" + each(b"start r# over 64{wait e;}", count) + last + b"}}")
 
 
 def handled(parts, count):
@@ -62,6 +72,13 @@ SHAPES = [
     ("steps in a row, thousands", 240, lambda n: job(b"repeat %d{" % n + b"checkpoint;" * 1000 + b"}")),
     ("nurseries in a row", 1500, lambda n: job(b"repeat 100{" + each(b"nursery n#{}", n) + b"}")),
     ("starts in a row", 2000, lambda n: job(b"repeat 100{nursery n{" + each(b"start r#{}", n) + b"}}")),
+    ("children that wait for one event", 900, lambda n: waiting(b"start z{sleep 1;set e;}", n)),
+    ("children that wait for an event, cancelled", 900, lambda n: waiting(b"start z{sleep 1;cancel n;}", n)),
+    ("children with an event each", 600, lambda n: newest(b"nursery n{" + each(b"start r# over 64{event e#{set e#;wait e#;}}", n) + b"}")),
+    ("sets of one event in a row, thousands", 240, lambda n: newest(b"event e{repeat %d{repeat 1000{set e;}}}" % n)),
+    ("passes with an event that a child waits for, thousands", 60, lambda n: newest(b"repeat %d{repeat 1000{event e{nursery n{start c{wait e;}set e;}}}}" % n)),
+    ("starts in a loop, thousands", 120, lambda n: newest(b"nursery n{repeat %d{repeat 1000{start c{}}}}" % n)),
+    ("starts in a loop whose tasks wait for one event, thousands", 60, lambda n: newest(b"event e{nursery n{repeat %d{repeat 1000{start c{wait e;}}}set e;}}" % n)),
 ]
 
 
