@@ -5,11 +5,10 @@ with examples/, tests/faults/ and tests/limits/.
     python3 tests/pages/cookbook.py
 
 It wants Python 3.10 or later, and no program: tests/pages/examples.sh compares the stored reports with it. Where a paragraph names an
-example, as (`examples/NAME.feed`), the next two indented blocks are its job, without the first line and the input, and its report; where
-it names a feed as (`tests/faults/NAME.feed`), they are its job and what becomes of it with each fault; and where it names a chart, races or a sweep as
+example, as (`examples/NAME.feed`), the next two indented blocks are the feed and its report; where it names a feed as (`tests/faults/NAME.feed`), they are the feed and what becomes of its job with each fault; and where it names a chart, races or a sweep as
 (`examples/NAME.chart`), the next indented block is that.
-In the cookbook a block of lines of its story may follow, and stands for each example; there is no other block. In README the job has its first
-line, so that it can be pasted, and a block that begins with a tick is lines of the story. In README and the manual other blocks stand too.
+In the cookbook a block of lines of its story may follow, and stands for each example; there is no other block. In README a block that begins
+with a tick is lines of the story. In README and the manual other blocks stand too.
 Each job shown is of format 3, and no block has the first line of another format.
 """
 
@@ -42,11 +41,17 @@ def pieces_of(page):
             yield False, piece
 
 
-def job_of(folder, name):
+def table_of(folder, name, kind):
+    """What a command writes. The first line of a sweep that is kept has the words of the command."""
+    content = content_of(folder, f"{name}.{kind}")
+    return content.partition("\n")[2] if kind == "sweep" else content
+
+
+def feed_of(folder, name):
     feed = content_of(folder, name + ".feed")
     if not feed.startswith(FIRST_LINE):
         raise Wrong(f"{folder}/{name}.feed, which a page shows, does not begin with the line `trio-job 3`")
-    return feed.removeprefix(FIRST_LINE).partition("%input\n")[0]
+    return feed
 
 
 def are_told(name, block):
@@ -66,16 +71,15 @@ def compare_page(page, text, is_cookbook):
                 if wanted:
                     raise Wrong(f"{page} does not show the {wanted[0][1]} of {wanted[0][0]}")
                 if kind != "feed":
-                    wanted = [(name, kind, content_of(folder, f"{name}.{kind}"))]
+                    wanted = [(name, kind, table_of(folder, name, kind))]
                     continue
                 what = "report" if folder == "examples" else "faults"
                 untold += [name] * (folder == "examples" and is_cookbook)
-                wanted = [(name, "job", job_of(folder, name)), (name, what, content_of(folder, f"{name}.{what}"))]
+                wanted = [(name, "feed", feed_of(folder, name)), (name, what, content_of(folder, f"{name}.{what}"))]
                 shown.append(name)
         elif wanted:
             name, what, right = wanted.pop(0)
-            is_whole = what == "job" and not is_cookbook and piece.startswith(FIRST_LINE)
-            if (piece.removeprefix(FIRST_LINE) if is_whole else piece) != right:
+            if piece != right:
                 raise Wrong(f"{page} shows another {what} of {name} than is stored:\n{piece}")
         elif is_cookbook:
             if shown[-1:] != untold[-1:] or not are_told(untold.pop(), piece):

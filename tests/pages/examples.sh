@@ -1,6 +1,6 @@
 #!/bin/sh
 # The examples and the jobs of tests/, by the program that the gate built: `nursery test` compares each with what is kept beside it, by 1, 3 and 64
-# workers. Then orders of picks, sweeps, and the pictures that the pages show. The examples are of format 3; those of tests/ticks are the same
+# workers. Then orders of picks, and the pictures that the pages show. The examples are of format 3; those of tests/ticks are the same
 # designs in formats 1 and 2.
 set -eu
 cd "$(dirname "$0")/../.."
@@ -25,24 +25,6 @@ for name in examples/race tests/ticks/race; do
     for order in forward reverse turn; do
         "$nursery" explain "$folder/job" "$folder/input" --order "$order" --workers 64 | cmp - "$name.story"
         echo "the story of $name.feed is the same in the order $order"
-    done
-done
-
-# sweeps FEED WORD..: what becomes of a feed's job for each value of a number, with these options, is what is kept beside it.
-sweeps() {
-    feed=$1
-    shift
-    parts "$feed"
-    "$nursery" sweep "$folder/job" "$@" | cmp - "${feed%.feed}.sweep"
-    echo "$feed: its sweep is as kept"
-}
-
-for workers in 1 3 64; do
-    for feed in tests/limits/again/again_in_budget.feed tests/limits/again_in_ticks/again_in_budget.feed; do
-        sweeps "$feed" --of budget --values 10..30 --workers "$workers"
-    done
-    for feed in examples/supervisor.feed tests/ticks/supervisor.feed; do
-        sweeps "$feed" --of flush --values 1..9 --workers "$workers"
     done
 done
 

@@ -4,7 +4,7 @@
     python3 tests/random/random_formats.py PROGRAM [JOBS [SEED]]
 
 PROGRAM is the built executable. The job's text is laid out at random first. Its formatted text has to be the same to the byte as the one that is made
-here from its tokens; it has to be formatted (`fmt --check`), and to have the canonical text of the job (`nursery check`).
+here from its tokens; it has to be formatted (`fmt --check`), and to have the canonical text of the job (`nursery check --canonical`).
 """
 
 import os
@@ -62,7 +62,7 @@ def try_job(program, folder, seed):
     differs = run(program, "fmt", path, "--check")[0]
     if differs != (text != wanted):
         raise Wrong(f"job {seed}: `fmt --check` has status {differs}")
-    canonical = run(program, "check", path)
+    canonical = run(program, "check", path, "--canonical")
     if run(program, "fmt", path, "--write") != (0, "", ""):
         raise Wrong(f"job {seed}: `fmt --write` failed")
     with open(path, newline="") as file:
@@ -70,7 +70,7 @@ def try_job(program, folder, seed):
             raise Wrong(f"job {seed}: `fmt --write` wrote something else")
     if run(program, "fmt", path, "--check") != (0, "", ""):
         raise Wrong(f"job {seed}: the formatted text is not formatted")
-    if run(program, "check", path) != canonical:
+    if run(program, "check", path, "--canonical") != canonical:
         raise Wrong(f"job {seed}: the formatted text spells another job")
 
 

@@ -157,10 +157,10 @@ class Program:
         return self.call(["run", self.job, self.input, *words])
 
     def check(self, text):
-        return self.call(["check", "-"], text)
+        return self.call(["check", "-", "--canonical"], text)
 
     def upgrade(self, text, *words):
-        return self.call(["upgrade", "-", *words], text)
+        return self.call(["upgrade", "-", "--canonical", *words], text)
 
     def examine(self, text, data):
         """Raises Wrong where something does not hold. Gives the status."""

@@ -28,7 +28,7 @@ WORDS = {
     "sleeps": "sleeps",
     "cancelled": "is cancelled",
     "finds": "finds",
-    "misses": "misses",
+    "misses": "finds no line and raises",
     "raises": "raises",
     "cancels": "cancels",
     "sets": "sets event",

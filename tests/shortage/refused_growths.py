@@ -285,7 +285,7 @@ def runs_of_program(program, folder):
                 words = ["sweep", job, data, "--at", place, "--values", "99..101", "--limit", "100", "--workers", workers]
                 yield f"{name}, sweep with {workers} workers", words, 0, told, False
         if name in CHECKS:
-            yield f"{name}, check", ["check", job], status, CHECKS[name], status == 2
+            yield f"{name}, check --canonical", ["check", job, "--canonical"], status, CHECKS[name], status == 2
             text = formatted(content_of(job))
             yield f"{name}, fmt", ["fmt", job], status, CHECKS[name] if status == 2 else text.encode(), status == 2
         yield from documents_of(program, name, job, data)
