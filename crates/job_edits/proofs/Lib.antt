@@ -1,1 +1,3 @@
 pub mod Tries
+pub mod Taken
+pub mod Parted

@@ -1,7 +1,7 @@
 -- A text with changes: pieces in place of some of its bytes, and all other bytes unchanged.
 use Rattle.std.specs.Prelude.{ℕ, ◌-◌, List, [], ◌∷◌, ◌++◌, take, drop, codes, decimal}
 use Rattle.job_edits.specs.declared.change.Piece.{Piece}
-use Rattle.job_edits.specs.declared.change.Piece.TheVariants.{Raise, ThenRaise, Forever, Cancel, OpenScope, Close, Number, Sleep, ThenSleep, ShieldedSleep, OpenRepeat}
+use Rattle.job_edits.specs.declared.change.Piece.TheVariants.{Raise, ThenRaise, Forever, Cancel, OpenScope, Close, Number, Sleep, ThenSleep, ShieldedSleep, OpenRepeat, Single, After}
 use Rattle.job_edits.specs.declared.change.Change.{Change}
 
 -- how a piece is written; the semicolon after the step, or the brace, is that of the original text
@@ -17,6 +17,8 @@ piece_text (Sleep n) = codes "sleep " ++ decimal n
 piece_text (ThenSleep n) = codes " sleep " ++ decimal n ++ codes ";"
 piece_text (ShieldedSleep name n) = codes "scope " ++ name ++ codes " shield { sleep " ++ decimal n ++ codes "; } "
 piece_text (OpenRepeat n) = codes "repeat " ++ decimal n ++ codes " { "
+piece_text (Single n) = codes "_" ++ decimal n
+piece_text (After n) = codes "_after_" ++ decimal n
 
 -- the text from a place on, with the changes from there on, in the order of their places
 abbrev pub changed_from : ℕ → List ℕ → List Change → List ℕ

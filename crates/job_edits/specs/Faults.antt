@@ -1,5 +1,5 @@
 -- The faults of a waiting step, and the changes of the text that make them.
-use Rattle.std.specs.Prelude.{ℕ, List, [], ◌∷◌, ◌++◌, Option, Some, None, codes}
+use Rattle.std.specs.Prelude.{ℕ, zero, suc, ◌+◌, if◌then◌else◌, List, [], ◌∷◌, ◌++◌, Option, Some, None, codes}
 use Rattle.job_tokens.specs.declared.token.Token.{Token}
 use Rattle.job_tokens.specs.declared.token.Mark.TheVariants.{Open}
 use Rattle.job_edits.specs.declared.change.Piece.{Piece}
@@ -10,34 +10,78 @@ use Rattle.job_edits.specs.declared.waiting.Wait.TheVariants.{Sleep, Checkpoint,
 use Rattle.job_edits.specs.declared.waiting.Waiting.{Waiting}
 use Rattle.job_edits.specs.declared.fault.Fault.{Fault}
 use Rattle.job_edits.specs.declared.fault.Fault.TheVariants.{Fails, FailsLate, Hangs, Cancelled, Misses}
+use Rattle.job_edits.specs.declared.fault.BlockPart.{BlockPart}
 use Rattle.job_edits.specs.declared.fault.Variant.{Variant}
+use Rattle.job_edits.specs.declared.repeated.RepeatedBlock.{RepeatedBlock}
 use Rattle.job_edits.specs.declared.plan.Plan.{Plan}
 use Rattle.job_edits.specs.Waiting.{first_mark, waiting_in}
+use Rattle.job_edits.specs.Repeated.{repeated_in}
+use Rattle.job_edits.specs.WrittenOut.{is_in}
 use Rattle.job_edits.specs.Fresh.{fresh_word}
 
 -- ---- which faults
 
--- the faults of a step: a `need` can only miss; a step that never ends does not fail late, and neither does one that takes no
--- time
-abbrev pub faults_of : Wait → List Fault
-faults_of (Sleep n) = Fails ∷ FailsLate ∷ Hangs ∷ Cancelled ∷ []
-faults_of Checkpoint = Fails ∷ Hangs ∷ Cancelled ∷ []
-faults_of Forever = Fails ∷ Cancelled ∷ []
-faults_of (Pace n) = Fails ∷ FailsLate ∷ Hangs ∷ Cancelled ∷ []
-faults_of (Need text name) = Misses name ∷ []
-faults_of (Event name) = Fails ∷ FailsLate ∷ Hangs ∷ Cancelled ∷ []
+-- a step raises each of these exceptions
+abbrev pub fails_of : (names : List (List ℕ)) → List Fault
+fails_of [] = []
+fails_of (n ∷ ns) = Fails n ∷ fails_of ns
 
-abbrev pub variants_with : Waiting → List Fault → List Variant
-variants_with step [] = []
-variants_with step (f ∷ fs) = record { step = step; fault = f } ∷ variants_with step fs
+-- each of these exceptions is raised after a step
+abbrev pub late_fails_of : (names : List (List ℕ)) → List Fault
+late_fails_of [] = []
+late_fails_of (n ∷ ns) = FailsLate n ∷ late_fails_of ns
+
+-- The faults of a step, which fails with the exceptions with these names. A `need` can only miss; a step that never ends does not
+-- fail late, and neither does one that takes no time.
+abbrev pub faults_of : (names : List (List ℕ)) → Wait → List Fault
+faults_of names (Sleep n) = fails_of names ++ (late_fails_of names ++ Hangs ∷ Cancelled ∷ [])
+faults_of names Checkpoint = fails_of names ++ Hangs ∷ Cancelled ∷ []
+faults_of names Forever = fails_of names ++ Cancelled ∷ []
+faults_of names (Pace n) = fails_of names ++ (late_fails_of names ++ Hangs ∷ Cancelled ∷ [])
+faults_of names (Need text name) = Misses name ∷ []
+faults_of names (Event name) = fails_of names ++ (late_fails_of names ++ Hangs ∷ Cancelled ∷ [])
+
+-- these faults of a step, in one copy or pass or wherever it runs
+abbrev pub variants_with : Option BlockPart → Waiting → List Fault → List Variant
+variants_with part step [] = []
+variants_with part step (f ∷ fs) = record { step = step; fault = f; part = part } ∷ variants_with part step fs
 
 -- each fault of each step, in the order of places
-abbrev pub variants_of : List Waiting → List Variant
-variants_of [] = []
-variants_of (w ∷ ws) = variants_with w (faults_of w.wait) ++ variants_of ws
+abbrev pub variants_of : (names : List (List ℕ)) → List Waiting → List Variant
+variants_of names [] = []
+variants_of names (w ∷ ws) = variants_with None w (faults_of names w.wait) ++ variants_of names ws
 
-abbrev pub variants_in : List Token → List Variant
-variants_in tokens = variants_of (waiting_in tokens)
+abbrev pub variants_in : (names : List (List ℕ)) → List Token → List Variant
+variants_in names tokens = variants_of names (waiting_in tokens)
+
+-- ---- in one copy or pass
+
+-- a copy or pass of the block with a number
+abbrev pub part_of : (block : ℕ) → RepeatedBlock → (index : ℕ) → BlockPart
+part_of block b index = record { block = block; name = b.name; index = index; count = b.number.value }
+
+-- these faults of a step in each of so many copies or passes of a block, from one on
+abbrev pub each_from : (block : ℕ) → RepeatedBlock → Waiting → List Fault → (left : ℕ) → (index : ℕ) → List Variant
+each_from block b step fs zero index = []
+each_from block b step fs (suc left) index =
+    variants_with (Some (part_of block b index)) step fs ++ each_from block b step fs left (index + 1)
+
+-- in each copy or pass of a block, if the step is in it
+abbrev pub each_in_block : (block : ℕ) → RepeatedBlock → Waiting → List Fault → List Variant
+each_in_block block b step fs = if is_in b step.from then each_from block b step fs b.number.value 0 else []
+
+-- in those of these blocks, which have numbers from one on
+abbrev pub each_in_blocks : (block : ℕ) → List RepeatedBlock → Waiting → List Fault → List Variant
+each_in_blocks block [] step fs = []
+each_in_blocks block (b ∷ bs) step fs = each_in_block block b step fs ++ each_in_blocks (block + 1) bs step fs
+
+abbrev pub each_of : (names : List (List ℕ)) → List RepeatedBlock → List Waiting → List Variant
+each_of names bs [] = []
+each_of names bs (w ∷ ws) = each_in_blocks 0 bs w (faults_of names w.wait) ++ each_of names bs ws
+
+-- each fault of each step in each copy or pass of each block around it, in the order of the places of the steps, outer blocks first
+abbrev pub each_in : (names : List (List ℕ)) → List Token → List Variant
+each_in names tokens = each_of names (repeated_in tokens) (waiting_in tokens)
 
 -- ---- where, and with which names
 
@@ -51,10 +95,9 @@ last_place at (t ∷ ts) = last_place t.at ts
 
 -- The block of a job begins at its first brace and ends at its last token. The scope that encloses its steps, and the exception
 -- that shows whether a fault is reached, get names that are meant to be new in the text (`fresh_word`).
-abbrev pub plan_of : List ℕ → List Token → Plan
-plan_of name tokens =
+abbrev pub plan_of : List Token → Plan
+plan_of tokens =
     record {
-      name = name;
       outside = fresh_word (codes "outside") tokens;
       reached = fresh_word (codes "reached") tokens;
       opening = place_or 0 (first_mark Open tokens);
@@ -69,34 +112,28 @@ replacement step p = record { from = step.from; to = step.to; piece = p }
 abbrev pub insertion : ℕ → Piece → Change
 insertion at p = record { from = at; to = at; piece = p }
 
+-- the changes of the text that make a fault of a step
 abbrev pub changes_by : Plan → Waiting → Fault → List Change
-changes_by plan step Fails = replacement step (piece.Raise plan.name) ∷ []
-changes_by plan step FailsLate = insertion step.to (piece.ThenRaise plan.name) ∷ []
+changes_by plan step (Fails name) = replacement step (piece.Raise name) ∷ []
+changes_by plan step (FailsLate name) = insertion step.to (piece.ThenRaise name) ∷ []
 changes_by plan step Hangs = replacement step piece.Forever ∷ []
 changes_by plan step Cancelled =
     insertion plan.opening (piece.OpenScope plan.outside) ∷ insertion step.from (piece.Cancel plan.outside)
     ∷ insertion plan.closing piece.Close ∷ []
 changes_by plan step (Misses name) = replacement step (piece.Raise name) ∷ []
 
--- the changes of the text that make the fault of a step
-abbrev pub changes_of : Plan → Variant → List Change
-changes_of plan v = changes_by plan v.step v.fault
-
 -- The change that shows whether a fault is reached: the exception `reached` is raised there.
 abbrev pub probe_by : Plan → Waiting → Fault → Change
-probe_by plan step Fails = replacement step (piece.Raise plan.reached)
-probe_by plan step FailsLate = insertion step.to (piece.ThenRaise plan.reached)
+probe_by plan step (Fails name) = replacement step (piece.Raise plan.reached)
+probe_by plan step (FailsLate name) = insertion step.to (piece.ThenRaise plan.reached)
 probe_by plan step Hangs = replacement step (piece.Raise plan.reached)
 probe_by plan step Cancelled = replacement step (piece.Raise plan.reached)
 probe_by plan step (Misses name) = replacement step (piece.Raise plan.reached)
 
-abbrev pub probe_of : Plan → Variant → Change
-probe_of plan v = probe_by plan v.step v.fault
-
 -- the name of the exception that a fault raises, or `None`
-abbrev pub raised_by : Plan → Fault → Option (List ℕ)
-raised_by plan Fails = Some plan.name
-raised_by plan FailsLate = Some plan.name
-raised_by plan Hangs = None
-raised_by plan Cancelled = None
-raised_by plan (Misses name) = Some name
+abbrev pub raised_by : Fault → Option (List ℕ)
+raised_by (Fails name) = Some name
+raised_by (FailsLate name) = Some name
+raised_by Hangs = None
+raised_by Cancelled = None
+raised_by (Misses name) = Some name

@@ -6,3 +6,5 @@ pub mod Numbers
 pub mod Sites
 pub mod Finer
 pub mod Copied
+pub mod Repeated
+pub mod WrittenOut

@@ -1,6 +1,6 @@
 ghost use Rattle.std.specs.Prelude.{◌≡◌, ◌-◌, ◌++◌, take, drop, decimal, IfOk, OnOk};
 ghost use Rattle.job_edits.specs.declared.change.Piece.TheVariants as piece;
-ghost use Rattle.job_edits.specs.Changes.{piece_text, changed_text};
+ghost use Rattle.job_edits.specs.Changes.{piece_text, changed_from, changed_text};
 
 use digits::push_number;
 use job_tree::Name;
@@ -32,6 +32,10 @@ pub enum Piece {
     ShieldedSleep(Name, u64),
     /// The start of a `repeat` with the given number of passes, before a step.
     OpenRepeat(u64),
+    /// The ending of a name in a copy or pass with this index, which is written out.
+    Single(u64),
+    /// The ending of a name in the copies or passes after the one with this index.
+    After(u64),
 }
 
 /// A change of a text: a piece in place of the bytes from one place up to another. Places are in bytes from the start of the
@@ -52,18 +56,30 @@ pub fn changed_text(alloc: Global, text: &[u8], changes: &[Change]) -> Result<Ve
     ensures { IfOk result (λ out. out.items ≡ changed_text text.now changes.now) }
 {
     let mut out = Vec::new(alloc);
-    let mut at = 0;
-    'changes: for change in changes {
-        push_between(&mut out, text, at, change.from)?;
-        push_piece(&mut out, change.piece)?;
-        at = change.to;
-    }
-    out.extend_from_slice(rest_from(text, at))?;
+    push_changed(&mut out, 0, text, changes)?;
     Ok(out)
 }
 
+// Appends the text from a place on, with these changes.
+pub(crate) fn push_changed(
+    out: &mut Vec<u8>,
+    from: usize,
+    text: &[u8],
+    changes: &[Change],
+) -> Result<(), AllocError>
+    ensures { OnOk result (out.new.items ≡ out.old.items ++ changed_from from text.now changes.now) }
+{
+    let mut at = from;
+    'changes: for change in changes {
+        push_between(out, text, at, change.from)?;
+        push_piece(out, change.piece)?;
+        at = change.to;
+    }
+    out.extend_from_slice(rest_from(text, at))
+}
+
 // Returns the bytes from a place on.
-fn rest_from(text: &[u8], at: usize) -> &[u8]
+pub(crate) fn rest_from(text: &[u8], at: usize) -> &[u8]
     ensures { result.now ≡ drop at text.now }
 {
     text.split_at(at.min(text.len())).1
@@ -110,6 +126,14 @@ fn push_piece(out: &mut Vec<u8>, piece: Piece) -> Result<(), AllocError>
             out.extend_from_slice(b"repeat ")?;
             push_number(out, n)?;
             out.extend_from_slice(b" { ")
+        }
+        Piece::Single(n) => {
+            out.extend_from_slice(b"_")?;
+            push_number(out, n)
+        }
+        Piece::After(n) => {
+            out.extend_from_slice(b"_after_")?;
+            push_number(out, n)
         }
     }
 }

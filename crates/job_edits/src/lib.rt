@@ -13,21 +13,27 @@
 
 mod change;
 mod copied;
+mod each;
 mod fault;
 mod finer;
 mod fresh;
 mod number;
 mod plan;
+mod repeated;
 mod shift;
 mod site;
 mod waiting;
+mod writing_out;
 
 pub use change::{Change, Piece, changed_text};
 pub use copied::{CopiedStart, copied_starts};
-pub use fault::{Fault, Variant, variants};
+pub use each::each_variants;
+pub use fault::{BlockPart, Fault, Variant, variants};
 pub use finer::Finer;
 pub use number::{Number, Target, block_names, deadline_of, number_at};
 pub use plan::Plan;
+pub use repeated::{RepeatedBlock, repeated_blocks};
 pub use shift::{Hair, Shift, finer_changes, hair_scope, shifted_changes, shifts};
 pub use site::{Moment, Site, push_moment, sites};
 pub use waiting::{Wait, Waiting, push_wait, waiting_steps};
+pub use writing_out::{is_in, written_at, written_out};

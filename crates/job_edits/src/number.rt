@@ -90,7 +90,7 @@ pub fn block_names(alloc: Global, tokens: &[Token]) -> Result<Vec<Name>, AllocEr
 }
 
 // Returns the number that a token is, if it is one.
-fn number_of(token: Token) -> Option<Number>
+pub(crate) fn number_of(token: Token) -> Option<Number>
     ensures { result ≡ number_of token }
 {
     let from = token.at;

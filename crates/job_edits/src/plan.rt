@@ -1,9 +1,9 @@
 ghost use Rattle.std.specs.Prelude.{◌≡◌, [], ◌∷◌, IfOk};
 ghost use Rattle.job_edits.specs.declared.fault.Fault.TheVariants.{Cancelled};
-ghost use Rattle.job_edits.specs.Faults.{plan_of, last_place, replacement, insertion, changes_by, changes_of, probe_of, raised_by};
+ghost use Rattle.job_edits.specs.Faults.{plan_of, last_place, replacement, insertion, changes_by, probe_by};
 
 use crate::change::{Change, Piece};
-use crate::fault::{Fault, Variant};
+use crate::fault::Fault;
 use crate::fresh::fresh_word;
 use crate::waiting::{Waiting, first_mark};
 use job_tokens::{Mark, Token};
@@ -13,8 +13,6 @@ use std::alloc::{AllocError, Global};
 /// What the changes of a job text need besides the step at which they are made. Places are in bytes from the start of the text.
 #[derive(Clone, Copy)]
 pub struct Plan {
-    /// The name of the exception that a faulty step raises.
-    pub name: Name,
     /// The name of the scope that encloses all steps of the job: the first of `outside`, `outside_1` and so on that is not in
     /// the text. That there is such a name is tested, not proved.
     pub outside: Name,
@@ -28,13 +26,11 @@ pub struct Plan {
 }
 
 impl Plan {
-    /// Makes the plan for the job text with these tokens. `name` is the name of the exception that a faulty step raises. The
-    /// only error is that memory was refused.
-    pub fn of(alloc: Global, name: Name, tokens: &[Token]) -> Result<Plan, AllocError>
-        ensures { IfOk result (λ plan. plan ≡ plan_of name tokens.now) }
+    /// Makes the plan for the job text with these tokens. The only error is that memory runs out.
+    pub fn of(alloc: Global, tokens: &[Token]) -> Result<Plan, AllocError>
+        ensures { IfOk result (λ plan. plan ≡ plan_of tokens.now) }
     {
         Ok(Plan {
-            name,
             outside: fresh_word(alloc, b"outside", tokens)?,
             reached: fresh_word(alloc, b"reached", tokens)?,
             opening: first_mark(Mark::Open, tokens).unwrap_or(0),
@@ -42,15 +38,23 @@ impl Plan {
         })
     }
 
-    /// Returns the changes of the text that make the fault of the variant. The only error is that memory was refused.
-    pub fn changes(&self, alloc: Global, variant: Variant) -> Result<Vec<Change>, AllocError>
-        ensures { IfOk result (λ changes. changes.items ≡ changes_of self.now variant) }
+    /// Returns the changes of the text that make the fault of a step. The only error is that memory runs out.
+    pub fn changes(
+        &self,
+        alloc: Global,
+        step: Waiting,
+        fault: Fault,
+    ) -> Result<Vec<Change>, AllocError>
+        ensures { IfOk result (λ changes. changes.items ≡ changes_by self.now step fault) }
     {
-        let step = variant.step;
-        let fault = variant.fault;
         match fault {
-            Fault::Fails => single_change(alloc, step.from, step.to, Piece::Raise(self.name)),
-            Fault::FailsLate => single_change(alloc, step.to, step.to, Piece::ThenRaise(self.name)),
+            Fault::Fails(name) => single_change(alloc, step.from, step.to, Piece::Raise(name)),
+            Fault::FailsLate(name) => single_change(
+                alloc,
+                step.to,
+                step.to,
+                Piece::ThenRaise(name),
+            ),
             Fault::Hangs => single_change(alloc, step.from, step.to, Piece::Forever),
             Fault::Cancelled => self.cancel_changes(alloc, step),
             Fault::Misses(name) => single_change(alloc, step.from, step.to, Piece::Raise(name)),
@@ -68,27 +72,15 @@ impl Plan {
         Ok(changes)
     }
 
-    /// Returns the change that shows whether the fault of the variant is reached: the exception `reached` is raised there.
-    pub fn probe(&self, variant: Variant) -> Change
-        ensures { result ≡ probe_of self.now variant }
-    {
-        let step = variant.step;
-        match variant.fault {
-            Fault::FailsLate => insertion(step.to, Piece::ThenRaise(self.reached)),
-            Fault::Fails | Fault::Hangs | Fault::Cancelled | Fault::Misses(_) => {
-                replacement(step, Piece::Raise(self.reached))
-            }
-        }
-    }
-
-    /// Returns the name of the exception that a fault raises, or `None` if it raises none.
-    pub fn raised_name(&self, fault: Fault) -> Option<Name>
-        ensures { result ≡ raised_by self.now fault }
+    /// Returns the change that shows whether the fault of a step is reached: the exception `reached` is raised there.
+    pub fn probe(&self, step: Waiting, fault: Fault) -> Change
+        ensures { result ≡ probe_by self.now step fault }
     {
         match fault {
-            Fault::Fails | Fault::FailsLate => Some(self.name),
-            Fault::Hangs | Fault::Cancelled => None,
-            Fault::Misses(name) => Some(name),
+            Fault::FailsLate(_) => insertion(step.to, Piece::ThenRaise(self.reached)),
+            Fault::Fails(_) | Fault::Hangs | Fault::Cancelled | Fault::Misses(_) => {
+                replacement(step, Piece::Raise(self.reached))
+            }
         }
     }
 }

@@ -1,6 +1,0 @@
-use Rattle.std.proofs.Common.{◌≡◌, ◌++◌, drop}
-use Rattle.job_edits.specs.Changes.{changed_text, changed_from}
-use Rattle.job_edits.proofs.change.changed_text.Given as goal
-
-abbrev pub invariant-changes : goal.invariant-changes
-invariant-changes l = l.out.items ++ changed_from l.at l.text (drop l.change-index l.changes) ≡ changed_text l.text l.changes

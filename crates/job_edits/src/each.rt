@@ -1,0 +1,149 @@
+ghost use Rattle.std.specs.Prelude.{◌≡◌, ◌≤◌, ◌++◌, ◌∷◌, [], Some, length, take, IfOk, OnOk};
+ghost use Rattle.job_edits.specs.Faults.{variants_with, part_of, each_in_block, each_in_blocks, each_in};
+
+use crate::fault::{BlockPart, Fault, Variant, faults_of};
+use crate::repeated::{RepeatedBlock, repeated_blocks};
+use crate::waiting::{Waiting, waiting_steps};
+use crate::writing_out::is_in;
+use job_tokens::Token;
+use job_tree::Name;
+use std::alloc::{AllocError, Global};
+
+/// Returns the first faults in single copies and passes of the job text with these tokens, `most` of them at most: each fault of each
+/// waiting step, as `variants` returns it, in each copy of each `start .. over` and in each pass of each `repeat` that the step is
+/// in. They are in the order of the places of the steps, and for each step the outer blocks come first. The only error is that
+/// memory runs out.
+pub fn each_variants(
+    alloc: Global,
+    names: &[Name],
+    tokens: &[Token],
+    most: usize,
+) -> Result<Vec<Variant>, AllocError>
+    ensures { IfOk result (λ variants. variants.items ≡ take most (each_in names.now tokens.now)) }
+{
+    let steps = waiting_steps(alloc, tokens)?;
+    let blocks = repeated_blocks(alloc, tokens)?;
+    let mut variants = Vec::new(alloc);
+    'steps: for step in steps.as_slice() {
+        let faults = faults_of(alloc, names, step.wait)?;
+        push_in_blocks(
+            &mut variants,
+            most,
+            blocks.as_slice(),
+            step,
+            faults.as_slice(),
+        )?;
+    }
+    Ok(variants)
+}
+
+// Appends these faults of a step in each copy or pass of each of these blocks, until there are `most`.
+fn push_in_blocks(
+    variants: &mut Vec<Variant>,
+    most: usize,
+    blocks: &[RepeatedBlock],
+    step: &Waiting,
+    faults: &[Fault],
+) -> Result<(), AllocError>
+    requires { length variants.old.items ≤ most }
+    ensures { OnOk result (variants.new.items ≡ take most (variants.old.items ++ each_in_blocks 0 blocks.now step.now faults.now)) }
+{
+    let mut number = 0;
+    'blocks: for block in blocks {
+        push_in_block(variants, most, number, block, step, faults)?;
+        number += 1;
+    }
+    Ok(())
+}
+
+// Appends these faults of a step in each copy or pass of the block with a number, if the step is in it, until there are `most`.
+fn push_in_block(
+    variants: &mut Vec<Variant>,
+    most: usize,
+    number: usize,
+    block: &RepeatedBlock,
+    step: &Waiting,
+    faults: &[Fault],
+) -> Result<(), AllocError>
+    requires { length variants.old.items ≤ most }
+    ensures { OnOk result (variants.new.items ≡ take most (variants.old.items ++ each_in_block number block.now step.now faults.now)) }
+{
+    if !is_in(block, step.from) {
+        return Ok(());
+    }
+    let count = block.number.value;
+    let mut index = 0;
+    'parts: while index < count && variants.len() < most {
+        let part = part_of(number, block, index);
+        push_in_part(variants, most, &part, step, faults)?;
+        index += 1;
+    }
+    Ok(())
+}
+
+// Returns a copy or pass of the block with a number.
+fn part_of(number: usize, block: &RepeatedBlock, index: u64) -> BlockPart
+    ensures { result ≡ part_of number block.now index }
+{
+    BlockPart {
+        block: number,
+        name: block.name,
+        index,
+        count: block.number.value,
+    }
+}
+
+// Returns a copy of the copy or pass.
+fn twin(part: &BlockPart) -> BlockPart
+    ensures { result ≡ part.now }
+{
+    BlockPart {
+        block: part.block,
+        name: part.name,
+        index: part.index,
+        count: part.count,
+    }
+}
+
+// Appends these faults of a step in one copy or pass, until there are `most`.
+fn push_in_part(
+    variants: &mut Vec<Variant>,
+    most: usize,
+    part: &BlockPart,
+    step: &Waiting,
+    faults: &[Fault],
+) -> Result<(), AllocError>
+    requires { length variants.old.items ≤ most }
+    ensures { OnOk result (variants.new.items ≡ take most (variants.old.items ++ variants_with (Some part.now) step.now faults.now)) }
+{
+    'faults: for fault in faults {
+        push_until(variants, most, part, step, *fault)?;
+    }
+    Ok(())
+}
+
+// Appends a fault of a step in one copy or pass, unless there are `most` already.
+fn push_until(
+    variants: &mut Vec<Variant>,
+    most: usize,
+    part: &BlockPart,
+    step: &Waiting,
+    fault: Fault,
+) -> Result<(), AllocError>
+    requires { length variants.old.items ≤ most }
+    ensures { OnOk result (variants.new.items ≡ take most (variants.old.items ++ record { step = step.now; fault = fault; part = Some part.now } ∷ [])) }
+{
+    if variants.len() < most {
+        let wait = step.wait;
+        variants.push(Variant {
+            step: Waiting {
+                from: step.from,
+                to: step.to,
+                wait,
+            },
+            fault,
+            part: Some(twin(part)),
+        })?;
+    }
+    Ok(())
+}
