@@ -2,16 +2,16 @@ ghost use Rattle.std.specs.Prelude.{◌≡◌, ◌++◌, [], ◌∷◌, Some, If
 ghost use Rattle.std.specs.Option.{option_map};
 ghost use Rattle.serde_json.specs.View.{view};
 ghost use Rattle.exc_groups.specs.Held.{exc_of};
-ghost use Rattle.fault_text.specs.JobOutcomes.{refused};
+ghost use Rattle.fault_text.specs.JobOutcomes.{refused, stuck, ended};
 ghost use Rattle.fault_text.specs.Views.{job_outcome_held};
-ghost use Rattle.json_report.specs.Values.{label_json};
 ghost use Rattle.json_tables.specs.Results.{end_word, exc_or_null, not_tried_json, result_json, first_json};
 
+use crate::members::{with, with_labels, with_word};
 use exc_groups::{Exc, Label};
 use fault_text::JobOutcome;
 use job_grammar::JobFault;
-use json_report::{exc_value, label_value};
-use serde_json::{Value, json};
+use json_report::exc_value;
+use serde_json::{Map, Value, json};
 use std::alloc::{AllocError, Global};
 
 /// Returns the outcome of a job that runs up to `limit`, which is the last tick at which it may end, as a JSON object. Returns
@@ -24,21 +24,17 @@ pub fn result_value(
     ensures { IfOk result (λ value. view value ≡ result_json limit (job_outcome_held job_outcome.now)) }
 {
     match job_outcome {
-        JobOutcome::Refused(fault) => refused_value(alloc, *fault),
+        JobOutcome::Refused(fault) => {
+            let value = refused_value(alloc, *fault)?;
+            Ok(value)
+        }
         JobOutcome::Stuck {
             sleeping,
             cut,
             lost,
         } => {
-            let tasks = label_values(alloc, sleeping.as_slice())?;
-            let cut_in_cleanup = label_values(alloc, cut.as_slice())?;
-            json!(in alloc; {
-                "outcome": "stuck",
-                "limit": limit,
-                "sleeping": tasks,
-                "cut": cut_in_cleanup,
-                "lost": *lost
-            })
+            let value = stuck_value(alloc, limit, sleeping.as_slice(), cut.as_slice(), *lost)?;
+            Ok(value)
         }
         JobOutcome::Ended {
             end,
@@ -47,17 +43,15 @@ pub fn result_value(
             cut,
             lost,
         } => {
-            let ended_cancelled = label_values(alloc, cancelled.as_slice())?;
-            let cut_in_cleanup = label_values(alloc, cut.as_slice())?;
-            let exception = exception_value(alloc, exc)?;
-            json!(in alloc; {
-                "outcome": end_word(exc),
-                "end": *end,
-                "exception": exception,
-                "cancelled": ended_cancelled,
-                "cut": cut_in_cleanup,
-                "lost": *lost
-            })
+            let value = ended_value(
+                alloc,
+                *end,
+                exc,
+                cancelled.as_slice(),
+                cut.as_slice(),
+                *lost,
+            )?;
+            Ok(value)
         }
     }
 }
@@ -68,6 +62,45 @@ fn refused_value(alloc: Global, fault: JobFault) -> Result<Value, AllocError>
 {
     let not_tried = not_tried_value(alloc, fault)?;
     json!(in alloc; {"outcome": "refused", "not_tried": not_tried})
+}
+
+// Returns the outcome of a job that does not end by a limit, as a JSON object.
+fn stuck_value(
+    alloc: Global,
+    limit: u64,
+    sleeping: &[Label],
+    cut: &[Label],
+    lost: bool,
+) -> Result<Value, AllocError>
+    ensures { IfOk result (λ value. view value ≡ result_json limit (stuck sleeping.now cut.now lost)) }
+{
+    let members = with_word(Map::new(alloc), alloc, "outcome", "stuck")?;
+    let members = with(members, alloc, "limit", Value::from(limit))?;
+    let members = with(members, alloc, "lost", Value::from(lost))?;
+    let members = with_labels(members, alloc, "sleeping", sleeping)?;
+    let members = with_labels(members, alloc, "cut", cut)?;
+    Ok(Value::Object(members))
+}
+
+// Returns the outcome of a job that ends, as a JSON object.
+fn ended_value(
+    alloc: Global,
+    end: u64,
+    exc: &Option<Exc>,
+    cancelled: &[Label],
+    cut: &[Label],
+    lost: bool,
+) -> Result<Value, AllocError>
+    ensures { IfOk result (λ value. view value ≡ result_json 0 (ended end (option_map exc_of exc.now) cancelled.now cut.now lost)) }
+{
+    let exception = exception_value(alloc, exc)?;
+    let members = with(Map::new(alloc), alloc, "exception", exception)?;
+    let members = with_word(members, alloc, "outcome", end_word(exc))?;
+    let members = with(members, alloc, "end", Value::from(end))?;
+    let members = with(members, alloc, "lost", Value::from(lost))?;
+    let members = with_labels(members, alloc, "cancelled", cancelled)?;
+    let members = with_labels(members, alloc, "cut", cut)?;
+    Ok(Value::Object(members))
 }
 
 // Returns the refusal of a text that was not tried, as a JSON object.
@@ -117,16 +150,4 @@ fn exception_value(alloc: Global, exc: &Option<Exc>) -> Result<Value, AllocError
         Some(exc) => exc_value(alloc, exc),
         None => Ok(Value::Null),
     }
-}
-
-// Returns labels as JSON strings.
-fn label_values(alloc: Global, labels: &[Label]) -> Result<Vec<Value>, AllocError>
-    ensures { IfOk result (λ values. map view values.items ≡ map label_json labels.now) }
-{
-    let mut values = Vec::new(alloc);
-    'labels: for label in labels {
-        let value = label_value(alloc, label)?;
-        values.push(value)?;
-    }
-    Ok(values)
 }

@@ -7,10 +7,11 @@ ghost use Rattle.sweep_text.specs.Views.{value_held};
 ghost use Rattle.json_report.specs.Values.{document};
 ghost use Rattle.json_tables.specs.Sweeps.{value_json, value_counts_json, sweep_json};
 
+use crate::members::with;
 use crate::results::{first_value, result_value};
 use fault_text::JobOutcome;
 use json_report::document;
-use serde_json::{Value, json};
+use serde_json::{Map, Value, json};
 use std::alloc::{AllocError, Global};
 use sweep_text::Value as Swept;
 
@@ -40,9 +41,12 @@ fn sweep_value(
     ensures { IfOk result (λ value. view value ≡ sweep_json limit (job_outcome_held first.now) (map value_held values.now)) }
 {
     let as_it_is = first_value(alloc, limit, first)?;
+    let members = with(Map::new(alloc), alloc, "as_it_is", as_it_is)?;
     let counts = counts_value(alloc, values)?;
+    let members = with(members, alloc, "counts", counts)?;
     let lines = line_values(alloc, limit, values)?;
-    json!(in alloc; {"as_it_is": as_it_is, "counts": counts, "lines": lines})
+    let members = with(members, alloc, "lines", Value::from(lines))?;
+    Ok(Value::Object(members))
 }
 
 // Returns the outcomes of a job for each value, as JSON objects.

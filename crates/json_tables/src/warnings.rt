@@ -4,11 +4,12 @@ ghost use Rattle.job_lint.specs.Sentences.{sentence_of};
 ghost use Rattle.json_report.specs.Values.{document, text_json};
 ghost use Rattle.json_tables.specs.Lints.{kind_word, name_or_null, warning_json, warning_counts_json, lints_json};
 
+use crate::members::{with, with_word};
 use job_lint::{Lint, Warning, sentence};
 use job_tree::Name;
 use json_report::{document, text_value};
 use nursery_app::{column_of, line_of};
-use serde_json::{Value, json};
+use serde_json::{Map, Value, json};
 use std::alloc::{AllocError, Global};
 
 /// Returns one JSON document with the warnings about a job text: how many there are, and each with its place in bytes, its line
@@ -31,8 +32,10 @@ fn lints_value(alloc: Global, job_text: &[u8], warnings: &[Warning]) -> Result<V
     ensures { IfOk result (λ value. view value ≡ lints_json job_text.now warnings.now) }
 {
     let counts = counts_value(alloc, warnings)?;
+    let members = with(Map::new(alloc), alloc, "counts", counts)?;
     let lines = warning_values(alloc, job_text, warnings)?;
-    json!(in alloc; {"counts": counts, "lines": lines})
+    let members = with(members, alloc, "lines", Value::from(lines))?;
+    Ok(Value::Object(members))
 }
 
 // Returns how many warnings there are.
@@ -62,16 +65,19 @@ fn warning_values(
 fn warning_value(alloc: Global, job_text: &[u8], warning: &Warning) -> Result<Value, AllocError>
     ensures { IfOk result (λ value. view value ≡ warning_json job_text.now warning.now) }
 {
+    let (line, column) = (
+        line_of(job_text, warning.at),
+        column_of(job_text, warning.at),
+    );
     let name = name_value(alloc, &warning.name)?;
+    let members = with(Map::new(alloc), alloc, "name", name)?;
     let said = sentence_value(alloc, warning)?;
-    json!(in alloc; {
-        "at": warning.at,
-        "line": line_of(job_text, warning.at),
-        "column": column_of(job_text, warning.at),
-        "kind": kind_word(warning.lint),
-        "name": name,
-        "sentence": said
-    })
+    let members = with(members, alloc, "sentence", said)?;
+    let members = with_word(members, alloc, "kind", kind_word(warning.lint))?;
+    let members = with(members, alloc, "at", Value::from(warning.at))?;
+    let members = with(members, alloc, "line", Value::from(line))?;
+    let members = with(members, alloc, "column", Value::from(column))?;
+    Ok(Value::Object(members))
 }
 
 // Returns the sentence of a warning.
@@ -83,7 +89,7 @@ fn sentence_value(alloc: Global, warning: &Warning) -> Result<Value, AllocError>
 }
 
 // Returns a name, or `null` if there is none.
-fn name_value(alloc: Global, name: &Option<Name>) -> Result<Value, AllocError>
+pub(crate) fn name_value(alloc: Global, name: &Option<Name>) -> Result<Value, AllocError>
     ensures { IfOk result (λ value. view value ≡ name_or_null name.now) }
 {
     match name {
