@@ -371,20 +371,32 @@ cp raise.job in
 wants 0 "$faulty" '' faults -
 : > in
 wants 2 '' 'error: `late` cannot be denied: --deny takes `stuck`, `cut` and `lost`, with commas between them\n' faults raise.job --deny stuck,late
-for word in sleep Cancelled TooSlow 1st a-b; do
-    wants 2 '' "error: no step can raise \`$word\`: --name takes a letter, then letters, digits and \`_\`, at most 32 in all, and no keyword, \`Cancelled\` or \`TooSlow\`\n" faults raise.job --name "$word"
+for word in sleep Cancelled TooSlow 1st a-b ''; do
+    wants 2 '' "error: no step can raise \`$word\`: --name takes names with commas between them, each a letter, then letters, digits and \`_\`, at most 32 in all, and no keyword, \`Cancelled\` or \`TooSlow\`\n" faults raise.job --name "$word"
 done
 
 printf 'trio-job 1\njob cut {\n  nursery both {\n    start hung { scope safe shield { sleep 5; } }\n    start quick { try { forever; } finally { sleep 2; } }\n    start stop { sleep 1; cancel both; }\n  }\n}\n' > cut.job
-stuck_and_cut='4:38  sleep 5  hangs       stuck at 1000000; sleeping forever: hung; cleanup cut: quick\n'
-words='faults cut.job --deny cut'; holds_denied=$("$nursery" $words 2>&1 > /dev/null || true)
+# What is cut without a fault too is not denied, and is not counted; what is cut with a fault alone is.
+words='faults cut.job --deny cut'; holds 0 out 'cleanup cut: quick' 'stuck, 0 cut a cleanup'
+printf 'trio-job 3\njob cut {\n  nursery both {\n    start quick { try { sleep 1; } finally { sleep 2; } }\n    start other { sleep 5; }\n  }\n}\n' > cuts.job
+all_cut='4:25  sleep 1  cancelled   0 done; cancelled: quick, other; cleanup cut: quick\n4:46  sleep 2  cancelled   1 done; cancelled: quick, other; cleanup cut: quick\n5:19  sleep 5  fails       0 raised both[Fault(other@0)]; cancelled: quick; cleanup cut: quick\n5:19  sleep 5  cancelled   0 done; cancelled: quick, other; cleanup cut: quick\n'
+words='faults cuts.job --deny cut'; holds_denied=$("$nursery" $words 2>&1 > /dev/null || true)
 name="nursery $words"
 printf '%s\n' "$holds_denied" > err
-shows err "$(printf "$stuck_and_cut")"
+shows err "$(printf "$all_cut")"
 printf 'trio-job 3\njob calls {\n  nursery all {\n    start user { sleep 2; }\n    start mail { scope limit after 5 { sleep 3; } }\n  }\n}\n' > calls.job
 calls='               as it is    3 done\n4:18  sleep 2  fails       0 raised all[Fault(user@0)]; cancelled: mail\n4:18  sleep 2  fails late  2 raised all[Fault(user@2)]; cancelled: mail\n4:18  sleep 2  hangs       stuck at 1000000; sleeping forever: user\n4:18  sleep 2  cancelled   0 done; cancelled: user, mail\n5:40  sleep 3  fails       0 raised all[Fault(mail@0)]; cancelled: user\n5:40  sleep 3  fails late  3 raised all[Fault(mail@3)]\n5:40  sleep 3  hangs       5 done\n5:40  sleep 3  cancelled   0 done; cancelled: user, mail\n8 faults: 1 stuck, 0 cut a cleanup, 0 lost, 0 not reached\n'
 wants 0 "$calls" '' faults calls.job
 helps faults "$calls"
+# Several exceptions, single copies and passes, and only what differs.
+printf 'trio-job 3\njob read {\n  nursery all {\n    start shard over 2 { sleep 2; }\n  }\n}\n' > shards.job
+wants 0 '               as it is               2 done\n4:26  sleep 2  fails                  0 raised all[Fault(shard.0@0), Fault(shard.1@0)]\n4:26  sleep 2  fails late             2 raised all[Fault(shard.0@2), Fault(shard.1@2)]\n4:26  sleep 2  hangs                  stuck at 1000000; sleeping forever: shard.0, shard.1\n4:26  sleep 2  cancelled              0 done; cancelled: shard.0, shard.1\n4:26  sleep 2  fails in shard.0       0 raised all[Fault(shard_0.0@0)]; cancelled: shard_after_0.0\n4:26  sleep 2  fails late in shard.0  2 raised all[Fault(shard_0.0@2)]\n4:26  sleep 2  hangs in shard.0       stuck at 1000000; sleeping forever: shard_0.0\n4:26  sleep 2  cancelled in shard.0   0 done; cancelled: shard_0.0, shard_after_0.0\n4:26  sleep 2  fails in shard.1       0 raised all[Fault(shard_1.0@0)]; cancelled: shard.0\n4:26  sleep 2  fails late in shard.1  2 raised all[Fault(shard_1.0@2)]\n4:26  sleep 2  hangs in shard.1       stuck at 1000000; sleeping forever: shard_1.0\n4:26  sleep 2  cancelled in shard.1   0 done; cancelled: shard.0, shard_1.0\n12 faults: 3 stuck, 0 cut a cleanup, 0 lost, 0 not reached\n' '' faults shards.job --each
+wants 0 '               as it is      2 done\n4:26  sleep 2  fails A       0 raised all[A(shard.0@0), A(shard.1@0)]\n4:26  sleep 2  fails B       0 raised all[B(shard.0@0), B(shard.1@0)]\n4:26  sleep 2  fails late A  2 raised all[A(shard.0@2), A(shard.1@2)]\n4:26  sleep 2  fails late B  2 raised all[B(shard.0@2), B(shard.1@2)]\n4:26  sleep 2  hangs         stuck at 1000000; sleeping forever: shard.0, shard.1\n4:26  sleep 2  cancelled     0 done; cancelled: shard.0, shard.1\n6 faults: 1 stuck, 0 cut a cleanup, 0 lost, 0 not reached\n' '' faults shards.job --name A,B
+printf 'trio-job 3\njob tries {\n  repeat 2 {\n    scope attempt after 1 { sleep 5; }\n  }\n}\n' > tries.job
+wants 0 '               as it is                   2 done\n4:29  sleep 5  fails                      0 raised Fault(tries@0)\n4:29  sleep 5  cancelled                  0 done\n4:29  sleep 5  fails in pass 1 of 2       0 raised Fault(tries@0)\n4:29  sleep 5  cancelled in pass 1 of 2   0 done\n4:29  sleep 5  fails in pass 2 of 2       1 raised Fault(tries@1)\n4:29  sleep 5  cancelled in pass 2 of 2   1 done\n12 faults: 0 stuck, 0 cut a cleanup, 0 lost, 3 not reached\n' '' faults tries.job --each --brief
+words='faults tries.job --each --brief --json'; holds 0 out '"part":"pass 2 of 2"' '"exception":"Fault"' '"more":false}'
+printf 'trio-job 3\njob tries {\n  repeat 1001 {\n    checkpoint;\n  }\n}\n' > many.job
+words='faults many.job --each'; holds 0 out 'fails in pass 1 of 1001' 'fails in pass 334 of 1001' '1003 faults: ' 'only the first 1000 faults in single copies and passes were tried'
 
 # ---- races
 
@@ -595,7 +607,7 @@ for command in $("$nursery" --help | sed -n '/^Commands/,/^$/s/^  \([a-z]*\)  *[
     [ "$command" = help ] || { words="help $command"; holds 0 out 'Example' "nursery $command "; }
 done
 words='run --help'; holds 0 out 'Usage: nursery run [OPTIONS] <JOB> [INPUT]' '--workers <N>' '--order <ORDER>' '--limit <T>' '  line 6+10 ERROR disk'
-words='faults --help'; holds 0 out 'Usage: nursery faults [OPTIONS] <JOB> [INPUT]' '--name <NAME>' '--deny <KINDS>' '--workers <N>' '--limit <T>'
+words='faults --help'; holds 0 out 'Usage: nursery faults [OPTIONS] <JOB> [INPUT]' '--name <NAMES>' '--each' '--brief' '--deny <KINDS>' '--workers <N>' '--limit <T>'
 words='races --help'; holds 0 out 'Usage: nursery races [OPTIONS] <JOB> [INPUT]' '--deny' '--workers <N>' '--limit <T>'
 words='sweep --help'; holds 0 out 'Usage: nursery sweep [OPTIONS]' '--of <NAME>' '--at <LINE:COL>' '--values <A..B[:STEP]>' '--workers <N>' '--limit <T>'
 words='check --help'; holds 0 out 'Usage: nursery check [OPTIONS] <JOB>' '--canonical' 'expected a number'

@@ -4,6 +4,8 @@
     python3 tests/random/random_faults.py PROGRAM [JOBS [SEED]]
     python3 tests/random/random_faults.py PROGRAM --table JOB [INPUT]
 
+Some jobs get one exception and some two, some also faults in single copies and passes, and of some only the lines that differ are printed.
+
 PROGRAM is the built executable. It wants Python 3.10 or later. For each waiting step of a job, and each fault of it, the job text is
 changed here and run with `nursery run`, and what is to be noted is read from `nursery explain`. Each line that `faults` writes has to
 be the one that comes of that, and the counts have to be those of the lines; the bytes are the same with 1, 3 and 64 workers. The second
@@ -94,6 +96,27 @@ def refusal_in(report):
     return f"not tried: {words[1]} at {words[4]}"
 
 
+class Fate:
+    """What becomes of a text."""
+
+    def __init__(self, outcome, notes, kinds, cut):
+        self.outcome, self.notes, self.kinds, self.cut = outcome, notes, kinds, cut
+
+    def text(self, reached=True):
+        """As a line prints it."""
+        return self.outcome + ("" if reached or "refused" in self.kinds else "; not reached") + self.notes
+
+
+class Row:
+    """A line of the table, and what is counted of it."""
+
+    def __init__(self, place, step, kind, fate, before, reached):
+        self.place, self.step, self.kind = place, step, kind
+        self.fate, self.reached = fate.text(reached), reached
+        self.differs = before is None or fate.text() != before.text()
+        self.kinds = fate.kinds | ({"cut"} if before and set(fate.cut) - set(before.cut) else set())
+
+
 class Runs:
     """The program, with a folder for its files."""
 
@@ -107,12 +130,11 @@ class Runs:
         run = subprocess.run([self.program, command, self.job, self.input, "--limit", self.limit, *words], capture_output=True, timeout=60)
         return run.returncode, run.stdout.decode()
 
-    def fate(self, text, raised, reached):
-        """What becomes of a text, and of what kind that is."""
+    def fate(self, text, raised):
+        """What becomes of a text: its tick and outcome, the notes after that, the kinds that it is of, and the tasks whose cleanup is cut."""
         status, report = self.call("run", text)
-        note = "" if reached else "; not reached"
         if status == 2:
-            return refusal_in(report), "refused"
+            return Fate(refusal_in(report), "", {"refused"}, [])
         _, story = self.call("explain", text)
         if status == 3:
             told, running = story.split(f"limit {self.limit}\n")
@@ -121,7 +143,7 @@ class Runs:
             events = events_in(told)
             cut, lost = cut_in(events), bool(raised) and self.is_replaced(raised, events)
             notes = names("sleeping forever", sleeping) + names("cleanup cut", cut) + ("; fault lost" if lost else "")
-            return f"stuck at {self.limit}{note}{notes}", "stuck" + " cut" * bool(cut) + " lost" * lost
+            return Fate(f"stuck at {self.limit}", notes, {"stuck"} | ({"lost"} if lost else set()), cut)
         tasks = [line.split(" ", 4) for line in report.splitlines() if line.startswith("task ")]
         outcome = tasks[0][4]
         cancelled = [task[1] for task in tasks if task[4] == "cancelled"]
@@ -129,7 +151,7 @@ class Runs:
         cut = cut_in(events)
         lost = raised and any(what == f"raises {raised}" for _, what in events) and not self.is_kept(raised, events, outcome)
         notes = names("cancelled", cancelled) + names("cleanup cut", cut) + ("; fault lost" if lost else "")
-        return f"{tasks[0][3]} {outcome}{note}{notes}", "cut" * bool(cut) + " lost" * bool(lost)
+        return Fate(f"{tasks[0][3]} {outcome}", notes, {"lost"} if lost else set(), cut)
 
     def is_kept(self, raised, events, outcome):
         """Whether a handler handles an exception of this name, or the root ends with one."""
@@ -158,49 +180,150 @@ def step_text(tokens, at):
     return " ".join(token[0] for token in tokens[at:end]), tokens[end][1]
 
 
-def table(runs, text, name="Fault"):
-    """The lines of a job."""
+def steps_of(tokens):
+    """The number of each token with which a waiting step begins. (Where no step may begin, it is a name.)"""
+    return [n for n, (token, _) in enumerate(tokens) if token in KINDS and tokens[n - 1][0] in "{};"]
+
+
+def rows_of(runs, text, before, place, at, raising, shown, part=""):
+    """The lines of one step of a text, which is the token with this number. `before` is what becomes of the text as it is."""
     tokens = tokens_of(text)
     outside, reached = fresh("outside", tokens), fresh("reached", tokens)
     start, end = next(at for token, at in tokens if token == "{"), tokens[-1][1]
-    rows, kinds = [], []
-    for n, (token, at) in enumerate(tokens):
-        for kind in KINDS.get(token, []) if tokens[n - 1][0] in "{};" else []:  # (where no step may begin it is a name)
-            step, to = step_text(tokens, n)
-            missed = tokens[n + 2][0] if token == "need" else None
+    token, begin = tokens[at]
+    step, to = step_text(tokens, at)
+    missed = tokens[at + 2][0] if token == "need" else None
+    rows = []
+    for kind in KINDS[token]:
+        for name in raising if kind in ("fails", "fails late") else [missed]:
             changed = {
-                "fails": [(at, to, f"raise {name}")],
+                "fails": [(begin, to, f"raise {name}")],
                 "fails late": [(to, to, f"; raise {name}")],
-                "hangs": [(at, to, "forever")],
-                "cancelled": [(end, end, "}"), (at, at, f"cancel {outside}; "), (start, start, f"{{scope {outside} ")],
-                "misses": [(at, to, f"raise {missed}")],
+                "hangs": [(begin, to, "forever")],
+                "cancelled": [(end, end, "}"), (begin, begin, f"cancel {outside}; "), (start, start, f"{{scope {outside} ")],
+                "misses": [(begin, to, f"raise {missed}")],
             }[kind]
-            probe = (to, to, f"; raise {reached}") if kind == "fails late" else (at, to, f"raise {reached}")
+            probe = (to, to, f"; raise {reached}") if kind == "fails late" else (begin, to, f"raise {reached}")
             was_reached = runs.raises(replaced(text, probe), reached)
-            raised = {"fails": name, "fails late": name, "misses": missed}.get(kind)
-            fate, of = runs.fate(replaced(text, *changed), raised, was_reached)
-            line = text.count("\n", 0, at) + 1
-            place = f"{line}:{at - (text.rfind(chr(10), 0, at) + 1) + 1}"
-            rows.append((place, step, kind, fate))
-            kinds.append((of, was_reached))
-    first, _ = runs.fate(text, None, True)
-    return laid_out(first, rows) + counted(kinds)
+            raised = name if kind in ("fails", "fails late", "misses") else None
+            what = kind + (f" {name}" if shown and kind in ("fails", "fails late") else "") + part
+            rows.append(Row(place, step, what, runs.fate(replaced(text, *changed), raised), before, was_reached))
+    return rows
 
 
-def laid_out(first, rows):
-    place, step = (max((len(row[n]) for row in rows), default=0) for n in (0, 1))
-    kind = max(8, max((len(row[2]) for row in rows), default=0))
+def place_of(text, at):
+    line = text.count("\n", 0, at) + 1
+    return f"{line}:{at - (text.rfind(chr(10), 0, at) + 1) + 1}"
+
+
+def blocks_of(tokens):
+    """Each block that runs several times: the numbers of the tokens that are its keyword, its number and its braces, and its name or None."""
+    found = []
+    for n, (token, _) in enumerate(tokens):
+        if tokens[n - 1][0] not in "{};":
+            continue
+        if token == "repeat":
+            head, name = n + 1, None
+        elif token == "start" and tokens[n + 2][0] == "over":
+            head, name = n + 3, tokens[n + 1][0]
+        else:
+            continue
+        depth, close = 0, head + 1
+        while True:
+            depth += (tokens[close][0] == "{") - (tokens[close][0] == "}")
+            if depth == 0:
+                break
+            close += 1
+        found.append((n, head, close, name))
+    return found
+
+
+def written_out(text, tokens, block, index):
+    """The text in which one copy or pass of a block is a block of its own, and those after it are another one."""
+    first, number, close, _ = block
+    begin, end = tokens[first][1], tokens[close][1]
+    heads = [n for n in range(first, close) if tokens[n - 1][0] in "{};"]
+    given = {tokens[n + 1][0] for n in heads if tokens[n][0] in ("start", "scope", "nursery", "event")}
+    named = [n + 1 for n in heads if tokens[n][0] in ("start", "scope", "nursery", "event", "cancel", "set", "wait") and tokens[n + 1][0] in given]
+
+    def part(count, ending):
+        changes = [(tokens[number][1], tokens[number][1] + len(tokens[number][0]), str(count))]
+        changes += [(tokens[n][1] + len(tokens[n][0]),) * 2 + (ending,) for n in named]
+        return replaced(text[:end], *sorted(changes, reverse=True))[begin:]
+
+    left = int(tokens[number][0]) - index - 1
+    earlier = part(index, "") + "} " if index else ""
+    later = "} " + part(left, f"_after_{index}") if left else ""
+    return text[:begin] + earlier + part(1, f"_{index}") + later + text[end:]
+
+
+def rows_in_parts(runs, text, raising):
+    """The lines of faults in single copies and passes."""
+    tokens, rows = tokens_of(text), []
+    for at in steps_of(tokens):
+        for block in blocks_of(tokens):
+            first, number, close, name = block
+            count = int(tokens[number][0])
+            for index in range(count) if first < at < close else ():
+                part = f" in {name}.{index}" if name else f" in pass {index + 1} of {count}"
+                apart = written_out(text, tokens, block, index)
+                before = runs.fate(apart, None)
+                place = place_of(text, tokens[at][1])
+                if "refused" in before.kinds:
+                    rows += refused_rows(tokens, at, place, raising, part, before)
+                    continue
+                steps = steps_of(tokens)
+                inside = sum(first < n < close for n in steps) if index else 0
+                there = steps_of(tokens_of(apart))[steps.index(at) + inside]
+                rows += rows_of(runs, apart, before, place, there, raising, len(raising) > 1, part)
+    return rows
+
+
+def refused_rows(tokens, at, place, raising, part, fate):
+    """The lines of a step in a copy or pass that cannot be written out."""
+    rows = []
+    for kind in KINDS[tokens[at][0]]:
+        for name in raising if kind in ("fails", "fails late") else [""]:
+            shown = f" {name}" if len(raising) > 1 and name else ""
+            rows.append(Row(place, step_text(tokens, at)[0], kind + shown + part, fate, None, True))
+    return rows
+
+
+def table(runs, text, raising=("Fault",), each=False, brief=False):
+    """The table of a job."""
+    tokens = tokens_of(text)
+    first = runs.fate(text, None)
+    rows = [
+        row
+        for at in steps_of(tokens)
+        for row in rows_of(runs, text, first, place_of(text, tokens[at][1]), at, raising, len(raising) > 1)
+    ]
+    if each:
+        rows += rows_in_parts(runs, text, raising)
+    return laid_out(first.text(), rows, brief) + counted(rows)
+
+
+def laid_out(first, rows, brief):
+    place = max((len(row.place) for row in rows), default=0)
+    step = max((len(row.step) for row in rows), default=0)
+    kind = max(8, max((len(row.kind) for row in rows), default=0))
     lines = [" " * (place + step + 4) + "as it is".ljust(kind) + "  " + first]
-    lines += [f"{row[0]:>{place}}  {row[1]:<{step}}  {row[2]:<{kind}}  {row[3]}" for row in rows]
+    lines += [f"{row.place:>{place}}  {row.step:<{step}}  {row.kind:<{kind}}  {row.fate}" for row in rows if row.differs or not brief]
     return "".join(line + "\n" for line in lines)
 
 
-def counted(kinds):
-    count = lambda word: sum(word in of.split() for of, _ in kinds)
-    unreached = sum(not reached and of != "refused" for of, reached in kinds)
+def counted(rows):
+    count = lambda word: sum(word in row.kinds for row in rows)
+    unreached = sum(not row.reached and "refused" not in row.kinds for row in rows)
     refused = f", {count('refused')} not tried" if count("refused") else ""
-    faults = "fault" if len(kinds) == 1 else "faults"
-    return f"{len(kinds)} {faults}: {count('stuck')} stuck, {count('cut')} cut a cleanup, {count('lost')} lost, {unreached} not reached{refused}\n"
+    faults = "fault" if len(rows) == 1 else "faults"
+    return f"{len(rows)} {faults}: {count('stuck')} stuck, {count('cut')} cut a cleanup, {count('lost')} lost, {unreached} not reached{refused}\n"
+
+
+def number_of_parts(text):
+    """How many copies and passes the waiting steps of a text are in."""
+    tokens = tokens_of(text)
+    return sum(int(tokens[number][0]) for at in steps_of(tokens) for first, number, close, _ in blocks_of(tokens) if first < at < close)
 
 
 def compared(program, seed):
@@ -211,12 +334,15 @@ def compared(program, seed):
         runs = Runs(program, folder, LIMIT)
         with open(runs.input, "w", encoding="ascii") as file:
             file.write(data)
-        answers = {runs.call("faults", text, "--workers", workers) for workers in ("1", "3", "64")}
+        raising = dice.choice([["Fault"], ["Late"], ["Late", "Boom"]])
+        each, brief = dice.random() < 0.5 and number_of_parts(text) <= 40, dice.random() < 0.3
+        words = ["--name", ",".join(raising)] + ["--each"] * each + ["--brief"] * brief
+        answers = {runs.call("faults", text, "--workers", workers, *words) for workers in ("1", "3", "64")}
         status, out = answers.pop()
-        wanted = table(runs, text)
+        wanted = table(runs, text, raising, each, brief)
         if answers or status != 0 or out != wanted:
-            raise Wrong(f"status {status}\n{out}-- wanted\n{wanted}-- seed\n{seed}\n-- text\n{text}\n-- input\n{data!r}")
-        return wanted.count("\n") - 2
+            raise Wrong(f"status {status}\n{out}-- wanted\n{wanted}-- seed\n{seed}\n-- words\n{words}\n-- text\n{text}\n-- input\n{data!r}")
+        return int(wanted.splitlines()[-1].split()[0])
 
 
 def show(program, job, input_path):

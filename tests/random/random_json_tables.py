@@ -81,15 +81,20 @@ def place(line):
     return f"{line['line']}:{line['column']}" if "line" in line else ""
 
 
+def fault(line):
+    """A fault as a table shows it."""
+    return line["fault"] + (f" in {line['part']}" if line["part"] else "")
+
+
 def faults_table(document):
     lines, counts = document["lines"], document["counts"]
     places = column(map(place, lines))
     steps = column(map(step, lines))
-    kinds = column([line["fault"] for line in lines], 8)
+    kinds = column(map(fault, lines), 8)
     rows = [f"{'':{places}}  {'':{steps}}  {'as it is':{kinds}}  {result_text(document['as_it_is']['result'])}"]
     for line in lines:
         fate = result_text(line["result"], line["reached"])
-        rows.append(f"{place(line):>{places}}  {step(line):{steps}}  {line['fault']:{kinds}}  {fate}")
+        rows.append(f"{place(line):>{places}}  {step(line):{steps}}  {fault(line):{kinds}}  {fate}")
     rows.append(
         f"{plural(counts['faults'], 'fault')}: {counts['stuck']} stuck, {counts['cut']} cut a cleanup, {counts['lost']} lost, "
         f"{counts['not_reached']} not reached{more_text(counts['not_tried'], 'not tried')}"

@@ -1,41 +1,48 @@
 -- The lines of a job's faults.
-use Rattle.std.proofs.Common.{◌≡◌, ℕ, None, List, map, ap, subst, ◌∙◌}
+use Rattle.std.proofs.Common.{◌≡◌, ℕ, Bool, None, List, map, ap, subst, ◌∙◌, nat_lt, length}
 use Rattle.job_tree.specs.Tree.{Tree}
 use Rattle.job_tokens.specs.declared.token.Token.{Token}
+use Rattle.job_syntax.specs.declared.role.Role.{Role}
 use Rattle.job_grammar.specs.Refusals.{Spells, HasTokens}
 use Rattle.job_edits.specs.declared.fault.Variant.{Variant}
-use Rattle.job_edits.specs.declared.plan.Plan.{Plan}
-use Rattle.job_edits.specs.Faults.{variants_in, plan_of}
 use Rattle.fault_text.specs.JobOutcomes as told
 use Rattle.fault_text.specs.Table as told_lines
 use Rattle.fault_text.specs.Views.{line_held}
 use Rattle.fault_text.specs.declared.line.Line.{Line}
 use Rattle.slot_work.specs.Answers.{AreAnswers}
 use Rattle.slot_work.proofs.Answered.{seen_as}
-use Rattle.fault_app.specs.JobOutcomes.{IsLine}
-use Rattle.fault_app.specs.Answers.{AreFaultLines}
+use Rattle.fault_app.specs.JobOutcomes.{token_roles, IsLine}
+use Rattle.fault_app.specs.Answers.{tried_in, has_more, AreFaultLines}
 
--- given the limit of the settings, the tokens of the text, and the variants, as they were passed on
-pub are_lines : (text input : List ℕ) (limit l : ℕ) (name : List ℕ) (job : Tree) (tokens ts us : List Token) (variants vs : List Variant)
-    (plan : Plan) (first : told.JobOutcome) (lines : List Line) →
-    Spells text job → HasTokens text tokens None → l ≡ limit → ts ≡ tokens → variants ≡ variants_in ts → us ≡ tokens → plan ≡ plan_of name us →
-    first ≡ told.job_outcome_of l None job input → vs ≡ variants →
-    AreAnswers (λ (v : Variant) (k : Line). IsLine text input l plan v (line_held k)) vs lines →
-    AreFaultLines text input limit name first (map line_held lines)
-are_lines text input limit l name job tokens ts us variants vs plan first lines spells has at t v u p f w are =
+-- given the limit of the settings, the tokens of the text and their roles, and the variants, as they were passed on
+pub are_lines : (text input : List ℕ) (limit l : ℕ) (names : List (List ℕ)) (each is_named more : Bool) (job : Tree) (tokens ts : List Token)
+    (roles rs : List Role) (variants vs : List Variant) (first : told.JobOutcome) (lines : List Line) →
+    Spells text job → HasTokens text tokens None → l ≡ limit → ts ≡ tokens → is_named ≡ nat_lt 1 (length names) →
+    roles ≡ token_roles job.format text ts → rs ≡ roles → variants ≡ tried_in each names ts → more ≡ has_more each names ts → vs ≡ variants →
+    first ≡ told.job_outcome_of l None job input →
+    AreAnswers (λ (v : Variant) (k : Line). IsLine text input l is_named ts rs first v (line_held k)) vs lines →
+    AreFaultLines text input limit names each first (map line_held lines) more
+are_lines text input limit l names each is_named more job tokens ts roles rs variants vs first lines spells has at t n r q v m w f are =
     let held : List told_lines.Line = map line_held lines in
-    let seen : AreAnswers (IsLine text input l plan) vs held = seen_as (IsLine text input l plan) line_held vs lines are in
-    let planned : AreAnswers (IsLine text input l (plan_of name tokens)) vs held =
-    subst (λ (q : Plan). AreAnswers (IsLine text input l q) vs held) (p ∙ ap (plan_of name) u) seen in
-    let limited : AreAnswers (IsLine text input limit (plan_of name tokens)) vs held =
-    subst (λ (n : ℕ). AreAnswers (IsLine text input n (plan_of name tokens)) vs held) at planned in
+    let some : Bool = nat_lt 1 (length names) in
+    let with_roles : rs ≡ token_roles job.format text tokens = q ∙ r ∙ ap (token_roles job.format text) t in
+    let seen : AreAnswers (IsLine text input l is_named ts rs first) vs held = seen_as (IsLine text input l is_named ts rs first) line_held vs lines are in
+    let limited : AreAnswers (IsLine text input limit is_named ts rs first) vs held =
+    subst (λ (k : ℕ). AreAnswers (IsLine text input k is_named ts rs first) vs held) at seen in
+    let named : AreAnswers (IsLine text input limit some ts rs first) vs held =
+    subst (λ (b : Bool). AreAnswers (IsLine text input limit b ts rs first) vs held) n limited in
+    let placed : AreAnswers (IsLine text input limit some tokens rs first) vs held =
+    subst (λ (ks : List Token). AreAnswers (IsLine text input limit some ks rs first) vs held) t named in
+    let ruled : AreAnswers (IsLine text input limit some tokens (token_roles job.format text tokens) first) vs held =
+    subst (λ (ks : List Role). AreAnswers (IsLine text input limit some tokens ks first) vs held) with_roles placed in
     record {
       job = job;
       spells = spells;
       tokens = tokens;
       tokens_are = has;
       lines_are =
-          subst (λ (xs : List Variant). AreAnswers (IsLine text input limit (plan_of name tokens)) xs held) (w ∙ v ∙ ap variants_in t)
-          limited;
-      first_is = f ∙ ap (λ (n : ℕ). told.job_outcome_of n None job input) at;
+          subst (λ (xs : List Variant). AreAnswers (IsLine text input limit some tokens (token_roles job.format text tokens) first) xs held)
+          (w ∙ v ∙ ap (tried_in each names) t) ruled;
+      first_is = f ∙ ap (λ (k : ℕ). told.job_outcome_of k None job input) at;
+      more_is = m ∙ ap (has_more each names) t;
     }

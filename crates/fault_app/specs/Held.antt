@@ -9,12 +9,19 @@ use Rattle.job_meaning.specs.Shown.{Ending, well, Row, meaning_rows}
 use Rattle.job_meaning.specs.declared.limits.TheConstants.{MAX_INPUT}
 use Rattle.job_story.specs.Held.{event_of}
 use Rattle.fault_text.specs.JobOutcomes.{cancelled_in, walked_events}
-use Rattle.fault_text.specs.Views.{line_held}
-use Rattle.fault_app.specs.JobOutcomes.{IsLine}
+use Rattle.fault_text.specs.Views.{job_outcome_held, line_held}
+use Rattle.fault_app.specs.JobOutcomes.{IsTried, IsTriedWhere, IsLine}
 use Rattle.fault_text.specs.declared.line.Line.{Line}
+use Rattle.job_edits.specs.Faults.{plan_of}
+use Rattle.job_edits.specs.Repeated.{repeated_in}
+use Rattle.job_edits.specs.Waiting.{waiting_in}
+use Rattle.job_edits.specs.declared.fault.Fault.{Fault}
 use Rattle.job_edits.specs.declared.fault.Variant.{Variant}
+use Rattle.job_edits.specs.declared.waiting.Waiting.{Waiting}
 use Rattle.fault_app.specs.declared.summary.Summary.{Summary}
 use Rattle.fault_app.specs.declared.lines.Author.{Author}
+use Rattle.fault_app.specs.declared.trial.Trial.{Trial}
+use Rattle.fault_app.specs.declared.trial.Tried.{Tried}
 
 -- what is kept of a run is what the meaning says
 pub record IsSummary (job : Tree) (input : List ℕ) (s : Summary) : Type 0 where
@@ -29,10 +36,27 @@ abbrev pub root_ending : List Row → Ending
 root_ending [] = well
 root_ending (r ∷ rs) = r.ending
 
--- the input is not longer than the maximum
-abbrev pub HasRoom : Author → Type 0
-HasRoom author = length author.input.now ≤ MAX_INPUT
+-- the input is not longer than the maximum, and the plan, the blocks and the steps are those of the tokens
+pub record HasRoom (author : Author) : Type 0 where
+  pub room : length author.trial.input.now ≤ MAX_INPUT
+  pub plan : author.trial.plan ≡ plan_of author.tokens.now
+  pub blocks : author.blocks.now ≡ repeated_in author.tokens.now
+  pub steps : author.steps.now ≡ waiting_in author.tokens.now
+
+-- what becomes of a text with a fault of a step
+abbrev pub IsTrial : Trial → Waiting → Fault → Tried → Type 0
+IsTrial trial step fault t =
+    IsTried trial.text.now trial.input.now trial.limit trial.plan step fault (job_outcome_held trial.before.now) (job_outcome_held t.job_outcome)
+    t.reached t.differs t.cuts
+
+-- what becomes of the original text with a fault
+abbrev pub IsTrialWhere : Author → Variant → Tried → Type 0
+IsTrialWhere author v t =
+    IsTriedWhere author.trial.text.now author.trial.input.now author.trial.limit author.tokens.now author.roles.now
+    (job_outcome_held author.trial.before.now) v v.part (job_outcome_held t.job_outcome) t.reached t.differs t.cuts
 
 -- a line is that of a fault of a step of the original text
 abbrev pub IsLineOf : Author → Variant → Line → Type 0
-IsLineOf author variant l = IsLine author.text.now author.input.now author.limit author.plan variant (line_held l)
+IsLineOf author v l =
+    IsLine author.trial.text.now author.trial.input.now author.trial.limit author.is_named author.tokens.now author.roles.now
+    (job_outcome_held author.trial.before.now) v (line_held l)

@@ -1,15 +1,12 @@
-ghost use Rattle.std.specs.Prelude.{◌≡◌, ◌≤◌, ◌∷◌, [], length, IfOk};
-ghost use Rattle.job_meaning.specs.declared.limits.TheConstants.{MAX_INPUT};
-ghost use Rattle.job_edits.specs.Changes.{changed_text};
-ghost use Rattle.job_edits.specs.Faults.{changes_of, probe_of, raised_by};
-ghost use Rattle.fault_text.specs.Views.{job_outcome_held};
-ghost use Rattle.fault_app.specs.JobOutcomes.{IsJobOutcome, IsReached};
-ghost use Rattle.fault_app.specs.Held.{IsLineOf};
+ghost use Rattle.std.specs.Prelude.{◌≡◌, IfOk};
+ghost use Rattle.fault_app.specs.Held.{HasRoom, IsTrialWhere, IsLineOf};
 
-use crate::job_outcome::{job_outcome_of_text, reaches_in_text};
-use fault_text::{JobOutcome, Line};
-use job_edits::{Plan, Variant, Waiting, changed_text};
-use job_grammar::Name;
+use crate::parts::try_in_part;
+use crate::trial::{Trial, Tried, copy_of, try_fault};
+use fault_text::Line;
+use job_edits::{BlockPart, RepeatedBlock, Variant, Waiting};
+use job_syntax::Role;
+use job_tokens::Token;
 use nursery_app::{column_of, line_of};
 use slot_work::Work;
 use std::alloc::{AllocError, Global};
@@ -19,13 +16,17 @@ use std::thread::Threads;
 #[derive(Clone, Copy)]
 pub(crate) struct Author<'a> {
     /// The original job text.
-    pub text: &'a [u8],
-    /// The input.
-    pub input: &'a [u8],
-    /// The last tick at which a job may end.
-    pub limit: u64,
-    /// What the changes of the text need.
-    pub plan: Plan,
+    pub trial: Trial<'a>,
+    /// Whether the names of exceptions are printed.
+    pub is_named: bool,
+    /// The tokens of the original text.
+    pub tokens: &'a [Token],
+    /// Their roles.
+    pub roles: &'a [Role],
+    /// The blocks of the original text that run several times.
+    pub blocks: &'a [RepeatedBlock],
+    /// The waiting steps of the original text.
+    pub steps: &'a [Waiting],
 }
 
 impl Work for Author<'_> {
@@ -53,92 +54,74 @@ impl Work for Author<'_> {
 fn twin(variant: &Variant) -> Variant
     ensures { result ≡ variant.now }
 {
-    let wait = variant.step.wait;
     let fault = variant.fault;
+    let part = part_of(variant);
     Variant {
-        step: Waiting {
-            from: variant.step.from,
-            to: variant.step.to,
-            wait,
-        },
+        step: copy_of(&variant.step),
         fault,
+        part,
     }
 }
 
-// Returns the name of the exception that a fault raises, if it raises one.
-fn raised_with(plan: &Plan, variant: &Variant) -> Option<Name>
-    ensures { result ≡ raised_by plan.now variant.now.fault }
+// Returns the copy or pass in which alone a fault is.
+fn part_of(variant: &Variant) -> Option<BlockPart>
+    ensures { result ≡ variant.now.part }
 {
-    plan.raised_name(variant.fault)
+    match &variant.part {
+        Some(part) => Some(BlockPart {
+            block: part.block,
+            name: part.name,
+            index: part.index,
+            count: part.count,
+        }),
+        None => None,
+    }
 }
 
-// Returns the outcome of the job with a fault, which raises an exception with this name or none.
-fn job_outcome_with<R: Threads + Sync>(
+// Returns what becomes of the job with a fault.
+fn tried_with<R: Threads + Sync>(
     rt: &R,
     alloc: Global,
     author: &Author<'_>,
     variant: &Variant,
-    raised: Option<Name>,
-) -> Result<JobOutcome, AllocError>
-    requires { length author.now.input.now ≤ MAX_INPUT }
-    ensures { IfOk result (λ job_outcome. IsJobOutcome (changed_text author.now.text.now (changes_of author.now.plan variant.now)) author.now.input.now
-        author.now.limit raised (job_outcome_held job_outcome)) }
+) -> Result<Tried, AllocError>
+    requires { HasRoom author.now }
+    ensures { IfOk result (IsTrialWhere author.now variant.now) }
 {
-    let changes = author.plan.changes(alloc, twin(variant))?;
-    let faulty = changed_text(alloc, author.text, changes.as_slice())?;
-    job_outcome_of_text(
-        rt,
-        alloc,
-        faulty.as_slice(),
-        author.input,
-        author.limit,
-        raised,
-    )
+    match &variant.part {
+        Some(part) => try_in_part(rt, alloc, author, part, variant),
+        None => try_fault(rt, alloc, &author.trial, &variant.step, &variant.fault),
+    }
 }
 
-// Returns whether a fault is reached.
-fn reached_with<R: Threads + Sync>(
-    rt: &R,
-    alloc: Global,
-    author: &Author<'_>,
-    variant: &Variant,
-) -> Result<bool, AllocError>
-    requires { length author.now.input.now ≤ MAX_INPUT }
-    ensures { IfOk result (IsReached (changed_text author.now.text.now (probe_of author.now.plan variant.now ∷ [])) author.now.input.now
-        author.now.limit author.now.plan.reached) }
-{
-    let probe = changed_text(alloc, author.text, &[author.plan.probe(twin(variant))])?;
-    reaches_in_text(
-        rt,
-        alloc,
-        probe.as_slice(),
-        author.input,
-        author.limit,
-        author.plan.reached,
-    )
-}
-
-// Returns the line of a fault: its place, the outcome of the job, and whether the fault is reached.
+// Returns the line of a fault: its place, and what becomes of the job.
 fn line_with<R: Threads + Sync>(
     rt: &R,
     alloc: Global,
     author: &Author<'_>,
     variant: &Variant,
 ) -> Result<Line, AllocError>
-    requires { length author.now.input.now ≤ MAX_INPUT }
+    requires { HasRoom author.now }
     ensures { IfOk result (IsLineOf author.now variant.now) }
 {
     let from = variant.step.from;
-    let raised = raised_with(&author.plan, variant);
-    let job_outcome = job_outcome_with(rt, alloc, author, variant, raised)?;
-    let reached = reached_with(rt, alloc, author, variant)?;
-    let line = line_of(author.text, from);
-    let column = column_of(author.text, from);
+    let line = line_of(author.trial.text, from);
+    let column = column_of(author.trial.text, from);
+    let tried = tried_with(rt, alloc, author, variant)?;
+    let Tried {
+        job_outcome,
+        reached,
+        differs,
+        cuts,
+    } = tried;
     Ok(Line {
         line,
         column,
         variant: twin(variant),
         job_outcome,
         reached,
+        is_named: author.is_named,
+        differs,
+        cuts,
     })
 }

@@ -1,5 +1,6 @@
 -- The outcome of a job, and how a line prints it.
-use Rattle.std.specs.Prelude.{ℕ, zero, suc, Bool, true, false, nat_le, Option, Some, None, List, [], ◌∷◌, ◌++◌, length, codes, decimal}
+use Rattle.std.specs.Prelude.{ℕ, zero, suc, Bool, true, false, ◌||◌, not, nat_le, Option, Some, None, List, [], ◌∷◌, ◌++◌, length, codes, decimal}
+use Rattle.std.specs.Str.{bytes_eq}
 use Rattle.exc_groups.specs.Exceptions.{Label, Exc}
 use Rattle.job_tree.specs.Tree.{Tree}
 use Rattle.job_grammar.specs.Kinds.{number_of}
@@ -9,6 +10,7 @@ use Rattle.job_meaning.specs.Meaning.{root_label, meaning, meaning_end, meaning_
 use Rattle.job_meaning.specs.Shown.{Ending, well, by_cancellation, with_exception, Row, meaning_rows}
 use Rattle.job_story.specs.Tell.{story_by}
 use Rattle.job_story.specs.Events.{Event, events_of, in_order}
+use Rattle.job_story.specs.Focus.{is_among}
 use Rattle.job_story.specs.Limit.{by_limit}
 use Rattle.exc_text.specs.Texts.{label_text, end_text}
 use Rattle.fault_notes.specs.Notes.{sleeping_in, cut_in, is_lost, is_lost_so_far, is_raised}
@@ -128,3 +130,23 @@ abbrev pub is_refused : JobOutcome → Bool
 is_refused (refused fault) = true
 is_refused (stuck sleeping cut lost) = false
 is_refused (ended end exc cancelled cut lost) = false
+
+-- ---- what a fault changes
+
+abbrev pub cut_tasks : JobOutcome → List Label
+cut_tasks (refused fault) = []
+cut_tasks (stuck sleeping cut lost) = cut
+cut_tasks (ended end exc cancelled cut lost) = cut
+
+-- some task is in the first list and not in the second
+abbrev pub has_further : List Label → List Label → Bool
+has_further [] others = false
+has_further (l ∷ ls) others = not (is_among l others) || has_further ls others
+
+-- a task is cut with the fault that is not cut without it
+abbrev pub cuts_more : (before after : JobOutcome) → Bool
+cuts_more before after = has_further (cut_tasks after) (cut_tasks before)
+
+-- the outcome with a fault, as it is printed where the fault is reached, is another text than that without the fault
+abbrev pub differs : (limit : ℕ) → (before after : JobOutcome) → Bool
+differs limit before after = not (bytes_eq (job_outcome_text limit true after) (job_outcome_text limit true before))

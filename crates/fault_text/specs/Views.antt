@@ -6,6 +6,7 @@ use Rattle.fault_text.specs.Table as told_lines
 use Rattle.fault_text.specs.declared.job_outcome.JobOutcome.{JobOutcome}
 use Rattle.fault_text.specs.declared.job_outcome.JobOutcome.TheVariants.{Refused, Stuck, Ended}
 use Rattle.fault_text.specs.declared.line.Line.{Line}
+use Rattle.fault_text.specs.declared.options.Options.{Options}
 
 abbrev pub job_outcome_held : JobOutcome → told.JobOutcome
 job_outcome_held (Refused fault) = told.refused fault
@@ -14,4 +15,16 @@ job_outcome_held (Ended end exc cancelled cut lost) = told.ended end (option_map
 
 abbrev pub line_held : Line → told_lines.Line
 line_held l =
-    record { line = l.line; column = l.column; variant = l.variant; job_outcome = job_outcome_held l.job_outcome; reached = l.reached }
+    record {
+      line = l.line;
+      column = l.column;
+      variant = l.variant;
+      job_outcome = job_outcome_held l.job_outcome;
+      reached = l.reached;
+      is_named = l.is_named;
+      differs = l.differs;
+      cuts = l.cuts;
+    }
+
+abbrev pub options_held : Options → told_lines.Options
+options_held o = record { names = o.names.items; each = o.each; brief = o.brief; deny = o.deny }

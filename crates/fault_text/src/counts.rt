@@ -1,5 +1,5 @@
 ghost use Rattle.std.specs.Prelude.{◌≡◌, ◌++◌, OnOk, decimal, map};
-ghost use Rattle.fault_text.specs.JobOutcomes.{is_stuck, has_cut, has_lost, is_refused};
+ghost use Rattle.fault_text.specs.JobOutcomes.{is_stuck, has_lost, is_refused};
 ghost use Rattle.fault_text.specs.Table.{count, is_unreached, counts_of, faults_text, more_text, counts_text};
 ghost use Rattle.fault_text.specs.Views.{line_held};
 
@@ -14,7 +14,7 @@ pub struct Counts {
     pub faults: usize,
     /// Those with which the job does not end by the limit.
     pub stuck: usize,
-    /// Those with which a cleanup is cut.
+    /// Those with which a cleanup is cut that is not cut without the fault.
     pub cut: usize,
     /// Those whose exception is lost.
     pub lost: usize,
@@ -63,14 +63,11 @@ fn stuck_in(lines: &[Line]) -> usize
         .count()
 }
 
-// Returns how many jobs cut a cleanup.
+// Returns how many faults cut a cleanup.
 fn cut_in(lines: &[Line]) -> usize
-    ensures { result ≡ count (λ l. has_cut l.job_outcome) (map line_held lines.now) }
+    ensures { result ≡ count (λ l. l.cuts) (map line_held lines.now) }
 {
-    lines
-        .iter()
-        .filter(|line| line.job_outcome.has_cut())
-        .count()
+    lines.iter().filter(|line| line.cuts).count()
 }
 
 // Returns how many jobs lose the exception of the fault.

@@ -1,5 +1,6 @@
 ghost use Rattle.std.specs.Prelude.{◌≡◌};
-ghost use Rattle.fault_text.specs.JobOutcomes.{is_stuck, has_cut, has_lost, is_refused};
+ghost use Rattle.fault_text.specs.JobOutcomes.{is_stuck, has_cut, has_lost, is_refused, cut_tasks, has_further, cuts_more};
+ghost use Rattle.job_story.specs.Focus.{is_among};
 ghost use Rattle.fault_text.specs.Views.{job_outcome_held};
 
 use exc_groups::{Exc, Label};
@@ -76,4 +77,45 @@ impl JobOutcome {
             JobOutcome::Stuck { .. } | JobOutcome::Ended { .. } => false,
         }
     }
+
+    // Returns the tasks that were cancelled in a cleanup.
+    fn cut_tasks(&self) -> &[Label]
+        ensures { result.now ≡ cut_tasks (job_outcome_held self.now) }
+    {
+        match self {
+            JobOutcome::Refused(_) => &[],
+            JobOutcome::Stuck { cut, .. } | JobOutcome::Ended { cut, .. } => cut.as_slice(),
+        }
+    }
+
+    /// Returns whether a task was cancelled in a cleanup that was not cancelled in one in the other outcome.
+    pub fn cuts_more_than(&self, before: &JobOutcome) -> bool
+        ensures { result ≡ cuts_more (job_outcome_held before.now) (job_outcome_held self.now) }
+    {
+        has_further(self.cut_tasks(), before.cut_tasks())
+    }
+}
+
+// Returns whether one of these labels is not among the others.
+fn has_further(labels: &[Label], others: &[Label]) -> bool
+    ensures { result ≡ has_further labels.now others.now }
+{
+    'labels: for label in labels {
+        if !is_among(label, others) {
+            return true;
+        }
+    }
+    false
+}
+
+// Returns whether a label is one of these.
+fn is_among(label: &Label, labels: &[Label]) -> bool
+    ensures { result ≡ is_among label.now labels.now }
+{
+    'labels: for other in labels {
+        if label == other {
+            return true;
+        }
+    }
+    false
 }

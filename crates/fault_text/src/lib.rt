@@ -12,12 +12,15 @@ mod job_outcome;
 mod line;
 mod lines;
 mod notes;
+mod options;
 mod pieces;
 
+pub use columns::{printed_name, push_part};
 pub use counts::{Counts, push_count, push_more};
 pub use deny::Deny;
 pub use job_outcome::JobOutcome;
 pub use line::Line;
 pub use lines::{denied_text, table};
-pub use notes::{push_names_note, push_not_tried};
+pub use notes::{differs, push_names_note, push_not_tried};
+pub use options::Options;
 pub use pieces::{push_left, push_right};

@@ -1,8 +1,8 @@
 ghost use Rattle.std.specs.Prelude.{◌≡◌, ◌++◌, IfOk, OnOk, map};
-ghost use Rattle.fault_text.specs.Table.{first_text, line_text, lines_text, table_text, denied_text};
+ghost use Rattle.fault_text.specs.Table.{first_text, columns_text, line_text, printed, lines_text, table_text, denied_text};
 ghost use Rattle.fault_text.specs.Views.{job_outcome_held, line_held};
 
-use crate::columns::{Widths, fault_name, place_of, step_of, widths_of};
+use crate::columns::{Widths, kind_of, place_of, step_of, widths_of};
 use crate::counts::{Counts, push_counts};
 use crate::deny::Deny;
 use crate::job_outcome::JobOutcome;
@@ -12,20 +12,29 @@ use crate::pieces::{push_left, push_right, push_spaces};
 use std::alloc::{AllocError, Global};
 
 /// Returns the text of the table: the outcome of the job without a fault (`first`), the outcome with each fault, and how many
-/// faults there are of each kind. `limit` is the last tick at which the job may end. The only error is that memory was refused.
+/// faults there are of each kind. With `brief` it has only the lines whose outcome differs from that of the job without the fault,
+/// but all are counted. `limit` is the last tick at which the job may end, and `more` says whether there are more faults in single
+/// copies and passes than those of `lines`. The only error is that memory runs out.
 pub fn table(
     alloc: Global,
     limit: u64,
+    brief: bool,
     first: &JobOutcome,
     lines: &[Line],
+    more: bool,
 ) -> Result<Vec<u8>, AllocError>
-    ensures { IfOk result (λ text. text.items ≡ table_text limit (job_outcome_held first.now) (map line_held lines.now)) }
+    ensures { IfOk result (λ text. text.items ≡ table_text limit brief (job_outcome_held first.now) (map line_held lines.now) more) }
 {
     let widths = widths_of(alloc, lines)?;
     let mut out = Vec::new(alloc);
     push_first(&mut out, limit, widths, first)?;
-    push_lines(alloc, &mut out, limit, widths, lines)?;
+    push_lines(alloc, &mut out, limit, widths, brief, lines)?;
     push_counts(&mut out, Counts::of(lines))?;
+    if more {
+        out.extend_from_slice(
+            b"only the first 1000 faults in single copies and passes were tried\n",
+        )?;
+    }
     Ok(out)
 }
 
@@ -42,11 +51,11 @@ pub fn denied_text(
 {
     let widths = widths_of(alloc, lines)?;
     let mut out = Vec::new(alloc);
-    if deny.denies(first) {
+    if deny.denies_first(first) {
         push_first(&mut out, limit, widths, first)?;
     }
     'lines: for line in lines {
-        if deny.denies(&line.job_outcome) {
+        if deny.denies(line) {
             push_line(alloc, &mut out, limit, widths, line)?;
         }
     }
@@ -71,18 +80,21 @@ fn push_first(
     out.extend_from_slice(b"\n")
 }
 
-// Appends the outcome of the job with each fault.
+// Appends the outcome of the job with each fault, or only with those that are printed in brief.
 fn push_lines(
     alloc: Global,
     out: &mut Vec<u8>,
     limit: u64,
     widths: Widths,
+    brief: bool,
     lines: &[Line],
 ) -> Result<(), AllocError>
-    ensures { OnOk result (out.new.items ≡ out.old.items ++ lines_text limit widths (map line_held lines.now)) }
+    ensures { OnOk result (out.new.items ≡ out.old.items ++ lines_text limit widths (printed brief (map line_held lines.now))) }
 {
     'lines: for line in lines {
-        push_line(alloc, out, limit, widths, line)?;
+        if !brief || line.differs {
+            push_line(alloc, out, limit, widths, line)?;
+        }
     }
     Ok(())
 }
@@ -97,12 +109,24 @@ fn push_line(
 ) -> Result<(), AllocError>
     ensures { OnOk result (out.new.items ≡ out.old.items ++ line_text limit widths (line_held line.now)) }
 {
+    push_columns(alloc, out, widths, line)?;
+    push_job_outcome(out, limit, line.reached, &line.job_outcome)?;
+    out.extend_from_slice(b"\n")
+}
+
+// Appends the columns of a line before its outcome.
+fn push_columns(
+    alloc: Global,
+    out: &mut Vec<u8>,
+    widths: Widths,
+    line: &Line,
+) -> Result<(), AllocError>
+    ensures { OnOk result (out.new.items ≡ out.old.items ++ columns_text widths (line_held line.now)) }
+{
     push_right(out, widths.place, place_of(alloc, line)?.as_slice())?;
     out.extend_from_slice(b"  ")?;
     push_left(out, widths.step, step_of(alloc, line)?.as_slice())?;
     out.extend_from_slice(b"  ")?;
-    push_left(out, widths.fault, fault_name(line.variant.fault))?;
-    out.extend_from_slice(b"  ")?;
-    push_job_outcome(out, limit, line.reached, &line.job_outcome)?;
-    out.extend_from_slice(b"\n")
+    push_left(out, widths.fault, kind_of(alloc, line)?.as_slice())?;
+    out.extend_from_slice(b"  ")
 }

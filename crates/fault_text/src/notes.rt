@@ -1,8 +1,8 @@
-ghost use Rattle.std.specs.Prelude.{◌≡◌, ◌++◌, Some, OnOk, codes, decimal};
+ghost use Rattle.std.specs.Prelude.{◌≡◌, ◌++◌, Some, true, IfOk, OnOk, codes, decimal};
 ghost use Rattle.std.specs.Option.{option_map};
 ghost use Rattle.exc_groups.specs.Held.{exc_of};
 ghost use Rattle.exc_text.specs.Texts.{end_text};
-ghost use Rattle.fault_text.specs.JobOutcomes.{more_names, names_text, names_note, reached_note, lost_note, not_tried_text, job_outcome_text};
+ghost use Rattle.fault_text.specs.JobOutcomes.{more_names, names_text, names_note, reached_note, lost_note, not_tried_text, job_outcome_text, differs};
 ghost use Rattle.fault_text.specs.Views.{job_outcome_held};
 
 use crate::job_outcome::JobOutcome;
@@ -10,7 +10,7 @@ use digits::push_number;
 use exc_groups::{Exc, Label};
 use exc_text::{push_label, push_raised};
 use job_grammar::JobFault;
-use std::alloc::AllocError;
+use std::alloc::{AllocError, Global};
 
 // Appends the outcome of a job up to the limit, and notes. `reached` says whether the fault was reached.
 pub(crate) fn push_job_outcome(
@@ -49,6 +49,34 @@ pub(crate) fn push_job_outcome(
             push_lost(out, *lost)
         }
     }
+}
+
+/// Returns whether the outcome of a job with a fault, as it is printed of a fault that is reached, is another text than its outcome
+/// without the fault. `limit` is the last tick at which the job may end. The only error is that memory runs out.
+pub fn differs(
+    alloc: Global,
+    limit: u64,
+    before: &JobOutcome,
+    after: &JobOutcome,
+) -> Result<bool, AllocError>
+    ensures { IfOk result (λ other. other ≡ differs limit (job_outcome_held before.now) (job_outcome_held after.now)) }
+{
+    let without = job_outcome_text(alloc, limit, before)?;
+    let with = job_outcome_text(alloc, limit, after)?;
+    Ok(with.as_slice() != without.as_slice())
+}
+
+// Returns the outcome of a job, as it is printed of a fault that is reached.
+fn job_outcome_text(
+    alloc: Global,
+    limit: u64,
+    job_outcome: &JobOutcome,
+) -> Result<Vec<u8>, AllocError>
+    ensures { IfOk result (λ text. text.items ≡ job_outcome_text limit true (job_outcome_held job_outcome.now)) }
+{
+    let mut text = Vec::new(alloc);
+    push_job_outcome(&mut text, limit, true, job_outcome)?;
+    Ok(text)
 }
 
 /// Appends that a text was not tried, and the refusal of that text: the number of its kind and its place. The only error is that

@@ -1,10 +1,12 @@
 -- All numbers of these documents are integers.
 use Rattle.std.proofs.Common.{◌≡◌, ℕ, Option, Some, None, List, [], ◌∷◌, map, refl}
-use Rattle.std.specs.Prelude.{false}
+use Rattle.std.specs.Prelude.{Bool, false}
 use Rattle.serde_json.specs.Data.{Data}
 use Rattle.serde_json.specs.View.{items_of}
 use Rattle.serde_json.specs.Written.{has_float, items_have_float}
 use Rattle.exc_groups.specs.Exceptions.{Label, Exc}
+use Rattle.job_edits.specs.declared.fault.BlockPart.{BlockPart}
+use Rattle.job_edits.specs.Faults.{raised_by}
 use Rattle.fault_text.specs.JobOutcomes.{JobOutcome, refused, stuck, ended}
 use Rattle.fault_text.specs.Table as faults
 use Rattle.sweep_text.specs.Groups as sweeps
@@ -16,7 +18,7 @@ use Rattle.job_lint.specs.declared.warning.Warning.{Warning}
 use Rattle.json_report.specs.Values.{label_json}
 use Rattle.json_report.proofs.Integers.{exc_without_float}
 use Rattle.json_tables.specs.Results.{exc_or_null, result_json}
-use Rattle.json_tables.specs.Faults.{fault_line_json, faults_json}
+use Rattle.json_tables.specs.Faults.{part_or_null, fault_line_json, faults_json}
 use Rattle.json_tables.specs.Sweeps.{value_json, sweep_json}
 use Rattle.json_tables.specs.Races.{difference_json, differences_json, refusal_or_null, race_line_json, races_json}
 use Rattle.json_tables.specs.Lints.{name_or_null, warning_json, lints_json}
@@ -38,16 +40,26 @@ result_has_none limit (ended end exc labels cut lost) = rw (labels_have_none lab
 
 -- ---- faults
 
+name_has_none : (o : Option (List ℕ)) → has_float (name_or_null o) ≡ false
+name_has_none None = refl
+name_has_none (Some name) = refl
+
+part_has_none : (o : Option BlockPart) → has_float (part_or_null o) ≡ false
+part_has_none None = refl
+part_has_none (Some part) = refl
+
 fault_line_has_none : (limit : ℕ) (l : faults.Line) → has_float (fault_line_json limit l) ≡ false
-fault_line_has_none limit l = rw (result_has_none limit l.job_outcome) refl
+fault_line_has_none limit l =
+    rw (result_has_none limit l.job_outcome, name_has_none (raised_by l.variant.fault), part_has_none l.variant.part) refl
 
 fault_lines_have_none : (limit : ℕ) (ls : List faults.Line) → items_have_float (items_of (map (fault_line_json limit) ls)) ≡ false
 fault_lines_have_none limit [] = refl
 fault_lines_have_none limit (l ∷ ls) = rw (fault_line_has_none limit l, fault_lines_have_none limit ls) refl
 
-pub faults_without_float : (value : Data) (limit : ℕ) (first : JobOutcome) (ls : List faults.Line) → value ≡ faults_json limit first ls →
-    has_float value ≡ false
-faults_without_float value limit first ls is = rw (is, result_has_none limit first, fault_lines_have_none limit ls) refl
+pub faults_without_float : (value : Data) (limit : ℕ) (brief : Bool) (first : JobOutcome) (ls : List faults.Line) (more : Bool) →
+    value ≡ faults_json limit brief first ls more → has_float value ≡ false
+faults_without_float value limit brief first ls more is =
+    rw (is, result_has_none limit first, fault_lines_have_none limit (faults.printed brief ls)) refl
 
 -- ---- values
 
@@ -90,10 +102,6 @@ pub races_without_float : (value : Data) (hairs : ℕ) (ls : List races.Line) �
 races_without_float value hairs ls is = rw (is, race_lines_have_none (lines_that is_shown ls)) refl
 
 -- ---- warnings
-
-name_has_none : (name : Option (List ℕ)) → has_float (name_or_null name) ≡ false
-name_has_none None = refl
-name_has_none (Some name) = refl
 
 warnings_have_none : (text : List ℕ) (ws : List Warning) → items_have_float (items_of (map (warning_json text) ws)) ≡ false
 warnings_have_none text [] = refl

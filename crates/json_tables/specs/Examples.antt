@@ -1,15 +1,15 @@
 -- Worked documents, proved by computing.
-use Rattle.std.specs.Prelude.{◌≡◌, ℕ, true, false, Some, None, List, [], ◌∷◌, ◌++◌, codes, refl}
+use Rattle.std.specs.Prelude.{◌≡◌, true, false, Some, None, [], ◌∷◌, ◌++◌, codes, refl}
 use Rattle.std.specs.Fmt.{digits}
 use Rattle.json.specs.Print.{escape_byte}
-use Rattle.exc_groups.specs.Exceptions.{Label, by_nursery, cancelled, raised, group, no_parts, part}
+use Rattle.exc_groups.specs.Exceptions.{by_nursery, cancelled, raised, group, no_parts, part}
 use Rattle.job_edits.specs.declared.fault.Fault.TheVariants.{Fails, Hangs, Misses}
 use Rattle.job_edits.specs.declared.waiting.Wait.TheVariants as wait
 use Rattle.job_edits.specs.declared.site.Moment.TheVariants.{Sleep}
 use Rattle.job_edits.specs.declared.shift.Hair.TheVariants.{Earlier, Later}
 use Rattle.job_lint.specs.declared.warning.Lint.TheVariants.{Unreachable, IdleScope, UnsetEvent}
-use Rattle.fault_text.specs.JobOutcomes.{refused, stuck, ended}
-use Rattle.fault_text.specs.Examples.{task, too_large, line_with}
+use Rattle.fault_text.specs.JobOutcomes.{JobOutcome, refused, stuck, ended}
+use Rattle.fault_text.specs.Examples.{task, too_large, line_in, line_with}
 use Rattle.sweep_text.specs.Examples.{value_with as value}
 use Rattle.race_rows.specs.Differences.{otherwise, inside}
 use Rattle.race_text.specs.Examples.{copy}
@@ -20,22 +20,25 @@ use Rattle.json_tables.specs.Sweeps.{sweep_json}
 use Rattle.json_tables.specs.Races.{races_json}
 use Rattle.json_tables.specs.Lints.{lints_json}
 
--- A fault whose exception is lost, one that leaves a task asleep and is not reached, and a text that is refused. A backslash of a
+abbrev pub faults_first : JobOutcome
+faults_first = ended 3 (Some cancelled) [] [] false
+
+-- A fault whose exception is lost, one that leaves a task asleep and is not reached, and one in a single copy, whose text is refused. A backslash of a
 -- step is doubled as in a report, and once more by JSON.
 pub faults_are_written :
-    document (faults_json 50 (ended 3 (Some cancelled) [] [] false)
-    (line_with 7 11 (wait.Sleep 3) Fails true
+    document (faults_json 50 false faults_first
+    (line_with faults_first 7 11 (wait.Sleep 3) (Fails (codes "E")) true
     (ended 4 (Some (group (by_nursery (task (codes "n"))) (part (raised (codes "E") (task (codes "a")) 2) no_parts))) (task (codes "b") ∷ []) (task (codes "c") ∷ []) true)
-    ∷ line_with 9 3 wait.Forever Hangs false (stuck (task (codes "a") ∷ []) (task (codes "b") ∷ []) false)
-    ∷ line_with 10 3 (wait.Need (codes "k\\") (codes "Gone")) (Misses (codes "X")) false (refused too_large)
-    ∷ []))
+    ∷ line_with faults_first 9 3 wait.Forever Hangs false (stuck (task (codes "a") ∷ []) (task (codes "b") ∷ []) false)
+    ∷ line_in faults_first (Some (record { block = 0; name = Some (codes "p"); index = 1; count = 2 })) 10 3 (wait.Need (codes "k\\") (codes "Gone")) (Misses (codes "X")) false (refused too_large)
+    ∷ []) true)
     ≡ codes "{\"as_it_is\":{\"result\":{\"cancelled\":[],\"cut\":[],\"end\":3,\"exception\":{\"cancelled\":true},\"lost\":false,\"outcome\":\"cancelled\"}},"
     ++ codes "\"counts\":{\"cut\":2,\"faults\":3,\"lost\":1,\"not_reached\":1,\"not_tried\":1,\"stuck\":1},"
-    ++ codes "\"lines\":[{\"column\":11,\"fault\":\"fails\",\"line\":7,\"reached\":true,"
+    ++ codes "\"lines\":[{\"column\":11,\"exception\":\"E\",\"fault\":\"fails\",\"line\":7,\"part\":null,\"reached\":true,"
     ++ codes "\"result\":{\"cancelled\":[\"b\"],\"cut\":[\"c\"],\"end\":4,"
     ++ codes "\"exception\":{\"group\":\"n\",\"parts\":[{\"raised\":\"E\",\"task\":\"a\",\"tick\":2}]},\"lost\":true,\"outcome\":\"raised\"},\"step\":\"sleep 3\"},"
-    ++ codes "{\"column\":3,\"fault\":\"hangs\",\"line\":9,\"reached\":false,\"result\":{\"cut\":[\"b\"],\"limit\":50,\"lost\":false,\"outcome\":\"stuck\",\"sleeping\":[\"a\"]},\"step\":\"forever\"},"
-    ++ codes "{\"column\":3,\"fault\":\"misses\",\"line\":10,\"reached\":false,\"result\":{\"not_tried\":{\"at\":0,\"number\":11},\"outcome\":\"refused\"},\"step\":\"need \\\"k\\\\\\\\\\\\\\\\\\\" Gone\"}]}\n"
+    ++ codes "{\"column\":3,\"exception\":null,\"fault\":\"hangs\",\"line\":9,\"part\":null,\"reached\":false,\"result\":{\"cut\":[\"b\"],\"limit\":50,\"lost\":false,\"outcome\":\"stuck\",\"sleeping\":[\"a\"]},\"step\":\"forever\"},"
+    ++ codes "{\"column\":3,\"exception\":\"X\",\"fault\":\"misses\",\"line\":10,\"part\":\"p.1\",\"reached\":false,\"result\":{\"not_tried\":{\"at\":0,\"number\":11},\"outcome\":\"refused\"},\"step\":\"need \\\"k\\\\\\\\\\\\\\\\\\\" Gone\"}],\"more\":true}\n"
 unfolding digits escape_byte
 faults_are_written = refl
 

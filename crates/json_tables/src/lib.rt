@@ -7,6 +7,7 @@
 #![tactic(auto)]
 
 mod fault_lines;
+mod members;
 mod race_lines;
 mod results;
 mod sweep_lines;

@@ -27,7 +27,7 @@ use Rattle.job_lint.specs.declared.warning.Warning.{Warning}
 use Rattle.job_lint.specs.Linted.{AreWarnings}
 use Rattle.json_app.specs.Serving as documents
 use Rattle.json_app.specs.Explaining as told
-use Rattle.fault_text.specs.declared.deny.Deny.{Deny}
+use Rattle.fault_text.specs.Table.{Options}
 use Rattle.job_edits.specs.declared.number.Target.{Target}
 use Rattle.table_app.specs.declared.form.Form.{Form as TableForm}
 use Rattle.table_app.specs.declared.form.Form.TheVariants as forms
@@ -82,9 +82,9 @@ TellsChart form text input limit status =
     (verdict : Verdict) × (bytes : List ℕ) × charts.IsVerdict form text input limit verdict bytes × (status ≡ verdicts.status_of verdict)
 
 -- the status is that of the verdict on the job with each fault
-abbrev pub TellsFaults : TableForm → List ℕ → List ℕ → ℕ → List ℕ → Deny → ℕ → Type 0
-TellsFaults form text input limit name deny status =
-    (verdict : FaultsVerdict) × (bytes : List ℕ) × job_outcomes.IsVerdict form text input limit name deny verdict bytes
+abbrev pub TellsFaults : TableForm → List ℕ → List ℕ → ℕ → Options → ℕ → Type 0
+TellsFaults form text input limit options status =
+    (verdict : FaultsVerdict) × (bytes : List ℕ) × job_outcomes.IsVerdict form text input limit options verdict bytes
     × (status ≡ faults_status_of verdict)
 
 -- the status is that of the verdict on the job with each of its places moved by a hair
@@ -99,8 +99,8 @@ table_form true = forms.Json
 table_form false = forms.Text
 
 -- the same of `faults`, for the job text and the input that were read
-abbrev pub TellsReadFaults : TableForm → ℕ → List ℕ → Deny → ℕ → Type 0
-TellsReadFaults form limit name deny status = (text : List ℕ) × (input : List ℕ) × TellsFaults form text input limit name deny status
+abbrev pub TellsReadFaults : TableForm → ℕ → Options → ℕ → Type 0
+TellsReadFaults form limit options status = (text : List ℕ) × (input : List ℕ) × TellsFaults form text input limit options status
 
 -- and of `races`
 abbrev pub TellsReadRaces : TableForm → ℕ → Bool → ℕ → Type 0

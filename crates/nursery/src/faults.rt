@@ -1,5 +1,6 @@
 ghost use Rattle.std.specs.Prelude.{◌≡◌, ◌≤◌, length, IfOk};
 ghost use Rattle.job_meaning.specs.declared.limits.TheConstants.{MAX_INPUT};
+ghost use Rattle.fault_text.specs.Views.{options_held};
 ghost use Rattle.table_app.specs.Statuses.{faults_status_of};
 ghost use Rattle.nursery.specs.Statuses.{TellsFaults, TellsReadFaults, table_form};
 
@@ -16,14 +17,14 @@ use std::thread::Threads;
 use std::time::Clock;
 use table_app::{FaultsVerdict, Form, faults};
 
-// Writes the outcome of a job file over an input file, or over no input, with each fault of it, and returns the status. The name
-// is that of the exception that a faulty step raises. Progress is shown if standard error is a terminal.
+// Writes the outcome of a job file over an input file, or over no input, with each fault of it, and returns the status. Progress
+// is shown if standard error is a terminal.
 pub(crate) fn faults_job<R: Files + Input + Print + Eprint + Clock + Threads + Sync + AllocGlobal>(
     rt: &R,
     args: &FaultsArgs,
     at_terminal: bool,
 ) -> Result<u8, Stop>
-    ensures { IfOk result (TellsReadFaults (table_form args.now.json) args.now.settings.limit args.now.name args.now.deny) }
+    ensures { IfOk result (TellsReadFaults (table_form args.now.json) args.now.settings.limit (options_held args.now.options)) }
 {
     let given = read_both(rt, args.job.as_str(), word_of(&args.input))?;
     let progress = Progress::new(rt, at_terminal);
@@ -41,12 +42,20 @@ fn faults_text<R: Print + Eprint + Clock + Threads + Sync + AllocGlobal>(
     progress: &Progress<'_, R>,
 ) -> Result<u8, Stop>
     requires { length input.now ≤ MAX_INPUT }
-    ensures { IfOk result (TellsFaults form text.now input.now args.now.settings.limit args.now.name args.now.deny) }
+    ensures { IfOk result (TellsFaults form text.now input.now args.now.settings.limit (options_held args.now.options)) }
 {
     let (alloc, settings) = (rt.alloc(), args.settings);
     let mut out = WriteOut::new(io::writer(rt));
     let written = faults(
-        rt, alloc, text, input, settings, args.name, args.deny, form, progress, &mut out,
+        rt,
+        alloc,
+        text,
+        input,
+        settings,
+        &args.options,
+        form,
+        progress,
+        &mut out,
     );
     progress.clear();
     let verdict = written?;

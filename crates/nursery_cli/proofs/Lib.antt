@@ -1,3 +1,4 @@
 mod CutLemmas
 mod DenyLemmas
 mod Spans
+pub mod AllNamed

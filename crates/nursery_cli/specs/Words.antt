@@ -1,6 +1,7 @@
 -- What the words of a command line may ask for.
 use Rattle.std.specs.Prelude.{◌≡◌, ℕ, ◌≤◌, nat_le, Bool, true, cond, not, ◌||◌, Option, Some, None, List, length, IsTrue, is_some, codes}
 use Rattle.std.specs.Option.{option_map}
+use Rattle.std.specs.List.{list_all}
 use Rattle.std.specs.Str.{bytes_eq}
 use Rattle.job_tree.specs.Formats.{extends_format_1}
 use Rattle.job_syntax.specs.Keywords.{keyword_of}
@@ -46,7 +47,7 @@ IsWritten job modes.Print = Unit {0}
 IsWritten job modes.Write = IsTrue (not (bytes_eq job (codes "-")))
 IsWritten job modes.Check = Unit {0}
 
--- A label is short enough, a chart has a width in its range or none, a faulty step can raise its exception, a sweep has values, a
+-- A label is short enough, a chart has a width in its range or none, a faulty step can raise its exceptions, a sweep has values, a
 -- file that is formatted in place is not standard input, a job is upgraded to format 2 or 3, ticks are multiplied by 1 to
 -- 1,000,000,000, and there is something to test.
 abbrev pub IsFit : Command → Type 0
@@ -54,7 +55,7 @@ IsFit Feed = Unit {0}
 IsFit (Run args) = Unit {0}
 IsFit (Explain args) = IsLabel (option_map string_bytes args.task)
 IsFit (Chart args) = IsWidth args.width
-IsFit (Faults args) = IsTrue (may_be_raised args.name)
+IsFit (Faults args) = IsTrue (list_all may_be_raised args.options.names.items)
 IsFit (Races args) = Unit {0}
 IsFit (Sweep args) = AreValues args.values.items
 IsFit (Fmt job mode) = IsWritten (string_bytes job) mode

@@ -1,7 +1,6 @@
-use fault_text::Deny;
+use fault_text::Options;
 use job_edits::Target;
 use job_runner::Settings;
-use job_tree::Name;
 
 /// The order in which the ready tasks of a batch get their turns.
 #[derive(Clone, Copy, Debug, PartialEq, Eq)]
@@ -69,10 +68,8 @@ pub struct FaultsArgs {
     pub job: String,
     /// The input file, or `-` for standard input. `None` is the input that the job file holds, or else an empty one.
     pub input: Option<String>,
-    /// The name of the exception that a faulty step raises. It is a name that a step may raise.
-    pub name: Name,
-    /// The outcomes that are denied.
-    pub deny: Deny,
+    /// Which faults are tried, which lines are printed, and which outcomes are denied. A step may raise each of the names.
+    pub options: Options,
     /// The number of threads, and the last tick at which a job may end.
     pub settings: Settings,
     /// Whether the output is one JSON document.

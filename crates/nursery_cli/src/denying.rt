@@ -27,7 +27,7 @@ pub(crate) fn denied_kinds(alloc: Global, names: &str) -> Result<Deny, CommandFa
 }
 
 // Returns the words between the commas of a text.
-fn kinds_in(alloc: Global, names: &str) -> Result<Vec<&str>, AllocError>
+pub(crate) fn kinds_in(alloc: Global, names: &str) -> Result<Vec<&str>, AllocError>
     ensures { IfOk result (λ words. map (λ word. word.now) words.items ≡ kinds_in names.now) }
 {
     names.split(',').collect(alloc)

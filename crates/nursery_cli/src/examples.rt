@@ -108,7 +108,8 @@ Exit status: that of `run`; 3 if the job ends later than the limit, and is drawn
 const FAULTS_EXAMPLE: &str =
     "A fault is a change of one waiting step: an exception is raised in its place (`fails`) or after it
 (`fails late`), it never ends (`hangs`), or the whole job is cancelled from outside (`cancelled`); a
-`need` finds no line (`misses`).
+`need` finds no line (`misses`). It is made wherever the step runs; with `--each` there are lines for
+single copies and passes too.
 
 Example: what if one of two calls fails or hangs?
 

@@ -1,6 +1,6 @@
 //! The command line of the program `nursery`: what the words after its name ask for, and the text of its help.
 //!
-//! Only an empty list of words asks for a feed on standard input, and it always does. The exception of `faults` is one that a
+//! Only an empty list of words asks for a feed on standard input, and it always does. The exceptions of `faults` are such as a
 //! step may raise; a sweep has values, from a first one on by a step. Settings are in their ranges by their type. The crate
 //! uses `clap` to read the words and to print the help. Which words are refused, and with which message, is tested.
 #![tactic(auto)]
@@ -11,6 +11,7 @@ mod common;
 mod cutting;
 mod denying;
 mod examples;
+mod naming;
 mod options;
 mod parser;
 mod reading;

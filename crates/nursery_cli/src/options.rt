@@ -138,16 +138,28 @@ pub(crate) const SVG: ArgRow = ArgRow {
 
 pub(crate) const FAULT_NAME: ArgRow = ArgRow {
     name: "name",
-    value_name: "NAME",
+    value_name: "NAMES",
     default: Some(DEFAULT_FAULT),
-    help: "The name of the exception that a faulty step raises",
+    help: "The name of the exception that a faulty step raises, or several, with commas between them, one at a time",
     ..OPTION
+};
+
+pub(crate) const EACH_PART: ArgRow = ArgRow {
+    name: "each",
+    help: "Adds lines for faults in single copies of a `start .. over` and in single passes of a `repeat`, at most 1000",
+    ..FLAG
+};
+
+pub(crate) const BRIEF: ArgRow = ArgRow {
+    name: "brief",
+    help: "Writes only the lines whose outcome differs from that of the job as it is",
+    ..FLAG
 };
 
 pub(crate) const DENIED_KINDS: ArgRow = ArgRow {
     name: "deny",
     value_name: "KINDS",
-    help: "`stuck`, `cut` and `lost`, with commas between them: if a line is of one of these kinds, the status is 1, and standard error repeats the line",
+    help: "`stuck`, `cut` and `lost`, with commas between them: if a line is of one of these kinds beyond the job as it is, the status is 1, and standard error repeats the line",
     ..OPTION
 };
 

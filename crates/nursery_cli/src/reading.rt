@@ -1,4 +1,5 @@
 ghost use Rattle.std.specs.Prelude.{◌≡◌, [], Ok, IfOk, IsTrue, codes};
+ghost use Rattle.std.specs.List.{list_all};
 ghost use Rattle.std.specs.Option.{option_map};
 ghost use Rattle.std.specs.Str.{bytes_eq};
 ghost use Rattle.std.specs.String.{string_bytes};
@@ -11,14 +12,15 @@ use crate::arguments::{ChartArgs, ExplainArgs, FaultsArgs, Order, RacesArgs, Run
 use crate::command::{Command, CommandFault, FormatMode, Shell};
 use crate::common::{OUT_OF_RANGE, owned_copy, refusal, settings_of};
 use crate::denying::denied_kinds;
+use crate::naming::raised_names;
 use crate::parser::{DEFAULT_FAULT, LEAST_WIDTH, MAX_FACTOR, MAX_LABEL, MAX_WIDTH, command_line};
 use crate::showing::{have_control, shown_words};
 use crate::sweeping::{target_of, values_of};
 use clap::ArgMatches;
 use clap::error::ErrorKind;
+use fault_text::Options;
 use job_runner::Settings;
-use job_syntax::Keyword;
-use job_tree::{Format, Name};
+use job_tree::Format;
 use std::alloc::{AllocError, Global};
 
 // The error if standard input is to be written.
@@ -309,16 +311,28 @@ fn faults_command(
     ensures { IfOk result IsAsked }
 {
     let run = job_run(alloc, job, matches)?;
-    let name = raised_name(alloc, matches.get_str("name").unwrap_or(DEFAULT_FAULT))?;
-    let deny = denied_kinds(alloc, matches.get_str("deny").unwrap_or(""))?;
+    let options = fault_options(alloc, matches)?;
     Ok(Command::Faults(FaultsArgs {
         job: run.job,
         input: run.input,
-        name,
-        deny,
+        options,
         settings: run.settings,
         json: matches.get_flag("json"),
     }))
+}
+
+// Returns which faults are tried, which lines are printed, and which outcomes are denied.
+fn fault_options(alloc: Global, matches: &ArgMatches<'_>) -> Result<Options, CommandFault>
+    ensures { IfOk result (λ options. IsTrue (list_all may_be_raised options.names.items)) }
+{
+    let deny = denied_kinds(alloc, matches.get_str("deny").unwrap_or(""))?;
+    let names = raised_names(alloc, matches.get_str("name").unwrap_or(DEFAULT_FAULT))?;
+    Ok(Options {
+        names,
+        each: matches.get_flag("each"),
+        brief: matches.get_flag("brief"),
+        deny,
+    })
 }
 
 // Returns the command `races` with its settings.
@@ -448,36 +462,6 @@ fn is_standard(name: &str) -> bool
     ensures { result ≡ bytes_eq name.now (codes "-") }
 {
     name == "-"
-}
-
-// Returns the name of the exception, if a step may raise it.
-fn raised_name(alloc: Global, word: &str) -> Result<Name, CommandFault>
-    ensures { IfOk result (λ name. IsTrue (may_be_raised name)) }
-{
-    match Name::new(word.as_bytes()) {
-        Some(name) if may_be_raised(name) => Ok(name),
-        _ => Err(refused_name(alloc, word)),
-    }
-}
-
-// Returns whether a step may raise an exception with this name.
-fn may_be_raised(name: Name) -> bool
-    ensures { result ≡ may_be_raised name }
-{
-    Keyword::of(name).is_none()
-        && name.bytes() != b"Cancelled".as_slice()
-        && name.bytes() != b"TooSlow".as_slice()
-}
-
-// Returns the refusal of a name that no step may raise.
-fn refused_name(alloc: Global, word: &str) -> CommandFault {
-    let text = format!(in alloc;
-        "error: no step can raise `{word}`: --name takes a letter, then letters, digits and `_`, at most 32 in all, and no keyword, `Cancelled` or `TooSlow`\n"
-    );
-    match text {
-        Ok(text) => CommandFault::Refused { text },
-        Err(_) => CommandFault::NoMemory,
-    }
 }
 
 // Returns the order with this name, or forward if there is no name.

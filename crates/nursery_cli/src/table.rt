@@ -1,7 +1,7 @@
 use crate::options::{
-    ACCEPT, ArgRow, CANONICAL, CHECK, DENIED_KINDS, DENY_RACES, FACTOR, FAULT_NAME, FORMAT, INPUT,
-    JOB, JSON, LIMIT, ORDER, PATHS, SHELL, SVG, TARGET_NAME, TARGET_PLACE, TASK, VALUES, WIDTH,
-    WORKERS, WRITE,
+    ACCEPT, ArgRow, BRIEF, CANONICAL, CHECK, DENIED_KINDS, DENY_RACES, EACH_PART, FACTOR,
+    FAULT_NAME, FORMAT, INPUT, JOB, JSON, LIMIT, ORDER, PATHS, SHELL, SVG, TARGET_NAME,
+    TARGET_PLACE, TASK, VALUES, WIDTH, WORKERS, WRITE,
 };
 
 // Options of a command of which at most one may be given. If the group is required, one of them has to be given.
@@ -52,7 +52,17 @@ const TABLES: &[CommandRow] = &[
     CommandRow {
         name: "faults",
         about: "Shows the outcome of a job if any one of its waiting steps fails, hangs or is cancelled",
-        args: &[JOB, INPUT, FAULT_NAME, DENIED_KINDS, WORKERS, LIMIT, JSON],
+        args: &[
+            JOB,
+            INPUT,
+            FAULT_NAME,
+            EACH_PART,
+            BRIEF,
+            DENIED_KINDS,
+            WORKERS,
+            LIMIT,
+            JSON,
+        ],
         group: None,
     },
     CommandRow {

@@ -1,11 +1,12 @@
 //! What `faults` writes of worked jobs: the same by 1, 3 and 64 threads; and the lines of it that are denied.
 
 use crate::fixtures::{LIMIT, call_again, same, same_answer};
-use fault_text::Deny;
+use fault_text::{Deny, Options};
 use job_report::{MemOut, Out};
 use job_runner::{NoGate, Settings};
 use job_tree::Name;
 use nursery_app::ServeFault;
+use std::alloc::Global;
 use std::process::Abort;
 use std::test::Fail;
 use std::thread::Threads;
@@ -18,12 +19,24 @@ const ALL: Deny = Deny {
     lost: true,
 };
 
+// Returns the options with which a step that fails raises an exception with this name, and all is denied.
+fn options_of(alloc: Global, name: &[u8]) -> Result<Options, Fail> {
+    let mut names = Vec::new(alloc);
+    names.push(Name::new(name).ok_or("name")?)?;
+    Ok(Options {
+        names,
+        each: false,
+        brief: false,
+        deny: ALL,
+    })
+}
+
 // Calls `faults` with a writer that has not failed.
 fn faults_into<R: Abort + Threads + Sync + AllocGlobal>(
     rt: &R,
     text: &[u8],
     settings: Settings,
-    name: Name,
+    options: &Options,
     out: &mut MemOut,
 ) -> Result<FaultsVerdict, ServeFault> {
     assert!(rt; out.failures() == 0);
@@ -34,8 +47,7 @@ fn faults_into<R: Abort + Threads + Sync + AllocGlobal>(
         text,
         b"",
         settings,
-        name,
-        ALL,
+        options,
         Form::Text,
         &NoGate,
         out,
@@ -50,8 +62,8 @@ fn faults_again<R: Abort + Threads + Sync + AllocGlobal>(
     out: &mut MemOut,
 ) -> Result<FaultsVerdict, Fail> {
     let settings = Settings::new(workers, LIMIT).ok_or("settings")?;
-    let name = Name::new(b"Fault").ok_or("name")?;
-    let answer = call_again!(rt, out, faults_into(rt, text, settings, name, out));
+    let options = options_of(rt.alloc(), b"Fault")?;
+    let answer = call_again!(rt, out, faults_into(rt, text, settings, &options, out));
     Ok(answer?)
 }
 

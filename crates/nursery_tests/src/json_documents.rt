@@ -1,7 +1,7 @@
 //! The JSON documents of `faults`, `sweep`, `races` and `lint`, of small jobs. The expected documents are worked out by hand.
 
 use crate::fixtures::{LIMIT, wrong};
-use fault_text::Deny;
+use fault_text::{Deny, Options};
 use job_edits::Target;
 use job_report::{MemOut, Out};
 use job_runner::{NoGate, Settings};
@@ -18,12 +18,19 @@ const NO_DENY: Deny = Deny {
 };
 
 const FAULTS: &[u8] =
-    b"{\"as_it_is\":{\"result\":{\"cancelled\":[],\"cut\":[],\"end\":0,\"exception\":null,\"lost\":false,\"outcome\":\"done\"}},\"counts\":{\"cut\":0,\"faults\":3,\"lost\":0,\"not_reached\":0,\"not_tried\":0,\"stuck\":1},\"lines\":[{\"column\":7,\"fault\":\"fails\",\"line\":2,\"reached\":true,\"result\":{\"cancelled\":[],\"cut\":[],\"end\":0,\"exception\":{\"raised\":\"Late\",\"task\":\"m\",\"tick\":0},\"lost\":false,\"outcome\":\"raised\"},\"step\":\"checkpoint\"},{\"column\":7,\"fault\":\"hangs\",\"line\":2,\"reached\":true,\"result\":{\"cut\":[],\"limit\":100,\"lost\":false,\"outcome\":\"stuck\",\"sleeping\":[\"m\"]},\"step\":\"checkpoint\"},{\"column\":7,\"fault\":\"cancelled\",\"line\":2,\"reached\":true,\"result\":{\"cancelled\":[],\"cut\":[],\"end\":0,\"exception\":null,\"lost\":false,\"outcome\":\"done\"},\"step\":\"checkpoint\"}]}\n";
+    b"{\"as_it_is\":{\"result\":{\"cancelled\":[],\"cut\":[],\"end\":0,\"exception\":null,\"lost\":false,\"outcome\":\"done\"}},\"counts\":{\"cut\":0,\"faults\":3,\"lost\":0,\"not_reached\":0,\"not_tried\":0,\"stuck\":1},\"lines\":[{\"column\":7,\"exception\":\"Late\",\"fault\":\"fails\",\"line\":2,\"part\":null,\"reached\":true,\"result\":{\"cancelled\":[],\"cut\":[],\"end\":0,\"exception\":{\"raised\":\"Late\",\"task\":\"m\",\"tick\":0},\"lost\":false,\"outcome\":\"raised\"},\"step\":\"checkpoint\"},{\"column\":7,\"exception\":null,\"fault\":\"hangs\",\"line\":2,\"part\":null,\"reached\":true,\"result\":{\"cut\":[],\"limit\":100,\"lost\":false,\"outcome\":\"stuck\",\"sleeping\":[\"m\"]},\"step\":\"checkpoint\"},{\"column\":7,\"exception\":null,\"fault\":\"cancelled\",\"line\":2,\"part\":null,\"reached\":true,\"result\":{\"cancelled\":[],\"cut\":[],\"end\":0,\"exception\":null,\"lost\":false,\"outcome\":\"done\"},\"step\":\"checkpoint\"}],\"more\":false}\n";
 
 #[test]
 fn faults_are_a_document(rt: HostRuntime) -> Result<(), Fail> {
     let settings = Settings::new(3, LIMIT).ok_or("settings")?;
-    let name = Name::new(b"Late").ok_or("name")?;
+    let mut names = Vec::new(rt.alloc());
+    names.push(Name::new(b"Late").ok_or("name")?)?;
+    let options = Options {
+        names,
+        each: false,
+        brief: false,
+        deny: NO_DENY,
+    };
     let mut out = MemOut::new(rt.alloc(), 100_000, 7, None)?;
     assert!(rt; out.failures() == 0);
     let text = b"trio-job 1\njob m{checkpoint;}";
@@ -33,8 +40,7 @@ fn faults_are_a_document(rt: HostRuntime) -> Result<(), Fail> {
         text,
         b"",
         settings,
-        name,
-        NO_DENY,
+        &options,
         Form::Json,
         &NoGate,
         &mut out,

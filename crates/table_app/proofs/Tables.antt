@@ -7,7 +7,6 @@ use Rattle.job_lint.specs.declared.warning.Warning.{Warning}
 use Rattle.fault_text.specs.JobOutcomes.{JobOutcome}
 use Rattle.fault_text.specs.Table as faults
 use Rattle.fault_text.specs.Views as faults_held
-use Rattle.fault_text.specs.declared.deny.Deny.{Deny}
 use Rattle.fault_text.specs.declared.line.Line as faults_kept
 use Rattle.sweep_text.specs.Views.{value_held}
 use Rattle.sweep_text.specs.declared.value.Value.{Value}
@@ -25,27 +24,29 @@ use Rattle.table_app.specs.Lints.{IsDocument}
 use Rattle.table_app.specs.declared.form.Form.{Form}
 
 -- the table of faults, by the lines that were passed on
-pub of_fault_lines : (form : Form) (limit : ℕ) (deny : Deny) (denied bytes : List ℕ) (first : JobOutcome) (lines ks ms : List faults_kept.Line) →
-    ks ≡ lines → bytes ≡ of_faults_are.table_in form limit first (map faults_held.line_held ks) → ms ≡ lines →
-    denied ≡ faults.denied_text limit deny first (map faults_held.line_held ms) →
-    of_faults_are.IsTableOf form limit deny first (map faults_held.line_held lines) denied bytes
-of_fault_lines form limit deny denied bytes first lines ks ms k b m d =
+pub of_fault_lines : (form : Form) (limit : ℕ) (o : faults.Options) (denied bytes : List ℕ) (first : JobOutcome) (lines ms : List faults_kept.Line)
+    (more : Bool) →
+    bytes ≡ of_faults_are.table_in form limit o.brief first (map faults_held.line_held lines) more → ms ≡ lines →
+    denied ≡ faults.denied_text limit o.deny first (map faults_held.line_held ms) →
+    of_faults_are.IsTableOf form limit o first (map faults_held.line_held lines) more denied bytes
+of_fault_lines form limit o denied bytes first lines ms more b m d =
     record {
-      table = b ∙ ap (λ (xs : List faults_kept.Line). of_faults_are.table_in form limit first (map faults_held.line_held xs)) k;
-      denied_are = d ∙ ap (λ (xs : List faults_kept.Line). faults.denied_text limit deny first (map faults_held.line_held xs)) m;
+      table = b;
+      denied_are = d ∙ ap (λ (xs : List faults_kept.Line). faults.denied_text limit o.deny first (map faults_held.line_held xs)) m;
     }
 
--- the table of faults, by the limit that was passed on
-pub of_faults : (form : Form) (text input : List ℕ) (limit l : ℕ) (name : List ℕ) (deny : Deny) (denied bytes : List ℕ) (first : JobOutcome)
-    (lines : List faults.Line) →
-    AreFaultLines text input limit name first lines → l ≡ limit → of_faults_are.IsTableOf form l deny first lines denied bytes →
-    of_faults_are.IsTable form text input limit name deny denied bytes
-of_faults form text input limit l name deny denied bytes first lines are at table =
+-- the table of faults, by the names and the limit that were passed on
+pub of_faults : (form : Form) (text input : List ℕ) (limit l : ℕ) (o : faults.Options) (names : List (List ℕ)) (denied bytes : List ℕ)
+    (first : JobOutcome) (lines : List faults.Line) (more : Bool) →
+    AreFaultLines text input limit names o.each first lines more → names ≡ o.names → l ≡ limit →
+    of_faults_are.IsTableOf form l o first lines more denied bytes → of_faults_are.IsTable form text input limit o denied bytes
+of_faults form text input limit l o names denied bytes first lines more are same at table =
     record {
       first = first;
       lines = lines;
-      lines_are = are;
-      table_is = subst (λ (n : ℕ). of_faults_are.IsTableOf form n deny first lines denied bytes) at table;
+      more = more;
+      lines_are = subst (λ (ns : List (List ℕ)). AreFaultLines text input limit ns o.each first lines more) same are;
+      table_is = subst (λ (n : ℕ). of_faults_are.IsTableOf form n o first lines more denied bytes) at table;
     }
 
 -- a sweep, by the values and the limit that were passed on

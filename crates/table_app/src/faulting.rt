@@ -2,15 +2,14 @@ ghost use Rattle.std.specs.Prelude.{◌≡◌, ◌<◌, ◌≤◌, length, map, 
 ghost use Rattle.job_meaning.specs.declared.limits.TheConstants.{MAX_INPUT};
 ghost use Rattle.job_report.specs.declared.limits.TheConstants.{MAX_FAILURES};
 ghost use Rattle.nursery_app.specs.Sending.{IsSent, IsServeFault, CountsFailure};
-ghost use Rattle.fault_text.specs.Views.{job_outcome_held, line_held};
+ghost use Rattle.fault_text.specs.Views.{job_outcome_held, line_held, options_held};
 ghost use Rattle.table_app.specs.Faults.{IsTableOf, IsVerdict, table_in};
 
 use crate::form::Form;
 use crate::refusing::refusal_in;
 use crate::verdict::FaultsVerdict;
 use fault_app::{FaultLines, fault_lines};
-use fault_text::{Deny, JobOutcome, Line, denied_text, table};
-use job_grammar::Name;
+use fault_text::{Options, denied_text, table};
 use job_report::{Out, send};
 use job_runner::Settings;
 use json_tables::faults_json;
@@ -21,8 +20,9 @@ use std::thread::Threads;
 /// Writes the outcome of a job over an input: without a fault, and with each fault of each of its waiting steps, one line for
 /// each, in the order of the places of the steps; and then how many faults there are of each kind. A fault is a change of the
 /// job text (`job_edits`). Its line says what the changed text does by the meaning of the job: the tick at which the job ends
-/// and how, or that it does not end by the limit, and notes. A step that fails raises an exception with the given name. If the
-/// job text is refused, writes its refusal. The caller must ensure that the input has at most 16,777,216 bytes (`MAX_INPUT`).
+/// and how, or that it does not end by the limit, and notes. `options` say which exceptions steps raise, whether there are lines
+/// for single copies and passes too, which lines are printed, and which outcomes are denied. If the job text is refused, writes
+/// its refusal. The caller must ensure that the input has at most 16,777,216 bytes (`MAX_INPUT`).
 ///
 /// The number of workers in `settings` is the number of threads that run the faults. The gate is called before and after each
 /// fault, with the place of the fault among the lines, by the thread that runs it. Neither changes a byte.
@@ -35,8 +35,7 @@ pub fn faults<R: Threads + Sync, G: Gate + Sync, W: Out>(
     job_text: &[u8],
     input: &[u8],
     settings: Settings,
-    name: Name,
-    deny: Deny,
+    options: &Options,
     form: Form,
     gate: &G,
     out: &mut W,
@@ -45,16 +44,16 @@ pub fn faults<R: Threads + Sync, G: Gate + Sync, W: Out>(
     requires countable { W.failed out.old < MAX_FAILURES }
 
     // The bytes written are the table of all faults, or the refusal of the text.
-    ensures sent { IfOk result (IsSent (IsVerdict form job_text.now input.now settings.limit name deny) (W.contents out.old)
+    ensures sent { IfOk result (IsSent (IsVerdict form job_text.now input.now settings.limit (options_held options.now)) (W.contents out.old)
         (W.contents out.new)) }
     ensures well { OnOk result (W.failed out.new ≡ W.failed out.old) }
 
     // A writer that failed took the first of those bytes. If memory was refused, nothing was sent.
-    ensures fault { IfErr result (IsServeFault (IsVerdict form job_text.now input.now settings.limit name deny) (W.contents out.old)
+    ensures fault { IfErr result (IsServeFault (IsVerdict form job_text.now input.now settings.limit (options_held options.now)) (W.contents out.old)
         (W.contents out.new)) }
     ensures counted { IfErr result (CountsFailure (W.failed out.old) (W.failed out.new)) }
 {
-    let (verdict, bytes) = answer(rt, alloc, job_text, input, settings, name, deny, form, gate)?;
+    let (verdict, bytes) = answer(rt, alloc, job_text, input, settings, options, form, gate)?;
     send(bytes.as_slice(), out)?;
     Ok(verdict)
 }
@@ -67,17 +66,17 @@ fn answer<R: Threads + Sync, G: Gate + Sync>(
     job_text: &[u8],
     input: &[u8],
     settings: Settings,
-    name: Name,
-    deny: Deny,
+    options: &Options,
     form: Form,
     gate: &G,
 ) -> Result<(FaultsVerdict, Vec<u8>), AllocError>
     requires { length input.now ≤ MAX_INPUT }
-    ensures { IfOk result (λ r. IsVerdict form job_text.now input.now settings.limit name deny r.0 r.1.items) }
+    ensures { IfOk result (λ r. IsVerdict form job_text.now input.now settings.limit (options_held options.now) r.0 r.1.items) }
 {
-    match fault_lines(rt, alloc, job_text, input, settings, name, gate) {
+    let (names, each) = (options.names.as_slice(), options.each);
+    match fault_lines(rt, alloc, job_text, input, settings, names, each, gate) {
         Ok(told) => {
-            let (denied, bytes) = table_and_denied(alloc, settings.limit(), deny, form, &told)?;
+            let (denied, bytes) = table_and_denied(alloc, settings.limit(), options, form, &told)?;
             Ok((FaultsVerdict::Told { denied }, bytes))
         }
         Err(fault) => {
@@ -92,15 +91,21 @@ fn answer<R: Threads + Sync, G: Gate + Sync>(
 fn table_and_denied(
     alloc: Global,
     limit: u64,
-    deny: Deny,
+    options: &Options,
     form: Form,
     told: &FaultLines,
 ) -> Result<(Vec<u8>, Vec<u8>), AllocError>
-    ensures { IfOk result (λ r. IsTableOf form limit deny (job_outcome_held told.now.first) (map line_held told.now.lines.items)
-        r.0.items r.1.items) }
+    ensures { IfOk result (λ r. IsTableOf form limit (options_held options.now) (job_outcome_held told.now.first) (map line_held told.now.lines.items)
+        told.now.more r.0.items r.1.items) }
 {
-    let bytes = table_in(alloc, form, limit, &told.first, told.lines.as_slice())?;
-    let denied = denied_text(alloc, limit, &told.first, told.lines.as_slice(), deny)?;
+    let bytes = table_in(alloc, form, limit, options.brief, told)?;
+    let denied = denied_text(
+        alloc,
+        limit,
+        &told.first,
+        told.lines.as_slice(),
+        options.deny,
+    )?;
     Ok((denied, bytes))
 }
 
@@ -109,13 +114,15 @@ fn table_in(
     alloc: Global,
     form: Form,
     limit: u64,
-    first: &JobOutcome,
-    lines: &[Line],
+    brief: bool,
+    told: &FaultLines,
 ) -> Result<Vec<u8>, AllocError>
-    ensures { IfOk result (λ bytes. bytes.items ≡ table_in form limit (job_outcome_held first.now) (map line_held lines.now)) }
+    ensures { IfOk result (λ bytes. bytes.items
+        ≡ table_in form limit brief (job_outcome_held told.now.first) (map line_held told.now.lines.items) told.now.more) }
 {
+    let (first, lines, more) = (&told.first, told.lines.as_slice(), told.more);
     match form {
-        Form::Text => table(alloc, limit, first, lines),
-        Form::Json => faults_json(alloc, limit, first, lines),
+        Form::Text => table(alloc, limit, brief, first, lines, more),
+        Form::Json => faults_json(alloc, limit, brief, first, lines, more),
     }
 }

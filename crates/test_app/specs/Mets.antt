@@ -1,5 +1,5 @@
 -- Whether an expectation is met.
-use Rattle.std.specs.Prelude.{◌≡◌, ℕ, Bool, true, false, Option, Some, None, List, [], ◌∷◌, codes}
+use Rattle.std.specs.Prelude.{◌≡◌, ℕ, Bool, true, false, Option, Some, None, List, [], ◌∷◌}
 use Rattle.fault_text.specs.declared.deny.Deny.{Deny}
 use Rattle.table_app.specs.Faults as faults
 use Rattle.table_app.specs.Races as races
@@ -10,6 +10,7 @@ use Rattle.table_app.specs.declared.verdict.RacesVerdict.{RacesVerdict}
 use Rattle.table_app.specs.declared.verdict.RacesVerdict.TheVariants as told_races
 use Rattle.expect_text.specs.Patterns.{first_match}
 use Rattle.expect_text.specs.Expectations.{Expected, present, absent, no_races, no_faults}
+use Rattle.test_app.specs.Outputs.{plain_options}
 use Rattle.test_app.specs.declared.met.Met.{Met}
 use Rattle.test_app.specs.declared.met.Met.TheVariants.{Yes, Found, Missing, Denied, Untold}
 
@@ -63,7 +64,7 @@ IsRacesMet text input limit answer =
 -- the answer from the verdict of `faults`, where these kinds are denied
 abbrev pub IsFaultsMet : (text input : List ℕ) → (limit : ℕ) → Deny → Answer → Type 0
 IsFaultsMet text input limit kinds answer =
-    (verdict : FaultsVerdict) × (bytes : List ℕ) × faults.IsVerdict Text text input limit (codes "Fault") kinds verdict bytes
+    (verdict : FaultsVerdict) × (bytes : List ℕ) × faults.IsVerdict Text text input limit (plain_options kinds) verdict bytes
     × (answer ≡ faults_answer verdict)
 
 -- the answer for an expectation of a job text over an input that has this report and this story

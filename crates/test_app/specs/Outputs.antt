@@ -15,6 +15,8 @@ use Rattle.table_app.specs.declared.form.Form.TheVariants.{Text}
 use Rattle.table_app.specs.declared.verdict.FaultsVerdict.{FaultsVerdict}
 use Rattle.table_app.specs.declared.verdict.RacesVerdict.{RacesVerdict}
 use Rattle.table_app.specs.declared.verdict.SweepVerdict.TheVariants.{Told, JobRefused}
+use Rattle.fault_text.specs.Table.{Options}
+use Rattle.fault_text.specs.declared.deny.Deny.{Deny}
 use Rattle.job_edits.specs.declared.number.Target.{Target}
 use Rattle.sweep_app.specs.declared.missing.Missing.{Missing}
 use Rattle.sweep_app.specs.Answers.{IsWithoutTarget}
@@ -38,9 +40,13 @@ IsStory text input limit bytes = (verdict : StoryVerdict) × stories.IsVerdict t
 abbrev pub IsChart : (text input : List ℕ) → (limit : ℕ) → (bytes : List ℕ) → Type 0
 IsChart text input limit bytes = (verdict : Verdict) × charts.IsVerdict (drawn.Text 80) text input limit verdict bytes
 
+-- each step that fails raises `Fault`, all lines are printed, and these outcomes are denied
+abbrev pub plain_options : Deny → Options
+plain_options deny = record { names = codes "Fault" ∷ []; each = false; brief = false; deny = deny }
+
 -- the outcome of the job with each fault, where a step that fails raises `Fault`
 abbrev pub IsFaults : (text input : List ℕ) → (limit : ℕ) → (bytes : List ℕ) → Type 0
-IsFaults text input limit bytes = (verdict : FaultsVerdict) × faults.IsVerdict Text text input limit (codes "Fault") no_kind verdict bytes
+IsFaults text input limit bytes = (verdict : FaultsVerdict) × faults.IsVerdict Text text input limit (plain_options no_kind) verdict bytes
 
 -- the places on which the outcome of the job depends by a hair
 abbrev pub IsRaces : (text input : List ℕ) → (limit : ℕ) → (bytes : List ℕ) → Type 0

@@ -1,10 +1,12 @@
 ghost use Rattle.std.specs.Prelude.{◌≡◌, ◌≤◌, List, ℕ, codes, length, true, IfOk};
 ghost use Rattle.job_meaning.specs.declared.limits.TheConstants.{MAX_INPUT};
+ghost use Rattle.fault_text.specs.Views.{options_held};
+ghost use Rattle.test_app.specs.Outputs.{plain_options};
 ghost use Rattle.test_app.specs.Mets.{IsFaultsMet, IsRacesMet, answer_of, denied_answer};
 
 use crate::kept::Kept;
 use crate::met::Met;
-use fault_text::Deny;
+use fault_text::{Deny, Options};
 use job_grammar::Name;
 use job_runner::{NoGate, Settings};
 use nursery_app::ServeFault;
@@ -13,13 +15,27 @@ use std::thread::Threads;
 use table_app::{FaultsVerdict, Form, RacesVerdict, faults, races};
 
 // Returns the name of the exception that a failing step raises.
-pub(crate) fn fault_name() -> Name
+fn fault_name() -> Name
     ensures { result ≡ codes "Fault" }
 {
     match Name::new(b"Fault") {
         Some(name) => name,
         None => unreachable!(),
     }
+}
+
+// Returns the options of `faults` with which each step that fails raises `Fault`, and these outcomes are denied.
+pub(crate) fn plain_options(alloc: Global, deny: Deny) -> Result<Options, AllocError>
+    ensures { IfOk result (λ options. options_held options ≡ plain_options deny) }
+{
+    let mut names = Vec::new(alloc);
+    names.push(fault_name())?;
+    Ok(Options {
+        names,
+        each: false,
+        brief: false,
+        deny,
+    })
 }
 
 // Returns whether `races` denies nothing.
@@ -65,16 +81,15 @@ pub(crate) fn no_faults<R: Threads + Sync>(
     requires { length input.now ≤ MAX_INPUT }
     ensures { IfOk result (λ met. IsFaultsMet job_text.now input.now settings.limit kinds (answer_of met)) }
 {
+    let options = plain_options(alloc, kinds)?;
     let mut out = Kept::new(alloc);
-    let name = fault_name();
     match faults(
         rt,
         alloc,
         job_text,
         input,
         settings,
-        name,
-        kinds,
+        &options,
         Form::Text,
         &NoGate,
         &mut out,

@@ -2,7 +2,7 @@ ghost use Rattle.std.specs.Prelude.{◌≤◌, length, IfOk};
 ghost use Rattle.job_meaning.specs.declared.limits.TheConstants.{MAX_INPUT};
 ghost use Rattle.test_app.specs.Outputs.{IsChart, IsFaults, IsOutput, IsRaces, IsReport, IsStory};
 
-use crate::denying::fault_name;
+use crate::denying::plain_options;
 use crate::kept::Kept;
 use crate::outputs::Output;
 use chart_app::chart;
@@ -129,21 +129,20 @@ fn faults_of<R: Threads + Sync>(
     ensures { IfOk result (λ bytes. IsFaults asked.now.text.now asked.now.input.now asked.now.settings.limit bytes.items) }
 {
     let (text, input, settings) = (asked.text, asked.input, asked.settings);
-    let mut out = Kept::new(alloc);
-    let name = fault_name();
     let deny = Deny {
         stuck: false,
         cut: false,
         lost: false,
     };
+    let options = plain_options(alloc, deny)?;
+    let mut out = Kept::new(alloc);
     faults(
         rt,
         alloc,
         text,
         input,
         settings,
-        name,
-        deny,
+        &options,
         Form::Text,
         &NoGate,
         &mut out,

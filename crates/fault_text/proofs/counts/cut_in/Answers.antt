@@ -1,7 +1,6 @@
 use Rattle.std.proofs.Common.{rules}
-use Rattle.fault_text.specs.JobOutcomes.{has_cut}
 use Rattle.fault_text.proofs.Counted.{counted}
 use Rattle.fault_text.proofs.counts.cut_in.Goals as goal
 
 pub returns : goal.returns
-returns c = rw (counted (λ l. has_cut l.job_outcome) c.args.lines.now) (search rules)
+returns c = rw (counted (λ l. l.cuts) c.args.lines.now) (search rules)
