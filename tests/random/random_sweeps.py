@@ -21,14 +21,13 @@ from random_faults import LIMIT, Runs, Wrong, replaced, tokens_of
 
 def told(runs, text):
     """The outcome of a text without ticks, and the tick at which its job ends, or None."""
-    fate, of = runs.fate(text, None, True)
-    if of == "refused":
-        return of, "", None
-    if of.startswith("stuck"):
-        return fate, "", None
-    outcome, _, notes = fate.partition("; ")
-    end, _, outcome = outcome.partition(" ")
-    return re.sub(r"@\d+", "", outcome), "; " * bool(notes) + notes, int(end)
+    fate = runs.fate(text, None)
+    if "refused" in fate.kinds:
+        return "refused", "", None
+    if "stuck" in fate.kinds:
+        return fate.text(), "", None
+    end, _, outcome = fate.outcome.partition(" ")
+    return re.sub(r"@\d+", "", outcome), fate.notes, int(end)
 
 
 def span(first, last):
