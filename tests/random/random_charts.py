@@ -214,7 +214,7 @@ class Program:
         self.job, self.input = os.path.join(folder, "job"), os.path.join(folder, "input")
 
     def call(self, command, *words):
-        run = subprocess.run([self.program, command, self.job, self.input, "--limit", str(LIMIT), *words], capture_output=True, timeout=60)
+        run = subprocess.run([self.program, command, self.job, self.input, "--limit", str(LIMIT), *words], capture_output=True, timeout=600)
         return run.returncode, run.stdout.decode()
 
 

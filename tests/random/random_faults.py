@@ -127,7 +127,7 @@ class Runs:
     def call(self, command, text, *words):
         with open(self.job, "w", encoding="ascii") as file:
             file.write(text)
-        run = subprocess.run([self.program, command, self.job, self.input, "--limit", self.limit, *words], capture_output=True, timeout=60)
+        run = subprocess.run([self.program, command, self.job, self.input, "--limit", self.limit, *words], capture_output=True, timeout=600)
         return run.returncode, run.stdout.decode()
 
     def fate(self, text, raised):

@@ -148,7 +148,7 @@ class Program:
         self.job, self.input = os.path.join(folder, "job"), os.path.join(folder, "input")
 
     def call(self, words, feed=b""):
-        run = subprocess.run([self.path, *words], input=feed, capture_output=True, timeout=60)
+        run = subprocess.run([self.path, *words], input=feed, capture_output=True, timeout=600)
         return run.returncode, run.stdout, run.stderr
 
     def run(self, text, *words):

@@ -152,7 +152,7 @@ FAULTS = {
     b"2:85  sleep 1  fails late  7 done; not reached; cleanup cut: main\n"
     b"2:85  sleep 1  hangs       7 done; cleanup cut: main\n"
     b"2:85  sleep 1  cancelled   7 done; cleanup cut: main\n"
-    b"10 faults: 1 stuck, 6 cut a cleanup, 1 lost, 1 not reached\n",
+    b"10 faults: 1 stuck, 0 cut a cleanup, 1 lost, 1 not reached\n",
     "a job past its limit": b"                 as it is    stuck at 100\n2:12  sleep 101  fails       0 raised Fault(main@0)\n"
     b"2:12  sleep 101  fails late  stuck at 100; not reached\n2:12  sleep 101  hangs       stuck at 100; sleeping forever: main\n"
     b"2:12  sleep 101  cancelled   1 done\n4 faults: 2 stuck, 0 cut a cleanup, 0 lost, 1 not reached\n",
