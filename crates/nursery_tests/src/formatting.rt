@@ -8,7 +8,7 @@ use format_app::{
 use job_grammar::JobKind;
 use job_report::{MemOut, Out};
 use nursery_app::ServeFault;
-use std::alloc::Global;
+use std::alloc::{AllocError, Global};
 use std::process::Abort;
 use std::test::Fail;
 
@@ -208,24 +208,42 @@ const SCALED: &[(&str, u64, &str)] = &[
     ),
 ];
 
-#[test]
-fn ticks_are_multiplied(rt: HostRuntime) -> Result<(), Fail> {
-    for i in 0..SCALED.len() {
-        let (text, factor, wanted) = SCALED[i];
-        match scaled_text(rt.alloc(), text.as_bytes(), factor) {
-            Ok(scaled) => same(text, scaled.as_slice(), wanted.as_bytes())?,
-            Err(_) => Err(text)?,
-        }
-    }
-    Ok(())
-}
-
 // Returns the kind of a refusal, and the text with its ticks multiplied, which is empty if the text itself is refused.
 fn refusal_of(alloc: Global, fault: ScaleFault) -> (JobKind, Vec<u8>) {
     match fault {
         ScaleFault::Refused(fault) => (fault.kind, Vec::new(alloc)),
         ScaleFault::TooLarge { fault, text } => (fault.kind, text),
     }
+}
+
+// Returns the text with its ticks multiplied, and the kind of its refusal, or `None` if it is not refused. The only error is that memory
+// runs out.
+fn scaled_or_refused(
+    alloc: Global,
+    text: &str,
+    factor: u64,
+) -> Result<(Option<JobKind>, Vec<u8>), AllocError> {
+    match scaled_text(alloc, text.as_bytes(), factor) {
+        Ok(scaled) => Ok((None, scaled)),
+        Err(fault) => {
+            let (kind, bytes) = refusal_of(alloc, fault);
+            if kind == JobKind::NoMemory {
+                return Err(AllocError);
+            }
+            Ok((Some(kind), bytes))
+        }
+    }
+}
+
+#[test]
+fn ticks_are_multiplied(rt: HostRuntime) -> Result<(), Fail> {
+    for i in 0..SCALED.len() {
+        let (text, factor, wanted) = SCALED[i];
+        let (kind, scaled) = scaled_or_refused(rt.alloc(), text, factor)?;
+        assert!(rt; kind.is_none());
+        same(text, scaled.as_slice(), wanted.as_bytes())?;
+    }
+    Ok(())
 }
 
 // Fails if the ticks of a text can be multiplied by a factor, or cannot for another reason than this. A refused text has no scaled text.
@@ -236,17 +254,11 @@ fn is_not_scaled(
     scaled: &str,
     kind: JobKind,
 ) -> Result<(), Fail> {
-    match scaled_text(alloc, text.as_bytes(), factor) {
-        Ok(_scaled) => Err(text)?,
-        Err(fault) => {
-            let (found, bytes) = refusal_of(alloc, fault);
-            if found == kind {
-                same(text, bytes.as_slice(), scaled.as_bytes())
-            } else {
-                Err(text)?
-            }
-        }
+    let (found, bytes) = scaled_or_refused(alloc, text, factor)?;
+    if found != Some(kind) {
+        return Err(text)?;
     }
+    same(text, bytes.as_slice(), scaled.as_bytes())
 }
 
 #[test]
