@@ -34,6 +34,9 @@ KINDS = {
 }
 
 
+UNTRIED = "copies that pace or need lines were not tried singly: each has its own part of the input\n"
+
+
 class Wrong(Exception):
     """What was found, in one sentence."""
 
@@ -164,6 +167,10 @@ class Runs:
         pairs = [what.removeprefix("replaces ").split(" with ") for _, what in events if what.startswith("replaces ")]
         return any(has_leaf(raised, lost) and not has_leaf(raised, fresh) for lost, fresh in pairs)
 
+    def blocks_apart(self, tokens):
+        """The blocks of which single copies and passes are tried."""
+        return [block for block in blocks_of(tokens) if not (os.path.getsize(self.input) and is_divided(tokens, block))]
+
     def raises(self, text, name):
         """Whether an exception of a name is raised by the limit; where the text is refused, nothing is said of that."""
         status, story = self.call("explain", text)
@@ -257,11 +264,18 @@ def written_out(text, tokens, block, index):
     return text[:begin] + earlier + part(1, f"_{index}") + later + text[end:]
 
 
+def is_divided(tokens, block):
+    """Whether the copies of a block have different parts of an input, and a `pace` or `need` is in it."""
+    _, number, close, name = block
+    inside = any(token in ("pace", "need") and tokens[n - 1][0] in "{};" for n, (token, _) in enumerate(tokens) if number < n < close)
+    return name is not None and int(tokens[number][0]) > 1 and inside
+
+
 def rows_in_parts(runs, text, raising):
     """The lines of faults in single copies and passes."""
     tokens, rows = tokens_of(text), []
     for at in steps_of(tokens):
-        for block in blocks_of(tokens):
+        for block in runs.blocks_apart(tokens):
             first, number, close, name = block
             count = int(tokens[number][0])
             for index in range(count) if first < at < close else ():
@@ -300,7 +314,8 @@ def table(runs, text, raising=("Fault",), each=False, brief=False):
     ]
     if each:
         rows += rows_in_parts(runs, text, raising)
-    return laid_out(first.text(), rows, brief) + counted(rows)
+    untried = each and len(runs.blocks_apart(tokens)) < len(blocks_of(tokens))
+    return laid_out(first.text(), rows, brief) + counted(rows) + UNTRIED * untried
 
 
 def laid_out(first, rows, brief):
@@ -326,6 +341,23 @@ def number_of_parts(text):
     return sum(int(tokens[number][0]) for at in steps_of(tokens) for first, number, close, _ in blocks_of(tokens) if first < at < close)
 
 
+def unnamed(report):
+    """A report without the endings and indices of names, and without the lines of the input, which are those of a task's part."""
+    return [re.sub(r"((_after)?_\d+)+\b|(\.\d+)+\b", "", line) for line in report.splitlines() if not line.startswith("  line ")]
+
+
+def compare_parts(runs, text):
+    """Compares the report of each text in which a copy or pass is written out with that of the text as it is."""
+    tokens = tokens_of(text)
+    _, report = runs.call("run", text)
+    for block in runs.blocks_apart(tokens):
+        for index in range(int(tokens[block[1]][0])):
+            apart = written_out(text, tokens, block, index)
+            status, other = runs.call("run", apart)
+            if status != 2 and unnamed(other) != unnamed(report):
+                raise Wrong(f"written out\n{other}-- as it is\n{report}-- text\n{text}\n-- written out\n{apart}")
+
+
 def compared(program, seed):
     dice = random.Random(seed)
     text = job_of_any_format(seed)[1]
@@ -342,7 +374,9 @@ def compared(program, seed):
         wanted = table(runs, text, raising, each, brief)
         if answers or status != 0 or out != wanted:
             raise Wrong(f"status {status}\n{out}-- wanted\n{wanted}-- seed\n{seed}\n-- words\n{words}\n-- text\n{text}\n-- input\n{data!r}")
-        return int(wanted.splitlines()[-1].split()[0])
+        if each:
+            compare_parts(runs, text)
+        return int(re.search(r"^(\d+) faults?: ", wanted, re.M)[1])
 
 
 def show(program, job, input_path):

@@ -9,20 +9,21 @@ use Rattle.fault_text.specs.JobOutcomes as told
 use Rattle.fault_text.specs.Table as told_lines
 use Rattle.fault_text.specs.Views.{line_held}
 use Rattle.fault_text.specs.declared.line.Line.{Line}
+use Rattle.fault_text.specs.declared.options.Untried.{Untried}
 use Rattle.slot_work.specs.Answers.{AreAnswers}
 use Rattle.slot_work.proofs.Answered.{seen_as}
 use Rattle.fault_app.specs.JobOutcomes.{token_roles, IsLine}
-use Rattle.fault_app.specs.Answers.{tried_in, has_more, AreFaultLines}
+use Rattle.fault_app.specs.Answers.{has_items, tried_in, untried_in, AreFaultLines}
 
 -- given the limit of the settings, the tokens of the text and their roles, and the variants, as they were passed on
-pub are_lines : (text input : List ℕ) (limit l : ℕ) (names : List (List ℕ)) (each is_named more : Bool) (job : Tree) (tokens ts : List Token)
+pub are_lines : (text input : List ℕ) (limit l : ℕ) (names : List (List ℕ)) (each has is_named : Bool) (untried : Untried) (job : Tree) (tokens ts : List Token)
     (roles rs : List Role) (variants vs : List Variant) (first : told.JobOutcome) (lines : List Line) →
-    Spells text job → HasTokens text tokens None → l ≡ limit → ts ≡ tokens → is_named ≡ nat_lt 1 (length names) →
-    roles ≡ token_roles job.format text ts → rs ≡ roles → variants ≡ tried_in each names ts → more ≡ has_more each names ts → vs ≡ variants →
+    Spells text job → HasTokens text tokens None → l ≡ limit → ts ≡ tokens → has ≡ has_items input → is_named ≡ nat_lt 1 (length names) →
+    roles ≡ token_roles job.format text ts → rs ≡ roles → variants ≡ tried_in each has names ts → untried ≡ untried_in each has names ts → vs ≡ variants →
     first ≡ told.job_outcome_of l None job input →
     AreAnswers (λ (v : Variant) (k : Line). IsLine text input l is_named ts rs first v (line_held k)) vs lines →
-    AreFaultLines text input limit names each first (map line_held lines) more
-are_lines text input limit l names each is_named more job tokens ts roles rs variants vs first lines spells has at t n r q v m w f are =
+    AreFaultLines text input limit names each first (map line_held lines) untried
+are_lines text input limit l names each has is_named untried job tokens ts roles rs variants vs first lines spells tokens_are at t some_input n r q v m w f are =
     let held : List told_lines.Line = map line_held lines in
     let some : Bool = nat_lt 1 (length names) in
     let with_roles : rs ≡ token_roles job.format text tokens = q ∙ r ∙ ap (token_roles job.format text) t in
@@ -39,10 +40,10 @@ are_lines text input limit l names each is_named more job tokens ts roles rs var
       job = job;
       spells = spells;
       tokens = tokens;
-      tokens_are = has;
+      tokens_are = tokens_are;
       lines_are =
           subst (λ (xs : List Variant). AreAnswers (IsLine text input limit some tokens (token_roles job.format text tokens) first) xs held)
-          (w ∙ v ∙ ap (tried_in each names) t) ruled;
+          (w ∙ v ∙ ap (tried_in each has names) t ∙ ap (λ (b : Bool). tried_in each b names tokens) some_input) ruled;
       first_is = f ∙ ap (λ (k : ℕ). told.job_outcome_of k None job input) at;
-      more_is = m ∙ ap (has_more each names) t;
+      untried_is = m ∙ ap (untried_in each has names) t ∙ ap (λ (b : Bool). untried_in each b names tokens) some_input;
     }

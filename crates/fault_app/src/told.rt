@@ -2,14 +2,16 @@ ghost use Rattle.std.specs.Prelude.{◌≡◌, ◌≤◌, length, IfOk, IfErr, m
 ghost use Rattle.job_meaning.specs.declared.limits.TheConstants.{MAX_INPUT};
 ghost use Rattle.job_grammar.specs.Refusals.{Spells, IsFair};
 ghost use Rattle.fault_text.specs.Views.{job_outcome_held, line_held};
-ghost use Rattle.fault_app.specs.Answers.{found_each, tried_in, has_more, AreFaultLines};
+ghost use Rattle.fault_app.specs.Answers.{has_items, found_each, tried_in, untried_in, AreFaultLines};
 
 use crate::job_outcome::outcome_of_job;
 use crate::lines::Author;
 use crate::parts::token_roles;
 use crate::trial::Trial;
-use fault_text::{JobOutcome, Line};
-use job_edits::{Plan, Variant, each_variants, repeated_blocks, variants, waiting_steps};
+use fault_text::{JobOutcome, Line, Untried};
+use job_edits::{
+    Plan, Variant, each_variants, has_divided, repeated_blocks, variants, waiting_steps,
+};
 use job_grammar::{Job, JobFault, Name, read_job, spelled_tokens};
 use job_runner::Settings;
 use job_tokens::Token;
@@ -29,13 +31,14 @@ pub struct FaultLines {
     /// The outcome of the job with each fault, in the order of the places of the steps, and then those of faults in single copies
     /// and passes.
     pub lines: Vec<Line>,
-    /// Whether there are more faults in single copies and passes than the `MAX_EACH` that are tried.
-    pub more: bool,
+    /// Which faults in single copies and passes are not tried.
+    pub untried: Untried,
 }
 
 /// Returns the outcome of the job that a text spells over an input: without a fault, and with each fault of each of its waiting
 /// steps, each kind once. A step fails once with each of the exceptions with these names. With `each` there is also a line for
-/// each of these faults in each copy of a `start .. over` and each pass of a `repeat` that the step is in, up to `MAX_EACH`. If the
+/// each of these faults in each copy of a `start .. over` and each pass of a `repeat` that the step is in, up to `MAX_EACH`; but not
+/// in copies that depend on their parts of the input (`RepeatedBlock::is_divided`), unless the input is empty. If the
 /// text is refused, the error is the refusal, as `read_job` returns it. If memory runs out, the error has the kind `NoMemory`. The
 /// caller must ensure that the input has at most 16,777,216 bytes.
 ///
@@ -53,7 +56,7 @@ pub fn fault_lines<R: Threads + Sync, G: Gate + Sync>(
 ) -> Result<FaultLines, JobFault>
     requires { length input.now ≤ MAX_INPUT }
     ensures lines { IfOk result (λ told. AreFaultLines job_text.now input.now settings.limit names.now each (job_outcome_held told.first)
-        (map line_held told.lines.items) told.more) }
+        (map line_held told.lines.items) told.untried) }
     ensures refused { IfErr result (IsFair job_text.now) }
 {
     let job = read_job(alloc, job_text)?;
@@ -78,7 +81,7 @@ fn lines_of_job<R: Threads + Sync, G: Gate + Sync>(
     requires input { length input.now ≤ MAX_INPUT }
     requires spells { Spells job_text.now job.now }
     ensures { IfOk result (λ told. AreFaultLines job_text.now input.now settings.limit names.now each (job_outcome_held told.first)
-        (map line_held told.lines.items) told.more) }
+        (map line_held told.lines.items) told.untried) }
 {
     let tokens = spelled_tokens(alloc, job_text, job)?;
     let read = tokens.as_slice();
@@ -86,7 +89,8 @@ fn lines_of_job<R: Threads + Sync, G: Gate + Sync>(
     let blocks = repeated_blocks(alloc, read)?;
     let steps = waiting_steps(alloc, read)?;
     let plan = Plan::of(alloc, read)?;
-    let (variants, more) = tried_variants(alloc, each, names, read)?;
+    let has_input = has_items(input);
+    let (variants, untried) = tried_variants(alloc, each, has_input, names, read)?;
     let (limit, workers) = (settings.limit(), settings.workers());
     let first = outcome_of_job(rt, alloc, job, input, limit, None)?;
     let author = Author {
@@ -104,37 +108,53 @@ fn lines_of_job<R: Threads + Sync, G: Gate + Sync>(
         steps: steps.as_slice(),
     };
     let lines = answers_for(rt, alloc, &author, variants.as_slice(), workers, gate)?;
-    Ok(FaultLines { first, lines, more })
+    Ok(FaultLines {
+        first,
+        lines,
+        untried,
+    })
 }
 
-// Returns the faults that are tried, and whether there are more in single copies and passes.
+// Returns whether the input has any byte.
+fn has_items(input: &[u8]) -> bool
+    ensures { result ≡ has_items input.now }
+{
+    !input.is_empty()
+}
+
+// Returns the faults that are tried, and which faults in single copies and passes are not. `has_input` says whether the input has any
+// byte.
 fn tried_variants(
     alloc: Global,
     each: bool,
+    has_input: bool,
     names: &[Name],
     tokens: &[Token],
-) -> Result<(Vec<Variant>, bool), AllocError>
-    ensures { IfOk result (λ r. (r.0.items ≡ tried_in each names.now tokens.now) × (r.1 ≡ has_more each names.now tokens.now)) }
+) -> Result<(Vec<Variant>, Untried), AllocError>
+    ensures { IfOk result (λ r. (r.0.items ≡ tried_in each has_input names.now tokens.now) × (r.1 ≡ untried_in each has_input names.now tokens.now)) }
 {
-    let mut found = found_each(alloc, each, names, tokens)?;
+    let mut found = found_each(alloc, each, has_input, names, tokens)?;
     let mut variants = variants(alloc, names, tokens)?;
     let more = found.len() > MAX_EACH;
     found.truncate(MAX_EACH);
     variants.append(&mut found)?;
-    Ok((variants, more))
+    let blocks = repeated_blocks(alloc, tokens)?;
+    let divided = each && has_divided(has_input, blocks.as_slice());
+    Ok((variants, Untried { more, divided }))
 }
 
 // Returns the first faults in single copies and passes, one more than there are lines for, if they are asked for.
 fn found_each(
     alloc: Global,
     each: bool,
+    has_input: bool,
     names: &[Name],
     tokens: &[Token],
 ) -> Result<Vec<Variant>, AllocError>
-    ensures { IfOk result (λ found. found.items ≡ found_each each names.now tokens.now) }
+    ensures { IfOk result (λ found. found.items ≡ found_each each has_input names.now tokens.now) }
 {
     if each {
-        each_variants(alloc, names, tokens, MAX_EACH + 1)
+        each_variants(alloc, has_input, names, tokens, MAX_EACH + 1)
     } else {
         Ok(Vec::new(alloc))
     }

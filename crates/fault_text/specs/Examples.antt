@@ -11,6 +11,7 @@ use Rattle.job_edits.specs.declared.waiting.Wait.{Wait}
 use Rattle.job_edits.specs.declared.waiting.Wait.TheVariants.{Sleep, Checkpoint, Forever, Pace, Need}
 use Rattle.fault_text.specs.JobOutcomes.{JobOutcome, refused, stuck, ended, differs, cuts_more}
 use Rattle.fault_text.specs.Table.{Line, table_text, denied_text}
+use Rattle.fault_text.specs.declared.options.Untried.{Untried}
 
 abbrev pub task : List ℕ → Label
 task name = record { name = name; indices = [] }
@@ -34,6 +35,12 @@ line_in first only line column wait fault reached job_outcome =
 abbrev pub line_with : JobOutcome → ℕ → ℕ → Wait → Fault → Bool → JobOutcome → Line
 line_with first line column wait fault reached job_outcome =
     record (line_in first None line column wait fault reached job_outcome) { is_named = false }
+
+abbrev pub all_tried : Untried
+all_tried = record { more = false; divided = false }
+
+abbrev pub some_untried : Untried
+some_untried = record { more = true; divided = true }
 
 abbrev pub fault_name : List ℕ
 fault_name = codes "Fault"
@@ -59,7 +66,7 @@ cleanup_lines =
     ∷ []
 
 pub cleanup_is_told :
-    table_text 1000000 false cleanup_first cleanup_lines false
+    table_text 1000000 false cleanup_first cleanup_lines all_tried
     ≡ codes "                as it is    8 done; cancelled: journal, cache; cleanup cut: cache\n"
     ++ codes " 7:11  forever  fails       4 raised writers[Fault(journal@0)]; cancelled: cache; cleanup cut: cache\n"
     ++ codes " 7:11  forever  cancelled   4 done; cancelled: journal, cache; cleanup cut: cache\n"
@@ -79,7 +86,7 @@ cleanup_is_told = refl
 
 -- in brief: the lines whose outcome is that of the job as it is are left out
 pub cleanup_in_brief :
-    table_text 1000000 true cleanup_first cleanup_lines false
+    table_text 1000000 true cleanup_first cleanup_lines all_tried
     ≡ codes "                as it is    8 done; cancelled: journal, cache; cleanup cut: cache\n"
     ++ codes " 7:11  forever  fails       4 raised writers[Fault(journal@0)]; cancelled: cache; cleanup cut: cache\n"
     ++ codes " 7:11  forever  cancelled   4 done; cancelled: journal, cache; cleanup cut: cache\n"
@@ -108,14 +115,15 @@ shards_lines =
     ∷ line_in shards_first (Some (second_of None)) 4 7 (Sleep 2) Hangs true shards_first
     ∷ []
 
--- the second copy, the second pass, and that there are more of them
+-- the second copy, the second pass, and which others were not tried
 pub shards_are_told :
-    table_text 9 false shards_first shards_lines true
+    table_text 9 false shards_first shards_lines some_untried
     ≡ codes "              as it is               2 done\n"
     ++ codes "4:7  sleep 2  fails Late in shard.1  2 done; cleanup cut: log\n"
     ++ codes "4:7  sleep 2  hangs in pass 2 of 3   2 done\n"
     ++ codes "2 faults: 0 stuck, 1 cut a cleanup, 0 lost, 0 not reached\n"
     ++ codes "only the first 1000 faults in single copies and passes were tried\n"
+    ++ codes "copies that pace or need lines were not tried singly: each has its own part of the input\n"
 unfolding digits
 shards_are_told = refl
 
@@ -143,7 +151,7 @@ other_lines =
     ∷ []
 
 pub other_is_told :
-    table_text 1000000 false other_first other_lines false
+    table_text 1000000 false other_first other_lines all_tried
     ≡ codes "                        as it is    3 cancelled\n"
     ++ codes "  1:7  sleep 3          fails       not tried: J11 at 0\n"
     ++ codes " 10:9  pace 20          fails late  stuck at 1000000; sleeping forever: a, b.1, c and 2 more; fault lost\n"

@@ -9,6 +9,7 @@ use Rattle.job_edits.specs.Waiting.{wait_text}
 use Rattle.fault_text.specs.declared.columns.Widths.{Widths}
 use Rattle.fault_text.specs.declared.counts.Counts.{Counts}
 use Rattle.fault_text.specs.declared.deny.Deny.{Deny}
+use Rattle.fault_text.specs.declared.options.Untried.{Untried}
 use Rattle.fault_text.specs.JobOutcomes.{JobOutcome, job_outcome_text, is_stuck, has_lost, is_refused}
 
 -- The outcome of a variant of a job text, whether its fault was reached, and the line and column of its step. The name of the exception is
@@ -158,11 +159,20 @@ abbrev pub more_lines_text : (more : Bool) → List ℕ
 more_lines_text false = []
 more_lines_text true = codes "only the first 1000 faults in single copies and passes were tried\n"
 
--- the text of all lines; `more` says whether there are more faults in single copies and passes
-abbrev pub table_text : ℕ → (brief : Bool) → JobOutcome → List Line → (more : Bool) → List ℕ
-table_text limit brief first ls more =
+-- there are copies in which no fault was tried, since what they do depends on their parts of the input
+abbrev pub divided_text : (divided : Bool) → List ℕ
+divided_text false = []
+divided_text true = codes "copies that pace or need lines were not tried singly: each has its own part of the input\n"
+
+-- which faults in single copies and passes are not among the lines
+abbrev pub untried_text : Untried → List ℕ
+untried_text u = more_lines_text u.more ++ divided_text u.divided
+
+-- the text of all lines
+abbrev pub table_text : ℕ → (brief : Bool) → JobOutcome → List Line → Untried → List ℕ
+table_text limit brief first ls untried =
     let w = widths_of ls in first_text limit w first ++ lines_text limit w (printed brief ls) ++ counts_text (counts_of ls)
-    ++ more_lines_text more
+    ++ untried_text untried
 
 -- ---- what is denied
 

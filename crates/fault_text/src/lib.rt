@@ -22,5 +22,5 @@ pub use job_outcome::JobOutcome;
 pub use line::Line;
 pub use lines::{denied_text, table};
 pub use notes::{differs, push_names_note, push_not_tried};
-pub use options::Options;
+pub use options::{Options, Untried};
 pub use pieces::{push_left, push_right};

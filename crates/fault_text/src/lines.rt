@@ -1,5 +1,5 @@
 ghost use Rattle.std.specs.Prelude.{◌≡◌, ◌++◌, IfOk, OnOk, map};
-ghost use Rattle.fault_text.specs.Table.{first_text, columns_text, line_text, printed, lines_text, table_text, denied_text};
+ghost use Rattle.fault_text.specs.Table.{first_text, columns_text, line_text, printed, lines_text, more_lines_text, divided_text, untried_text, table_text, denied_text};
 ghost use Rattle.fault_text.specs.Views.{job_outcome_held, line_held};
 
 use crate::columns::{Widths, kind_of, place_of, step_of, widths_of};
@@ -8,34 +8,61 @@ use crate::deny::Deny;
 use crate::job_outcome::JobOutcome;
 use crate::line::Line;
 use crate::notes::push_job_outcome;
+use crate::options::Untried;
 use crate::pieces::{push_left, push_right, push_spaces};
 use std::alloc::{AllocError, Global};
 
 /// Returns the text of the table: the outcome of the job without a fault (`first`), the outcome with each fault, and how many
 /// faults there are of each kind. With `brief` it has only the lines whose outcome differs from that of the job without the fault,
-/// but all are counted. `limit` is the last tick at which the job may end, and `more` says whether there are more faults in single
-/// copies and passes than those of `lines`. The only error is that memory runs out.
+/// but all are counted. `limit` is the last tick at which the job may end, and `untried` says which faults in single copies and
+/// passes are not among `lines`. The only error is that memory runs out.
 pub fn table(
     alloc: Global,
     limit: u64,
     brief: bool,
     first: &JobOutcome,
     lines: &[Line],
-    more: bool,
+    untried: Untried,
 ) -> Result<Vec<u8>, AllocError>
-    ensures { IfOk result (λ text. text.items ≡ table_text limit brief (job_outcome_held first.now) (map line_held lines.now) more) }
+    ensures { IfOk result (λ text. text.items ≡ table_text limit brief (job_outcome_held first.now) (map line_held lines.now) untried) }
 {
     let widths = widths_of(alloc, lines)?;
     let mut out = Vec::new(alloc);
     push_first(&mut out, limit, widths, first)?;
     push_lines(alloc, &mut out, limit, widths, brief, lines)?;
     push_counts(&mut out, Counts::of(lines))?;
-    if more {
-        out.extend_from_slice(
-            b"only the first 1000 faults in single copies and passes were tried\n",
-        )?;
-    }
+    push_untried(&mut out, untried)?;
     Ok(out)
+}
+
+// Appends which faults in single copies and passes are not among the lines.
+fn push_untried(out: &mut Vec<u8>, untried: Untried) -> Result<(), AllocError>
+    ensures { OnOk result (out.new.items ≡ out.old.items ++ untried_text untried) }
+{
+    push_more_lines(out, untried.more)?;
+    push_divided(out, untried.divided)
+}
+
+// Appends that there are more faults in single copies and passes than lines, if there are.
+fn push_more_lines(out: &mut Vec<u8>, more: bool) -> Result<(), AllocError>
+    ensures { OnOk result (out.new.items ≡ out.old.items ++ more_lines_text more) }
+{
+    if !more {
+        return Ok(());
+    }
+    out.extend_from_slice(b"only the first 1000 faults in single copies and passes were tried\n")
+}
+
+// Appends that there are copies in which no fault was tried, if there are.
+fn push_divided(out: &mut Vec<u8>, divided: bool) -> Result<(), AllocError>
+    ensures { OnOk result (out.new.items ≡ out.old.items ++ divided_text divided) }
+{
+    if !divided {
+        return Ok(());
+    }
+    out.extend_from_slice(
+        b"copies that pace or need lines were not tried singly: each has its own part of the input\n",
+    )
 }
 
 /// Returns the lines of the table whose outcome is denied, as they are in the table. The text is empty if there are none. The

@@ -1,6 +1,15 @@
 use crate::deny::Deny;
 use job_tree::Name;
 
+/// Which faults in single copies and passes are not among the lines.
+#[derive(Clone, Copy)]
+pub struct Untried {
+    /// Whether there are more than the first 1,000.
+    pub more: bool,
+    /// Whether there are some in copies that depend on their parts of the input, which are different.
+    pub divided: bool,
+}
+
 /// Which faults are tried, which of their lines are printed, and which outcomes are denied.
 #[derive(Drop)]
 pub struct Options {

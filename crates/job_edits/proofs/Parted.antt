@@ -1,5 +1,5 @@
 -- The faults of a step in one copy or pass after the other, up to a number of them.
-use Rattle.std.proofs.Common.{◌≡◌, sym, subst, arith, ℕ, suc, ◌+◌, ◌-◌, ◌<◌, Some, List, ◌∷◌, ◌++◌, length, take, drop, get_or}
+use Rattle.std.proofs.Common.{◌≡◌, sym, subst, arith, ℕ, suc, Bool, ◌+◌, ◌-◌, ◌<◌, Some, List, ◌∷◌, ◌++◌, length, take, drop, get_or}
 use Rattle.job_edits.specs.declared.fault.BlockPart.{BlockPart}
 use Rattle.job_edits.specs.declared.fault.Fault.{Fault}
 use Rattle.job_edits.specs.declared.fault.Variant.{Variant}
@@ -20,24 +20,24 @@ next_part most k b step fs count index part old new all some is grown h =
     one_more most old new (variants_with (Some part) step fs) left all grown
     (subst (λ (p : BlockPart). take most (old ++ (variants_with (Some p) step fs ++ left)) ≡ all) (sym is) before)
 
-pub next_block : (most k i : ℕ) (b : RepeatedBlock) (bs : List RepeatedBlock) (step : Waiting) (fs : List Fault) (old new all : List Variant) →
-    i < length bs → b ≡ get_or bs i b → new ≡ take most (old ++ each_in_block k b step fs) →
-    take most (old ++ each_in_blocks k (drop i bs) step fs) ≡ all →
-    take most (new ++ each_in_blocks (k + 1) (drop (i + 1) bs) step fs) ≡ all
-next_block most k i b bs step fs old new all lt is grown h =
+pub next_block : (has_input : Bool) (most k i : ℕ) (b : RepeatedBlock) (bs : List RepeatedBlock) (step : Waiting) (fs : List Fault) (old new all : List Variant) →
+    i < length bs → b ≡ get_or bs i b → new ≡ take most (old ++ each_in_block has_input k b step fs) →
+    take most (old ++ each_in_blocks has_input k (drop i bs) step fs) ≡ all →
+    take most (new ++ each_in_blocks has_input (k + 1) (drop (i + 1) bs) step fs) ≡ all
+next_block has_input most k i b bs step fs old new all lt is grown h =
     let one : drop i bs ≡ b ∷ drop (i + 1) bs = dropped bs i b lt is in
-    one_more most old new (each_in_block k b step fs) (each_in_blocks (k + 1) (drop (i + 1) bs) step fs) all grown
-    (subst (λ (xs : List RepeatedBlock). take most (old ++ each_in_blocks k xs step fs) ≡ all) one h)
+    one_more most old new (each_in_block has_input k b step fs) (each_in_blocks has_input (k + 1) (drop (i + 1) bs) step fs) all grown
+    (subst (λ (xs : List RepeatedBlock). take most (old ++ each_in_blocks has_input k xs step fs) ≡ all) one h)
 
-pub next_step : (most i : ℕ) (names : List (List ℕ)) (bs cs : List RepeatedBlock) (w : Waiting) (ws : List Waiting) (fs : List Fault)
+pub next_step : (has_input : Bool) (most i : ℕ) (names : List (List ℕ)) (bs cs : List RepeatedBlock) (w : Waiting) (ws : List Waiting) (fs : List Fault)
     (old new all : List Variant) → i < length ws → w ≡ get_or ws i w → fs ≡ faults_of names w.wait → cs ≡ bs →
-    new ≡ take most (old ++ each_in_blocks 0 cs w fs) → take most (old ++ each_of names bs (drop i ws)) ≡ all →
-    take most (new ++ each_of names bs (drop (i + 1) ws)) ≡ all
-next_step most i names bs cs w ws fs old new all lt is faults same grown h =
+    new ≡ take most (old ++ each_in_blocks has_input 0 cs w fs) → take most (old ++ each_of has_input names bs (drop i ws)) ≡ all →
+    take most (new ++ each_of has_input names bs (drop (i + 1) ws)) ≡ all
+next_step has_input most i names bs cs w ws fs old new all lt is faults same grown h =
     let one : drop i ws ≡ w ∷ drop (i + 1) ws = dropped ws i w lt is in
-    let left : List Variant = each_of names bs (drop (i + 1) ws) in
-    let before : take most (old ++ (each_in_blocks 0 bs w (faults_of names w.wait) ++ left)) ≡ all =
-    subst (λ (xs : List Waiting). take most (old ++ each_of names bs xs) ≡ all) one h in
-    one_more most old new (each_in_blocks 0 bs w fs) left all
-    (subst (λ (xs : List RepeatedBlock). new ≡ take most (old ++ each_in_blocks 0 xs w fs)) same grown)
-    (subst (λ (xs : List Fault). take most (old ++ (each_in_blocks 0 bs w xs ++ left)) ≡ all) (sym faults) before)
+    let left : List Variant = each_of has_input names bs (drop (i + 1) ws) in
+    let before : take most (old ++ (each_in_blocks has_input 0 bs w (faults_of names w.wait) ++ left)) ≡ all =
+    subst (λ (xs : List Waiting). take most (old ++ each_of has_input names bs xs) ≡ all) one h in
+    one_more most old new (each_in_blocks has_input 0 bs w fs) left all
+    (subst (λ (xs : List RepeatedBlock). new ≡ take most (old ++ each_in_blocks has_input 0 xs w fs)) same grown)
+    (subst (λ (xs : List Fault). take most (old ++ (each_in_blocks has_input 0 bs w xs ++ left)) ≡ all) (sym faults) before)

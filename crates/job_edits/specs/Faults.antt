@@ -1,5 +1,6 @@
 -- The faults of a waiting step, and the changes of the text that make them.
-use Rattle.std.specs.Prelude.{ℕ, zero, suc, ◌+◌, if◌then◌else◌, List, [], ◌∷◌, ◌++◌, Option, Some, None, codes}
+use Rattle.std.specs.Prelude.{ℕ, zero, suc, ◌+◌, Bool, ◌&&◌, not, if◌then◌else◌, List, [], ◌∷◌, ◌++◌, Option, Some, None, codes}
+use Rattle.std.specs.List.{list_any}
 use Rattle.job_tokens.specs.declared.token.Token.{Token}
 use Rattle.job_tokens.specs.declared.token.Mark.TheVariants.{Open}
 use Rattle.job_edits.specs.declared.change.Piece.{Piece}
@@ -15,7 +16,7 @@ use Rattle.job_edits.specs.declared.fault.Variant.{Variant}
 use Rattle.job_edits.specs.declared.repeated.RepeatedBlock.{RepeatedBlock}
 use Rattle.job_edits.specs.declared.plan.Plan.{Plan}
 use Rattle.job_edits.specs.Waiting.{first_mark, waiting_in}
-use Rattle.job_edits.specs.Repeated.{repeated_in}
+use Rattle.job_edits.specs.Repeated.{is_divided, repeated_in}
 use Rattle.job_edits.specs.WrittenOut.{is_in}
 use Rattle.job_edits.specs.Fresh.{fresh_word}
 
@@ -66,22 +67,28 @@ each_from block b step fs zero index = []
 each_from block b step fs (suc left) index =
     variants_with (Some (part_of block b index)) step fs ++ each_from block b step fs left (index + 1)
 
--- in each copy or pass of a block, if the step is in it
-abbrev pub each_in_block : (block : ℕ) → RepeatedBlock → Waiting → List Fault → List Variant
-each_in_block block b step fs = if is_in b step.from then each_from block b step fs b.number.value 0 else []
+-- in each copy or pass of a block, if the step is in it, but in no copy of a block that divides an input that is not empty
+abbrev pub each_in_block : (has_input : Bool) → (block : ℕ) → RepeatedBlock → Waiting → List Fault → List Variant
+each_in_block has_input block b step fs =
+    if is_in b step.from && not (has_input && is_divided b) then each_from block b step fs b.number.value 0 else []
 
 -- in those of these blocks, which have numbers from one on
-abbrev pub each_in_blocks : (block : ℕ) → List RepeatedBlock → Waiting → List Fault → List Variant
-each_in_blocks block [] step fs = []
-each_in_blocks block (b ∷ bs) step fs = each_in_block block b step fs ++ each_in_blocks (block + 1) bs step fs
+abbrev pub each_in_blocks : (has_input : Bool) → (block : ℕ) → List RepeatedBlock → Waiting → List Fault → List Variant
+each_in_blocks has_input block [] step fs = []
+each_in_blocks has_input block (b ∷ bs) step fs =
+    each_in_block has_input block b step fs ++ each_in_blocks has_input (block + 1) bs step fs
 
-abbrev pub each_of : (names : List (List ℕ)) → List RepeatedBlock → List Waiting → List Variant
-each_of names bs [] = []
-each_of names bs (w ∷ ws) = each_in_blocks 0 bs w (faults_of names w.wait) ++ each_of names bs ws
+abbrev pub each_of : (has_input : Bool) → (names : List (List ℕ)) → List RepeatedBlock → List Waiting → List Variant
+each_of has_input names bs [] = []
+each_of has_input names bs (w ∷ ws) = each_in_blocks has_input 0 bs w (faults_of names w.wait) ++ each_of has_input names bs ws
 
 -- each fault of each step in each copy or pass of each block around it, in the order of the places of the steps, outer blocks first
-abbrev pub each_in : (names : List (List ℕ)) → List Token → List Variant
-each_in names tokens = each_of names (repeated_in tokens) (waiting_in tokens)
+abbrev pub each_in : (has_input : Bool) → (names : List (List ℕ)) → List Token → List Variant
+each_in has_input names tokens = each_of has_input names (repeated_in tokens) (waiting_in tokens)
+
+-- there are copies in which no fault is tried
+abbrev pub has_divided : (has_input : Bool) → List RepeatedBlock → Bool
+has_divided has_input bs = has_input && list_any is_divided bs
 
 -- ---- where, and with which names
 

@@ -1,6 +1,6 @@
 -- The blocks of a job text that run several times, found among its tokens: those of a `start NAME over N`, of which N copies run, and those
 -- of a `repeat N`, which runs N passes.
-use Rattle.std.specs.Prelude.{ℕ, zero, ◌+◌, ◌-◌, Bool, true, false, if◌then◌else◌, List, [], ◌∷◌, Option, Some, None}
+use Rattle.std.specs.Prelude.{ℕ, zero, ◌+◌, ◌-◌, Bool, true, false, ◌&&◌, ◌||◌, nat_lt, is_some, if◌then◌else◌, List, [], ◌∷◌, Option, Some, None}
 use Rattle.job_tokens.specs.declared.token.Token.{Token}
 use Rattle.job_tokens.specs.declared.token.Mark.{Mark}
 use Rattle.job_tokens.specs.declared.token.Mark.TheVariants.{Open, Close, Semicolon}
@@ -32,16 +32,42 @@ closing_from depth [] = None
 closing_from depth (t ∷ ts) =
     if closes (mark_in t.shape) depth then Some t.at else closing_from (depth_by (mark_in t.shape) depth) ts
 
+-- ---- whether it depends on the input
+
+-- how long a step takes, or whether it raises an exception, depends on its task's part of the input
+abbrev pub is_by_input : Option Keyword → Bool
+is_by_input (Some keyword.Pace) = true
+is_by_input (Some keyword.Need) = true
+is_by_input _ = false
+
+-- one of the steps that begin before a place is such a step, given whether a step may begin at the first token
+abbrev pub by_input_before : (closing : ℕ) → (begins : Bool) → List Token → Bool
+by_input_before closing begins [] = false
+by_input_before closing begins (t ∷ ts) =
+    nat_lt t.at closing && (is_by_input (step_keyword begins t) || by_input_before closing (begins_after t) ts)
+
+-- The copies of a block have different parts of the input, and what they do depends on it. The passes of a `repeat` have the same part.
+abbrev pub is_divided : RepeatedBlock → Bool
+is_divided b = is_some b.name && (b.by_input && nat_lt 1 b.number.value)
+
 -- ---- a block and its number
 
-abbrev pub closed_block : (from : ℕ) → Option (List ℕ) → Number → (opening : ℕ) → Option ℕ → Option RepeatedBlock
-closed_block from name number opening None = None
-closed_block from name number opening (Some closing) =
-    Some (record { from = from; name = name; number = number; opening = opening; closing = closing })
+-- given the brace that closes it, and the tokens after the one that opens it
+abbrev pub closed_block : (from : ℕ) → Option (List ℕ) → Number → (opening : ℕ) → Option ℕ → List Token → Option RepeatedBlock
+closed_block from name number opening None ts = None
+closed_block from name number opening (Some closing) ts =
+    Some (record {
+      from = from;
+      name = name;
+      number = number;
+      opening = opening;
+      closing = closing;
+      by_input = by_input_before closing true ts;
+    })
 
 -- given a brace that may open it, and the tokens after that
 abbrev pub opened_block : (from : ℕ) → Option (List ℕ) → Number → (at : ℕ) → Option Mark → List Token → Option RepeatedBlock
-opened_block from name number at (Some Open) ts = closed_block from name number at (closing_from 0 ts)
+opened_block from name number at (Some Open) ts = closed_block from name number at (closing_from 0 ts) ts
 opened_block from name number at _ ts = None
 
 -- given the tokens after the number

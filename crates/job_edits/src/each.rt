@@ -1,5 +1,7 @@
 ghost use Rattle.std.specs.Prelude.{◌≡◌, ◌≤◌, ◌++◌, ◌∷◌, [], Some, length, take, IfOk, OnOk};
-ghost use Rattle.job_edits.specs.Faults.{variants_with, part_of, each_in_block, each_in_blocks, each_in};
+ghost use Rattle.job_edits.specs.Faults.{variants_with, part_of, each_in_block, each_in_blocks, each_in, has_divided};
+ghost use Rattle.job_edits.specs.Repeated.{is_divided};
+ghost use Rattle.std.specs.List.{list_any};
 
 use crate::fault::{BlockPart, Fault, Variant, faults_of};
 use crate::repeated::{RepeatedBlock, repeated_blocks};
@@ -11,15 +13,17 @@ use std::alloc::{AllocError, Global};
 
 /// Returns the first faults in single copies and passes of the job text with these tokens, `most` of them at most: each fault of each
 /// waiting step, as `variants` returns it, in each copy of each `start .. over` and in each pass of each `repeat` that the step is
-/// in. They are in the order of the places of the steps, and for each step the outer blocks come first. The only error is that
-/// memory runs out.
+/// in. They are in the order of the places of the steps, and for each step the outer blocks come first. `has_input` says whether
+/// the input has any byte: then there are no faults in single copies of a block that `is_divided`. The only error is that memory
+/// runs out.
 pub fn each_variants(
     alloc: Global,
+    has_input: bool,
     names: &[Name],
     tokens: &[Token],
     most: usize,
 ) -> Result<Vec<Variant>, AllocError>
-    ensures { IfOk result (λ variants. variants.items ≡ take most (each_in names.now tokens.now)) }
+    ensures { IfOk result (λ variants. variants.items ≡ take most (each_in has_input names.now tokens.now)) }
 {
     let steps = waiting_steps(alloc, tokens)?;
     let blocks = repeated_blocks(alloc, tokens)?;
@@ -29,6 +33,7 @@ pub fn each_variants(
         push_in_blocks(
             &mut variants,
             most,
+            has_input,
             blocks.as_slice(),
             step,
             faults.as_slice(),
@@ -37,38 +42,61 @@ pub fn each_variants(
     Ok(variants)
 }
 
+/// Returns whether there are single copies in which `each_variants` tries no fault, given the blocks of a job text that run several
+/// times. `has_input` says whether the input has any byte.
+pub fn has_divided(has_input: bool, blocks: &[RepeatedBlock]) -> bool
+    ensures { result ≡ has_divided has_input blocks.now }
+{
+    has_input && any_divided(blocks)
+}
+
+// Returns whether the copies of one of these blocks depend on their parts of the input.
+fn any_divided(blocks: &[RepeatedBlock]) -> bool
+    ensures { result ≡ list_any is_divided blocks.now }
+{
+    'blocks: for block in blocks {
+        if block.is_divided() {
+            return true;
+        }
+    }
+    false
+}
+
 // Appends these faults of a step in each copy or pass of each of these blocks, until there are `most`.
 fn push_in_blocks(
     variants: &mut Vec<Variant>,
     most: usize,
+    has_input: bool,
     blocks: &[RepeatedBlock],
     step: &Waiting,
     faults: &[Fault],
 ) -> Result<(), AllocError>
     requires { length variants.old.items ≤ most }
-    ensures { OnOk result (variants.new.items ≡ take most (variants.old.items ++ each_in_blocks 0 blocks.now step.now faults.now)) }
+    ensures { OnOk result (variants.new.items ≡ take most (variants.old.items ++ each_in_blocks has_input 0 blocks.now step.now faults.now)) }
 {
     let mut number = 0;
     'blocks: for block in blocks {
-        push_in_block(variants, most, number, block, step, faults)?;
+        push_in_block(variants, most, has_input, number, block, step, faults)?;
         number += 1;
     }
     Ok(())
 }
 
-// Appends these faults of a step in each copy or pass of the block with a number, if the step is in it, until there are `most`.
+// Appends these faults of a step in each copy or pass of the block with a number, if the step is in it, until there are `most`; but
+// none in copies of a block that divides an input.
 fn push_in_block(
     variants: &mut Vec<Variant>,
     most: usize,
+    has_input: bool,
     number: usize,
     block: &RepeatedBlock,
     step: &Waiting,
     faults: &[Fault],
 ) -> Result<(), AllocError>
     requires { length variants.old.items ≤ most }
-    ensures { OnOk result (variants.new.items ≡ take most (variants.old.items ++ each_in_block number block.now step.now faults.now)) }
+    ensures { OnOk result (variants.new.items ≡ take most (variants.old.items ++ each_in_block has_input number block.now step.now faults.now)) }
 {
-    if !is_in(block, step.from) {
+    if !is_in(block, step.from) || (has_input && block.is_divided()) {
         return Ok(());
     }
     let count = block.number.value;

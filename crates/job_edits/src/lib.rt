@@ -27,7 +27,7 @@ mod writing_out;
 
 pub use change::{Change, Piece, changed_text};
 pub use copied::{CopiedStart, copied_starts};
-pub use each::each_variants;
+pub use each::{each_variants, has_divided};
 pub use fault::{BlockPart, Fault, Variant, variants};
 pub use finer::Finer;
 pub use number::{Number, Target, block_names, deadline_of, number_at};

@@ -1,7 +1,7 @@
-ghost use Rattle.std.specs.Prelude.{◌≡◌, ◌<◌, [], ◌++◌, Some, IfOk, OnOk};
+ghost use Rattle.std.specs.Prelude.{◌≡◌, ◌<◌, [], ◌++◌, Some, true, IfOk, OnOk};
 ghost use Rattle.job_tokens.specs.Shapes.{mark_in};
 ghost use Rattle.job_edits.specs.Waiting.{step_keyword};
-ghost use Rattle.job_edits.specs.Repeated.{depth_by, closes, closing_from, opened_block, counted_block, numbered_block, over_block, named_block, start_block, block_by, with_block, repeated_in};
+ghost use Rattle.job_edits.specs.Repeated.{depth_by, closes, closing_from, is_by_input, by_input_before, is_divided, opened_block, counted_block, numbered_block, over_block, named_block, start_block, block_by, with_block, repeated_in};
 
 use crate::number::{Number, number_of};
 use crate::waiting::{begins_after, keyword_in, step_keyword};
@@ -24,6 +24,19 @@ pub struct RepeatedBlock {
     pub opening: usize,
     /// The place of the brace that closes it.
     pub closing: usize,
+    /// Whether a `pace` or `need` is in it: how long they take, and whether they raise an exception, depends on the task's part of
+    /// the input.
+    pub by_input: bool,
+}
+
+impl RepeatedBlock {
+    /// Returns whether what its copies do depends on their parts of the input, which are different. (All passes of a `repeat` have
+    /// the part of their task.)
+    pub fn is_divided(&self) -> bool
+        ensures { result ≡ is_divided self.now }
+    {
+        self.name.is_some() && self.by_input && self.number.value > 1
+    }
 }
 
 /// Returns the blocks of the job text with these tokens that run several times, in the order of their places: each
@@ -115,12 +128,14 @@ fn counted_block(
     match token.shape.mark()? {
         Mark::Open => {
             let closing = closing_of(others)?;
+            let by_input = by_input_before(closing, others);
             Some(RepeatedBlock {
                 from,
                 name,
                 number,
                 opening,
                 closing,
+                by_input,
             })
         }
         Mark::Close | Mark::Semicolon => None,
@@ -140,6 +155,32 @@ fn closing_of(tokens: &[Token]) -> Option<usize>
         depth = depth_by(mark, depth);
     }
     None
+}
+
+// Returns whether one of the steps that begin before a place depends on the input. A step may begin at the first token.
+fn by_input_before(closing: usize, tokens: &[Token]) -> bool
+    ensures { result ≡ by_input_before closing true tokens.now }
+{
+    let mut begins = true;
+    let mut rest = tokens;
+    'tokens: while let Some((token, others)) = rest.split_first() {
+        if token.at >= closing {
+            return false;
+        }
+        if is_by_input(step_keyword(begins, *token)) {
+            return true;
+        }
+        begins = begins_after(*token);
+        rest = others;
+    }
+    false
+}
+
+// Returns whether a step with this keyword depends on the input.
+fn is_by_input(keyword: Option<Keyword>) -> bool
+    ensures { result ≡ is_by_input keyword }
+{
+    matches!(keyword, Some(Keyword::Pace | Keyword::Need))
 }
 
 // Returns whether a mark closes a block in which so many others are open.

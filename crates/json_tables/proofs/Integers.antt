@@ -9,6 +9,7 @@ use Rattle.job_edits.specs.declared.fault.BlockPart.{BlockPart}
 use Rattle.job_edits.specs.Faults.{raised_by}
 use Rattle.fault_text.specs.JobOutcomes.{JobOutcome, refused, stuck, ended}
 use Rattle.fault_text.specs.Table as faults
+use Rattle.fault_text.specs.declared.options.Untried.{Untried}
 use Rattle.sweep_text.specs.Groups as sweeps
 use Rattle.race_rows.specs.Differences.{Difference, otherwise, inside}
 use Rattle.race_text.specs.Lines as races
@@ -56,9 +57,9 @@ fault_lines_have_none : (limit : ℕ) (ls : List faults.Line) → items_have_flo
 fault_lines_have_none limit [] = refl
 fault_lines_have_none limit (l ∷ ls) = rw (fault_line_has_none limit l, fault_lines_have_none limit ls) refl
 
-pub faults_without_float : (value : Data) (limit : ℕ) (brief : Bool) (first : JobOutcome) (ls : List faults.Line) (more : Bool) →
-    value ≡ faults_json limit brief first ls more → has_float value ≡ false
-faults_without_float value limit brief first ls more is =
+pub faults_without_float : (value : Data) (limit : ℕ) (brief : Bool) (first : JobOutcome) (ls : List faults.Line) (untried : Untried) →
+    value ≡ faults_json limit brief first ls untried → has_float value ≡ false
+faults_without_float value limit brief first ls untried is =
     rw (is, result_has_none limit first, fault_lines_have_none limit (faults.printed brief ls)) refl
 
 -- ---- values

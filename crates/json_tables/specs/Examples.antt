@@ -31,9 +31,9 @@ pub faults_are_written :
     (ended 4 (Some (group (by_nursery (task (codes "n"))) (part (raised (codes "E") (task (codes "a")) 2) no_parts))) (task (codes "b") ∷ []) (task (codes "c") ∷ []) true)
     ∷ line_with faults_first 9 3 wait.Forever Hangs false (stuck (task (codes "a") ∷ []) (task (codes "b") ∷ []) false)
     ∷ line_in faults_first (Some (record { block = 0; name = Some (codes "p"); index = 1; count = 2 })) 10 3 (wait.Need (codes "k\\") (codes "Gone")) (Misses (codes "X")) false (refused too_large)
-    ∷ []) true)
+    ∷ []) (record { more = true; divided = false }))
     ≡ codes "{\"as_it_is\":{\"result\":{\"cancelled\":[],\"cut\":[],\"end\":3,\"exception\":{\"cancelled\":true},\"lost\":false,\"outcome\":\"cancelled\"}},"
-    ++ codes "\"counts\":{\"cut\":2,\"faults\":3,\"lost\":1,\"not_reached\":1,\"not_tried\":1,\"stuck\":1},"
+    ++ codes "\"counts\":{\"cut\":2,\"faults\":3,\"lost\":1,\"not_reached\":1,\"not_tried\":1,\"stuck\":1},\"divided\":false,"
     ++ codes "\"lines\":[{\"column\":11,\"exception\":\"E\",\"fault\":\"fails\",\"line\":7,\"part\":null,\"reached\":true,"
     ++ codes "\"result\":{\"cancelled\":[\"b\"],\"cut\":[\"c\"],\"end\":4,"
     ++ codes "\"exception\":{\"group\":\"n\",\"parts\":[{\"raised\":\"E\",\"task\":\"a\",\"tick\":2}]},\"lost\":true,\"outcome\":\"raised\"},\"step\":\"sleep 3\"},"

@@ -2,6 +2,7 @@
 use Rattle.std.specs.Prelude.{ℕ, Bool, Option, Some, None, List, map, codes}
 use Rattle.serde_json.specs.Data.{Data, null, boolean, object, member, no_members}
 use Rattle.fault_text.specs.declared.counts.Counts.{Counts}
+use Rattle.fault_text.specs.declared.options.Untried.{Untried}
 use Rattle.fault_text.specs.JobOutcomes.{JobOutcome}
 use Rattle.fault_text.specs.Table.{Line, fault_text, step_text, part_text, printed, counts_of}
 use Rattle.json_report.specs.Values.{integer, word, list_of, text_json}
@@ -31,9 +32,10 @@ fault_counts_json c =
     (member (codes "not_reached") (integer c.unreached) (member (codes "not_tried") (integer c.not_tried)
     (member (codes "stuck") (integer c.stuck) no_members))))))
 
--- the outcome of the job as it is, the counts, the outcome with each fault that is printed, and whether there are more faults in single
--- copies and passes
-abbrev pub faults_json : ℕ → (brief : Bool) → JobOutcome → List Line → (more : Bool) → Data
-faults_json limit brief first ls more =
+-- the outcome of the job as it is, the counts, whether there are copies in which no fault was tried, the outcome with each fault that is
+-- printed, and whether there are more faults in single copies and passes
+abbrev pub faults_json : ℕ → (brief : Bool) → JobOutcome → List Line → Untried → Data
+faults_json limit brief first ls untried =
     object (member (codes "as_it_is") (first_json limit first) (member (codes "counts") (fault_counts_json (counts_of ls))
-    (member (codes "lines") (list_of (map (fault_line_json limit) (printed brief ls))) (member (codes "more") (boolean more) no_members))))
+    (member (codes "divided") (boolean untried.divided) (member (codes "lines") (list_of (map (fault_line_json limit) (printed brief ls)))
+    (member (codes "more") (boolean untried.more) no_members)))))

@@ -9,7 +9,7 @@ ghost use Rattle.json_tables.specs.Faults.{part_or_null, fault_line_json, fault_
 use crate::members::{place_members, with, with_word};
 use crate::results::{first_value, result_value};
 use crate::warnings::name_value;
-use fault_text::{Counts, JobOutcome, Line, push_part};
+use fault_text::{Counts, JobOutcome, Line, Untried, push_part};
 use job_edits::{BlockPart, Fault, push_wait};
 use json_report::{document, text_value};
 use serde_json::{Map, Value};
@@ -17,20 +17,20 @@ use std::alloc::{AllocError, Global};
 
 /// Returns one JSON document with the outcome of a job as it is (`first`), its outcome with each fault, and how many faults are
 /// of each kind. With `brief` it has only the lines whose outcome differs from that of the job without the fault, but all are
-/// counted. The document is compact and ends with a newline. `limit` is the last tick at which the job may end, and `more` says
-/// whether there are more faults in single copies and passes than those of `lines`. The only error is that memory runs out.
+/// counted. The document is compact and ends with a newline. `limit` is the last tick at which the job may end, and `untried` says
+/// which faults in single copies and passes are not among `lines`. The only error is that memory runs out.
 pub fn faults_json(
     alloc: Global,
     limit: u64,
     brief: bool,
     first: &JobOutcome,
     lines: &[Line],
-    more: bool,
+    untried: Untried,
 ) -> Result<Vec<u8>, AllocError>
     ensures { IfOk result (λ bytes. bytes.items
-        ≡ document (faults_json limit brief (job_outcome_held first.now) (map line_held lines.now) more)) }
+        ≡ document (faults_json limit brief (job_outcome_held first.now) (map line_held lines.now) untried)) }
 {
-    let value = faults_value(alloc, limit, brief, first, lines, more)?;
+    let value = faults_value(alloc, limit, brief, first, lines, untried)?;
     document(alloc, &value)
 }
 
@@ -41,17 +41,18 @@ fn faults_value(
     brief: bool,
     first: &JobOutcome,
     lines: &[Line],
-    more: bool,
+    untried: Untried,
 ) -> Result<Value, AllocError>
-    ensures { IfOk result (λ value. view value ≡ faults_json limit brief (job_outcome_held first.now) (map line_held lines.now) more) }
+    ensures { IfOk result (λ value. view value ≡ faults_json limit brief (job_outcome_held first.now) (map line_held lines.now) untried) }
 {
     let as_it_is = first_value(alloc, limit, first)?;
     let members = with(Map::new(alloc), alloc, "as_it_is", as_it_is)?;
     let counts = counts_value(alloc, Counts::of(lines))?;
     let members = with(members, alloc, "counts", counts)?;
+    let members = with(members, alloc, "divided", Value::from(untried.divided))?;
     let values = line_values(alloc, limit, brief, lines)?;
     let members = with(members, alloc, "lines", Value::from(values))?;
-    let members = with(members, alloc, "more", Value::from(more))?;
+    let members = with(members, alloc, "more", Value::from(untried.more))?;
     Ok(Value::Object(members))
 }
 

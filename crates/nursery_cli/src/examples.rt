@@ -109,7 +109,8 @@ const FAULTS_EXAMPLE: &str =
     "A fault is a change of one waiting step: an exception is raised in its place (`fails`) or after it
 (`fails late`), it never ends (`hangs`), or the whole job is cancelled from outside (`cancelled`); a
 `need` finds no line (`misses`). It is made wherever the step runs; with `--each` there are lines for
-single copies and passes too.
+single copies and passes too, where the copy `shard.1` is called `shard_1.0`, and those after it
+`shard_after_1.0` and so on.
 
 Example: what if one of two calls fails or hangs?
 

@@ -13,6 +13,7 @@ use Rattle.sweep_text.specs.declared.value.Value.{Value}
 use Rattle.race_text.specs.Table as races
 use Rattle.race_text.specs.Views.{line_held}
 use Rattle.race_text.specs.declared.line.Line.{Line}
+use Rattle.fault_text.specs.declared.options.Untried.{Untried}
 use Rattle.fault_app.specs.Answers.{AreFaultLines}
 use Rattle.sweep_app.specs.Answers.{AreSweepValues}
 use Rattle.json_report.specs.Values.{document}
@@ -25,11 +26,11 @@ use Rattle.table_app.specs.declared.form.Form.{Form}
 
 -- the table of faults, by the lines that were passed on
 pub of_fault_lines : (form : Form) (limit : ℕ) (o : faults.Options) (denied bytes : List ℕ) (first : JobOutcome) (lines ms : List faults_kept.Line)
-    (more : Bool) →
-    bytes ≡ of_faults_are.table_in form limit o.brief first (map faults_held.line_held lines) more → ms ≡ lines →
+    (untried : Untried) →
+    bytes ≡ of_faults_are.table_in form limit o.brief first (map faults_held.line_held lines) untried → ms ≡ lines →
     denied ≡ faults.denied_text limit o.deny first (map faults_held.line_held ms) →
-    of_faults_are.IsTableOf form limit o first (map faults_held.line_held lines) more denied bytes
-of_fault_lines form limit o denied bytes first lines ms more b m d =
+    of_faults_are.IsTableOf form limit o first (map faults_held.line_held lines) untried denied bytes
+of_fault_lines form limit o denied bytes first lines ms untried b m d =
     record {
       table = b;
       denied_are = d ∙ ap (λ (xs : List faults_kept.Line). faults.denied_text limit o.deny first (map faults_held.line_held xs)) m;
@@ -37,16 +38,16 @@ of_fault_lines form limit o denied bytes first lines ms more b m d =
 
 -- the table of faults, by the names and the limit that were passed on
 pub of_faults : (form : Form) (text input : List ℕ) (limit l : ℕ) (o : faults.Options) (names : List (List ℕ)) (denied bytes : List ℕ)
-    (first : JobOutcome) (lines : List faults.Line) (more : Bool) →
-    AreFaultLines text input limit names o.each first lines more → names ≡ o.names → l ≡ limit →
-    of_faults_are.IsTableOf form l o first lines more denied bytes → of_faults_are.IsTable form text input limit o denied bytes
-of_faults form text input limit l o names denied bytes first lines more are same at table =
+    (first : JobOutcome) (lines : List faults.Line) (untried : Untried) →
+    AreFaultLines text input limit names o.each first lines untried → names ≡ o.names → l ≡ limit →
+    of_faults_are.IsTableOf form l o first lines untried denied bytes → of_faults_are.IsTable form text input limit o denied bytes
+of_faults form text input limit l o names denied bytes first lines untried are same at table =
     record {
       first = first;
       lines = lines;
-      more = more;
-      lines_are = subst (λ (ns : List (List ℕ)). AreFaultLines text input limit ns o.each first lines more) same are;
-      table_is = subst (λ (n : ℕ). of_faults_are.IsTableOf form n o first lines more denied bytes) at table;
+      untried = untried;
+      lines_are = subst (λ (ns : List (List ℕ)). AreFaultLines text input limit ns o.each first lines untried) same are;
+      table_is = subst (λ (n : ℕ). of_faults_are.IsTableOf form n o first lines untried denied bytes) at table;
     }
 
 -- a sweep, by the values and the limit that were passed on

@@ -96,7 +96,7 @@ fn table_and_denied(
     told: &FaultLines,
 ) -> Result<(Vec<u8>, Vec<u8>), AllocError>
     ensures { IfOk result (λ r. IsTableOf form limit (options_held options.now) (job_outcome_held told.now.first) (map line_held told.now.lines.items)
-        told.now.more r.0.items r.1.items) }
+        told.now.untried r.0.items r.1.items) }
 {
     let bytes = table_in(alloc, form, limit, options.brief, told)?;
     let denied = denied_text(
@@ -118,11 +118,11 @@ fn table_in(
     told: &FaultLines,
 ) -> Result<Vec<u8>, AllocError>
     ensures { IfOk result (λ bytes. bytes.items
-        ≡ table_in form limit brief (job_outcome_held told.now.first) (map line_held told.now.lines.items) told.now.more) }
+        ≡ table_in form limit brief (job_outcome_held told.now.first) (map line_held told.now.lines.items) told.now.untried) }
 {
-    let (first, lines, more) = (&told.first, told.lines.as_slice(), told.more);
+    let (first, lines, untried) = (&told.first, told.lines.as_slice(), told.untried);
     match form {
-        Form::Text => table(alloc, limit, brief, first, lines, more),
-        Form::Json => faults_json(alloc, limit, brief, first, lines, more),
+        Form::Text => table(alloc, limit, brief, first, lines, untried),
+        Form::Json => faults_json(alloc, limit, brief, first, lines, untried),
     }
 }

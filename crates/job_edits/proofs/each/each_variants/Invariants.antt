@@ -4,5 +4,5 @@ use Rattle.job_edits.proofs.each.each_variants.Given as goal
 
 abbrev pub invariant-steps : goal.invariant-steps
 invariant-steps l =
-    (take l.most (l.variants.items ++ each_of l.names l.blocks.items (drop l.step-index l.step-items)) ≡ take l.most (each_in l.names l.tokens))
+    (take l.most (l.variants.items ++ each_of l.has_input l.names l.blocks.items (drop l.step-index l.step-items)) ≡ take l.most (each_in l.has_input l.names l.tokens))
     × (length l.variants.items ≤ l.most)
