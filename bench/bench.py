@@ -191,10 +191,10 @@ class Bench:
             table.row(name, milliseconds(ours.seconds), ours.memory // 1024, *cells, told)
 
     def turns(self):
-        """Time per turn at growing sizes, in each order. A turn's cost is the run's time without that of an empty job."""
+        """Time per turn at growing sizes. A turn's cost is the run's time without that of an empty job."""
         empty = Run("empty", self.program, "run", self.file("empty.job", job(b"")), os.devnull)
         measure([empty], self.rounds)
-        table = Table("Tasks", "turns", "forward ms", "reverse ms", "turn ms", "ns a turn, each order", "MB")
+        table = Table("Tasks", "turns", "ms", "ns a turn", "MB")
         sleeps = b"sleep 1; sleep 1; sleep 1;"
         for outer, middle in [(16, 64), (64, 64)]:
             self.turns_row(table, empty, grid(sleeps, outer, middle), 1 + outer + outer * middle, 2 * (1 + outer) + 4 * outer * middle)
@@ -207,10 +207,9 @@ class Bench:
 
     def turns_row(self, table, empty, text, tasks, turns):
         path = self.file("turns.job", text)
-        runs = [Run(order, self.program, "run", path, os.devnull, "--order", order) for order in ["forward", "reverse", "turn"]]
-        measure(runs, self.rounds)
-        each = "/".join(f"{(run.seconds - empty.seconds) * 1e9 / turns:.0f}" for run in runs)
-        table.row(tasks, turns, *[milliseconds(run.seconds) for run in runs], each, max(run.memory for run in runs) // 1024)
+        run = Run("turns", self.program, "run", path, os.devnull)
+        measure([run], self.rounds)
+        table.row(tasks, turns, milliseconds(run.seconds), f"{(run.seconds - empty.seconds) * 1e9 / turns:.0f}", run.memory // 1024)
 
     def large(self):
         """Jobs of a million steps, in format 2."""

@@ -79,9 +79,7 @@ report='job main 0\ntask main 0 0 done\n  line 0+5 error\n'
 # ---- 0 and 1: a job that ended
 
 wants 0 "$report" '' run find.job log.txt
-for order in forward reverse turn; do
-    wants 0 "$report" '' run find.job log.txt --order "$order" --workers 64 --limit 0
-done
+wants 0 "$report" '' run find.job log.txt --workers 64 --limit 0
 without='job main 0\ntask main 0 0 done\n'
 wants 0 "$without" '' run find.job /dev/null
 wants 0 "$without" '' run find.job
@@ -178,7 +176,7 @@ printf 'trio-job 3\njob main { scope s after 2 { nursery n { start a { forever; 
 left='tick 0\n  a  starts in nursery n\n  a  sleeps forever\ntick 2\n  a  is cancelled while sleeping since 0 by scope s (deadline)\n  a  ends: cancelled\n'
 wants 0 "$left" '' explain leave.job --task a
 wants 1 "$story" '' explain raise.job log.txt
-wants 1 "$story" '' explain raise.job --limit 2 --order reverse --workers 64
+wants 1 "$story" '' explain raise.job --limit 2 --workers 64
 wants 1 "$story" '' explain raise.job --task main
 wants 3 'tick 0\n  main  starts\n  main  sleeps until 2\nlimit 1\n  main  sleeping until 2 since 0\n' '' explain raise.job --limit 1
 wants 3 'tick 0\n  main  starts\n  main  sleeps forever\nlimit 1000000\n  main  sleeping forever since 0\n' '' explain forever.job
@@ -542,7 +540,7 @@ escapes "$forged"
 escapes "$forged.job"
 escapes "$forged.feed"
 escapes "--$forged"
-escapes run find.job log.txt --order "$forged"
+escapes completions "$forged"
 escapes run find.job log.txt "--limit=$forged"
 escapes run find.job log.txt --workers "$forged"
 escapes run find.job "$forged"
@@ -575,7 +573,6 @@ done
 
 words='run find.job log.txt --workers 0'; holds 2 err "'--workers <N>'" '1..=64'
 words='run find.job log.txt --workers 65'; holds 2 err "'--workers <N>'" '1..=64'
-words='run find.job log.txt --order up'; holds 2 err "'--order <ORDER>'" 'forward, reverse, turn'
 words='run find.job log.txt --limit 4294967296'; holds 2 err "'--limit <T>'" '4294967295'
 words='run'; holds 2 err '<JOB>' 'Usage: nursery run '
 words='explain'; holds 2 err '<JOB>' 'Usage: nursery explain '
@@ -605,14 +602,14 @@ wants 2 '' 'error: an argument is not UTF-8 text\n' check "$(printf 'a\377b')"
 # ---- help and version
 
 wants 0 'nursery 0.1.0\n' '' --version
-words='explain --help'; holds 0 out 'Usage: nursery explain [OPTIONS] <JOB> [INPUT]' '--task <LABEL>' '--workers <N>' '--order <ORDER>' '--limit <T>'
+words='explain --help'; holds 0 out 'Usage: nursery explain [OPTIONS] <JOB> [INPUT]' '--task <LABEL>' '--workers <N>' '--limit <T>'
 words='--help'; holds 0 out 'Usage: nursery <COMMAND>' '  run ' '  explain ' '  faults ' '  races ' '  sweep ' '  check ' '  upgrade ' '$ nursery run first.job log.txt' '  line 0+5 error' 'Exit status'
 words='help'; holds 0 out 'Usage: nursery <COMMAND>'
 # Each command that the help lists has an example of itself in its own help.
 for command in $("$nursery" --help | sed -n '/^Commands/,/^$/s/^  \([a-z]*\)  *[A-Z].*/\1/p'); do
     [ "$command" = help ] || { words="help $command"; holds 0 out 'Example' "nursery $command "; }
 done
-words='run --help'; holds 0 out 'Usage: nursery run [OPTIONS] <JOB> [INPUT]' '--workers <N>' '--order <ORDER>' '--limit <T>' '  line 6+10 ERROR disk'
+words='run --help'; holds 0 out 'Usage: nursery run [OPTIONS] <JOB> [INPUT]' '--workers <N>' '--limit <T>' '  line 6+10 ERROR disk'
 words='faults --help'; holds 0 out 'Usage: nursery faults [OPTIONS] <JOB> [INPUT]' '--name <NAMES>' '--each' '--brief' '--deny <KINDS>' '--workers <N>' '--limit <T>'
 words='races --help'; holds 0 out 'Usage: nursery races [OPTIONS] <JOB> [INPUT]' '--deny' '--workers <N>' '--limit <T>'
 words='sweep --help'; holds 0 out 'Usage: nursery sweep [OPTIONS]' '--of <NAME>' '--at <LINE:COL>' '--values <A..B[:STEP]>' '--workers <N>' '--limit <T>'

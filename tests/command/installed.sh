@@ -48,7 +48,7 @@ examine() {
     completes nursery ra races
     completes nursery --v --version
     completes 'nursery help' up upgrade
-    completes 'nursery run job input --order' '' 'forward reverse turn'
+    completes 'nursery upgrade job --to' '' '2 3'
     completes 'nursery run job input --limit' '' ''
     completes 'nursery fmt' --w --write
     completes 'nursery completions' '' 'bash zsh fish'

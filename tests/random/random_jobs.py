@@ -1,11 +1,11 @@
 #!/usr/bin/env python3
-"""Runs random texts through nursery under each order and number of workers, and compares the answers.
+"""Runs random texts through nursery with each number of workers, and compares the answers.
 
     python3 tests/random/random_jobs.py PROGRAM [TEXTS [SEED]]
 
-PROGRAM is the built executable. It wants Python 3.10 or later. Of each text: the bytes and the status are the same under
-every order and with 1, 3 and 64 workers, and as a feed; each line shown is the input's slice at its place; a job's canonical
-text is its own canonical text and has the same report; its story starts and ends each task as the report does, under each order; the status fits what was written. Three texts in four are jobs, the
+PROGRAM is the built executable. It wants Python 3.10 or later. Of each text: the bytes and the status are the same with
+1, 3 and 64 workers, and as a feed; each line shown is the input's slice at its place; a job's canonical
+text is its own canonical text and has the same report; its story starts and ends each task as the report does; the status fits what was written. Three texts in four are jobs, the
 others jobs with a few bytes changed, or bytes. Before them come the jobs of examples/, cut after each of their bytes: none
 of those is a job but the whole one, and none is refused at a place after its end.
 """
@@ -23,7 +23,6 @@ from concurrent.futures import ThreadPoolExecutor
 from jobs import job_of_any_format
 
 FIRST_LINES = [b"trio-job 1\n", b"trio-job 2\n", b"trio-job 3\n"]
-ORDERS = ["forward", "reverse", "turn"]
 WORKERS = ["1", "3", "64"]
 LIMIT = 1_000_000
 LINE = re.compile(rb"  line (\d+)\+(\d+) (.*)")
@@ -169,10 +168,9 @@ class Program:
         status, out, err = self.run(text)
         is_job = check_status(status, out, err, text)
         check_lines(out, data)
-        for order in ORDERS:
-            for workers in WORKERS:
-                if self.run(text, "--order", order, "--workers", workers) != (status, out, err):
-                    raise Wrong(f"another answer with --order {order} --workers {workers}")
+        for workers in WORKERS:
+            if self.run(text, "--workers", workers) != (status, out, err):
+                raise Wrong(f"another answer with --workers {workers}")
         lines = text + b"\n"
         if b"%input" not in text and self.call([], lines + b"%input\n" + data)[:2] != self.run(lines)[:2]:
             raise Wrong("another answer to the feed")
@@ -182,13 +180,13 @@ class Program:
         return status
 
     def examine_story(self, text, answer):
-        """The story has the status of the run, under each order, and its tasks start and end as in the report."""
+        """The story has the status of the run, with each number of workers, and its tasks start and end as in the report."""
         self.run(text)
         status, story, _ = self.call(["explain", self.job, self.input])
-        for order, workers in [("reverse", "64"), ("turn", "3")]:
-            other = self.call(["explain", self.job, self.input, "--order", order, "--workers", workers])
+        for workers in ("3", "64"):
+            other = self.call(["explain", self.job, self.input, "--workers", workers])
             if status != answer[0] or other[:2] != (status, story):
-                raise Wrong(f"the story has status {status}, and {other[0]} with --order {order} --workers {workers}")
+                raise Wrong(f"the story has status {status}, and {other[0]} with --workers {workers}")
         if status in (0, 1) and tasks_told(story) != tasks_reported(answer[1]):
             raise Wrong(f"the story's tasks start or end otherwise than the report's: {story!r}")
         if status == 2 and story != answer[1]:

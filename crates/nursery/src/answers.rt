@@ -11,10 +11,9 @@ use crate::stop::Stop;
 use job_files::shown_name;
 use job_grammar::JobFault;
 use nursery_app::{
-    Forward, MAX_INPUT, NoGate, Pick, Reverse, Settings, Turn, Verdict, WriteOut, send, serve,
-    split_feed,
+    Forward, MAX_INPUT, NoGate, Settings, Verdict, WriteOut, send, serve, split_feed,
 };
-use nursery_cli::{DEFAULT_LIMIT, ExplainArgs, Order, RunArgs};
+use nursery_cli::{DEFAULT_LIMIT, ExplainArgs, RunArgs};
 use refusal_text::refusal_message;
 use std::alloc::{AllocError, Global};
 use std::io::{self, IsTerminal};
@@ -48,7 +47,7 @@ where
     let Some(settings) = Settings::new(1, DEFAULT_LIMIT) else {
         unreachable!()
     };
-    run_text(rt, "standard input", text, input, settings, &mut Forward)
+    run_text(rt, "standard input", text, input, settings)
 }
 
 // Returns the word that a command was given, if it was given one.
@@ -62,28 +61,12 @@ pub(crate) fn run_job<R: Files + Input + Print + Eprint + Threads + Sync + Alloc
     args: &RunArgs,
 ) -> Result<u8, Stop> {
     let given = read_both(rt, args.job.as_str(), word_of(&args.input))?;
-    match args.order {
-        Order::Forward => run_given(rt, args, &given, &mut Forward),
-        Order::Reverse => run_given(rt, args, &given, &mut Reverse),
-        Order::Turn => run_given(rt, args, &given, &mut Turn { calls: 0 }),
-    }
-}
-
-// Does the same for files that were read, in the order of a picker: writes the report, as a text or as a JSON document.
-fn run_given<R: Print + Eprint + Threads + Sync + AllocGlobal, P: Pick>(
-    rt: &R,
-    args: &RunArgs,
-    given: &Given,
-    picker: &mut P,
-) -> Result<u8, Stop>
-    requires { length given.now.input.items ≤ MAX_INPUT }
-{
     let (job, settings) = (args.job.as_str(), args.settings);
     let (text, input) = (given.text.as_slice(), given.input.as_slice());
     if args.json {
-        return run_as_json(rt, job, text, input, settings, picker);
+        return run_as_json(rt, job, text, input, settings);
     }
-    run_text(rt, job, text, input, settings, picker)
+    run_text(rt, job, text, input, settings)
 }
 
 // Writes the story of a job file over its input, and returns the status.
@@ -92,40 +75,23 @@ pub(crate) fn explain_job<R: Files + Input + Print + Eprint + Threads + Sync + A
     args: &ExplainArgs,
 ) -> Result<u8, Stop> {
     let given = read_both(rt, args.job.as_str(), word_of(&args.input))?;
-    match args.order {
-        Order::Forward => explain_given(rt, args, &given, &mut Forward),
-        Order::Reverse => explain_given(rt, args, &given, &mut Reverse),
-        Order::Turn => explain_given(rt, args, &given, &mut Turn { calls: 0 }),
-    }
-}
-
-// Does the same for files that were read, in the order of a picker: writes the story, as a text or as a JSON document.
-fn explain_given<R: Print + Eprint + Threads + Sync + AllocGlobal, P: Pick>(
-    rt: &R,
-    args: &ExplainArgs,
-    given: &Given,
-    picker: &mut P,
-) -> Result<u8, Stop>
-    requires { length given.now.input.items ≤ MAX_INPUT }
-{
     let (job, settings) = (args.job.as_str(), args.settings);
     let (text, input) = (given.text.as_slice(), given.input.as_slice());
     let task = word_of(&args.task);
     if args.json {
-        return explain_as_json(rt, job, text, input, task, settings, picker);
+        return explain_as_json(rt, job, text, input, task, settings);
     }
-    explain_text(rt, job, text, input, task, settings, picker)
+    explain_text(rt, job, text, input, task, settings)
 }
 
 // Writes the story of a job text over an input, and returns the status.
-fn explain_text<R: Print + Eprint + Threads + Sync + AllocGlobal, P: Pick>(
+fn explain_text<R: Print + Eprint + Threads + Sync + AllocGlobal>(
     rt: &R,
     job: &str,
     text: &[u8],
     input: &[u8],
     task: Option<&str>,
     settings: Settings,
-    picker: &mut P,
 ) -> Result<u8, Stop>
     requires { length input.now ≤ MAX_INPUT }
     ensures { IfOk result (TellsStory text.now input.now settings.limit (option_copied task.entry)) }
@@ -134,7 +100,15 @@ fn explain_text<R: Print + Eprint + Threads + Sync + AllocGlobal, P: Pick>(
     let mut out = WriteOut::new(io::writer(rt));
     let asked = bytes_of(task);
     let verdict = explain(
-        rt, alloc, text, input, settings, asked, picker, &NoGate, &mut out,
+        rt,
+        alloc,
+        text,
+        input,
+        settings,
+        asked,
+        &mut Forward,
+        &NoGate,
+        &mut out,
     )?;
     Ok(conclude_story(rt, job, text, task, verdict))
 }
@@ -186,31 +160,38 @@ fn no_task_message(alloc: Global, task: &str, nearest: &str) -> Result<String, A
 }
 
 // Runs a job text over an input, and returns the status.
-fn run_text<R: Print + Eprint + Threads + Sync + AllocGlobal, P: Pick>(
+fn run_text<R: Print + Eprint + Threads + Sync + AllocGlobal>(
     rt: &R,
     job: &str,
     text: &[u8],
     input: &[u8],
     settings: Settings,
-    picker: &mut P,
 ) -> Result<u8, Stop>
     requires { length input.now ≤ MAX_INPUT }
     ensures { IfOk result (TellsVerdict text.now input.now settings.limit) }
 {
     let alloc = rt.alloc();
     let mut out = WriteOut::new(io::writer(rt));
-    let verdict = serve(rt, alloc, text, input, settings, picker, &NoGate, &mut out)?;
-    Ok(conclude_run(rt, job, text, input, settings, picker, verdict))
+    let verdict = serve(
+        rt,
+        alloc,
+        text,
+        input,
+        settings,
+        &mut Forward,
+        &NoGate,
+        &mut out,
+    )?;
+    Ok(conclude_run(rt, job, text, input, settings, verdict))
 }
 
 // Prints to standard error why the job text is refused, or which tasks have not ended, and returns the status.
-pub(crate) fn conclude_run<R: Eprint + Threads + Sync + AllocGlobal, P: Pick>(
+pub(crate) fn conclude_run<R: Eprint + Threads + Sync + AllocGlobal>(
     rt: &R,
     job: &str,
     text: &[u8],
     input: &[u8],
     settings: Settings,
-    picker: &mut P,
     verdict: Verdict,
 ) -> u8
     requires { length input.now ≤ MAX_INPUT }
@@ -218,7 +199,7 @@ pub(crate) fn conclude_run<R: Eprint + Threads + Sync + AllocGlobal, P: Pick>(
 {
     match verdict {
         Verdict::JobRefused(fault) => tell_refusal(rt, job, text, fault),
-        Verdict::Limit => tell_running(rt, text, input, settings, picker),
+        Verdict::Limit => tell_running(rt, text, input, settings),
         Verdict::Done | Verdict::Raised => {}
     }
     verdict.status()
@@ -227,16 +208,16 @@ pub(crate) fn conclude_run<R: Eprint + Threads + Sync + AllocGlobal, P: Pick>(
 // Prints to standard error which tasks have not ended at the limit, and what each is doing: a line for each of the first `MAX_RUNNING`
 // tasks, and then how many there are beyond them. The limit's line is on standard output already, so if memory or a write fails here
 // nothing more is printed.
-pub(crate) fn tell_running<R: Eprint + Threads + Sync + AllocGlobal, P: Pick>(
+pub(crate) fn tell_running<R: Eprint + Threads + Sync + AllocGlobal>(
     rt: &R,
     text: &[u8],
     input: &[u8],
     settings: Settings,
-    picker: &mut P,
 )
     requires { length input.now ≤ MAX_INPUT }
 {
-    let Ok(lines) = running_at_limit(rt, rt.alloc(), text, input, settings, picker, &NoGate) else {
+    let Ok(lines) = running_at_limit(rt, rt.alloc(), text, input, settings, &mut Forward, &NoGate)
+    else {
         return;
     };
     if let Ok(lines) = String::from_utf8(lines) {

@@ -80,5 +80,5 @@ fn chart_text<R: Print + Eprint + Threads + Sync + AllocGlobal>(
         &NoGate,
         &mut out,
     )?;
-    Ok(conclude_run(rt, job, text, input, settings, &mut Forward, verdict))
+    Ok(conclude_run(rt, job, text, input, settings, verdict))
 }

@@ -9,7 +9,7 @@ use crate::faults::tell_denied;
 use crate::progress::Progress;
 use crate::sources::read_both;
 use crate::stop::Stop;
-use nursery_app::{Forward, WriteOut};
+use nursery_app::WriteOut;
 use nursery_cli::RacesArgs;
 use std::io;
 use std::rt::Files;
@@ -74,7 +74,7 @@ fn conclude_races<R: Eprint + Threads + Sync + AllocGlobal>(
     match verdict {
         RacesVerdict::JobRefused(fault) => tell_refusal(rt, args.job.as_str(), text, fault),
         RacesVerdict::Told { denied } => tell_denied(rt, denied),
-        RacesVerdict::Limit => tell_running(rt, text, input, args.settings, &mut Forward),
+        RacesVerdict::Limit => tell_running(rt, text, input, args.settings),
         RacesVerdict::NoFinerTicks => {
             let _ = rt.eprint(NO_FINER_TICKS);
         }

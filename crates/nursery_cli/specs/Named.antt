@@ -1,4 +1,4 @@
--- The order, the shell and the format that a word names, and the settings of a run.
+-- The shell and the format that a word names, and the settings of a run.
 use Rattle.std.specs.Prelude.{ℕ, Bool, true, false, cond, ◌&&◌, nat_le, Option, Some, None, List, codes}
 use Rattle.std.specs.Option.{unwrap_or}
 use Rattle.std.specs.Str.{bytes_eq}
@@ -7,16 +7,9 @@ use Rattle.job_tree.specs.declared.format.Format.TheVariants.{Two, Three}
 use Rattle.job_runner.specs.Settings.{Chosen}
 use Rattle.job_runner.specs.declared.limits.TheConstants.{MAX_WORKERS, MAX_LIMIT}
 use Rattle.nursery_cli.specs.Cuts.{number_in}
-use Rattle.nursery_cli.specs.declared.arguments.Order.{Order}
-use Rattle.nursery_cli.specs.declared.arguments.Order.TheVariants.{Forward, Reverse, Turn}
 use Rattle.nursery_cli.specs.declared.command.Shell.{Shell}
 use Rattle.nursery_cli.specs.declared.command.Shell.TheVariants.{Bash, Zsh, Fish}
 use Rattle.nursery_cli.specs.declared.parser.TheConstants.{DEFAULT_LIMIT}
-
--- the order that a word names; forward for any other word, and if there is none
-abbrev pub order_named : Option (List ℕ) → Order
-order_named None = Forward
-order_named (Some word) = cond (bytes_eq word (codes "reverse")) Reverse (cond (bytes_eq word (codes "turn")) Turn Forward)
 
 -- the shell that a word names; Bash for any other word, and if there is none
 abbrev pub shell_named : Option (List ℕ) → Shell

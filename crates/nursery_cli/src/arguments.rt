@@ -2,17 +2,6 @@ use fault_text::Options;
 use job_edits::Target;
 use job_runner::Settings;
 
-/// The order in which the ready tasks of a batch get their turns.
-#[derive(Clone, Copy, Debug, PartialEq, Eq)]
-pub enum Order {
-    /// Always the first of those that are left.
-    Forward,
-    /// Always the last of those that are left.
-    Reverse,
-    /// One after the other, by the number of picks so far.
-    Turn,
-}
-
 /// The arguments of `run`.
 #[derive(Drop)]
 pub struct RunArgs {
@@ -22,8 +11,6 @@ pub struct RunArgs {
     pub input: Option<String>,
     /// The number of workers, and the last tick at which the job may end.
     pub settings: Settings,
-    /// The order in which ready tasks get their turns.
-    pub order: Order,
     /// Whether the output is one JSON document.
     pub json: bool,
 }
@@ -39,8 +26,6 @@ pub struct ExplainArgs {
     pub task: Option<String>,
     /// The number of workers, and the last tick of the story.
     pub settings: Settings,
-    /// The order in which ready tasks get their turns.
-    pub order: Order,
     /// Whether the output is one JSON document.
     pub json: bool,
 }

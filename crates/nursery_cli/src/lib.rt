@@ -19,7 +19,7 @@ mod showing;
 mod sweeping;
 mod table;
 
-pub use arguments::{ChartArgs, ExplainArgs, FaultsArgs, Order, RacesArgs, RunArgs, SweepArgs};
+pub use arguments::{ChartArgs, ExplainArgs, FaultsArgs, RacesArgs, RunArgs, SweepArgs};
 pub use command::{Command, CommandFault, FormatMode, Shell};
 pub use parser::{DEFAULT_LIMIT, LEAST_WIDTH, MAX_LABEL, MAX_WIDTH, VERSION, command_line};
 pub use reading::{help_text, read_command};

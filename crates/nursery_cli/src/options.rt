@@ -77,15 +77,6 @@ pub(crate) const WORKERS: ArgRow = ArgRow {
     ..OPTION
 };
 
-pub(crate) const ORDER: ArgRow = ArgRow {
-    name: "order",
-    takes: Takes::OneOf(&["forward", "reverse", "turn"]),
-    value_name: "ORDER",
-    default: Some("forward"),
-    help: "The order in which ready tasks have their turns; the output is the same for all",
-    ..OPTION
-};
-
 pub(crate) const JSON: ArgRow = ArgRow {
     name: "json",
     help: "Writes one JSON document",

@@ -4,11 +4,11 @@ ghost use Rattle.std.specs.Option.{option_map};
 ghost use Rattle.std.specs.Str.{bytes_eq};
 ghost use Rattle.std.specs.String.{string_bytes};
 ghost use Rattle.nursery_cli.specs.declared.command.Command.TheVariants.{Feed};
-ghost use Rattle.nursery_cli.specs.Named.{format_named, order_named, shell_named};
+ghost use Rattle.nursery_cli.specs.Named.{format_named, shell_named};
 ghost use Rattle.nursery_cli.specs.Reads.{Reads};
 ghost use Rattle.nursery_cli.specs.Words.{IsFit, IsAsked, IsLabel, IsWidth, is_label, spelled_label, may_be_raised};
 
-use crate::arguments::{ChartArgs, ExplainArgs, FaultsArgs, Order, RacesArgs, RunArgs, SweepArgs};
+use crate::arguments::{ChartArgs, ExplainArgs, FaultsArgs, RacesArgs, RunArgs, SweepArgs};
 use crate::command::{Command, CommandFault, FormatMode, Shell};
 use crate::common::{OUT_OF_RANGE, owned_copy, refusal, settings_of};
 use crate::denying::denied_kinds;
@@ -224,7 +224,6 @@ fn run_command(alloc: Global, job: &str, matches: &ArgMatches<'_>) -> Result<Com
         job: run.job,
         input: run.input,
         settings: run.settings,
-        order: order_named(matches.get_str("order")),
         json: matches.get_flag("json"),
     }))
 }
@@ -243,7 +242,6 @@ fn explain_command(
         input: run.input,
         task: task_of(alloc, matches.get_str("task"))?,
         settings: run.settings,
-        order: order_named(matches.get_str("order")),
         json: matches.get_flag("json"),
     }))
 }
@@ -462,15 +460,4 @@ fn is_standard(name: &str) -> bool
     ensures { result ≡ bytes_eq name.now (codes "-") }
 {
     name == "-"
-}
-
-// Returns the order with this name, or forward if there is no name.
-fn order_named(name: Option<&str>) -> Order
-    ensures { result ≡ order_named (option_map (λ word. word.now) name.entry) }
-{
-    match name {
-        Some("reverse") => Order::Reverse,
-        Some("turn") => Order::Turn,
-        _ => Order::Forward,
-    }
 }

@@ -1,7 +1,7 @@
 use crate::options::{
     ACCEPT, ArgRow, BRIEF, CANONICAL, CHECK, DENIED_KINDS, DENY_RACES, EACH_PART, FACTOR,
-    FAULT_NAME, FORMAT, INPUT, JOB, JSON, LIMIT, ORDER, PATHS, SHELL, SVG, TARGET_NAME,
-    TARGET_PLACE, TASK, VALUES, WIDTH, WORKERS, WRITE,
+    FAULT_NAME, FORMAT, INPUT, JOB, JSON, LIMIT, PATHS, SHELL, SVG, TARGET_NAME, TARGET_PLACE,
+    TASK, VALUES, WIDTH, WORKERS, WRITE,
 };
 
 // Options of a command of which at most one may be given. If the group is required, one of them has to be given.
@@ -30,13 +30,13 @@ const RUNS: &[CommandRow] = &[
     CommandRow {
         name: "run",
         about: "Runs a job over an input and writes the report",
-        args: &[JOB, INPUT, WORKERS, ORDER, LIMIT, JSON],
+        args: &[JOB, INPUT, WORKERS, LIMIT, JSON],
         group: None,
     },
     CommandRow {
         name: "explain",
         about: "Runs a job over an input and reports what happened to each task, when and why",
-        args: &[JOB, INPUT, TASK, WORKERS, ORDER, LIMIT, JSON],
+        args: &[JOB, INPUT, TASK, WORKERS, LIMIT, JSON],
         group: None,
     },
     CommandRow {

@@ -1,6 +1,6 @@
 //! The command line: what a line requests, what help shows, and how lines are refused.
 
-use nursery_cli::{Command, CommandFault, Order, read_command};
+use nursery_cli::{Command, CommandFault, read_command};
 use std::alloc::{AllocError, Global};
 use std::test::Fail;
 
@@ -169,10 +169,10 @@ fn is_input(input: &Option<String>) -> bool {
 }
 
 // Returns whether a command runs the job `j` over the input `i` with these settings.
-fn is_run(command: &Command, wanted: (usize, Order, u64)) -> bool {
+fn is_run(command: &Command, wanted: (usize, u64)) -> bool {
     match command {
         Command::Run(args) => {
-            let found = (args.settings.workers(), args.order, args.settings.limit());
+            let found = (args.settings.workers(), args.settings.limit());
             args.job.as_str() == "j" && is_input(&args.input) && found == wanted
         }
         _other => false,
@@ -180,17 +180,11 @@ fn is_run(command: &Command, wanted: (usize, Order, u64)) -> bool {
 }
 
 // A line, and the settings of its run.
-const RUNS: &[(&str, (usize, Order, u64))] = &[
-    ("run j i", (1, Order::Forward, 1_000_000)),
-    (
-        "run j i --order turn --limit 7 --workers 64",
-        (64, Order::Turn, 7),
-    ),
-    (
-        "run --limit=4294967295 --order=reverse j i",
-        (1, Order::Reverse, 4_294_967_295),
-    ),
-    ("run j --order forward i --limit 0", (1, Order::Forward, 0)),
+const RUNS: &[(&str, (usize, u64))] = &[
+    ("run j i", (1, 1_000_000)),
+    ("run j i --limit 7 --workers 64", (64, 7)),
+    ("run --limit=4294967295 j i", (1, 4_294_967_295)),
+    ("run j i --limit 0", (1, 0)),
 ];
 
 #[test]
@@ -242,7 +236,7 @@ type Row = (&'static str, &'static str);
 const REFUSED: &[Row] = &[
     ("run j i --workers 0", "0 is not in 1..=64"),
     ("run j i --workers 65", "65 is not in 1..=64"),
-    ("run j i --order up", "forward, reverse, turn"),
+    ("run j i --order turn", "'--order'"),
     ("run j i --limit 4294967296", "'--limit <T>'"),
     (
         "run j i --limit 1 --limit 2",
@@ -298,7 +292,7 @@ const HELP: &[Row] = &[
     ("sweep --help", "3:21 --values 7..8"),
     ("run --help", "Usage: nursery run [OPTIONS] <JOB> [INPUT]"),
     ("run --help", "--workers <N>"),
-    ("run --help", "--order <ORDER>"),
+    ("run --help", "--limit <T>"),
     ("run --help", "--limit <T>"),
     ("run --help", "  line 6+10 ERROR disk\n"),
     ("help run", "--workers <N>"),
