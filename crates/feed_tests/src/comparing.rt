@@ -23,7 +23,7 @@ pub(crate) fn test_output<R: Files + Print + Eprint + Threads + Sync + AllocGlob
     feed: &Feed<'_>,
     kind: Output,
 ) -> Result<Option<Outcome>, TestStop>
-    requires { length feed.now.input.now ≤ MAX_INPUT }
+    requires { length feed.now.question.input.now ≤ MAX_INPUT }
 {
     let file = match open_kept(rt, feed, kind.extension())? {
         Beside::Kept(file) => file,
@@ -102,11 +102,11 @@ fn test_kept<R: Files + Print + Eprint + Threads + Sync + AllocGlobal>(
     target: Result<Target, ReplaceFault>,
     kept: &[u8],
 ) -> Result<Outcome, TestStop>
-    requires { length feed.now.input.now ≤ MAX_INPUT }
-    ensures { IfOk result (λ outcome. (now : List ℕ) × IsOutput feed.now.text.now feed.now.input.now feed.now.settings.limit kind now
+    requires { length feed.now.question.input.now ≤ MAX_INPUT }
+    ensures { IfOk result (λ outcome. (now : List ℕ) × IsOutput feed.now.question.text.now feed.now.question.input.now feed.now.question.settings.limit kind now
         × Compares feed.now.accept kept.now now outcome) }
 {
-    let now = output_of(rt, rt.alloc(), feed.text, feed.input, feed.settings, kind)?;
+    let now = output_of(rt, rt.alloc(), &feed.question, kind)?;
     compare(rt, feed.accept, name, target, kept, now.as_slice())
 }
 

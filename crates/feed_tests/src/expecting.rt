@@ -20,7 +20,7 @@ pub(crate) fn test_expectations<R: Files + Print + Eprint + Threads + Sync + All
     rt: &R,
     feed: &Feed<'_>,
 ) -> Result<Option<Outcome>, TestStop>
-    requires { length feed.now.input.now ≤ MAX_INPUT }
+    requires { length feed.now.question.input.now ≤ MAX_INPUT }
 {
     let name = name_beside(rt.alloc(), feed.stem, "expect")?;
     let bytes = match read_kept(rt, name.as_str()) {
@@ -65,13 +65,13 @@ struct Told {
 
 // Returns the report and the story of a feed, and the names that its job text gives.
 fn told_of<R: Threads + Sync + AllocGlobal>(rt: &R, feed: &Feed<'_>) -> Result<Told, AllocError>
-    requires { length feed.now.input.now ≤ MAX_INPUT }
+    requires { length feed.now.question.input.now ≤ MAX_INPUT }
 {
-    let (alloc, text, input, settings) = (rt.alloc(), feed.text, feed.input, feed.settings);
+    let (alloc, question) = (rt.alloc(), &feed.question);
     Ok(Told {
-        report: output_of(rt, alloc, text, input, settings, Output::Report)?,
-        story: output_of(rt, alloc, text, input, settings, Output::Story)?,
-        names: given_names(alloc, text)?,
+        report: output_of(rt, alloc, question, Output::Report)?,
+        story: output_of(rt, alloc, question, Output::Story)?,
+        names: given_names(alloc, question.text)?,
     })
 }
 
@@ -83,7 +83,7 @@ fn unmet_lines<R: Threads + Sync + AllocGlobal>(
     told: &Told,
     expectations: &[u8],
 ) -> Result<String, TestStop>
-    requires { length feed.now.input.now ≤ MAX_INPUT }
+    requires { length feed.now.question.input.now ≤ MAX_INPUT }
 {
     if is_without_demands(expectations) {
         return Ok(format!(in rt.alloc(); "{name}: failed: no line of it is an expectation\n")?);
@@ -105,7 +105,7 @@ fn push_unmet<R: Threads + Sync + AllocGlobal>(
     number: usize,
     line: &[u8],
 ) -> Result<(), TestStop>
-    requires { length feed.now.input.now ≤ MAX_INPUT }
+    requires { length feed.now.question.input.now ≤ MAX_INPUT }
 {
     let alloc = rt.alloc();
     let said = shown_line(alloc, line)?;
@@ -120,9 +120,7 @@ fn push_unmet<R: Threads + Sync + AllocGlobal>(
             let met = meets(
                 rt,
                 alloc,
-                feed.text,
-                feed.input,
-                feed.settings,
+                &feed.question,
                 expectation,
                 told.report.as_slice(),
                 told.story.as_slice(),

@@ -13,6 +13,7 @@ use crate::tally::Outcome;
 use crate::testing::Feed;
 use job_files::{ReplaceFault, Target, shown_name};
 use job_runner::Settings;
+use nursery_app::Question;
 use nursery_cli::{Command, CommandFault, SweepArgs, read_command};
 use std::alloc::{AllocError, Global};
 use std::rt::Files;
@@ -26,7 +27,7 @@ pub(crate) fn test_sweep<R: Files + Print + Eprint + Threads + Sync + AllocGloba
     rt: &R,
     feed: &Feed<'_>,
 ) -> Result<Option<Outcome>, TestStop>
-    requires { length feed.now.input.now ≤ MAX_INPUT }
+    requires { length feed.now.question.input.now ≤ MAX_INPUT }
 {
     let file = match open_kept(rt, feed, "sweep")? {
         Beside::Kept(file) => file,
@@ -39,7 +40,7 @@ pub(crate) fn test_sweep<R: Files + Print + Eprint + Threads + Sync + AllocGloba
         bytes,
     } = file;
     let words = first_line(bytes.as_slice());
-    let outcome = match asked_sweep(rt.alloc(), words, feed.settings) {
+    let outcome = match asked_sweep(rt.alloc(), words, feed.question.settings) {
         Ok(args) => test_asked(
             rt,
             feed,
@@ -75,23 +76,19 @@ fn test_asked<R: Files + Print + Eprint + Threads + Sync + AllocGlobal>(
     words: &[u8],
     kept: &[u8],
 ) -> Result<Outcome, TestStop>
-    requires { length feed.now.input.now ≤ MAX_INPUT }
+    requires { length feed.now.question.input.now ≤ MAX_INPUT }
     ensures { IfOk result (λ outcome. (bytes : Option (List ℕ))
-        × IsSwept (form_of args.now.json) feed.now.text.now feed.now.input.now args.now.settings.limit args.now.target args.now.values.items bytes
+        × IsSwept (form_of args.now.json) feed.now.question.text.now feed.now.question.input.now args.now.settings.limit args.now.target args.now.values.items bytes
         × ComparesSweep feed.now.accept words.now kept.now bytes outcome) }
 {
     let (alloc, form) = (rt.alloc(), form_of(args.json));
     let values = args.values.as_slice();
-    let swept = sweep_of(
-        rt,
-        alloc,
-        feed.text,
-        feed.input,
-        args.settings,
-        args.target,
-        values,
-        form,
-    )?;
+    let question = Question {
+        text: feed.question.text,
+        input: feed.question.input,
+        settings: args.settings,
+    };
+    let swept = sweep_of(rt, alloc, &question, args.target, values, form)?;
     let outcome = test_swept(rt, feed.accept, name, target, words, kept, swept)?;
     Ok(outcome)
 }

@@ -13,7 +13,7 @@ use crate::stop::TestStop;
 use crate::sweeps::test_sweep;
 use crate::tally::{Outcome, Tally};
 use job_files::{Target, reason_line, shown_name};
-use nursery_app::{MAX_INPUT, Settings, split_feed};
+use nursery_app::{MAX_INPUT, Question, Settings, split_feed};
 use std::io::ErrorKind;
 use std::rt::Files;
 use std::thread::Threads;
@@ -100,12 +100,8 @@ pub(crate) fn complain<R: Eprint>(rt: &R, line: &str) {
 pub(crate) struct Feed<'a> {
     /// Its name without `.feed`.
     pub stem: &'a str,
-    /// The job text.
-    pub text: &'a [u8],
-    /// The input, no longer than an input may be.
-    pub input: &'a [u8],
-    /// How it is run.
-    pub settings: Settings,
+    /// Its job text, its input, which is no longer than an input may be, and how it is run.
+    pub question: Question<'a>,
     /// Whether new outputs are kept.
     pub accept: bool,
 }
@@ -142,11 +138,14 @@ fn test_feed<R: Files + Print + Eprint + Threads + Sync + AllocGlobal>(
         return Ok(());
     }
     let stem = name.strip_suffix(".feed").unwrap_or(name);
-    let feed = Feed {
-        stem,
+    let question = Question {
         text,
         input,
         settings,
+    };
+    let feed = Feed {
+        stem,
+        question,
         accept,
     };
     test_parts(rt, &feed, tally)
@@ -158,7 +157,7 @@ fn test_parts<R: Files + Print + Eprint + Threads + Sync + AllocGlobal>(
     feed: &Feed<'_>,
     tally: &mut Tally,
 ) -> Result<(), TestStop>
-    requires { length feed.now.input.now ≤ MAX_INPUT }
+    requires { length feed.now.question.input.now ≤ MAX_INPUT }
 {
     let has_output = test_outputs(rt, feed, tally)?;
     let swept = test_sweep(rt, feed)?;
@@ -178,7 +177,7 @@ fn test_outputs<R: Files + Print + Eprint + Threads + Sync + AllocGlobal>(
     feed: &Feed<'_>,
     tally: &mut Tally,
 ) -> Result<bool, TestStop>
-    requires { length feed.now.input.now ≤ MAX_INPUT }
+    requires { length feed.now.question.input.now ≤ MAX_INPUT }
 {
     let mut has_output = false;
     'outputs: for kind in Output::all() {
@@ -193,13 +192,12 @@ fn test_nothing<R: Files + Print + Eprint + Threads + Sync + AllocGlobal>(
     rt: &R,
     feed: &Feed<'_>,
 ) -> Result<Outcome, TestStop>
-    requires { length feed.now.input.now ≤ MAX_INPUT }
+    requires { length feed.now.question.input.now ≤ MAX_INPUT }
     ensures { IfOk result IsKept }
 {
     let (alloc, stem) = (rt.alloc(), feed.stem);
     if feed.accept {
-        let (text, input, settings) = (feed.text, feed.input, feed.settings);
-        let now = output_of(rt, alloc, text, input, settings, Output::Report)?;
+        let now = output_of(rt, alloc, &feed.question, Output::Report)?;
         let name = name_beside(alloc, stem, "report")?;
         let target = Target::of(rt, name.as_str());
         return keep(rt, name.as_str(), target, now.as_slice());

@@ -1,7 +1,7 @@
-//! Takes a job text, and writes its formatted text: `format`; or finds where the text differs from its formatted text:
+//! Takes a job text, and returns its formatted text: `format`; or finds where the text differs from its formatted text:
 //! `check_format`; or returns the text with its ticks multiplied: `scaled_text`.
 //!
-//! The bytes that `format` writes are the formatted text of the job that the text spells, or the line of its refusal;
+//! The bytes that `format` returns are the formatted text of the job that the text spells, or the line of its refusal;
 //! `check_format` finds the first place at which the text differs; and what `scaled_text` returns is a job text. The crate uses
 //! `job_layout` for the formatted text, `job_edits` for the multiplied one, and `nursery_app` for the line of a refusal.
 #![tactic(auto)]

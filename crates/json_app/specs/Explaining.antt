@@ -1,4 +1,4 @@
--- What `explain_json` writes: the story of a job's meaning over an input as JSON, or the refusal that the meaning names.
+-- What `story_document` returns: the story of a job's meaning over an input as JSON, or the refusal that the meaning names.
 use Rattle.std.specs.Prelude.{◌≡◌, ◌⊎◌, ℕ, ◌≤◌, ◌<◌, nat_le, Option, List, [], IsSome, IsNone}
 use Rattle.std.specs.Global.{Vec}
 use Rattle.job_tree.specs.Tree.{Tree}

@@ -1,4 +1,4 @@
--- What `serve_json` writes: the report of a job's meaning over an input as JSON, or the refusal that the meaning names.
+-- What `report_document` returns: the report of a job's meaning over an input as JSON, or the refusal that the meaning names.
 use Rattle.std.specs.Prelude.{◌≡◌, ℕ, ◌≤◌, ◌<◌, List, IsSome, IsNone}
 use Rattle.job_tree.specs.Tree.{Tree}
 use Rattle.job_grammar.specs.Refusals.{Spells, IsRefused}

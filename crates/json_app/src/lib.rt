@@ -1,7 +1,7 @@
-//! A job text and an input in, one JSON document out: `serve_json` and `explain_json`.
+//! A job text and an input in, one JSON document out: `report_document` and `story_document`.
 //!
-//! The layer promises that the bytes that `serve_json` writes are the report of the job's one-thread meaning as JSON, and those
-//! of `explain_json` its story, or the refusal that the meaning names, for every job text, input, number of workers and order of
+//! The layer promises that the bytes that `report_document` returns are the report of the job's one-thread meaning as JSON, and those
+//! of `story_document` its story, or the refusal that the meaning names, for every job text, input, number of workers and order of
 //! picks. It uses `job_runner` for the records of the meaning, `job_teller` and `story_app` for its events, `json_report` and
 //! `json_story` for their JSON, and `nursery_app` for verdicts and places.
 #![tactic(auto)]
@@ -12,5 +12,5 @@ mod explaining;
 mod serving;
 
 pub use answers::{past_limit, refusal};
-pub use explaining::explain_json;
-pub use serving::serve_json;
+pub use explaining::story_document;
+pub use serving::report_document;

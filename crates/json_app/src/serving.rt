@@ -1,72 +1,48 @@
-ghost use Rattle.std.specs.Prelude.{◌≡◌, ◌<◌, ◌≤◌, length, IfOk, IfErr, OnOk};
+ghost use Rattle.std.specs.Prelude.{◌≤◌, length, IfOk};
 ghost use Rattle.job_meaning.specs.declared.limits.TheConstants.{MAX_INPUT};
 ghost use Rattle.json_app.specs.Serving.{IsJobVerdict, IsVerdict};
-ghost use Rattle.nursery_app.specs.Sending.{IsSent, IsServeFault, CountsFailure};
-ghost use Rattle.job_report.specs.declared.limits.TheConstants.{MAX_FAILURES};
 
 use crate::answers::{past_limit, refusal};
 use job_grammar::{Job, read_job};
-use job_report::{Out, send};
+use job_report::{Answer, Question};
 use job_runner::{Gate, Pick, RunFault, Settings, run};
 use json_report::report_json;
-use nursery_app::{ServeFault, Verdict};
+use nursery_app::Verdict;
 use std::alloc::{AllocError, Global};
 use std::thread::Threads;
 
-/// Runs a job text over an input, and writes the report of the job's one-thread meaning as one JSON document, or the refusal that
-/// the meaning names, or the limit by which it does not end. The verdict and its status are those of `serve`. The input has at
-/// most `MAX_INPUT` bytes.
+/// Runs a job text over an input, and returns the report of the job's one-thread meaning as one JSON document, or the refusal that
+/// the meaning names, or the limit by which it does not end. The verdict and its status are those of `serve`.
 ///
-/// The number of workers, the picker and the gate do not change any byte. All bytes are built before the first is sent, so after
-/// `NoMemory` nothing was sent. After `Send` the writer took the first `sent` bytes.
-pub fn serve_json<R: Threads + Sync, P: Pick, G: Gate + Sync, W: Out>(
-    rt: &R,
-    alloc: Global,
-    job_text: &[u8],
-    input: &[u8],
-    settings: Settings,
-    picker: &mut P,
-    gate: &G,
-    out: &mut W,
-) -> Result<Verdict, ServeFault>
-    requires input { length input.now ≤ MAX_INPUT }
-    requires countable { W.failed out.old < MAX_FAILURES }
-
-    // The bytes written are the report of the meaning as JSON, or the refusal that it names.
-    ensures sent { IfOk result (IsSent (IsVerdict job_text.now input.now settings.limit) (W.contents out.old) (W.contents out.new)) }
-    ensures well { OnOk result (W.failed out.new ≡ W.failed out.old) }
-
-    // A writer that failed took the front of those bytes; after memory was refused, nothing was sent.
-    ensures fault { IfErr result (IsServeFault (IsVerdict job_text.now input.now settings.limit) (W.contents out.old) (W.contents out.new)) }
-    ensures counted { IfErr result (CountsFailure (W.failed out.old) (W.failed out.new)) }
-{
-    let (verdict, bytes) = answer(rt, alloc, job_text, input, settings, picker, gate)?;
-    send(bytes.as_slice(), out)?;
-    Ok(verdict)
-}
-
-// Returns the verdict and all its bytes.
+/// The number of workers, the picker and the gate do not change any byte. The caller must ensure that the input has at most
+/// 16,777,216 bytes (`MAX_INPUT`). The only error is that memory runs out.
 #[tactic(auto, using(crate::proofs::Served::of_spelt))]
-fn answer<R: Threads + Sync, P: Pick, G: Gate + Sync>(
+pub fn report_document<R: Threads + Sync, P: Pick, G: Gate + Sync>(
     rt: &R,
     alloc: Global,
-    job_text: &[u8],
-    input: &[u8],
-    settings: Settings,
+    question: &Question<'_>,
     picker: &mut P,
     gate: &G,
-) -> Result<(Verdict, Vec<u8>), AllocError>
-    requires { length input.now ≤ MAX_INPUT }
-    ensures { IfOk result (λ r. IsVerdict job_text.now input.now settings.limit r.0 r.1.items) }
+) -> Result<Answer<Verdict>, AllocError>
+    requires { length question.now.input.now ≤ MAX_INPUT }
+
+    // The bytes are the report of the meaning as JSON, or the refusal that it names.
+    ensures { IfOk result (λ answer. IsVerdict question.now.text.now question.now.input.now question.now.settings.limit answer.verdict
+        answer.bytes.items) }
 {
+    let job_text = question.text;
     match read_job(alloc, job_text) {
         Ok(job) => {
+            let (input, settings) = (question.input, question.settings);
             let (verdict, bytes) = job_answer(rt, alloc, &job, input, settings, picker, gate)?;
-            Ok((verdict, bytes))
+            Ok(Answer { verdict, bytes })
         }
         Err(fault) => {
             let bytes = refusal(alloc, job_text, fault)?;
-            Ok((Verdict::JobRefused(fault), bytes))
+            Ok(Answer {
+                verdict: Verdict::JobRefused(fault),
+                bytes,
+            })
         }
     }
 }

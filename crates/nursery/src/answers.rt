@@ -6,12 +6,13 @@ ghost use Rattle.story_app.specs.Statuses.{story_status_of};
 ghost use Rattle.nursery.specs.Statuses.{TellsVerdict, TellsStory};
 
 use crate::documents::{explain_as_json, run_as_json};
-use crate::sources::{Given, read_both, read_feed};
+use crate::sending::put_answer;
+use crate::sources::{read_both, read_feed};
 use crate::stop::Stop;
 use job_files::shown_name;
 use job_grammar::JobFault;
 use nursery_app::{
-    Forward, MAX_INPUT, NoGate, Settings, Verdict, WriteOut, send, serve, split_feed,
+    Forward, MAX_INPUT, NoGate, Question, Settings, Verdict, WriteOut, send, serve, split_feed,
 };
 use nursery_cli::{DEFAULT_LIMIT, ExplainArgs, RunArgs};
 use refusal_text::refusal_message;
@@ -47,7 +48,12 @@ where
     let Some(settings) = Settings::new(1, DEFAULT_LIMIT) else {
         unreachable!()
     };
-    run_text(rt, "standard input", text, input, settings)
+    let question = Question {
+        text,
+        input,
+        settings,
+    };
+    run_text(rt, "standard input", &question)
 }
 
 // Returns the word that a command was given, if it was given one.
@@ -61,12 +67,11 @@ pub(crate) fn run_job<R: Files + Input + Print + Eprint + Threads + Sync + Alloc
     args: &RunArgs,
 ) -> Result<u8, Stop> {
     let given = read_both(rt, args.job.as_str(), word_of(&args.input))?;
-    let (job, settings) = (args.job.as_str(), args.settings);
-    let (text, input) = (given.text.as_slice(), given.input.as_slice());
+    let question = given.question(args.settings);
     if args.json {
-        return run_as_json(rt, job, text, input, settings);
+        return run_as_json(rt, args.job.as_str(), &question);
     }
-    run_text(rt, job, text, input, settings)
+    run_text(rt, args.job.as_str(), &question)
 }
 
 // Writes the story of a job file over its input, and returns the status.
@@ -75,42 +80,28 @@ pub(crate) fn explain_job<R: Files + Input + Print + Eprint + Threads + Sync + A
     args: &ExplainArgs,
 ) -> Result<u8, Stop> {
     let given = read_both(rt, args.job.as_str(), word_of(&args.input))?;
-    let (job, settings) = (args.job.as_str(), args.settings);
-    let (text, input) = (given.text.as_slice(), given.input.as_slice());
+    let question = given.question(args.settings);
     let task = word_of(&args.task);
     if args.json {
-        return explain_as_json(rt, job, text, input, task, settings);
+        return explain_as_json(rt, args.job.as_str(), &question, task);
     }
-    explain_text(rt, job, text, input, task, settings)
+    explain_text(rt, args.job.as_str(), &question, task)
 }
 
 // Writes the story of a job text over an input, and returns the status.
 fn explain_text<R: Print + Eprint + Threads + Sync + AllocGlobal>(
     rt: &R,
     job: &str,
-    text: &[u8],
-    input: &[u8],
+    question: &Question<'_>,
     task: Option<&str>,
-    settings: Settings,
 ) -> Result<u8, Stop>
-    requires { length input.now ≤ MAX_INPUT }
-    ensures { IfOk result (TellsStory text.now input.now settings.limit (option_copied task.entry)) }
+    requires { length question.now.input.now ≤ MAX_INPUT }
+    ensures { IfOk result (TellsStory question.now.text.now question.now.input.now question.now.settings.limit (option_copied task.entry)) }
 {
-    let alloc = rt.alloc();
-    let mut out = WriteOut::new(io::writer(rt));
     let asked = bytes_of(task);
-    let verdict = explain(
-        rt,
-        alloc,
-        text,
-        input,
-        settings,
-        asked,
-        &mut Forward,
-        &NoGate,
-        &mut out,
-    )?;
-    Ok(conclude_story(rt, job, text, task, verdict))
+    let answer = explain(rt, rt.alloc(), question, asked, &mut Forward, &NoGate)?;
+    let verdict = put_answer(rt, answer)?;
+    Ok(conclude_story(rt, job, question.text, task, verdict))
 }
 
 // Prints to standard error why the job text is refused, or that no task has the label that was requested, and returns the status.
@@ -163,14 +154,17 @@ fn no_task_message(alloc: Global, task: &str, nearest: &str) -> Result<String, A
 fn run_text<R: Print + Eprint + Threads + Sync + AllocGlobal>(
     rt: &R,
     job: &str,
-    text: &[u8],
-    input: &[u8],
-    settings: Settings,
+    question: &Question<'_>,
 ) -> Result<u8, Stop>
-    requires { length input.now ≤ MAX_INPUT }
-    ensures { IfOk result (TellsVerdict text.now input.now settings.limit) }
+    requires { length question.now.input.now ≤ MAX_INPUT }
+    ensures { IfOk result (TellsVerdict question.now.text.now question.now.input.now question.now.settings.limit) }
 {
-    let alloc = rt.alloc();
+    let (alloc, text, input, settings) = (
+        rt.alloc(),
+        question.text,
+        question.input,
+        question.settings,
+    );
     let mut out = WriteOut::new(io::writer(rt));
     let verdict = serve(
         rt,
@@ -182,24 +176,22 @@ fn run_text<R: Print + Eprint + Threads + Sync + AllocGlobal>(
         &NoGate,
         &mut out,
     )?;
-    Ok(conclude_run(rt, job, text, input, settings, verdict))
+    Ok(conclude_run(rt, job, question, verdict))
 }
 
 // Prints to standard error why the job text is refused, or which tasks have not ended, and returns the status.
 pub(crate) fn conclude_run<R: Eprint + Threads + Sync + AllocGlobal>(
     rt: &R,
     job: &str,
-    text: &[u8],
-    input: &[u8],
-    settings: Settings,
+    question: &Question<'_>,
     verdict: Verdict,
 ) -> u8
-    requires { length input.now ≤ MAX_INPUT }
+    requires { length question.now.input.now ≤ MAX_INPUT }
     ensures { result ≡ status_of verdict }
 {
     match verdict {
-        Verdict::JobRefused(fault) => tell_refusal(rt, job, text, fault),
-        Verdict::Limit => tell_running(rt, text, input, settings),
+        Verdict::JobRefused(fault) => tell_refusal(rt, job, question.text, fault),
+        Verdict::Limit => tell_running(rt, question),
         Verdict::Done | Verdict::Raised => {}
     }
     verdict.status()
@@ -210,14 +202,11 @@ pub(crate) fn conclude_run<R: Eprint + Threads + Sync + AllocGlobal>(
 // nothing more is printed.
 pub(crate) fn tell_running<R: Eprint + Threads + Sync + AllocGlobal>(
     rt: &R,
-    text: &[u8],
-    input: &[u8],
-    settings: Settings,
+    question: &Question<'_>,
 )
-    requires { length input.now ≤ MAX_INPUT }
+    requires { length question.now.input.now ≤ MAX_INPUT }
 {
-    let Ok(lines) = running_at_limit(rt, rt.alloc(), text, input, settings, &mut Forward, &NoGate)
-    else {
+    let Ok(lines) = running_at_limit(rt, rt.alloc(), question, &mut Forward, &NoGate) else {
         return;
     };
     if let Ok(lines) = String::from_utf8(lines) {

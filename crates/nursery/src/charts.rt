@@ -3,14 +3,15 @@ ghost use Rattle.job_meaning.specs.declared.limits.TheConstants.{MAX_INPUT};
 ghost use Rattle.nursery.specs.Statuses.{TellsChart};
 
 use crate::answers::{conclude_run, word_of};
+use crate::sending::put_answer;
 use crate::sources::read_both;
 use crate::stop::Stop;
 use chart_app::{Form, chart};
-use nursery_app::{Forward, NoGate, Settings, WriteOut};
+use nursery_app::{Forward, NoGate, Question};
 use nursery_cli::{ChartArgs, LEAST_WIDTH, MAX_WIDTH};
+use std::env;
 use std::rt::{Env, Files};
 use std::thread::Threads;
-use std::{env, io};
 
 /// The width of a text chart if none is requested and the terminal does not report its own.
 const USUAL_WIDTH: usize = 80;
@@ -25,9 +26,8 @@ pub(crate) fn chart_job<R: Files + Env + Input + Print + Eprint + Threads + Sync
 ) -> Result<u8, Stop> {
     let job = args.job.as_str();
     let given = read_both(rt, job, word_of(&args.input))?;
-    let (text, input) = (given.text.as_slice(), given.input.as_slice());
     let form = form_of(rt, args.width, args.svg);
-    chart_text(rt, job, text, input, form, args.settings)
+    chart_text(rt, job, &given.question(args.settings), form)
 }
 
 // Returns the form of a chart, with the requested width, or else the usual one.
@@ -60,25 +60,13 @@ fn terminal_width<R: Env + AllocGlobal>(rt: &R) -> usize {
 fn chart_text<R: Print + Eprint + Threads + Sync + AllocGlobal>(
     rt: &R,
     job: &str,
-    text: &[u8],
-    input: &[u8],
+    question: &Question<'_>,
     form: Form,
-    settings: Settings,
 ) -> Result<u8, Stop>
-    requires { length input.now ≤ MAX_INPUT }
-    ensures { IfOk result (TellsChart form text.now input.now settings.limit) }
+    requires { length question.now.input.now ≤ MAX_INPUT }
+    ensures { IfOk result (TellsChart form question.now.text.now question.now.input.now question.now.settings.limit) }
 {
-    let mut out = WriteOut::new(io::writer(rt));
-    let verdict = chart(
-        rt,
-        rt.alloc(),
-        text,
-        input,
-        settings,
-        form,
-        &mut Forward,
-        &NoGate,
-        &mut out,
-    )?;
-    Ok(conclude_run(rt, job, text, input, settings, verdict))
+    let answer = chart(rt, rt.alloc(), question, form, &mut Forward, &NoGate)?;
+    let verdict = put_answer(rt, answer)?;
+    Ok(conclude_run(rt, job, question, verdict))
 }

@@ -4,10 +4,10 @@ ghost use Rattle.job_meaning.specs.declared.limits.TheConstants.{MAX_INPUT};
 ghost use Rattle.nursery.specs.Statuses.{TellsJson, TellsJsonStory, table_form};
 
 use crate::answers::{bytes_of, conclude_run, conclude_story};
+use crate::sending::put_answer;
 use crate::stop::Stop;
-use json_app::{explain_json, serve_json};
-use nursery_app::{Forward, NoGate, Settings, WriteOut};
-use std::io;
+use json_app::{report_document, story_document};
+use nursery_app::{Forward, NoGate, Question};
 use std::thread::Threads;
 use table_app::Form;
 
@@ -22,53 +22,28 @@ pub(crate) fn table_form(json: bool) -> Form
 pub(crate) fn run_as_json<R: Print + Eprint + Threads + Sync + AllocGlobal>(
     rt: &R,
     job: &str,
-    text: &[u8],
-    input: &[u8],
-    settings: Settings,
+    question: &Question<'_>,
 ) -> Result<u8, Stop>
-    requires { length input.now ≤ MAX_INPUT }
-    ensures { IfOk result (TellsJson text.now input.now settings.limit) }
+    requires { length question.now.input.now ≤ MAX_INPUT }
+    ensures { IfOk result (TellsJson question.now.text.now question.now.input.now question.now.settings.limit) }
 {
-    let alloc = rt.alloc();
-    let mut out = WriteOut::new(io::writer(rt));
-    let verdict = serve_json(
-        rt,
-        alloc,
-        text,
-        input,
-        settings,
-        &mut Forward,
-        &NoGate,
-        &mut out,
-    )?;
-    Ok(conclude_run(rt, job, text, input, settings, verdict))
+    let answer = report_document(rt, rt.alloc(), question, &mut Forward, &NoGate)?;
+    let verdict = put_answer(rt, answer)?;
+    Ok(conclude_run(rt, job, question, verdict))
 }
 
 // Writes the story of a job text over an input as a JSON document, and returns the status.
 pub(crate) fn explain_as_json<R: Print + Eprint + Threads + Sync + AllocGlobal>(
     rt: &R,
     job: &str,
-    text: &[u8],
-    input: &[u8],
+    question: &Question<'_>,
     task: Option<&str>,
-    settings: Settings,
 ) -> Result<u8, Stop>
-    requires { length input.now ≤ MAX_INPUT }
-    ensures { IfOk result (TellsJsonStory text.now input.now settings.limit (option_copied task.entry)) }
+    requires { length question.now.input.now ≤ MAX_INPUT }
+    ensures { IfOk result (TellsJsonStory question.now.text.now question.now.input.now question.now.settings.limit (option_copied task.entry)) }
 {
-    let alloc = rt.alloc();
-    let mut out = WriteOut::new(io::writer(rt));
     let asked = bytes_of(task);
-    let verdict = explain_json(
-        rt,
-        alloc,
-        text,
-        input,
-        settings,
-        asked,
-        &mut Forward,
-        &NoGate,
-        &mut out,
-    )?;
-    Ok(conclude_story(rt, job, text, task, verdict))
+    let answer = story_document(rt, rt.alloc(), question, asked, &mut Forward, &NoGate)?;
+    let verdict = put_answer(rt, answer)?;
+    Ok(conclude_story(rt, job, question.text, task, verdict))
 }

@@ -7,11 +7,11 @@ ghost use Rattle.nursery.specs.Statuses.{TellsFaults, TellsReadFaults, table_for
 use crate::answers::{tell_refusal, word_of};
 use crate::documents::table_form;
 use crate::progress::Progress;
+use crate::sending::put_answer;
 use crate::sources::read_both;
 use crate::stop::Stop;
-use nursery_app::WriteOut;
+use nursery_app::Question;
 use nursery_cli::FaultsArgs;
-use std::io;
 use std::rt::Files;
 use std::thread::Threads;
 use std::time::Clock;
@@ -28,38 +28,26 @@ pub(crate) fn faults_job<R: Files + Input + Print + Eprint + Clock + Threads + S
 {
     let given = read_both(rt, args.job.as_str(), word_of(&args.input))?;
     let progress = Progress::new(rt, at_terminal);
-    let (text, input) = (given.text.as_slice(), given.input.as_slice());
-    faults_text(rt, args, text, input, table_form(args.json), &progress)
+    let question = given.question(args.settings);
+    faults_text(rt, args, &question, table_form(args.json), &progress)
 }
 
 // Writes the outcome of a job text over an input with each fault of it, and returns the status.
 fn faults_text<R: Print + Eprint + Clock + Threads + Sync + AllocGlobal>(
     rt: &R,
     args: &FaultsArgs,
-    text: &[u8],
-    input: &[u8],
+    question: &Question<'_>,
     form: Form,
     progress: &Progress<'_, R>,
 ) -> Result<u8, Stop>
-    requires { length input.now ≤ MAX_INPUT }
-    ensures { IfOk result (TellsFaults form text.now input.now args.now.settings.limit (options_held args.now.options)) }
+    requires { length question.now.input.now ≤ MAX_INPUT }
+    ensures { IfOk result (TellsFaults form question.now.text.now question.now.input.now question.now.settings.limit
+        (options_held args.now.options)) }
 {
-    let (alloc, settings) = (rt.alloc(), args.settings);
-    let mut out = WriteOut::new(io::writer(rt));
-    let written = faults(
-        rt,
-        alloc,
-        text,
-        input,
-        settings,
-        &args.options,
-        form,
-        progress,
-        &mut out,
-    );
+    let answer = faults(rt, rt.alloc(), question, &args.options, form, progress);
     progress.clear();
-    let verdict = written?;
-    Ok(conclude_faults(rt, args.job.as_str(), text, verdict))
+    let verdict = put_answer(rt, answer?)?;
+    Ok(conclude_faults(rt, args.job.as_str(), question.text, verdict))
 }
 
 // Prints to standard error why the job text is refused, or which lines are denied, and returns the status.

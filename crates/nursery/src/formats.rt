@@ -2,15 +2,14 @@ ghost use Rattle.std.specs.Prelude.{◌≡◌, IfOk};
 ghost use Rattle.nursery.specs.Statuses.{TellsFormat, TellsFormatCheck};
 
 use crate::answers::tell_refusal;
+use crate::sending::put_answer;
 use crate::sources::{JobFile, print_held, read_job_file, read_job_text, with_held};
 use crate::stop::Stop;
 use format_app::{FormatCheck, FormatFault, FormatVerdict, check_format, format, format_text};
 use job_files::{ReplaceFault, Target, shown_name};
-use nursery_app::WriteOut;
 use nursery_cli::FormatMode;
 use refusal_text::pointed_message;
 use std::alloc::{AllocError, Global};
-use std::io;
 use std::rt::Files;
 
 /// What is printed about a job file that is not formatted.
@@ -60,8 +59,8 @@ pub(crate) fn print_formatted<R: Print + Eprint + AllocGlobal>(
 ) -> Result<u8, Stop>
     ensures { IfOk result (TellsFormat text.now) }
 {
-    let mut out = WriteOut::new(io::writer(rt));
-    let verdict = format(rt.alloc(), text, &mut out)?;
+    let answer = format(rt.alloc(), text)?;
+    let verdict = put_answer(rt, answer)?;
     match verdict {
         FormatVerdict::Formatted => {}
         FormatVerdict::JobRefused(fault) => tell_refusal(rt, job, text, fault),

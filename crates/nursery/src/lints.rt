@@ -3,6 +3,7 @@ ghost use Rattle.job_grammar.specs.Refusals.{IsFair, IsRefused};
 ghost use Rattle.nursery.specs.Statuses.{TellsLints, TellsJsonLints};
 
 use crate::answers::tell_refusal;
+use crate::sending::put_answer;
 use crate::sources::read_job_text;
 use crate::stop::Stop;
 use crate::warnings::send_warnings;
@@ -48,8 +49,8 @@ fn lints_as_json<R: Print + Eprint + AllocGlobal>(
 ) -> Result<u8, Stop>
     ensures { IfOk result (TellsJsonLints text.now) }
 {
-    let mut out = WriteOut::new(io::writer(rt));
-    let verdict = lints_json(rt.alloc(), text, &mut out)?;
+    let answer = lints_json(rt.alloc(), text)?;
+    let verdict = put_answer(rt, answer)?;
     let status = verdict.status();
     if let LintsVerdict::JobRefused(fault) = verdict {
         tell_refusal(rt, job, text, fault);

@@ -17,6 +17,7 @@ mod lints;
 mod progress;
 mod races;
 mod scales;
+mod sending;
 mod sources;
 mod stop;
 mod sweep;

@@ -7,11 +7,11 @@ use crate::answers::{tell_refusal, tell_running, word_of};
 use crate::documents::table_form;
 use crate::faults::tell_denied;
 use crate::progress::Progress;
+use crate::sending::put_answer;
 use crate::sources::read_both;
 use crate::stop::Stop;
-use nursery_app::WriteOut;
+use nursery_app::Question;
 use nursery_cli::RacesArgs;
-use std::io;
 use std::rt::Files;
 use std::thread::Threads;
 use std::time::Clock;
@@ -32,49 +32,43 @@ pub(crate) fn races_job<R: Files + Input + Print + Eprint + Clock + Threads + Sy
 {
     let given = read_both(rt, args.job.as_str(), word_of(&args.input))?;
     let progress = Progress::new(rt, at_terminal);
-    let (text, input) = (given.text.as_slice(), given.input.as_slice());
-    races_text(rt, args, text, input, table_form(args.json), &progress)
+    let question = given.question(args.settings);
+    races_text(rt, args, &question, table_form(args.json), &progress)
 }
 
 // Writes the places of a job text, run over an input, where a hair changes the outcome, and returns the status.
 fn races_text<R: Print + Eprint + Clock + Threads + Sync + AllocGlobal>(
     rt: &R,
     args: &RacesArgs,
-    text: &[u8],
-    input: &[u8],
+    question: &Question<'_>,
     form: Form,
     progress: &Progress<'_, R>,
 ) -> Result<u8, Stop>
-    requires { length input.now ≤ MAX_INPUT }
-    ensures { IfOk result (TellsRaces form text.now input.now args.now.settings.limit args.now.deny) }
+    requires { length question.now.input.now ≤ MAX_INPUT }
+    ensures { IfOk result (TellsRaces form question.now.text.now question.now.input.now question.now.settings.limit args.now.deny) }
 {
-    let (alloc, settings) = (rt.alloc(), args.settings);
-    let mut out = WriteOut::new(io::writer(rt));
-    let written = races(
-        rt, alloc, text, input, settings, args.deny, form, progress, &mut out,
-    );
+    let answer = races(rt, rt.alloc(), question, args.deny, form, progress);
     progress.clear();
-    let verdict = written?;
-    Ok(conclude_races(rt, args, text, input, verdict))
+    let verdict = put_answer(rt, answer?)?;
+    Ok(conclude_races(rt, args.job.as_str(), question, verdict))
 }
 
 // Prints to standard error why the job text is refused, which lines are denied, which tasks have not ended, or that there are no
 // finer ticks, and returns the status.
 fn conclude_races<R: Eprint + Threads + Sync + AllocGlobal>(
     rt: &R,
-    args: &RacesArgs,
-    text: &[u8],
-    input: &[u8],
+    job: &str,
+    question: &Question<'_>,
     verdict: RacesVerdict,
 ) -> u8
-    requires { length input.now ≤ MAX_INPUT }
+    requires { length question.now.input.now ≤ MAX_INPUT }
     ensures { result ≡ races_status_of verdict }
 {
     let status = verdict.status();
     match verdict {
-        RacesVerdict::JobRefused(fault) => tell_refusal(rt, args.job.as_str(), text, fault),
+        RacesVerdict::JobRefused(fault) => tell_refusal(rt, job, question.text, fault),
         RacesVerdict::Told { denied } => tell_denied(rt, denied),
-        RacesVerdict::Limit => tell_running(rt, text, input, args.settings),
+        RacesVerdict::Limit => tell_running(rt, question),
         RacesVerdict::NoFinerTicks => {
             let _ = rt.eprint(NO_FINER_TICKS);
         }

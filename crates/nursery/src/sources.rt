@@ -1,10 +1,12 @@
-ghost use Rattle.std.specs.Prelude.{◌≤◌, IfOk, vec_len};
+ghost use Rattle.std.specs.Prelude.{◌≡◌, ◌≤◌, IfOk, vec_len};
 ghost use Rattle.job_meaning.specs.declared.limits.TheConstants.{MAX_INPUT};
 ghost use Rattle.nursery.specs.Reading.{HoldsInput};
 
 use crate::stop::Stop;
 use job_files::{read_reason, reason_line, shown_name};
-use nursery_app::{MAX_INPUT, ReadFault, WriteOut, read_whole, send, split_feed};
+use nursery_app::{
+    MAX_INPUT, Question, ReadFault, Settings, WriteOut, read_whole, send, split_feed,
+};
 use std::alloc::{AllocError, Global};
 use std::fs;
 use std::io::{self, Read};
@@ -167,6 +169,21 @@ pub(crate) fn print_held<R: Print>(rt: &R, status: u8, file: &JobFile) -> Result
 pub(crate) struct Given {
     pub text: Vec<u8>,
     pub input: Vec<u8>,
+}
+
+impl Given {
+    // Returns the question that a command is asked, with these settings.
+    pub(crate) fn question(&self, settings: Settings) -> Question<'_>
+        ensures text { result.text.now ≡ self.now.text.items }
+        ensures input { result.input.now ≡ self.now.input.items }
+        ensures settings { result.settings ≡ settings }
+    {
+        Question {
+            text: self.text.as_slice(),
+            input: self.input.as_slice(),
+            settings,
+        }
+    }
 }
 
 // Reads a job file and its input: the file that is named, or what the job file holds, or no bytes. That a file is named for a job file

@@ -2,7 +2,8 @@ ghost use Rattle.std.specs.Prelude.{◌≡◌};
 ghost use Rattle.nursery.specs.Statuses.{status_of};
 
 use feed_tests::TestStop;
-use nursery_app::ServeFault;
+use nursery_app::{SendFault, ServeFault};
+use std::alloc::AllocError;
 use thiserror::Error;
 
 /// Why the program has no verdict. It is printed as the user's line, with its newline.
@@ -72,6 +73,26 @@ impl From<ServeFault> for Stop {
             ServeFault::Send { .. } => Stop::Write,
             ServeFault::NoMemory => Stop::NoMemory,
         }
+    }
+}
+
+impl From<AllocError> for Stop {
+    ghost use Rattle.nursery.specs.declared.stop.Stop.TheVariants.{NoMemory};
+
+    ghost from_gives = { λ _ stop. stop ≡ NoMemory };
+
+    fn from(_error: AllocError) -> Stop {
+        Stop::NoMemory
+    }
+}
+
+impl From<SendFault> for Stop {
+    ghost use Rattle.nursery.specs.declared.stop.Stop.TheVariants.{Write};
+
+    ghost from_gives = { λ _ stop. stop ≡ Write };
+
+    fn from(_stopped: SendFault) -> Stop {
+        Stop::Write
     }
 }
 

@@ -6,16 +6,16 @@ ghost use Rattle.nursery.specs.Statuses.{TellsSweep};
 use crate::answers::{tell_refusal, word_of};
 use crate::documents::table_form;
 use crate::progress::Progress;
+use crate::sending::put_answer;
 use crate::sources::read_both;
 use crate::stop::Stop;
 use job_edits::Target;
 use job_files::shown_name;
 use job_tree::Name;
-use nursery_app::WriteOut;
+use nursery_app::Question;
 use nursery_cli::SweepArgs;
 use refusal_text::pointed_message;
 use std::alloc::{AllocError, Global};
-use std::io;
 use std::rt::Files;
 use std::thread::Threads;
 use std::time::Clock;
@@ -31,31 +31,27 @@ pub(crate) fn sweep_job<R: Files + Input + Print + Eprint + Clock + Threads + Sy
 ) -> Result<u8, Stop> {
     let given = read_both(rt, args.job.as_str(), word_of(&args.input))?;
     let progress = Progress::new(rt, at_terminal);
-    let (text, input) = (given.text.as_slice(), given.input.as_slice());
-    sweep_text(rt, args, text, input, table_form(args.json), &progress)
+    let question = given.question(args.settings);
+    sweep_text(rt, args, &question, table_form(args.json), &progress)
 }
 
 // Writes the outcome of a job text over an input for each value, and returns the status.
 fn sweep_text<R: Print + Eprint + Clock + Threads + Sync + AllocGlobal>(
     rt: &R,
     args: &SweepArgs,
-    text: &[u8],
-    input: &[u8],
+    question: &Question<'_>,
     form: Form,
     progress: &Progress<'_, R>,
 ) -> Result<u8, Stop>
-    requires { length input.now ≤ MAX_INPUT }
-    ensures { IfOk result (TellsSweep form text.now input.now args.now.settings.limit args.now.target args.now.values.items) }
+    requires { length question.now.input.now ≤ MAX_INPUT }
+    ensures { IfOk result (TellsSweep form question.now.text.now question.now.input.now question.now.settings.limit args.now.target
+        args.now.values.items) }
 {
-    let (alloc, settings) = (rt.alloc(), args.settings);
     let (target, values) = (args.target, args.values.as_slice());
-    let mut out = WriteOut::new(io::writer(rt));
-    let written = sweep(
-        rt, alloc, text, input, settings, target, values, form, progress, &mut out,
-    );
+    let answer = sweep(rt, rt.alloc(), question, target, values, form, progress);
     progress.clear();
-    let verdict = written?;
-    Ok(conclude_sweep(rt, args, text, verdict))
+    let verdict = put_answer(rt, answer?)?;
+    Ok(conclude_sweep(rt, args, question.text, verdict))
 }
 
 // Prints to standard error why the job text is refused, or why it does not have the number that is meant, and returns the status.

@@ -11,7 +11,7 @@ use crate::stop::Stop;
 use expect_text::first_difference;
 use job_grammar::{Format, JobFault, read_job, write_job};
 use moments::Clock;
-use nursery_app::{CheckVerdict, Settings, WriteOut, upgrade};
+use nursery_app::{CheckVerdict, Question, Settings, WriteOut, upgrade};
 use nursery_cli::DEFAULT_LIMIT;
 use std::alloc::{AllocError, Global};
 use std::io;
@@ -133,7 +133,12 @@ fn empty_report<R: Threads + Sync + AllocGlobal>(
     let Some(settings) = Settings::new(1, DEFAULT_LIMIT) else {
         unreachable!()
     };
-    output_of(rt, rt.alloc(), text, &[], settings, Output::Report)
+    let question = Question {
+        text,
+        input: &[],
+        settings,
+    };
+    output_of(rt, rt.alloc(), &question, Output::Report)
 }
 
 // Returns whether two reports are the same, and otherwise their first lines that differ.

@@ -7,7 +7,7 @@ ghost use Rattle.job_report.specs.declared.limits.TheConstants.{MAX_FAILURES};
 use crate::lines::{past_limit, refusal};
 use crate::verdict::{ServeFault, Verdict};
 use job_grammar::{Job, read_job};
-use job_report::{Out, report, send};
+use job_report::{Answer, Out, Question, report, send_answer};
 use job_runner::{Gate, Pick, RunFault, Settings, run};
 use std::alloc::{AllocError, Global};
 use std::thread::Threads;
@@ -38,30 +38,41 @@ pub fn serve<R: Threads + Sync, P: Pick, G: Gate + Sync, W: Out>(
     ensures fault { IfErr result (IsServeFault (IsVerdict job_text.now input.now settings.limit) (W.contents out.old) (W.contents out.new)) }
     ensures counted { IfErr result (CountsFailure (W.failed out.old) (W.failed out.new)) }
 {
-    let (verdict, bytes) = answer(rt, alloc, job_text, input, settings, picker, gate)?;
-    send(bytes.as_slice(), out)?;
+    let question = Question {
+        text: job_text,
+        input,
+        settings,
+    };
+    let answer = report_answer(rt, alloc, &question, picker, gate)?;
+    let verdict = send_answer(answer, out)?;
     Ok(verdict)
 }
 
-// Returns the verdict and all its bytes.
-fn answer<R: Threads + Sync, P: Pick, G: Gate + Sync>(
+/// Returns what `serve` writes, and its verdict. The only error is that memory runs out. The caller must ensure that the input has
+/// at most `MAX_INPUT` bytes.
+pub fn report_answer<R: Threads + Sync, P: Pick, G: Gate + Sync>(
     rt: &R,
     alloc: Global,
-    job_text: &[u8],
-    input: &[u8],
-    settings: Settings,
+    question: &Question<'_>,
     picker: &mut P,
     gate: &G,
-) -> Result<(Verdict, Vec<u8>), AllocError>
-    requires { length input.now ≤ MAX_INPUT }
-    ensures { IfOk result (λ r. IsVerdict job_text.now input.now settings.limit r.0 r.1.items) }
+) -> Result<Answer<Verdict>, AllocError>
+    requires { length question.now.input.now ≤ MAX_INPUT }
+    ensures { IfOk result (λ answer. IsVerdict question.now.text.now question.now.input.now question.now.settings.limit answer.verdict answer.bytes.items) }
 {
-    match read_job(alloc, job_text) {
+    match read_job(alloc, question.text) {
         Ok(job) => {
+            let (input, settings) = (question.input, question.settings);
             let (verdict, bytes) = run_answer(rt, alloc, &job, input, settings, picker, gate)?;
-            Ok((verdict, bytes))
+            Ok(Answer { verdict, bytes })
         }
-        Err(fault) => Ok((Verdict::JobRefused(fault), refusal(alloc, fault)?)),
+        Err(fault) => {
+            let bytes = refusal(alloc, fault)?;
+            Ok(Answer {
+                verdict: Verdict::JobRefused(fault),
+                bytes,
+            })
+        }
     }
 }
 

@@ -2,7 +2,7 @@
 
 use crate::fixtures::{LIMIT, call_again, same, same_answer};
 use chart_app::{Form, chart};
-use job_report::{MemOut, Out};
+use job_report::{MemOut, Out, Question, send_answer};
 use job_runner::{Forward, NoGate, Pick, Reverse, Settings};
 use nursery_app::{ServeFault, Verdict};
 use std::process::Abort;
@@ -20,7 +20,14 @@ fn chart_into<R: Abort + Threads + Sync + AllocGlobal, P: Pick>(
 ) -> Result<Verdict, ServeFault> {
     assert!(rt; out.failures() == 0);
     let alloc = rt.alloc();
-    chart(rt, alloc, text, b"", settings, form, picker, &NoGate, out)
+    let question = Question {
+        text,
+        input: b"",
+        settings,
+    };
+    let answer = chart(rt, alloc, &question, form, picker, &NoGate)?;
+    let verdict = send_answer(answer, out)?;
+    Ok(verdict)
 }
 
 // Calls `chart`, again if memory is refused.

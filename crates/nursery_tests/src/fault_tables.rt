@@ -2,7 +2,7 @@
 
 use crate::fixtures::{LIMIT, call_again, same, same_answer};
 use fault_text::{Deny, Options};
-use job_report::{MemOut, Out};
+use job_report::{MemOut, Out, Question, send_answer};
 use job_runner::{NoGate, Settings};
 use job_tree::Name;
 use nursery_app::ServeFault;
@@ -41,17 +41,14 @@ fn faults_into<R: Abort + Threads + Sync + AllocGlobal>(
 ) -> Result<FaultsVerdict, ServeFault> {
     assert!(rt; out.failures() == 0);
     let alloc = rt.alloc();
-    faults(
-        rt,
-        alloc,
+    let question = Question {
         text,
-        b"",
+        input: b"",
         settings,
-        options,
-        Form::Text,
-        &NoGate,
-        out,
-    )
+    };
+    let answer = faults(rt, alloc, &question, options, Form::Text, &NoGate)?;
+    let verdict = send_answer(answer, out)?;
+    Ok(verdict)
 }
 
 // Calls `faults`, again if memory is refused.

@@ -6,7 +6,7 @@ use format_app::{
     scaled_text,
 };
 use job_grammar::JobKind;
-use job_report::{MemOut, Out};
+use job_report::{MemOut, Out, send_answer};
 use nursery_app::ServeFault;
 use std::alloc::{AllocError, Global};
 use std::process::Abort;
@@ -154,7 +154,9 @@ fn format_into<R: Abort + AllocGlobal>(
     out: &mut MemOut,
 ) -> Result<FormatVerdict, ServeFault> {
     assert!(rt; out.failures() == 0);
-    format(rt.alloc(), text, out)
+    let answer = format(rt.alloc(), text)?;
+    let verdict = send_answer(answer, out)?;
+    Ok(verdict)
 }
 
 // Calls `format`, again if memory is refused.

@@ -3,7 +3,7 @@
 use crate::fixtures::{LIMIT, wrong};
 use fault_text::{Deny, Options};
 use job_edits::Target;
-use job_report::{MemOut, Out};
+use job_report::Question;
 use job_runner::{NoGate, Settings};
 use job_tree::Name;
 use std::process::Abort;
@@ -31,49 +31,27 @@ fn faults_are_a_document(rt: HostRuntime) -> Result<(), Fail> {
         brief: false,
         deny: NO_DENY,
     };
-    let mut out = MemOut::new(rt.alloc(), 100_000, 7, None)?;
-    assert!(rt; out.failures() == 0);
-    let text = b"trio-job 1\njob m{checkpoint;}";
-    let verdict = faults(
-        &rt,
-        rt.alloc(),
-        text,
-        b"",
+    let question = Question {
+        text: b"trio-job 1\njob m{checkpoint;}",
+        input: b"",
         settings,
-        &options,
-        Form::Json,
-        &NoGate,
-        &mut out,
-    )?;
-    assert!(rt; verdict.status() == 0);
-    assert!(rt; out.taken() == FAULTS);
+    };
+    let answer = faults(&rt, rt.alloc(), &question, &options, Form::Json, &NoGate)?;
+    assert!(rt; answer.verdict.status() == 0);
+    assert!(rt; answer.bytes.as_slice() == FAULTS);
     Ok(())
 }
 
 const SWEEP: &[u8] =
     b"{\"as_it_is\":{\"result\":{\"cancelled\":[],\"cut\":[],\"end\":3,\"exception\":null,\"lost\":false,\"outcome\":\"done\"}},\"counts\":{\"cut\":0,\"refused\":0,\"stuck\":0,\"values\":2},\"lines\":[{\"result\":{\"cancelled\":[],\"cut\":[],\"end\":1,\"exception\":null,\"lost\":false,\"outcome\":\"done\"},\"value\":1},{\"result\":{\"cancelled\":[],\"cut\":[],\"end\":2,\"exception\":null,\"lost\":false,\"outcome\":\"done\"},\"value\":2}]}\n";
 
-// Calls `sweep` for a document with a writer that has not failed, and returns the status.
-fn sweep_status<R: Abort + Threads + Sync + AllocGlobal>(
-    rt: &R,
-    target: Target,
-    out: &mut MemOut,
-) -> Result<u8, Fail> {
-    let settings = Settings::new(1, LIMIT).ok_or("settings")?;
-    assert!(rt; out.failures() == 0);
-    let verdict = sweep(
-        rt,
-        rt.alloc(),
-        b"trio-job 1\njob m{sleep 3;}",
-        b"",
+// Returns the question about a job that sleeps for three ticks.
+fn sleeping(settings: Settings) -> Question<'static> {
+    Question {
+        text: b"trio-job 1\njob m{sleep 3;}",
+        input: b"",
         settings,
-        target,
-        VALUES,
-        Form::Json,
-        &NoGate,
-        out,
-    )?;
-    Ok(verdict.status())
+    }
 }
 
 const VALUES: &[u64] = &[1, 2];
@@ -88,10 +66,19 @@ fn ticks_of_the_sleep() -> Target {
 
 #[test]
 fn a_sweep_is_a_document(rt: HostRuntime) -> Result<(), Fail> {
-    let mut out = MemOut::new(rt.alloc(), 100_000, 7, None)?;
-    let status = sweep_status(&rt, ticks_of_the_sleep(), &mut out)?;
-    assert!(rt; status == 0);
-    assert!(rt; out.taken() == SWEEP);
+    let question = sleeping(Settings::new(1, LIMIT).ok_or("settings")?);
+    let target = ticks_of_the_sleep();
+    let answer = sweep(
+        &rt,
+        rt.alloc(),
+        &question,
+        target,
+        VALUES,
+        Form::Json,
+        &NoGate,
+    )?;
+    assert!(rt; answer.verdict.status() == 0);
+    assert!(rt; answer.bytes.as_slice() == SWEEP);
     Ok(())
 }
 
@@ -99,23 +86,10 @@ const RACES: &[u8] = b"{\"counts\":{\"hairs\":2,\"not_tried\":0,\"races\":0},\"l
 
 #[test]
 fn races_are_a_document(rt: HostRuntime) -> Result<(), Fail> {
-    let settings = Settings::new(1, LIMIT).ok_or("settings")?;
-    let mut out = MemOut::new(rt.alloc(), 100_000, 7, None)?;
-    assert!(rt; out.failures() == 0);
-    let text = b"trio-job 1\njob m{sleep 3;}";
-    let verdict = races(
-        &rt,
-        rt.alloc(),
-        text,
-        b"",
-        settings,
-        true,
-        Form::Json,
-        &NoGate,
-        &mut out,
-    )?;
-    assert!(rt; verdict.status() == 0);
-    assert!(rt; out.taken() == RACES);
+    let question = sleeping(Settings::new(1, LIMIT).ok_or("settings")?);
+    let answer = races(&rt, rt.alloc(), &question, true, Form::Json, &NoGate)?;
+    assert!(rt; answer.verdict.status() == 0);
+    assert!(rt; answer.bytes.as_slice() == RACES);
     Ok(())
 }
 
@@ -141,10 +115,8 @@ const LINTED: &[(&[u8], u8, &[u8])] = &[
 fn warnings_are_a_document(rt: HostRuntime) -> Result<(), Fail> {
     for i in 0..LINTED.len() {
         let (text, status, wanted) = LINTED[i];
-        let mut out = MemOut::new(rt.alloc(), 100_000, 7, None)?;
-        assert!(rt; out.failures() == 0);
-        let verdict = lints_json(rt.alloc(), text, &mut out)?;
-        if verdict.status() != status || out.taken() != wanted {
+        let answer = lints_json(rt.alloc(), text)?;
+        if answer.verdict.status() != status || answer.bytes.as_slice() != wanted {
             return Err(wrong(i));
         }
     }

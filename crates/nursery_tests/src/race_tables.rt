@@ -2,7 +2,7 @@
 //! written.
 
 use crate::fixtures::{LIMIT, call_again, same, same_answer};
-use job_report::{MemOut, Out};
+use job_report::{MemOut, Out, Question, send_answer};
 use job_runner::{NoGate, Settings};
 use nursery_app::ServeFault;
 use std::process::Abort;
@@ -18,19 +18,14 @@ fn races_into<R: Abort + Threads + Sync + AllocGlobal>(
     out: &mut MemOut,
 ) -> Result<RacesVerdict, ServeFault> {
     assert!(rt; out.failures() == 0);
-    let input = b"GET /a\nGET /b\nGET /c\n";
-    let alloc = rt.alloc();
-    races(
-        rt,
-        alloc,
+    let question = Question {
         text,
-        input,
+        input: b"GET /a\nGET /b\nGET /c\n",
         settings,
-        true,
-        Form::Text,
-        &NoGate,
-        out,
-    )
+    };
+    let answer = races(rt, rt.alloc(), &question, true, Form::Text, &NoGate)?;
+    let verdict = send_answer(answer, out)?;
+    Ok(verdict)
 }
 
 // The same, again if memory is refused.

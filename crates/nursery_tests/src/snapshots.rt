@@ -7,6 +7,7 @@ use expect_text::{
 };
 use job_edits::Target;
 use job_grammar::Name;
+use job_report::Question;
 use job_runner::Settings;
 use std::alloc::{AllocError, Global};
 use std::process::Abort;
@@ -201,12 +202,22 @@ const OUTPUTS: &[(Output, &[u8])] = &[
     (Output::Races, b"2 hairs: no race\n"),
 ];
 
+// Returns the question about the job over an empty input.
+fn question_of(settings: Settings) -> Question<'static> {
+    Question {
+        text: JOB,
+        input: b"",
+        settings,
+    }
+}
+
 #[test]
 fn an_output_is_what_the_command_writes(rt: HostRuntime) -> Result<(), Fail> {
     let settings = Settings::new(3, LIMIT).ok_or("settings")?;
+    let question = question_of(settings);
     for i in 0..OUTPUTS.len() {
         let (kind, wanted) = OUTPUTS[i];
-        let bytes = output_of(&rt, rt.alloc(), JOB, b"", settings, kind)?;
+        let bytes = output_of(&rt, rt.alloc(), &question, kind)?;
         if bytes.as_slice() != wanted {
             return Err(wrong(i));
         }
@@ -225,16 +236,8 @@ fn a_sweep_is_what_the_command_writes(rt: HostRuntime) -> Result<(), Fail> {
         line: 2,
         column: 13,
     };
-    let swept = sweep_of(
-        &rt,
-        rt.alloc(),
-        JOB,
-        b"",
-        settings,
-        number,
-        &[2, 3],
-        Form::Text,
-    )?;
+    let question = question_of(settings);
+    let swept = sweep_of(&rt, rt.alloc(), &question, number, &[2, 3], Form::Text)?;
     let bytes = swept.ok_or("no number")?;
     assert_eq!(rt; bytes.as_slice(), SWEPT);
     Ok(())
@@ -244,16 +247,8 @@ fn a_sweep_is_what_the_command_writes(rt: HostRuntime) -> Result<(), Fail> {
 fn a_sweep_needs_its_number(rt: HostRuntime) -> Result<(), Fail> {
     let settings = Settings::new(1, LIMIT).ok_or("settings")?;
     let number = Target::At { line: 2, column: 1 };
-    let swept = sweep_of(
-        &rt,
-        rt.alloc(),
-        JOB,
-        b"",
-        settings,
-        number,
-        &[2],
-        Form::Text,
-    )?;
+    let question = question_of(settings);
+    let swept = sweep_of(&rt, rt.alloc(), &question, number, &[2], Form::Text)?;
     assert!(rt; swept.is_none());
     Ok(())
 }
@@ -261,7 +256,8 @@ fn a_sweep_needs_its_number(rt: HostRuntime) -> Result<(), Fail> {
 #[test]
 fn a_chart_has_a_row_for_the_task(rt: HostRuntime) -> Result<(), Fail> {
     let settings = Settings::new(1, LIMIT).ok_or("settings")?;
-    let bytes = output_of(&rt, rt.alloc(), JOB, b"", settings, Output::Chart)?;
+    let question = question_of(settings);
+    let bytes = output_of(&rt, rt.alloc(), &question, Output::Chart)?;
     let found = first_match(rt.alloc(), b"m |*| done", bytes.as_slice())?;
     assert!(rt; found.is_some());
     Ok(())
@@ -280,16 +276,8 @@ fn met_word<R: Abort + Threads + Sync + AllocGlobal>(
     };
     let report = b"job m 3\ntask m 0 3 done\n";
     let story = b"tick 0\n  m  starts\n";
-    let met = meets(
-        rt,
-        rt.alloc(),
-        JOB,
-        b"",
-        settings,
-        expectation,
-        report,
-        story,
-    )?;
+    let question = question_of(settings);
+    let met = meets(rt, rt.alloc(), &question, expectation, report, story)?;
     match met {
         Met::Yes => Ok("yes"),
         Met::Missing => Ok("missing"),

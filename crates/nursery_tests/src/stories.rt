@@ -1,7 +1,7 @@
 //! The stories that `explain` writes of worked jobs: the same under each order of picks, by 1 and by 64 workers.
 
 use crate::fixtures::{LIMIT, call_again, same, same_answer};
-use job_report::{MemOut, Out};
+use job_report::{MemOut, Out, Question, send_answer};
 use job_runner::{Forward, NoGate, Pick, Reverse, Settings};
 use nursery_app::ServeFault;
 use std::process::Abort;
@@ -20,7 +20,14 @@ fn explain_into<R: Abort + Threads + Sync + AllocGlobal, P: Pick>(
 ) -> Result<StoryVerdict, ServeFault> {
     assert!(rt; out.failures() == 0);
     let alloc = rt.alloc();
-    explain(rt, alloc, text, b"", settings, task, picker, &NoGate, out)
+    let question = Question {
+        text,
+        input: b"",
+        settings,
+    };
+    let answer = explain(rt, alloc, &question, task, picker, &NoGate)?;
+    let verdict = send_answer(answer, out)?;
+    Ok(verdict)
 }
 
 // Calls `explain`, again if memory is refused.
@@ -169,7 +176,11 @@ fn a_writer_that_fails_has_the_beginning_of_a_story(rt: HostRuntime) -> Result<(
 #[test]
 fn what_still_runs_at_the_limit_is_listed(rt: HostRuntime) -> Result<(), Fail> {
     let settings = Settings::new(1, 1).ok_or("settings")?;
-    let text = FAILS.as_bytes();
-    let lines = running_at_limit(&rt, rt.alloc(), text, b"", settings, &mut Forward, &NoGate)?;
+    let question = Question {
+        text: FAILS.as_bytes(),
+        input: b"",
+        settings,
+    };
+    let lines = running_at_limit(&rt, rt.alloc(), &question, &mut Forward, &NoGate)?;
     same("what still runs", lines.as_slice(), RUNNING)
 }

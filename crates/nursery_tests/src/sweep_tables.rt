@@ -2,7 +2,7 @@
 
 use crate::fixtures::{LIMIT, call_again, same, same_answer, wrong};
 use job_edits::Target;
-use job_report::{MemOut, Out};
+use job_report::{MemOut, Out, Question, send_answer};
 use job_runner::{NoGate, Settings};
 use job_tree::Name;
 use nursery_app::{ServeFault, place_at};
@@ -25,18 +25,14 @@ fn sweep_into<R: Abort + Threads + Sync + AllocGlobal>(
 ) -> Result<SweepVerdict, ServeFault> {
     assert!(rt; out.failures() == 0);
     let alloc = rt.alloc();
-    sweep(
-        rt,
-        alloc,
+    let question = Question {
         text,
-        b"",
+        input: b"",
         settings,
-        target,
-        values,
-        Form::Text,
-        &NoGate,
-        out,
-    )
+    };
+    let answer = sweep(rt, alloc, &question, target, values, Form::Text, &NoGate)?;
+    let verdict = send_answer(answer, out)?;
+    Ok(verdict)
 }
 
 // Calls `sweep`, again if memory is refused.

@@ -5,6 +5,7 @@ ghost use Rattle.story_app.specs.Running.{AreRunning, IsJobRunning};
 use crate::meaning::{Ending, meaning_of};
 use crate::telling::events_until;
 use job_grammar::{Job, JobKind, read_job};
+use job_report::Question;
 use job_runner::{Gate, Pick, Settings};
 use job_teller::tell;
 use std::alloc::{AllocError, Global};
@@ -14,21 +15,20 @@ use story_text::{in_order, running_text};
 /// Returns a line for each task of a job that has not ended by the limit, with what it is doing: the last lines of the story that
 /// `explain` writes of such a job. Returns nothing if the job ends by the limit or its text is refused. The picker, the number of
 /// workers and the gate change no byte. The caller must ensure that the input has at most 16,777,216 bytes (`MAX_INPUT`).
-/// Returns `AllocError` if memory is refused.
+/// The only error is that memory runs out.
 pub fn running_at_limit<R: Threads + Sync, P: Pick, G: Gate + Sync>(
     rt: &R,
     alloc: Global,
-    job_text: &[u8],
-    input: &[u8],
-    settings: Settings,
+    question: &Question<'_>,
     picker: &mut P,
     gate: &G,
 ) -> Result<Vec<u8>, AllocError>
-    requires { length input.now ≤ MAX_INPUT }
-    ensures { IfOk result (λ lines. AreRunning job_text.now input.now settings.limit lines.items) }
+    requires { length question.now.input.now ≤ MAX_INPUT }
+    ensures { IfOk result (λ lines. AreRunning question.now.text.now question.now.input.now question.now.settings.limit lines.items) }
 {
-    match read_job(alloc, job_text) {
+    match read_job(alloc, question.text) {
         Ok(job) => {
+            let (input, settings) = (question.input, question.settings);
             let lines = running_of(rt, alloc, &job, input, settings, picker, gate)?;
             Ok(lines)
         }

@@ -1,7 +1,5 @@
-ghost use Rattle.std.specs.Prelude.{◌≡◌, ◌<◌, ◌≤◌, length, map, IfOk, IfErr, OnOk};
+ghost use Rattle.std.specs.Prelude.{◌≡◌, ◌≤◌, length, map, IfOk};
 ghost use Rattle.job_meaning.specs.declared.limits.TheConstants.{MAX_INPUT};
-ghost use Rattle.job_report.specs.declared.limits.TheConstants.{MAX_FAILURES};
-ghost use Rattle.nursery_app.specs.Sending.{IsSent, IsServeFault, CountsFailure};
 ghost use Rattle.fault_text.specs.Views.{job_outcome_held, line_held, options_held};
 ghost use Rattle.table_app.specs.Faults.{IsTableOf, IsVerdict, table_in};
 
@@ -10,78 +8,53 @@ use crate::refusing::refusal_in;
 use crate::verdict::FaultsVerdict;
 use fault_app::{FaultLines, fault_lines};
 use fault_text::{Options, denied_text, table};
-use job_report::{Out, send};
-use job_runner::Settings;
+use job_report::{Answer, Question};
 use json_tables::faults_json;
-use nursery_app::{Gate, ServeFault};
+use nursery_app::Gate;
 use std::alloc::{AllocError, Global};
 use std::thread::Threads;
 
-/// Writes the outcome of a job over an input: without a fault, and with each fault of each of its waiting steps, one line for
+/// Returns the outcome of a job over an input: without a fault, and with each fault of each of its waiting steps, one line for
 /// each, in the order of the places of the steps; and then how many faults there are of each kind. A fault is a change of the
 /// job text (`job_edits`). Its line says what the changed text does by the meaning of the job: the tick at which the job ends
 /// and how, or that it does not end by the limit, and notes. `options` say which exceptions steps raise, whether there are lines
-/// for single copies and passes too, which lines are printed, and which outcomes are denied. If the job text is refused, writes
-/// its refusal. The caller must ensure that the input has at most 16,777,216 bytes (`MAX_INPUT`).
+/// for single copies and passes too, which lines are there, and which outcomes are denied. If the job text is refused, the bytes
+/// are its refusal. The caller must ensure that the input has at most 16,777,216 bytes (`MAX_INPUT`).
 ///
-/// The number of workers in `settings` is the number of threads that run the faults. The gate is called before and after each
-/// fault, with the place of the fault among the lines, by the thread that runs it. Neither changes a byte.
-///
-/// Returns a `ServeFault` if the writer failed (`Send`), which then took the first of the bytes, or if memory was refused. All
-/// bytes are built before the first is sent, so after `NoMemory` nothing was sent.
-pub fn faults<R: Threads + Sync, G: Gate + Sync, W: Out>(
-    rt: &R,
-    alloc: Global,
-    job_text: &[u8],
-    input: &[u8],
-    settings: Settings,
-    options: &Options,
-    form: Form,
-    gate: &G,
-    out: &mut W,
-) -> Result<FaultsVerdict, ServeFault>
-    requires input { length input.now ≤ MAX_INPUT }
-    requires countable { W.failed out.old < MAX_FAILURES }
-
-    // The bytes written are the table of all faults, or the refusal of the text.
-    ensures sent { IfOk result (IsSent (IsVerdict form job_text.now input.now settings.limit (options_held options.now)) (W.contents out.old)
-        (W.contents out.new)) }
-    ensures well { OnOk result (W.failed out.new ≡ W.failed out.old) }
-
-    // A writer that failed took the first of those bytes. If memory was refused, nothing was sent.
-    ensures fault { IfErr result (IsServeFault (IsVerdict form job_text.now input.now settings.limit (options_held options.now)) (W.contents out.old)
-        (W.contents out.new)) }
-    ensures counted { IfErr result (CountsFailure (W.failed out.old) (W.failed out.new)) }
-{
-    let (verdict, bytes) = answer(rt, alloc, job_text, input, settings, options, form, gate)?;
-    send(bytes.as_slice(), out)?;
-    Ok(verdict)
-}
-
-// Returns the verdict and all its bytes.
+/// The number of workers in the settings is the number of threads that run the faults. The gate is called before and after each
+/// fault, with the place of the fault among the lines, by the thread that runs it. Neither changes a byte. The only error is that
+/// memory runs out.
 #[tactic(auto, using(crate::proofs::Tables::of_faults))]
-fn answer<R: Threads + Sync, G: Gate + Sync>(
+pub fn faults<R: Threads + Sync, G: Gate + Sync>(
     rt: &R,
     alloc: Global,
-    job_text: &[u8],
-    input: &[u8],
-    settings: Settings,
+    question: &Question<'_>,
     options: &Options,
     form: Form,
     gate: &G,
-) -> Result<(FaultsVerdict, Vec<u8>), AllocError>
-    requires { length input.now ≤ MAX_INPUT }
-    ensures { IfOk result (λ r. IsVerdict form job_text.now input.now settings.limit (options_held options.now) r.0 r.1.items) }
+) -> Result<Answer<FaultsVerdict>, AllocError>
+    requires { length question.now.input.now ≤ MAX_INPUT }
+
+    // The bytes are the table of all faults, or the refusal of the text.
+    ensures { IfOk result (λ answer. IsVerdict form question.now.text.now question.now.input.now question.now.settings.limit
+        (options_held options.now) answer.verdict answer.bytes.items) }
 {
+    let (job_text, input, settings) = (question.text, question.input, question.settings);
     let (names, each) = (options.names.as_slice(), options.each);
     match fault_lines(rt, alloc, job_text, input, settings, names, each, gate) {
         Ok(told) => {
             let (denied, bytes) = table_and_denied(alloc, settings.limit(), options, form, &told)?;
-            Ok((FaultsVerdict::Told { denied }, bytes))
+            Ok(Answer {
+                verdict: FaultsVerdict::Told { denied },
+                bytes,
+            })
         }
         Err(fault) => {
             let bytes = refusal_in(alloc, form, job_text, fault)?;
-            Ok((FaultsVerdict::JobRefused(fault), bytes))
+            Ok(Answer {
+                verdict: FaultsVerdict::JobRefused(fault),
+                bytes,
+            })
         }
     }
 }

@@ -1,7 +1,7 @@
-//! Takes a job text and an input, and writes the table of `faults`, `sweep` or `races`, as a text or as one JSON document; or the
+//! Takes a job text and an input, and returns the table of `faults`, `sweep` or `races`, as a text or as one JSON document; or the
 //! warnings of `lint` as one JSON document.
 //!
-//! The layer promises that the bytes that are written are the table, in the form that is asked for, of what the job's one-thread
+//! The layer promises that the bytes are the table, in the form that is asked for, of what the job's one-thread
 //! meaning says of each line; or that they are the refusal that the text's meaning names, or the limit by which the job does not
 //! end. The number of workers changes no byte. It uses `fault_app`, `sweep_app`, `race_app` and `job_lint` for the lines,
 //! `fault_text`, `sweep_text` and `race_text` for the texts, `json_tables` for the documents, and `nursery_app` and `json_app` for

@@ -1,7 +1,5 @@
-ghost use Rattle.std.specs.Prelude.{◌≡◌, ◌<◌, ◌≤◌, [], length, if◌then◌else◌, IfOk, IfErr, OnOk, map};
+ghost use Rattle.std.specs.Prelude.{◌≡◌, ◌≤◌, [], length, if◌then◌else◌, IfOk, map};
 ghost use Rattle.job_meaning.specs.declared.limits.TheConstants.{MAX_INPUT};
-ghost use Rattle.job_report.specs.declared.limits.TheConstants.{MAX_FAILURES};
-ghost use Rattle.nursery_app.specs.Sending.{IsSent, IsServeFault, CountsFailure};
 ghost use Rattle.race_text.specs.Table.{denied_text};
 ghost use Rattle.race_text.specs.Views.{line_held};
 ghost use Rattle.table_app.specs.Races.{IsTableOf, IsVerdict, table_in};
@@ -9,72 +7,56 @@ ghost use Rattle.table_app.specs.Races.{IsTableOf, IsVerdict, table_in};
 use crate::form::Form;
 use crate::refusing::{limit_in, refusal_in};
 use crate::verdict::RacesVerdict;
-use job_report::{Out, send};
-use job_runner::Settings;
+use job_report::{Answer, Question};
 use json_tables::races_json;
-use nursery_app::{Gate, ServeFault};
+use nursery_app::Gate;
 use race_app::{RaceAnswer, RaceLines, race_lines};
 use race_text::{Line, race_denied, race_table};
 use std::alloc::{AllocError, Global};
 use std::thread::Threads;
 
-/// Writes how the outcome of a job over an input changes if a single place of its text takes a hair more or less time. First
+/// Returns how the outcome of a job over an input changes if a single place of its text takes a hair more or less time. First
 /// the text is put into finer ticks and compared with the original text. Then each `sleep`, `after` and `at` is moved by a hair
 /// in both directions (a 0 only later), and each `checkpoint`, `pace` and `start` is moved later; each is compared with the
 /// text in finer ticks. Outcomes, lines and exits are compared, but not ticks; lines without a difference are left out. Then
-/// come the copies of one `start .. over` that meet, and the counts. If the job does not end by the limit of `settings`, writes
-/// the limit. If the job text is refused, writes its refusal. If a number of ticks is too large to be made finer, writes nothing.
+/// come the copies of one `start .. over` that meet, and the counts. If the job does not end by the limit, the bytes are the
+/// limit. If the job text is refused, they are its refusal. If a number of ticks is too large to be made finer, there are none.
 /// The caller must ensure that the input has at most 16,777,216 bytes (`MAX_INPUT`).
 ///
-/// With `deny`, the verdict has the lines that are races. The number of workers in `settings` is the number of threads that run
+/// With `deny`, the verdict has the lines that are races. The number of workers in the settings is the number of threads that run
 /// the hairs. The gate is called before and after each hair, with the place of the hair among them, by the thread that runs it.
-/// Neither changes a byte.
-///
-/// Returns a `ServeFault` if the writer failed (`Send`), which then took the first of the bytes, or if memory was refused. All
-/// bytes are built before the first is sent, so after `NoMemory` nothing was sent.
-pub fn races<R: Threads + Sync, G: Gate + Sync, W: Out>(
+/// Neither changes a byte. The only error is that memory runs out.
+pub fn races<R: Threads + Sync, G: Gate + Sync>(
     rt: &R,
     alloc: Global,
-    job_text: &[u8],
-    input: &[u8],
-    settings: Settings,
+    question: &Question<'_>,
     deny: bool,
     form: Form,
     gate: &G,
-    out: &mut W,
-) -> Result<RacesVerdict, ServeFault>
-    requires input { length input.now ≤ MAX_INPUT }
-    requires countable { W.failed out.old < MAX_FAILURES }
+) -> Result<Answer<RacesVerdict>, AllocError>
+    requires { length question.now.input.now ≤ MAX_INPUT }
 
-    // The bytes written are the table of all hairs, or the refusal of the text, or the limit, or there are none.
-    ensures sent { IfOk result (IsSent (IsVerdict form job_text.now input.now settings.limit deny) (W.contents out.old)
-        (W.contents out.new)) }
-    ensures well { OnOk result (W.failed out.new ≡ W.failed out.old) }
-
-    // A writer that failed took the first of those bytes. If memory was refused, nothing was sent.
-    ensures fault { IfErr result (IsServeFault (IsVerdict form job_text.now input.now settings.limit deny) (W.contents out.old)
-        (W.contents out.new)) }
-    ensures counted { IfErr result (CountsFailure (W.failed out.old) (W.failed out.new)) }
+    // The bytes are the table of all hairs, or the refusal of the text, or the limit, or there are none.
+    ensures { IfOk result (λ answer. IsVerdict form question.now.text.now question.now.input.now question.now.settings.limit deny
+        answer.verdict answer.bytes.items) }
 {
-    let (verdict, bytes) = answer(rt, alloc, job_text, input, settings, deny, form, gate)?;
-    send(bytes.as_slice(), out)?;
-    Ok(verdict)
+    let (verdict, bytes) = verdict_and_bytes(rt, alloc, question, deny, form, gate)?;
+    Ok(Answer { verdict, bytes })
 }
 
 // Returns the verdict and all its bytes.
-fn answer<R: Threads + Sync, G: Gate + Sync>(
+fn verdict_and_bytes<R: Threads + Sync, G: Gate + Sync>(
     rt: &R,
     alloc: Global,
-    job_text: &[u8],
-    input: &[u8],
-    settings: Settings,
+    question: &Question<'_>,
     deny: bool,
     form: Form,
     gate: &G,
 ) -> Result<(RacesVerdict, Vec<u8>), AllocError>
-    requires { length input.now ≤ MAX_INPUT }
-    ensures { IfOk result (λ r. IsVerdict form job_text.now input.now settings.limit deny r.0 r.1.items) }
+    requires { length question.now.input.now ≤ MAX_INPUT }
+    ensures { IfOk result (λ r. IsVerdict form question.now.text.now question.now.input.now question.now.settings.limit deny r.0 r.1.items) }
 {
+    let (job_text, input, settings) = (question.text, question.input, question.settings);
     match race_lines(rt, alloc, job_text, input, settings, gate) {
         Ok(RaceAnswer::Lines(told)) => {
             let (denied, bytes) = table_and_denied(alloc, deny, form, &told)?;

@@ -1,7 +1,5 @@
-ghost use Rattle.std.specs.Prelude.{◌≡◌, ◌<◌, ◌≤◌, length, map, IfOk, IfErr, OnOk};
+ghost use Rattle.std.specs.Prelude.{◌≡◌, ◌≤◌, length, map, IfOk};
 ghost use Rattle.job_meaning.specs.declared.limits.TheConstants.{MAX_INPUT};
-ghost use Rattle.job_report.specs.declared.limits.TheConstants.{MAX_FAILURES};
-ghost use Rattle.nursery_app.specs.Sending.{IsSent, IsServeFault, CountsFailure};
 ghost use Rattle.fault_text.specs.Views.{job_outcome_held};
 ghost use Rattle.sweep_text.specs.Views.{value_held};
 ghost use Rattle.table_app.specs.Sweeps.{IsVerdict, table_in};
@@ -11,89 +9,61 @@ use crate::refusing::refusal_in;
 use crate::verdict::SweepVerdict;
 use fault_text::JobOutcome;
 use job_edits::Target;
-use job_report::{Out, send};
-use job_runner::Settings;
+use job_report::{Answer, Question};
 use json_tables::sweep_json;
-use nursery_app::{Gate, ServeFault};
+use nursery_app::Gate;
 use std::alloc::{AllocError, Global};
 use std::thread::Threads;
 use sweep_app::{SweepAnswer, sweep_values};
 use sweep_text::{Value, sweep_table};
 
-/// Writes the outcome of a job over an input for each of these values of one of its numbers, in their order: first the outcome
+/// Returns the outcome of a job over an input for each of these values of one of its numbers, in their order: first the outcome
 /// of the job with its own value, then the values, and then how many values there are of each kind. A text has a line for each
 /// group of neighbouring values with the same outcome apart from ticks; a JSON document has each value with its ticks. A value is
 /// put into the job text in place of the digits of the number, and its outcome is that of the changed text by the meaning of the
-/// job. A value that the text cannot have there counts as refused. If the job text is refused, writes its refusal. If the text
-/// does not have the number that is meant, writes nothing. The caller must ensure that the input has at most 16,777,216 bytes
+/// job. A value that the text cannot have there counts as refused. If the job text is refused, the bytes are its refusal. If the
+/// text does not have the number that is meant, there are none. The caller must ensure that the input has at most 16,777,216 bytes
 /// (`MAX_INPUT`).
 ///
-/// The number of workers in `settings` is the number of threads that run the values. The gate is called before and after each
-/// value, with the place of the value among them, by the thread that runs it. Neither changes a byte.
-///
-/// Returns a `ServeFault` if the writer failed (`Send`), which then took the first of the bytes, or if memory was refused. All
-/// bytes are built before the first is sent, so after `NoMemory` nothing was sent.
-pub fn sweep<R: Threads + Sync, G: Gate + Sync, W: Out>(
-    rt: &R,
-    alloc: Global,
-    job_text: &[u8],
-    input: &[u8],
-    settings: Settings,
-    target: Target,
-    values: &[u64],
-    form: Form,
-    gate: &G,
-    out: &mut W,
-) -> Result<SweepVerdict, ServeFault>
-    requires input { length input.now ≤ MAX_INPUT }
-    requires countable { W.failed out.old < MAX_FAILURES }
-
-    // The bytes written are the outcomes for all values, or the refusal of the text, or there are none.
-    ensures sent { IfOk result (IsSent (IsVerdict form job_text.now input.now settings.limit target values.now) (W.contents out.old)
-        (W.contents out.new)) }
-    ensures well { OnOk result (W.failed out.new ≡ W.failed out.old) }
-
-    // A writer that failed took the first of those bytes. If memory was refused, nothing was sent.
-    ensures fault { IfErr result (IsServeFault (IsVerdict form job_text.now input.now settings.limit target values.now)
-        (W.contents out.old) (W.contents out.new)) }
-    ensures counted { IfErr result (CountsFailure (W.failed out.old) (W.failed out.new)) }
-{
-    let (verdict, bytes) = answer(
-        rt, alloc, job_text, input, settings, target, values, form, gate,
-    )?;
-    send(bytes.as_slice(), out)?;
-    Ok(verdict)
-}
-
-// Returns the verdict and all its bytes.
+/// The number of workers in the settings is the number of threads that run the values. The gate is called before and after each
+/// value, with the place of the value among them, by the thread that runs it. Neither changes a byte. The only error is that
+/// memory runs out.
 #[tactic(auto, using(crate::proofs::Tables::of_values))]
-fn answer<R: Threads + Sync, G: Gate + Sync>(
+pub fn sweep<R: Threads + Sync, G: Gate + Sync>(
     rt: &R,
     alloc: Global,
-    job_text: &[u8],
-    input: &[u8],
-    settings: Settings,
+    question: &Question<'_>,
     target: Target,
     values: &[u64],
     form: Form,
     gate: &G,
-) -> Result<(SweepVerdict, Vec<u8>), AllocError>
-    requires { length input.now ≤ MAX_INPUT }
-    ensures { IfOk result (λ r. IsVerdict form job_text.now input.now settings.limit target values.now r.0 r.1.items) }
+) -> Result<Answer<SweepVerdict>, AllocError>
+    requires { length question.now.input.now ≤ MAX_INPUT }
+
+    // The bytes are the outcomes for all values, or the refusal of the text, or there are none.
+    ensures { IfOk result (λ answer. IsVerdict form question.now.text.now question.now.input.now question.now.settings.limit target values.now
+        answer.verdict answer.bytes.items) }
 {
+    let (job_text, input, settings) = (question.text, question.input, question.settings);
     match sweep_values(rt, alloc, job_text, input, settings, target, values, gate) {
         Ok(SweepAnswer::Values(told)) => {
             let (limit, values) = (settings.limit(), told.values.as_slice());
             let bytes = table_in(alloc, form, limit, &told.first, values)?;
-            Ok((SweepVerdict::Told, bytes))
+            Ok(Answer {
+                verdict: SweepVerdict::Told,
+                bytes,
+            })
         }
-        Ok(SweepAnswer::NoTarget(missing)) => Ok((
-            SweepVerdict::NoTarget(missing),
-            Vec::new(alloc),
-        )),
+        Ok(SweepAnswer::NoTarget(missing)) => Ok(Answer {
+            verdict: SweepVerdict::NoTarget(missing),
+            bytes: Vec::new(alloc),
+        }),
         Err(fault) => {
             let bytes = refusal_in(alloc, form, job_text, fault)?;
-            Ok((SweepVerdict::JobRefused(fault), bytes))
+            Ok(Answer {
+                verdict: SweepVerdict::JobRefused(fault),
+                bytes,
+            })
         }
     }
 }

@@ -1,4 +1,3 @@
-pub mod Kepts
 pub mod Outputs
 pub mod Names
 pub mod Mets

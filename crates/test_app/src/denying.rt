@@ -4,12 +4,11 @@ ghost use Rattle.fault_text.specs.Views.{options_held};
 ghost use Rattle.test_app.specs.Outputs.{plain_options};
 ghost use Rattle.test_app.specs.Mets.{IsFaultsMet, IsRacesMet, answer_of, denied_answer};
 
-use crate::kept::Kept;
 use crate::met::Met;
 use fault_text::{Deny, Options};
 use job_grammar::Name;
-use job_runner::{NoGate, Settings};
-use nursery_app::ServeFault;
+use job_runner::NoGate;
+use nursery_app::Question;
 use std::alloc::{AllocError, Global};
 use std::thread::Threads;
 use table_app::{FaultsVerdict, Form, RacesVerdict, faults, races};
@@ -42,30 +41,17 @@ pub(crate) fn plain_options(alloc: Global, deny: Deny) -> Result<Options, AllocE
 pub(crate) fn no_races<R: Threads + Sync>(
     rt: &R,
     alloc: Global,
-    job_text: &[u8],
-    input: &[u8],
-    settings: Settings,
+    question: &Question<'_>,
 ) -> Result<Met, AllocError>
-    requires { length input.now ≤ MAX_INPUT }
-    ensures { IfOk result (λ met. IsRacesMet job_text.now input.now settings.limit (answer_of met)) }
+    requires { length question.now.input.now ≤ MAX_INPUT }
+    ensures { IfOk result (λ met. IsRacesMet question.now.text.now question.now.input.now question.now.settings.limit (answer_of met)) }
 {
-    let mut out = Kept::new(alloc);
-    match races(
-        rt,
-        alloc,
-        job_text,
-        input,
-        settings,
-        true,
-        Form::Text,
-        &NoGate,
-        &mut out,
-    ) {
-        Ok(RacesVerdict::Told { denied }) => Ok(denial_or_yes(denied)),
-        Ok(RacesVerdict::JobRefused(_) | RacesVerdict::Limit | RacesVerdict::NoFinerTicks) => {
+    let answer = races(rt, alloc, question, true, Form::Text, &NoGate)?;
+    match answer.verdict {
+        RacesVerdict::Told { denied } => Ok(denial_or_yes(denied)),
+        RacesVerdict::JobRefused(_) | RacesVerdict::Limit | RacesVerdict::NoFinerTicks => {
             Ok(Met::Untold)
         }
-        Err(ServeFault::Send { .. } | ServeFault::NoMemory) => Err(AllocError),
     }
 }
 
@@ -73,30 +59,17 @@ pub(crate) fn no_races<R: Threads + Sync>(
 pub(crate) fn no_faults<R: Threads + Sync>(
     rt: &R,
     alloc: Global,
-    job_text: &[u8],
-    input: &[u8],
-    settings: Settings,
+    question: &Question<'_>,
     kinds: Deny,
 ) -> Result<Met, AllocError>
-    requires { length input.now ≤ MAX_INPUT }
-    ensures { IfOk result (λ met. IsFaultsMet job_text.now input.now settings.limit kinds (answer_of met)) }
+    requires { length question.now.input.now ≤ MAX_INPUT }
+    ensures { IfOk result (λ met. IsFaultsMet question.now.text.now question.now.input.now question.now.settings.limit kinds (answer_of met)) }
 {
     let options = plain_options(alloc, kinds)?;
-    let mut out = Kept::new(alloc);
-    match faults(
-        rt,
-        alloc,
-        job_text,
-        input,
-        settings,
-        &options,
-        Form::Text,
-        &NoGate,
-        &mut out,
-    ) {
-        Ok(FaultsVerdict::Told { denied }) => Ok(denial_or_yes(denied)),
-        Ok(FaultsVerdict::JobRefused(_)) => Ok(Met::Untold),
-        Err(ServeFault::Send { .. } | ServeFault::NoMemory) => Err(AllocError),
+    let answer = faults(rt, alloc, question, &options, Form::Text, &NoGate)?;
+    match answer.verdict {
+        FaultsVerdict::Told { denied } => Ok(denial_or_yes(denied)),
+        FaultsVerdict::JobRefused(_) => Ok(Met::Untold),
     }
 }
 

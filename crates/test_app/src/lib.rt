@@ -9,7 +9,6 @@
 #![tactic(auto)]
 
 mod denying;
-mod kept;
 mod matching;
 mod meeting;
 mod met;

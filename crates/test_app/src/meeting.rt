@@ -7,7 +7,7 @@ use crate::denying::{no_faults, no_races};
 use crate::matching::{no_line, some_line};
 use crate::met::Met;
 use expect_text::Expectation;
-use job_runner::Settings;
+use nursery_app::Question;
 use std::alloc::{AllocError, Global};
 use std::thread::Threads;
 
@@ -18,21 +18,19 @@ use std::thread::Threads;
 pub fn meets<R: Threads + Sync>(
     rt: &R,
     alloc: Global,
-    job_text: &[u8],
-    input: &[u8],
-    settings: Settings,
+    question: &Question<'_>,
     expectation: Expectation<'_>,
     report: &[u8],
     story: &[u8],
 ) -> Result<Met, AllocError>
-    requires { length input.now ≤ MAX_INPUT }
-    ensures { IfOk result (λ met. IsMet job_text.now input.now settings.limit (expected_of expectation.entry) report.now story.now
-        (answer_of met)) }
+    requires { length question.now.input.now ≤ MAX_INPUT }
+    ensures { IfOk result (λ met. IsMet question.now.text.now question.now.input.now question.now.settings.limit
+        (expected_of expectation.entry) report.now story.now (answer_of met)) }
 {
     match expectation {
         Expectation::Present(pattern) => some_line(alloc, pattern, report, story),
         Expectation::Absent(pattern) => no_line(alloc, pattern, report, story),
-        Expectation::NoRaces => no_races(rt, alloc, job_text, input, settings),
-        Expectation::NoFaults(kinds) => no_faults(rt, alloc, job_text, input, settings, kinds),
+        Expectation::NoRaces => no_races(rt, alloc, question),
+        Expectation::NoFaults(kinds) => no_faults(rt, alloc, question, kinds),
     }
 }
