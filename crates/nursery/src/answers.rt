@@ -3,7 +3,9 @@ ghost use Rattle.std.specs.Option.{option_copied};
 ghost use Rattle.job_meaning.specs.declared.limits.TheConstants.{MAX_INPUT};
 ghost use Rattle.nursery_app.specs.Statuses.{status_of};
 ghost use Rattle.story_app.specs.Statuses.{story_status_of};
-ghost use Rattle.nursery.specs.Statuses.{TellsVerdict, TellsStory};
+ghost use Rattle.nursery_app.specs.Verdict.{IsVerdict};
+ghost use Rattle.story_app.specs.Stories as stories;
+ghost use Rattle.nursery.specs.Statuses.{Tells};
 
 use crate::documents::{explain_as_json, run_as_json};
 use crate::sending::put_answer;
@@ -96,7 +98,8 @@ fn explain_text<R: Print + Eprint + Threads + Sync + AllocGlobal>(
     task: Option<&str>,
 ) -> Result<u8, Stop>
     requires { length question.now.input.now ≤ MAX_INPUT }
-    ensures { IfOk result (TellsStory question.now.text.now question.now.input.now question.now.settings.limit (option_copied task.entry)) }
+    ensures { IfOk result (Tells story_status_of (stories.IsVerdict question.now.text.now question.now.input.now question.now.settings.limit
+        (option_copied task.entry))) }
 {
     let asked = bytes_of(task);
     let answer = explain(rt, rt.alloc(), question, asked, &mut Forward, &NoGate)?;
@@ -157,7 +160,7 @@ fn run_text<R: Print + Eprint + Threads + Sync + AllocGlobal>(
     question: &Question<'_>,
 ) -> Result<u8, Stop>
     requires { length question.now.input.now ≤ MAX_INPUT }
-    ensures { IfOk result (TellsVerdict question.now.text.now question.now.input.now question.now.settings.limit) }
+    ensures { IfOk result (Tells status_of (IsVerdict question.now.text.now question.now.input.now question.now.settings.limit)) }
 {
     let (alloc, text, input, settings) = (
         rt.alloc(),

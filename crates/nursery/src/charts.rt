@@ -1,6 +1,8 @@
 ghost use Rattle.std.specs.Prelude.{◌≤◌, length, IfOk};
 ghost use Rattle.job_meaning.specs.declared.limits.TheConstants.{MAX_INPUT};
-ghost use Rattle.nursery.specs.Statuses.{TellsChart};
+ghost use Rattle.nursery_app.specs.Statuses.{status_of};
+ghost use Rattle.chart_app.specs.Charts.{IsVerdict};
+ghost use Rattle.nursery.specs.Statuses.{Tells};
 
 use crate::answers::{conclude_run, word_of};
 use crate::sending::put_answer;
@@ -64,7 +66,7 @@ fn chart_text<R: Print + Eprint + Threads + Sync + AllocGlobal>(
     form: Form,
 ) -> Result<u8, Stop>
     requires { length question.now.input.now ≤ MAX_INPUT }
-    ensures { IfOk result (TellsChart form question.now.text.now question.now.input.now question.now.settings.limit) }
+    ensures { IfOk result (Tells status_of (IsVerdict form question.now.text.now question.now.input.now question.now.settings.limit)) }
 {
     let answer = chart(rt, rt.alloc(), question, form, &mut Forward, &NoGate)?;
     let verdict = put_answer(rt, answer)?;

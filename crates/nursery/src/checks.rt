@@ -1,6 +1,7 @@
 ghost use Rattle.std.specs.Prelude.{IfOk};
-ghost use Rattle.nursery_app.specs.Checking.{as_it_is};
-ghost use Rattle.nursery.specs.Statuses.{TellsAnswer};
+ghost use Rattle.nursery_app.specs.Checking.{IsAnswer, as_it_is};
+ghost use Rattle.nursery_app.specs.Statuses.{check_status_of};
+ghost use Rattle.nursery.specs.Statuses.{Tells};
 
 use crate::answers::tell_refusal;
 use crate::formats::print_formatted;
@@ -29,7 +30,7 @@ fn print_canonical<R: Print + Eprint + AllocGlobal>(
     job: &str,
     text: &[u8],
 ) -> Result<u8, Stop>
-    ensures { IfOk result (TellsAnswer as_it_is text.now) }
+    ensures { IfOk result (Tells check_status_of (IsAnswer as_it_is text.now)) }
 {
     let mut out = WriteOut::new(io::writer(rt));
     let verdict = check(rt.alloc(), text, &mut out)?;

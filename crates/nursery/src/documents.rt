@@ -1,7 +1,11 @@
 ghost use Rattle.std.specs.Prelude.{◌≡◌, ◌≤◌, length, IfOk};
 ghost use Rattle.std.specs.Option.{option_copied};
 ghost use Rattle.job_meaning.specs.declared.limits.TheConstants.{MAX_INPUT};
-ghost use Rattle.nursery.specs.Statuses.{TellsJson, TellsJsonStory, table_form};
+ghost use Rattle.nursery_app.specs.Statuses.{status_of};
+ghost use Rattle.story_app.specs.Statuses.{story_status_of};
+ghost use Rattle.json_app.specs.Serving.{IsVerdict};
+ghost use Rattle.json_app.specs.Explaining.{IsStory};
+ghost use Rattle.nursery.specs.Statuses.{Tells, table_form};
 
 use crate::answers::{bytes_of, conclude_run, conclude_story};
 use crate::sending::put_answer;
@@ -25,7 +29,7 @@ pub(crate) fn run_as_json<R: Print + Eprint + Threads + Sync + AllocGlobal>(
     question: &Question<'_>,
 ) -> Result<u8, Stop>
     requires { length question.now.input.now ≤ MAX_INPUT }
-    ensures { IfOk result (TellsJson question.now.text.now question.now.input.now question.now.settings.limit) }
+    ensures { IfOk result (Tells status_of (IsVerdict question.now.text.now question.now.input.now question.now.settings.limit)) }
 {
     let answer = report_document(rt, rt.alloc(), question, &mut Forward, &NoGate)?;
     let verdict = put_answer(rt, answer)?;
@@ -40,7 +44,8 @@ pub(crate) fn explain_as_json<R: Print + Eprint + Threads + Sync + AllocGlobal>(
     task: Option<&str>,
 ) -> Result<u8, Stop>
     requires { length question.now.input.now ≤ MAX_INPUT }
-    ensures { IfOk result (TellsJsonStory question.now.text.now question.now.input.now question.now.settings.limit (option_copied task.entry)) }
+    ensures { IfOk result (Tells story_status_of (IsStory question.now.text.now question.now.input.now question.now.settings.limit
+        (option_copied task.entry))) }
 {
     let asked = bytes_of(task);
     let answer = story_document(rt, rt.alloc(), question, asked, &mut Forward, &NoGate)?;

@@ -2,7 +2,8 @@ ghost use Rattle.std.specs.Prelude.{◌≡◌, ◌≤◌, length, IfOk};
 ghost use Rattle.job_meaning.specs.declared.limits.TheConstants.{MAX_INPUT};
 ghost use Rattle.fault_text.specs.Views.{options_held};
 ghost use Rattle.table_app.specs.Statuses.{faults_status_of};
-ghost use Rattle.nursery.specs.Statuses.{TellsFaults, TellsReadFaults, table_form};
+ghost use Rattle.table_app.specs.Faults.{IsVerdict};
+ghost use Rattle.nursery.specs.Statuses.{Tells, TellsRead, table_form};
 
 use crate::answers::{tell_refusal, word_of};
 use crate::documents::table_form;
@@ -24,7 +25,8 @@ pub(crate) fn faults_job<R: Files + Input + Print + Eprint + Clock + Threads + S
     args: &FaultsArgs,
     at_terminal: bool,
 ) -> Result<u8, Stop>
-    ensures { IfOk result (TellsReadFaults (table_form args.now.json) args.now.settings.limit (options_held args.now.options)) }
+    ensures { IfOk result (TellsRead faults_status_of (λ text input. IsVerdict (table_form args.now.json) text input args.now.settings.limit
+        (options_held args.now.options))) }
 {
     let given = read_both(rt, args.job.as_str(), word_of(&args.input))?;
     let progress = Progress::new(rt, at_terminal);
@@ -41,8 +43,8 @@ fn faults_text<R: Print + Eprint + Clock + Threads + Sync + AllocGlobal>(
     progress: &Progress<'_, R>,
 ) -> Result<u8, Stop>
     requires { length question.now.input.now ≤ MAX_INPUT }
-    ensures { IfOk result (TellsFaults form question.now.text.now question.now.input.now question.now.settings.limit
-        (options_held args.now.options)) }
+    ensures { IfOk result (Tells faults_status_of (IsVerdict form question.now.text.now question.now.input.now question.now.settings.limit
+        (options_held args.now.options))) }
 {
     let answer = faults(rt, rt.alloc(), question, &args.options, form, progress);
     progress.clear();

@@ -1,5 +1,7 @@
 ghost use Rattle.std.specs.Prelude.{◌≡◌, IfOk};
-ghost use Rattle.nursery.specs.Statuses.{TellsFormat, TellsFormatCheck};
+ghost use Rattle.format_app.specs.Formats.{IsAnswer};
+ghost use Rattle.format_app.specs.Statuses.{status_of};
+ghost use Rattle.nursery.specs.Statuses.{Tells, TellsFormatCheck};
 
 use crate::answers::tell_refusal;
 use crate::sending::put_answer;
@@ -57,7 +59,7 @@ pub(crate) fn print_formatted<R: Print + Eprint + AllocGlobal>(
     job: &str,
     text: &[u8],
 ) -> Result<u8, Stop>
-    ensures { IfOk result (TellsFormat text.now) }
+    ensures { IfOk result (Tells status_of (IsAnswer text.now)) }
 {
     let answer = format(rt.alloc(), text)?;
     let verdict = put_answer(rt, answer)?;

@@ -1,6 +1,8 @@
 ghost use Rattle.std.specs.Prelude.{◌≡◌, IfOk};
 ghost use Rattle.job_grammar.specs.Refusals.{IsFair, IsRefused};
-ghost use Rattle.nursery.specs.Statuses.{TellsLints, TellsJsonLints};
+ghost use Rattle.table_app.specs.Lints.{IsVerdict};
+ghost use Rattle.table_app.specs.Statuses.{lints_status_of};
+ghost use Rattle.nursery.specs.Statuses.{Tells, TellsLints};
 
 use crate::answers::tell_refusal;
 use crate::sending::put_answer;
@@ -47,7 +49,7 @@ fn lints_as_json<R: Print + Eprint + AllocGlobal>(
     job: &str,
     text: &[u8],
 ) -> Result<u8, Stop>
-    ensures { IfOk result (TellsJsonLints text.now) }
+    ensures { IfOk result (Tells lints_status_of (IsVerdict text.now)) }
 {
     let answer = lints_json(rt.alloc(), text)?;
     let verdict = put_answer(rt, answer)?;

@@ -1,7 +1,8 @@
 ghost use Rattle.std.specs.Prelude.{◌≡◌, ◌≤◌, length, IfOk};
 ghost use Rattle.job_meaning.specs.declared.limits.TheConstants.{MAX_INPUT};
 ghost use Rattle.table_app.specs.Statuses.{races_status_of};
-ghost use Rattle.nursery.specs.Statuses.{TellsRaces, TellsReadRaces, table_form};
+ghost use Rattle.table_app.specs.Races.{IsVerdict};
+ghost use Rattle.nursery.specs.Statuses.{Tells, TellsRead, table_form};
 
 use crate::answers::{tell_refusal, tell_running, word_of};
 use crate::documents::table_form;
@@ -28,7 +29,8 @@ pub(crate) fn races_job<R: Files + Input + Print + Eprint + Clock + Threads + Sy
     args: &RacesArgs,
     at_terminal: bool,
 ) -> Result<u8, Stop>
-    ensures { IfOk result (TellsReadRaces (table_form args.now.json) args.now.settings.limit args.now.deny) }
+    ensures { IfOk result (TellsRead races_status_of (λ text input. IsVerdict (table_form args.now.json) text input args.now.settings.limit
+        args.now.deny)) }
 {
     let given = read_both(rt, args.job.as_str(), word_of(&args.input))?;
     let progress = Progress::new(rt, at_terminal);
@@ -45,7 +47,8 @@ fn races_text<R: Print + Eprint + Clock + Threads + Sync + AllocGlobal>(
     progress: &Progress<'_, R>,
 ) -> Result<u8, Stop>
     requires { length question.now.input.now ≤ MAX_INPUT }
-    ensures { IfOk result (TellsRaces form question.now.text.now question.now.input.now question.now.settings.limit args.now.deny) }
+    ensures { IfOk result (Tells races_status_of (IsVerdict form question.now.text.now question.now.input.now question.now.settings.limit
+        args.now.deny)) }
 {
     let answer = races(rt, rt.alloc(), question, args.deny, form, progress);
     progress.clear();

@@ -1,7 +1,8 @@
 ghost use Rattle.std.specs.Prelude.{◌≡◌, ◌≤◌, length, IfOk};
 ghost use Rattle.job_meaning.specs.declared.limits.TheConstants.{MAX_INPUT};
 ghost use Rattle.table_app.specs.Statuses.{sweep_status_of};
-ghost use Rattle.nursery.specs.Statuses.{TellsSweep};
+ghost use Rattle.table_app.specs.Sweeps.{IsVerdict};
+ghost use Rattle.nursery.specs.Statuses.{Tells};
 
 use crate::answers::{tell_refusal, word_of};
 use crate::documents::table_form;
@@ -44,8 +45,8 @@ fn sweep_text<R: Print + Eprint + Clock + Threads + Sync + AllocGlobal>(
     progress: &Progress<'_, R>,
 ) -> Result<u8, Stop>
     requires { length question.now.input.now ≤ MAX_INPUT }
-    ensures { IfOk result (TellsSweep form question.now.text.now question.now.input.now question.now.settings.limit args.now.target
-        args.now.values.items) }
+    ensures { IfOk result (Tells sweep_status_of (IsVerdict form question.now.text.now question.now.input.now question.now.settings.limit
+        args.now.target args.now.values.items)) }
 {
     let (target, values) = (args.target, args.values.as_slice());
     let answer = sweep(rt, rt.alloc(), question, target, values, form, progress);

@@ -1,7 +1,9 @@
 ghost use Rattle.std.specs.Prelude.{◌≡◌, IfOk, IsTrue, MatchResult};
 ghost use Rattle.job_tree.specs.Formats.{in_format, newer};
 ghost use Rattle.job_grammar.specs.Refusals.{IsFair};
-ghost use Rattle.nursery.specs.Statuses.{TellsAnswer, IsUpgrade, TellsUpgrade};
+ghost use Rattle.nursery_app.specs.Checking.{IsAnswer};
+ghost use Rattle.nursery_app.specs.Statuses.{check_status_of};
+ghost use Rattle.nursery.specs.Statuses.{Tells, IsUpgrade, TellsUpgrade};
 
 use crate::answers::tell_refusal;
 use crate::formats::print_formatted;
@@ -86,7 +88,7 @@ fn print_canonical<R: Print + Eprint + AllocGlobal>(
     text: &[u8],
     format: Format,
 ) -> Result<u8, Stop>
-    ensures { IfOk result (TellsAnswer (in_format format) text.now) }
+    ensures { IfOk result (Tells check_status_of (IsAnswer (in_format format) text.now)) }
 {
     let mut out = WriteOut::new(io::writer(rt));
     let verdict = upgrade(rt.alloc(), text, format, &mut out)?;
