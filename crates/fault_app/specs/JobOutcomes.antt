@@ -7,7 +7,7 @@ use Rattle.job_syntax.specs.declared.role.Role.{Role}
 use Rattle.job_syntax.specs.Syntax.{fault_at, roles_at, whole_job}
 use Rattle.job_grammar.specs.declared.fault.JobFault.{JobFault}
 use Rattle.job_grammar.specs.Refusals.{Spells, HasTokens, IsRefused}
-use Rattle.nursery_app.specs.Places.{line_of, column_of}
+use Rattle.places.specs.Places.{line_of, column_of}
 use Rattle.job_edits.specs.Changes.{changed_text}
 use Rattle.job_edits.specs.Faults.{plan_of, changes_by, probe_by, raised_by}
 use Rattle.job_edits.specs.Waiting.{waiting_in}

@@ -7,7 +7,7 @@ use fault_text::Line;
 use job_edits::{BlockPart, RepeatedBlock, Variant, Waiting};
 use job_syntax::Role;
 use job_tokens::Token;
-use nursery_app::{column_of, line_of};
+use places::{column_of, line_of};
 use slot_work::Work;
 use std::alloc::{AllocError, Global};
 use std::thread::Threads;

@@ -13,9 +13,8 @@ use job_edits::{
     Plan, Variant, each_variants, has_divided, repeated_blocks, variants, waiting_steps,
 };
 use job_grammar::{Job, JobFault, Name, read_job, spelled_tokens};
-use job_runner::Settings;
+use job_runner::{Gate, Settings};
 use job_tokens::Token;
-use nursery_app::Gate;
 use slot_work::answers_for;
 use std::alloc::{AllocError, Global};
 use std::thread::Threads;

@@ -3,7 +3,7 @@ use Rattle.std.specs.Prelude.{ℕ, List, ◌++◌, codes, decimal}
 use Rattle.serde_json.specs.Data.{Data, object, member, no_members}
 use Rattle.job_grammar.specs.declared.fault.JobFault.{JobFault}
 use Rattle.job_grammar.specs.Kinds.{number_of, name_of}
-use Rattle.nursery_app.specs.Places.{line_of, column_of}
+use Rattle.places.specs.Places.{line_of, column_of}
 use Rattle.json_report.specs.Values.{integer, word}
 
 -- `{"at":N,"column":N,"line":N,"name":NAME,"refused":"J6"}`, with the line and the column in the job text

@@ -7,7 +7,7 @@ ghost use Rattle.json_app.specs.Answers.{refusal_json, limit_json};
 use digits::push_str_number;
 use job_grammar::{JobFault, JobKind};
 use json_report::document;
-use nursery_app::{column_of, line_of};
+use places::{column_of, line_of};
 use serde_json::{Value, json};
 use std::alloc::{AllocError, Global};
 

@@ -1,7 +1,7 @@
 -- The probable mistakes in a job text, as a JSON value.
 use Rattle.std.specs.Prelude.{ℕ, Option, Some, None, List, length, map, codes}
 use Rattle.serde_json.specs.Data.{Data, null, object, member, no_members}
-use Rattle.nursery_app.specs.Places.{line_of, column_of}
+use Rattle.places.specs.Places.{line_of, column_of}
 use Rattle.job_lint.specs.Sentences.{sentence_of}
 use Rattle.job_lint.specs.declared.warning.Lint.{Lint}
 use Rattle.job_lint.specs.declared.warning.Lint.TheVariants.{Unreachable, ExposedWait, RaiseInCleanup, ShieldWithoutDeadline, IdleScope, IdleHandler, UnsetEvent, UnawaitedEvent, LateCancel}

@@ -8,7 +8,7 @@ use crate::members::{with, with_word};
 use job_lint::{Lint, Warning, sentence};
 use job_tree::Name;
 use json_report::{document, text_value};
-use nursery_app::{column_of, line_of};
+use places::{column_of, line_of};
 use serde_json::{Map, Value, json};
 use std::alloc::{AllocError, Global};
 

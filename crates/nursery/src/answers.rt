@@ -13,10 +13,9 @@ use crate::sources::{read_both, read_feed};
 use crate::stop::Stop;
 use job_files::shown_name;
 use job_grammar::JobFault;
-use nursery_app::{
-    Forward, MAX_INPUT, NoGate, Question, Settings, Verdict, WriteOut, send, serve, split_feed,
-};
+use nursery_app::{Forward, MAX_INPUT, NoGate, Question, Settings, Verdict, WriteOut, send, serve};
 use nursery_cli::{DEFAULT_LIMIT, ExplainArgs, RunArgs};
+use places::split_feed;
 use refusal_text::refusal_message;
 use std::alloc::{AllocError, Global};
 use std::io::{self, IsTerminal};

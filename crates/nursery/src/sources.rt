@@ -4,9 +4,8 @@ ghost use Rattle.nursery.specs.Reading.{HoldsInput};
 
 use crate::stop::Stop;
 use job_files::{read_reason, reason_line, shown_name};
-use nursery_app::{
-    MAX_INPUT, Question, ReadFault, Settings, WriteOut, read_whole, send, split_feed,
-};
+use nursery_app::{MAX_INPUT, Question, ReadFault, Settings, WriteOut, read_whole, send};
+use places::split_feed;
 use std::alloc::{AllocError, Global};
 use std::fs;
 use std::io::{self, Read};

@@ -1,7 +1,5 @@
-pub mod Feed
 pub mod Reads
 pub mod Verdict
 pub mod Sending
 pub mod Checking
-pub mod Places
 pub mod Statuses

@@ -6,21 +6,17 @@
 #![tactic(auto)]
 
 mod checking;
-mod feed;
 mod lines;
-mod places;
 mod read;
 mod serving;
 mod verdict;
 
 pub use checking::{check, upgrade};
-pub use feed::split_feed;
 pub use job_report::{
     Answer, MemOut, Out, PutFault, Question, SendFault, WriteOut, send, send_answer,
 };
 pub use job_runner::{Forward, Gate, MAX_INPUT, NoGate, Pick, Reverse, Settings, Turn};
 pub use lines::{past_limit, refusal};
-pub use places::{column_of, line_of, place_at};
 pub use read::{ReadFault, read_whole};
 pub use serving::{report_answer, serve};
 pub use verdict::{CheckVerdict, ServeFault, Verdict};

@@ -8,7 +8,7 @@ use Rattle.job_edits.specs.declared.site.Site.{Site}
 use Rattle.job_edits.specs.declared.copied.CopiedStart.{CopiedStart}
 use Rattle.job_edits.specs.declared.finer.Finer.{Finer}
 use Rattle.job_edits.specs.declared.shift.Shift.{Shift}
-use Rattle.nursery_app.specs.Places.{line_of, column_of}
+use Rattle.places.specs.Places.{line_of, column_of}
 use Rattle.slot_work.specs.Answers.{AreAnswers}
 use Rattle.race_copies.specs.Copies.{Meeting, meeting_in}
 use Rattle.race_text.specs.Lines.{Found, Line, finer, moved, copies}

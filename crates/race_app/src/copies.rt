@@ -8,7 +8,7 @@ ghost use Rattle.race_app.specs.Lines.{met_line, copies_lines};
 use crate::author::Author;
 use job_edits::CopiedStart;
 use job_story::Event;
-use nursery_app::{column_of, line_of};
+use places::{column_of, line_of};
 use race_copies::{Meeting, meeting_of};
 use race_text::Line;
 use std::alloc::{AllocError, Global};

@@ -10,7 +10,7 @@ use crate::author::Author;
 use crate::beside::found_in_text;
 use job_edits::{Shift, changed_text, shifted_changes};
 use job_grammar::JobFault;
-use nursery_app::{column_of, line_of};
+use places::{column_of, line_of};
 use race_rows::Ran;
 use race_text::{Found, Line};
 use slot_work::Work;

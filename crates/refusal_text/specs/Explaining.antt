@@ -3,7 +3,7 @@ use Rattle.std.specs.Prelude.{◌≡◌, ℕ, ◌-◌, ◌==◌, ◌&&◌, ◌||
 use Rattle.std.specs.List.{before_first}
 use Rattle.job_syntax.specs.declared.nonterminal.Nonterminal.{Nonterminal}
 use Rattle.job_grammar.specs.declared.fault.JobFault.{JobFault}
-use Rattle.nursery_app.specs.Places.{line_of, column_of}
+use Rattle.places.specs.Places.{line_of, column_of}
 use Rattle.job_syntax.specs.Keywords.{spelling_of}
 use Rattle.refusal_text.specs.declared.hinting.Hint.{Hint}
 use Rattle.refusal_text.specs.declared.hinting.Hint.TheVariants as hint

@@ -1,7 +1,7 @@
 -- The number of a job text that is meant, found among the tokens of the text.
 use Rattle.std.specs.Prelude.{◌≡◌, ℕ, true, false, Some, None, List}
 use Rattle.job_tokens.specs.declared.token.Token.{Token}
-use Rattle.nursery_app.specs.Places.{IsPlace, IsPlaceOf}
+use Rattle.places.specs.Places.{IsPlace, IsPlaceOf}
 use Rattle.job_edits.specs.Numbers.{number_at, deadline_of, blocks_in}
 use Rattle.job_edits.specs.declared.number.Number.{Number}
 use Rattle.job_edits.specs.declared.number.Target.{Target}

@@ -7,7 +7,7 @@ use crate::nearest::{is_one_of, nearest_in};
 use job_edits::{Number, Target, block_names, deadline_of, number_at};
 use job_tokens::Token;
 use job_tree::Name;
-use nursery_app::place_at;
+use places::place_at;
 use std::alloc::{AllocError, Global};
 
 /// The number that is meant, or why there is none.

@@ -1,7 +1,7 @@
 -- The line and the column of a place, by those of the place before it.
 use Rattle.std.proofs.Common.{◌≡◌, ℕ, ◌+◌, ◌<◌, ◌==◌, if◌then◌else◌, List, [], ◌∷◌, ◌++◌, length, take, get_or, refl, ap, ◌∙◌}
 use Rattle.std.proofs.lemmas.List.{take_more}
-use Rattle.nursery_app.specs.Places.{line_from, column_from, line_of, column_of}
+use Rattle.places.specs.Places.{line_from, column_from, line_of, column_of}
 
 -- One more byte at the end moves the line on by one where it is a newline, and leaves the line as it is elsewhere.
 line_after_one_more : (bs : List ℕ) (n b : ℕ) → line_from n (bs ++ b ∷ []) ≡ (if b == 10 then line_from n bs + 1 else line_from n bs)

@@ -1,5 +1,5 @@
 ghost use Rattle.std.specs.Prelude.{◌≡◌, ◌≤◌, ◌+◌, length, take};
-ghost use Rattle.nursery_app.specs.Places.{line_of, column_of, IsPlaceOf};
+ghost use Rattle.places.specs.Places.{line_of, column_of, IsPlaceOf};
 
 /// Returns the line of a place in a text, counted from 1. The place is a number of bytes from the start of the text.
 pub fn line_of(text: &[u8], at: usize) -> usize

@@ -1,5 +1,5 @@
 ghost use Rattle.std.specs.Prelude.{◌≡◌, length, drop, ◌≤◌};
-ghost use Rattle.nursery_app.specs.Feed.{feed_parts, begins_with_mark, ends_line};
+ghost use Rattle.places.specs.Feed.{feed_parts, begins_with_mark, ends_line};
 
 /// Splits a feed at the first line that is exactly `%input`. Returns the bytes before that line, and those after
 /// it; if there is no such line, all bytes and none.

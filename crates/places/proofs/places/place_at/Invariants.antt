@@ -1,8 +1,8 @@
 -- The counters are the line and the column of the place that the search has reached, and no place
 -- before it is on the line and at the column.
 use Rattle.std.proofs.Common.{◌≡◌, ℕ, ◌+◌, ◌<◌, ◌≤◌}
-use Rattle.nursery_app.specs.Places.{line_of, column_of, IsPlace}
-use Rattle.nursery_app.proofs.places.place_at.Given as goal
+use Rattle.places.specs.Places.{line_of, column_of, IsPlace}
+use Rattle.places.proofs.places.place_at.Given as goal
 
 abbrev pub invariant-bytes : goal.invariant-bytes
 invariant-bytes l =

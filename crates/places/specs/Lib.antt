@@ -1,0 +1,2 @@
+pub mod Feed
+pub mod Places
