@@ -61,7 +61,7 @@ impl MockClock {
     }
 
     /// Sets a timer for a task, due at the tick `due`. The caller must ensure that the task has no timer yet, that `due` is
-    /// later than the current tick, and that it is below 2 to the 63. Returns `AllocError` if memory is refused; nothing
+    /// later than the current tick, and that it is below 2 to the 63. Returns `AllocError` if memory runs out; nothing
     /// changes then.
     pub fn sleep_until(&mut self, task: TaskId, due: u64) -> Result<(), AllocError>
         requires awake { due_of self.old task ≡ None }

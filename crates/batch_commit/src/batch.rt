@@ -56,7 +56,7 @@ impl<'a> ReadyBatch<'a> {
         }
     }
 
-    /// Adds a task to the next batch, with the reason why it is ready. The only error is that memory was refused, and
+    /// Adds a task to the next batch, with the reason why it is ready. The only error is that memory runs out, and
     /// then nothing has changed.
     pub fn add(&mut self, task: TaskId, call: Call<'a>) -> Result<(), AllocError>
         ensures added { OnOk result (self.new.next ≡ self.old.next ++ (task, call.entry) ∷ []) }
@@ -92,7 +92,7 @@ impl<'a> ReadyBatch<'a> {
         self.count_left() == 0
     }
 
-    /// Returns the requests of the current batch, in the order of its tasks. The only error is that memory was refused.
+    /// Returns the requests of the current batch, in the order of its tasks. The only error is that memory runs out.
     pub fn requests(&self) -> Result<Vec<Request<'a>>, AllocError>
         ensures { IfOk result (λ requests. requests.items ≡ requests_of self.now.current) }
     {

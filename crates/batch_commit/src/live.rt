@@ -25,7 +25,7 @@ impl<T> Live<T> {
         }
     }
 
-    /// Stores a value under an id that has none, and returns the id. The only error is that memory was refused, and then
+    /// Stores a value under an id that has none, and returns the id. The only error is that memory runs out, and then
     /// nothing has changed.
     pub fn put(&mut self, value: T) -> Result<TaskId, AllocError>
     where

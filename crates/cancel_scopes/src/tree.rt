@@ -57,7 +57,7 @@ impl ScopeTree {
     /// the scope hides cancellations from outside. With a `deadline` it is cancelled from that tick on. `parent` must be
     /// open, and `deadline` must be below 2 to the 63.
     ///
-    /// Returns `AllocError` if memory is refused. Every scope then keeps its stack and its mark.
+    /// Returns `AllocError` if memory runs out. Every scope then keeps its stack and its mark.
     pub fn open(
         &mut self,
         parent: Option<ScopeId>,

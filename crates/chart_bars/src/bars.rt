@@ -17,7 +17,7 @@ impl<'s, 'e> StoryIndex<'s, 'e> {
     /// Returns the bars of a story, with the tasks in the order in which the walk starts them, and below each its scopes and
     /// nurseries in the order in which it entered them. `clock` says how the moments of the story are counted, and `froms` has the
     /// moments from which scopes and nurseries are cancelled. `until` is the last tick of a story that is cut off at a limit, and
-    /// `None` for a whole story. Returns `AllocError` if memory is refused.
+    /// `None` for a whole story. Returns `AllocError` if memory runs out.
     pub fn bars<'i>(
         &'i self,
         alloc: Global,

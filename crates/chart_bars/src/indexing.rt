@@ -17,7 +17,7 @@ use std::alloc::{AllocError, Global};
 
 impl<'s, 'e> StoryIndex<'s, 'e> {
     /// Creates the index of these events, which are in the order of the walk. Each event takes constant time. Returns
-    /// `AllocError` if memory is refused.
+    /// `AllocError` if memory runs out.
     pub fn of(alloc: Global, walked: &'s [&'e Event]) -> Result<StoryIndex<'s, 'e>, AllocError>
         ensures { IfOk result (λ index. walked_in index ≡ map event_in walked.entry.now) }
     {

@@ -8,7 +8,7 @@ use std::alloc::{AllocError, Global};
 
 /// Returns the ticks at which something happens: the tick of each event, so that a tick occurs once for each of its events, and
 /// then the limit at which a story is cut off (`until`), if there is one. `clock` says how the moments of the events are counted.
-/// Returns `AllocError` if memory is refused.
+/// Returns `AllocError` if memory runs out.
 pub fn all_ticks(
     alloc: Global,
     clock: Clock,

@@ -43,7 +43,7 @@ use svg_text::{Attr, Tag, attribute, begin, end, inside, number, text};
 /// There is a column for each tick at which something happens. The gaps between them are as much smaller as in a text chart of
 /// `width` characters, but not so small that the numbers above them overlap. A note says so if they are not to scale. `until` is the
 /// limit at which the story is cut off, or `None` for a whole story. At most 2,000 rows are drawn, and a note says how many are left
-/// out. Returns `AllocError` if memory is refused.
+/// out. Returns `AllocError` if memory runs out.
 pub fn chart_svg<'e>(
     alloc: Global,
     clock: Clock,

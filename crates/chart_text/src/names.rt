@@ -14,7 +14,7 @@ use job_story::{Happening, Kind, What};
 use std::alloc::AllocError;
 
 /// Appends the name of a row: the label of a task, or, indented, the word `scope` or `nursery` and its label. Returns
-/// `AllocError` if memory is refused.
+/// `AllocError` if memory runs out.
 pub fn push_name(out: &mut Vec<u8>, bar: &Bar<'_, '_>) -> Result<(), AllocError>
     ensures { OnOk result (out.new.items ≡ out.old.items ++ name_of (bar_of bar.now)) }
 {
@@ -37,7 +37,7 @@ fn push_block_name(out: &mut Vec<u8>, kind: Kind, label: &Label) -> Result<(), A
 }
 
 /// Appends the outcome of a bar: how a task ended, whether a scope or nursery caught a cancellation, or that the bar has no end.
-/// Returns `AllocError` if memory is refused.
+/// Returns `AllocError` if memory runs out.
 pub fn push_outcome(out: &mut Vec<u8>, bar: &Bar<'_, '_>) -> Result<(), AllocError>
     ensures { OnOk result (out.new.items ≡ out.old.items ++ outcome_of (bar_of bar.now)) }
 {

@@ -26,8 +26,8 @@ const LEAST_PANEL: usize = 10;
 /// same number of characters, but at least one character. If they do not fit even with gaps of one character, the chart has
 /// several panels, one below the other; a bar that goes on in another panel is marked by `~`.
 ///
-/// No line is longer than `width` bytes, not counting its newline, if `width` is at least 2. Returns `AllocError` if memory is
-/// refused.
+/// No line is longer than `width` bytes, not counting its newline, if `width` is at least 2. Returns `AllocError` if memory runs
+/// out.
 pub fn chart_text(
     alloc: Global,
     clock: Clock,

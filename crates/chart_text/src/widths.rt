@@ -13,7 +13,7 @@ pub const MAX_OUTCOME: usize = 24;
 
 /// Returns by how many characters gaps are made smaller so that these columns fit into a width, in characters, beside the names and
 /// outcomes of these bars: the least number that suffices, or the one with which each gap is one character if none does. Long outcomes
-/// take no more than 24 characters. Returns `AllocError` if memory is refused.
+/// take no more than 24 characters. Returns `AllocError` if memory runs out.
 pub fn less_to_fit(
     alloc: Global,
     width: usize,
@@ -46,8 +46,8 @@ pub(crate) fn room_for(
     )
 }
 
-/// Returns the length of the longest name of these bars, in bytes, or 0 if there are no bars. Returns `AllocError` if memory is
-/// refused.
+/// Returns the length of the longest name of these bars, in bytes, or 0 if there are no bars. Returns `AllocError` if memory runs
+/// out.
 pub fn longest_name(alloc: Global, bars: &[Bar<'_, '_>]) -> Result<usize, AllocError>
     ensures { IfOk result (λ longest. longest ≡ longest_name (map bar_of bars.now)) }
 {
@@ -70,7 +70,7 @@ fn name_len(alloc: Global, bar: &Bar<'_, '_>) -> Result<usize, AllocError>
 }
 
 /// Returns the length of the longest outcome of these bars, in bytes, or 0 if there are no bars. Returns `AllocError` if memory
-/// is refused.
+/// runs out.
 pub fn longest_outcome(alloc: Global, bars: &[Bar<'_, '_>]) -> Result<usize, AllocError>
     ensures { IfOk result (λ longest. longest ≡ longest_outcome (map bar_of bars.now)) }
 {

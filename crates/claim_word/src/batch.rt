@@ -21,7 +21,7 @@ impl Claims {
 
     /// Creates claims for the numbers from 0 up to `requests`, which is left out, and the given number of tickets, which
     /// have drawn nothing yet. The caller must ensure that there are at most `MAX_REQUESTS` requests and from 1 to 64 tickets.
-    /// Returns `AllocError` if memory is refused.
+    /// Returns `AllocError` if memory runs out.
     pub fn new(
         alloc: Global,
         requests: usize,

@@ -14,7 +14,7 @@ pub use manual::man_page;
 use nursery_cli::{Shell, command_line};
 use std::alloc::{AllocError, Global};
 
-/// Returns the script that completes the words of `nursery` in a shell. The only error is that memory was refused.
+/// Returns the script that completes the words of `nursery` in a shell. The only error is that memory runs out.
 pub fn completions(alloc: Global, shell: Shell) -> Result<String, AllocError> {
     let command = command_line(alloc)?;
     match shell {

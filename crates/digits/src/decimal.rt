@@ -3,7 +3,7 @@ ghost use Rattle.std.specs.Prelude.{◌≡◌, ◌≤◌, ◌++◌, OnOk, length
 use itoa::Buffer;
 use std::alloc::AllocError;
 
-/// Appends a number in decimal digits, without leading zeros. Returns `AllocError` if memory is refused.
+/// Appends a number in decimal digits, without leading zeros. Returns `AllocError` if memory runs out.
 pub fn push_number(out: &mut Vec<u8>, n: u64) -> Result<(), AllocError>
     ensures { OnOk result (out.new.items ≡ out.old.items ++ decimal n) }
 {
@@ -11,7 +11,7 @@ pub fn push_number(out: &mut Vec<u8>, n: u64) -> Result<(), AllocError>
     out.extend_from_slice(buffer.format(n).as_bytes())
 }
 
-/// Appends a number in decimal digits, without leading zeros, to a string. Returns `AllocError` if memory is refused.
+/// Appends a number in decimal digits, without leading zeros, to a string. Returns `AllocError` if memory runs out.
 pub fn push_str_number(text: &mut String, n: u64) -> Result<(), AllocError>
     ensures { OnOk result (string_bytes text.new ≡ string_bytes text.old ++ decimal n) }
 {

@@ -5,7 +5,7 @@ use crate::exc::{Exc, Parts, Whose};
 use std::alloc::{AllocError, Global};
 
 impl Whose {
-    // Returns an equal value, or `AllocError` if memory is refused.
+    // Returns an equal value, or `AllocError` if memory runs out.
     pub(crate) fn copy(&self, alloc: Global) -> Result<Whose, AllocError>
         ensures { IfOk result (λ whose. whose_of whose ≡ whose_of self.now) }
     {
@@ -17,7 +17,7 @@ impl Whose {
 }
 
 impl Exc {
-    /// Returns an equal exception, or `AllocError` if memory is refused.
+    /// Returns an equal exception, or `AllocError` if memory runs out.
     pub fn copy(&self, alloc: Global) -> Result<Exc, AllocError>
         ensures { IfOk result (λ exc. exc_of exc ≡ exc_of self.now) }
     {

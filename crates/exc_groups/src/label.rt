@@ -56,14 +56,14 @@ impl Label {
         self.indices.as_slice()
     }
 
-    /// Returns an equal label, or `AllocError` if memory is refused.
+    /// Returns an equal label, or `AllocError` if memory runs out.
     pub fn copy(&self, alloc: Global) -> Result<Label, AllocError>
         ensures { IfOk result (λ label. label ≡ self.now) }
     {
         self.with_name(alloc, self.name)
     }
 
-    /// Returns the label with `name` and the same indices, or `AllocError` if memory is refused.
+    /// Returns the label with `name` and the same indices, or `AllocError` if memory runs out.
     pub fn with_name(&self, alloc: Global, name: Name) -> Result<Label, AllocError>
         ensures { IfOk result (λ label. label ≡ record { name = name; indices = self.now.indices }) }
     {
@@ -71,7 +71,7 @@ impl Label {
         Ok(Label { name, indices })
     }
 
-    /// Returns the label with one more index, which is the innermost, or `AllocError` if memory is refused.
+    /// Returns the label with one more index, which is the innermost, or `AllocError` if memory runs out.
     pub fn with_index(self, index: u64) -> Result<Label, AllocError>
         ensures { IfOk result (λ label. label ≡ record { name = self.name; indices = self.indices ++ index ∷ [] }) }
     {

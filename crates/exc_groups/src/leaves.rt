@@ -11,7 +11,7 @@ use std::alloc::{AllocError, Global};
 
 /// Splits an exception, as `split` of PEP 654 does. Returns first the part with the leaves that match, and then the part
 /// with the other leaves. Either is `None` if it has no leaf. Nesting is kept, and a group that became empty is dropped.
-/// Returns `AllocError` if memory is refused.
+/// Returns `AllocError` if memory runs out.
 pub fn split(
     alloc: Global,
     exc: Exc,

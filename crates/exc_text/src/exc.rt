@@ -6,8 +6,8 @@ use crate::label::{push_label, push_place};
 use exc_groups::{Exc, Whose};
 use std::alloc::AllocError;
 
-/// Appends the origin of a group of exceptions: the label of a nursery, or `*` for a handler. Returns `AllocError` if memory is
-/// refused.
+/// Appends the origin of a group of exceptions: the label of a nursery, or `*` for a handler. Returns `AllocError` if memory runs
+/// out.
 pub fn push_whose(out: &mut Vec<u8>, whose: &Whose) -> Result<(), AllocError>
     ensures { OnOk result (out.new.items ≡ out.old.items ++ whose_text (whose_of whose.now)) }
 {
@@ -18,7 +18,7 @@ pub fn push_whose(out: &mut Vec<u8>, whose: &Whose) -> Result<(), AllocError>
 }
 
 /// Appends the text of an exception, as `DiskFull(writer@4)`. A group has its parts in brackets, as `workers[DiskFull(writer@4)]`.
-/// Returns `AllocError` if memory is refused.
+/// Returns `AllocError` if memory runs out.
 #[cycle(exc)]
 pub fn push_exc(out: &mut Vec<u8>, exc: &Exc) -> Result<(), AllocError>
     ensures { OnOk result (out.new.items ≡ out.old.items ++ exc_text (exc_of exc.now)) }
@@ -67,7 +67,7 @@ fn push_more(out: &mut Vec<u8>, parts: &[Exc]) -> Result<(), AllocError>
 }
 
 /// Appends how a task ended that ended with this exception: `cancelled`, or `raised` and the exception. Returns `AllocError` if memory
-/// is refused.
+/// runs out.
 pub fn push_raised(out: &mut Vec<u8>, exc: &Exc) -> Result<(), AllocError>
     ensures { OnOk result (out.new.items ≡ out.old.items ++ end_text (Some (exc_of exc.now))) }
 {

@@ -10,7 +10,7 @@ use std::alloc::{AllocError, Global};
 /// Returns the number, from 1, of the first line of a text that matches a pattern, or `None` if no line does. `*` in the pattern
 /// matches any bytes. Blanks at the start and the end of a line and of the pattern do not count, and each other run of blanks
 /// counts as one space. A newline at the end of the text begins no line. This takes time in the length of the text, and for each
-/// line in that of the pattern. Returns `AllocError` if memory is refused.
+/// line in that of the pattern. Returns `AllocError` if memory runs out.
 pub fn first_match(alloc: Global, pattern: &[u8], text: &[u8]) -> Result<Option<usize>, AllocError>
     ensures { IfOk result (λ found. found ≡ first_match pattern.now text.now) }
 {

@@ -27,7 +27,7 @@ use story_text::in_order;
 
 /// Returns the outcome of the job that a text spells, over an input and up to a limit in ticks. `name` is the exception that
 /// the fault in the text raises, or `None` if it raises none. A text that is refused is one of the outcomes. The job runs in
-/// the calling thread. The input must have at most 16,777,216 bytes. The only error is that memory was refused.
+/// the calling thread. The input must have at most 16,777,216 bytes. The only error is that memory runs out.
 pub fn job_outcome_of_text<R: Threads + Sync>(
     rt: &R,
     alloc: Global,
@@ -77,7 +77,7 @@ pub(crate) fn reaches_in_text<R: Threads + Sync>(
 
 /// Returns the outcome of a job over an input and up to a limit in ticks. `name` is the exception that the fault in the job
 /// raises, or `None` if it raises none. The job runs in the calling thread. The input must have at most 16,777,216 bytes. The
-/// only error is that memory was refused.
+/// only error is that memory runs out.
 #[tactic(auto, using(crate::proofs::OutcomeLemmas::stuck_is, crate::proofs::OutcomeLemmas::ended_is))]
 pub fn outcome_of_job<R: Threads + Sync>(
     rt: &R,

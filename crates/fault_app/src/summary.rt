@@ -34,7 +34,7 @@ pub struct Summary {
 }
 
 /// Runs a job over an input to its end, in the calling thread, and returns its end and its events. The input must have
-/// at most 16,777,216 bytes. The only error is that memory was refused.
+/// at most 16,777,216 bytes. The only error is that memory runs out.
 #[tactic(auto, using(crate::proofs::Summaries::is_summary))]
 pub fn summary_of<R: Threads + Sync>(
     rt: &R,

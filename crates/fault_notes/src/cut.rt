@@ -10,7 +10,7 @@ use job_story::{Event, Happening, What};
 use std::alloc::{AllocError, Global};
 
 /// Returns the tasks in which `Cancelled` was raised in the middle of a cleanup: in a `finally` block of their own, or of a
-/// task that started them. They are in the order of these events, each once. The only error is that memory was refused.
+/// task that started them. They are in the order of these events, each once. The only error is that memory runs out.
 pub fn cut_in_cleanup<'e>(alloc: Global, events: &[&'e Event]) -> Result<Vec<&'e Label>, AllocError>
     ensures { IfOk result (λ tasks. labels_in tasks.items ≡ cut_in (map event_in events.now)) }
 {

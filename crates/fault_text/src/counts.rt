@@ -97,7 +97,7 @@ fn refused_in(lines: &[Line]) -> usize
         .count()
 }
 
-/// Appends a number and what it counts. The only error is that memory was refused.
+/// Appends a number and what it counts. The only error is that memory runs out.
 pub fn push_count(out: &mut Vec<u8>, n: usize, what: &[u8]) -> Result<(), AllocError>
     ensures { OnOk result (out.new.items ≡ out.old.items ++ (decimal n ++ what.now)) }
 {
@@ -116,7 +116,7 @@ fn push_faults(out: &mut Vec<u8>, n: usize) -> Result<(), AllocError>
     }
 }
 
-/// Appends a comma, a number and what it counts, or nothing if the number is 0. The only error is that memory was refused.
+/// Appends a comma, a number and what it counts, or nothing if the number is 0. The only error is that memory runs out.
 pub fn push_more(out: &mut Vec<u8>, n: usize, what: &[u8]) -> Result<(), AllocError>
     ensures { OnOk result (out.new.items ≡ out.old.items ++ more_text n what.now) }
 {

@@ -66,7 +66,7 @@ fn push_divided(out: &mut Vec<u8>, divided: bool) -> Result<(), AllocError>
 }
 
 /// Returns the lines of the table whose outcome is denied, as they are in the table. The text is empty if there are none. The
-/// only error is that memory was refused.
+/// only error is that memory runs out.
 pub fn denied_text(
     alloc: Global,
     limit: u64,

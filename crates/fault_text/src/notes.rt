@@ -80,7 +80,7 @@ fn job_outcome_text(
 }
 
 /// Appends that a text was not tried, and the refusal of that text: the number of its kind and its place. The only error is that
-/// memory was refused.
+/// memory runs out.
 pub fn push_not_tried(out: &mut Vec<u8>, fault: &JobFault) -> Result<(), AllocError>
     ensures { OnOk result (out.new.items ≡ out.old.items ++ not_tried_text fault.now) }
 {
@@ -130,7 +130,7 @@ fn push_lost(out: &mut Vec<u8>, lost: bool) -> Result<(), AllocError>
 }
 
 /// Appends a note that names some tasks, if there are any: a semicolon, a title, at most three names, and how many more there
-/// are. The only error is that memory was refused.
+/// are. The only error is that memory runs out.
 pub fn push_names_note(out: &mut Vec<u8>, title: &[u8], labels: &[Label]) -> Result<(), AllocError>
     ensures { OnOk result (out.new.items ≡ out.old.items ++ names_note title.now labels.now) }
 {

@@ -14,7 +14,7 @@ pub(crate) fn push_spaces(out: &mut Vec<u8>, count: usize) -> Result<(), AllocEr
 }
 
 /// Appends a text, followed by spaces up to a width in bytes. A longer text is appended unchanged. The only error
-/// is that memory was refused.
+/// is that memory runs out.
 pub fn push_left(out: &mut Vec<u8>, width: usize, text: &[u8]) -> Result<(), AllocError>
     ensures { OnOk result (out.new.items ≡ out.old.items ++ left_text width text.now) }
 {
@@ -23,7 +23,7 @@ pub fn push_left(out: &mut Vec<u8>, width: usize, text: &[u8]) -> Result<(), All
 }
 
 /// Appends spaces, followed by a text, up to a width in bytes. A longer text is appended unchanged. The only error
-/// is that memory was refused.
+/// is that memory runs out.
 pub fn push_right(out: &mut Vec<u8>, width: usize, text: &[u8]) -> Result<(), AllocError>
     ensures { OnOk result (out.new.items ≡ out.old.items ++ right_text width text.now) }
 {

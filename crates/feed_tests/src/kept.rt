@@ -15,7 +15,7 @@ pub(crate) enum Unread {
     Missing,
     /// It cannot be opened or read, or is too long. The line names it and says why.
     Fault(String),
-    /// Memory was refused.
+    /// Memory ran out.
     NoMemory,
 }
 

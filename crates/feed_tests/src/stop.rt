@@ -10,7 +10,7 @@ pub enum TestStop {
     /// Standard output did not take all bytes.
     #[error("cannot write")]
     Write,
-    /// Memory was refused.
+    /// Memory ran out.
     #[error("no memory")]
     NoMemory,
 }

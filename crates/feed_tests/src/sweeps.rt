@@ -173,7 +173,7 @@ fn tell_refused<R: Print + AllocGlobal>(
 }
 
 // Returns what the words of a sweep ask for. Its number of workers and its limit are those of these settings, unless the words have
-// others. The error refuses the words, or is that memory was refused.
+// others. The error refuses the words, or is that memory runs out.
 fn asked_sweep(alloc: Global, line: &[u8], settings: Settings) -> Result<SweepArgs, CommandFault> {
     let Ok(line) = str::from_utf8(line) else {
         return Err(refusal(alloc, "error: these bytes are not UTF-8\n"));

@@ -26,7 +26,7 @@ use test_app::{Output, output_of};
 /// are still tested.
 ///
 /// The status is 1 if something differs or is not as expected, 4 if nothing does and something could not be tested, and otherwise
-/// 0. The tests stop with an error if memory was refused or standard output did not take all bytes.
+/// 0. The tests stop with an error if memory runs out or standard output did not take all bytes.
 pub fn test_paths<R>(
     rt: &R,
     paths: &[String],

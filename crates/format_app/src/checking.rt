@@ -7,7 +7,7 @@ use job_layout::{FormatFault, format_text};
 use std::alloc::{AllocError, Global};
 
 /// Returns whether a job text is its own formatted text, and otherwise the first place at which it differs. The only error is
-/// that memory was refused.
+/// that memory runs out.
 #[tactic(auto, using(crate::proofs::Checked::is_compared))]
 pub fn check_format(alloc: Global, job_text: &[u8]) -> Result<FormatCheck, AllocError>
     ensures { IfOk result (IsCheck job_text.now) }

@@ -11,7 +11,7 @@ use std::alloc::{AllocError, Global};
 /// Why a job text has no scaled text.
 #[derive(Debug, Drop)]
 pub enum ScaleFault {
-    /// The text is refused, or memory was refused.
+    /// The text is refused, or memory runs out.
     Refused(JobFault),
     /// The text would be refused after its ticks were multiplied, for example because a number of ticks exceeds 1,000,000,000.
     TooLarge {

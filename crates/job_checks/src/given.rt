@@ -9,7 +9,7 @@ use std::alloc::{AllocError, Global};
 
 /// Returns the place of the first name of a job, scope, nursery, event or started task that was already given to an
 /// earlier one, or `None` if there is none. `roles` are the roles of the tokens, in the same order. The only error
-/// is that memory was refused.
+/// is that memory runs out.
 pub fn given_twice(
     alloc: Global,
     tokens: &[Token],

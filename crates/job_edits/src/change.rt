@@ -51,7 +51,7 @@ pub struct Change {
 }
 
 /// Returns the text with these changes: each piece is at its place, and all other bytes of the text are unchanged. The changes
-/// must be in the order of their places and must not overlap. The only error is that memory was refused.
+/// must be in the order of their places and must not overlap. The only error is that memory runs out.
 pub fn changed_text(alloc: Global, text: &[u8], changes: &[Change]) -> Result<Vec<u8>, AllocError>
     ensures { IfOk result (λ out. out.items ≡ changed_text text.now changes.now) }
 {

@@ -20,7 +20,7 @@ pub struct CopiedStart {
 }
 
 /// Returns each `start` of the job text with these tokens that starts several tasks, in the order of their places: each
-/// `start NAME over N`, and each `start` in a `repeat` in a nursery. The only error is that memory was refused.
+/// `start NAME over N`, and each `start` in a `repeat` in a nursery. The only error is that memory runs out.
 pub fn copied_starts(alloc: Global, tokens: &[Token]) -> Result<Vec<CopiedStart>, AllocError>
     ensures { IfOk result (λ starts. starts.items ≡ copied_in tokens.now) }
 {

@@ -20,7 +20,7 @@ pub(crate) fn fresh_word(alloc: Global, word: &[u8], tokens: &[Token]) -> Result
 
 // Returns the first of `word`, `word_1`, `word_2` and so on that is not a token of the text. As many numbers are
 // tried as the text has tokens, so one of the names is new if `word` is short; this is tested, not proved. The only
-// error is that memory was refused.
+// error is that memory runs out.
 fn fresh_name(alloc: Global, word: Name, tokens: &[Token]) -> Result<Name, AllocError>
     ensures { IfOk result (λ name. name ≡ fresh_word word tokens.now) }
 {

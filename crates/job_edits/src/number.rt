@@ -76,7 +76,7 @@ pub fn deadline_of(name: Name, tokens: &[Token]) -> Option<Number>
 }
 
 /// Returns the names of the scopes and nurseries of the job text with these tokens, in the order of their places. The only
-/// error is that memory was refused.
+/// error is that memory runs out.
 pub fn block_names(alloc: Global, tokens: &[Token]) -> Result<Vec<Name>, AllocError>
     ensures { IfOk result (λ names. names.items ≡ blocks_in tokens.now) }
 {

@@ -34,7 +34,7 @@ pub struct Shift {
 }
 
 /// Returns each shift of each site, in the order of the sites. A number of ticks is moved in both directions, or only later if
-/// it is 0; everything else is moved only later. The only error is that memory was refused.
+/// it is 0; everything else is moved only later. The only error is that memory runs out.
 pub fn shifts(alloc: Global, sites: &[Site]) -> Result<Vec<Shift>, AllocError>
     ensures { IfOk result (λ shifts. shifts.items ≡ shifts_of sites.now) }
 {
@@ -69,8 +69,8 @@ fn push_shift(shifts: &mut Vec<Shift>, site: &Site, hair: Hair) -> Result<(), Al
 }
 
 /// Returns the changes that give a job text finer ticks. If its time is counted by ticks, the text gets format 2; if it is
-/// counted by rounds, the first line is not changed. `sites` are all the sites of the text. The only error is that memory was
-/// refused.
+/// counted by rounds, the first line is not changed. `sites` are all the sites of the text. The only error is that memory runs
+/// out.
 pub fn finer_changes(
     alloc: Global,
     clock: Clock,
@@ -87,8 +87,8 @@ pub fn finer_changes(
 }
 
 /// Returns the name of the scope in which `shifted_changes` puts a hair before a `set`: the first of `hair`, `hair_1` and so on that
-/// is not in the job text with these tokens. That there is such a name is tested, not proved. The only error is that memory was
-/// refused.
+/// is not in the job text with these tokens. That there is such a name is tested, not proved. The only error is that memory runs
+/// out.
 pub fn hair_scope(alloc: Global, tokens: &[Token]) -> Result<Name, AllocError>
     ensures { IfOk result (λ name. name ≡ hair_scope tokens.now) }
 {
@@ -97,7 +97,7 @@ pub fn hair_scope(alloc: Global, tokens: &[Token]) -> Result<Name, AllocError>
 
 /// Returns the changes that give a job text finer ticks, as `finer_changes` does, and move one of its sites by a hair. `sites`
 /// are all the sites of the text. The hair of a `set` is a sleep before it in a shielded scope with the name `scope`, which is
-/// `hair_scope` of the text. The only error is that memory was refused.
+/// `hair_scope` of the text. The only error is that memory runs out.
 pub fn shifted_changes(
     alloc: Global,
     clock: Clock,

@@ -61,7 +61,7 @@ pub struct Site {
 }
 
 /// Returns the sites of the job text with these tokens, in the order of their places: each `sleep`, `checkpoint` and `pace`,
-/// each scope and nursery with a deadline, each `start`, and each `set` and `wait`. The only error is that memory was refused.
+/// each scope and nursery with a deadline, each `start`, and each `set` and `wait`. The only error is that memory runs out.
 pub fn sites(alloc: Global, tokens: &[Token]) -> Result<Vec<Site>, AllocError>
     ensures { IfOk result (λ sites. sites.items ≡ sites_in tokens.now) }
 {
@@ -171,7 +171,7 @@ fn deadline_by(name: Name, keyword: Option<Keyword>, tokens: &[Token]) -> Option
 }
 
 /// Appends what is at a site, as it is printed: `sleep 5`, `limit after 5` or `limit at 5` for the deadline of `limit`,
-/// `checkpoint`, `pace 5`, `start reader`, `set ready` or `wait ready`. The only error is that memory was refused.
+/// `checkpoint`, `pace 5`, `start reader`, `set ready` or `wait ready`. The only error is that memory runs out.
 pub fn push_moment(out: &mut Vec<u8>, moment: Moment) -> Result<(), AllocError>
     ensures { OnOk result (out.new.items ≡ out.old.items ++ moment_text moment) }
 {

@@ -37,7 +37,7 @@ pub struct Waiting {
 }
 
 /// Returns the waiting steps of the job text with these tokens, in the order of their places: each `sleep`, `checkpoint`,
-/// `forever`, `pace`, `need` and `wait`. The only error is that memory was refused.
+/// `forever`, `pace`, `need` and `wait`. The only error is that memory runs out.
 pub fn waiting_steps(alloc: Global, tokens: &[Token]) -> Result<Vec<Waiting>, AllocError>
     ensures { IfOk result (λ steps. steps.items ≡ waiting_in tokens.now) }
 {
@@ -159,7 +159,7 @@ pub(crate) fn first_mark(mark: Mark, tokens: &[Token]) -> Option<usize>
 }
 
 /// Appends a waiting step as it is printed: its tokens, with a space between two of them. The only error is that memory
-/// was refused.
+/// runs out.
 pub fn push_wait(out: &mut Vec<u8>, wait: Wait) -> Result<(), AllocError>
     ensures { OnOk result (out.new.items ≡ out.old.items ++ wait_text wait) }
 {

@@ -4,7 +4,7 @@ use std::fs;
 use std::io::ErrorKind;
 use std::rt::Files;
 
-/// Returns a line that names a file and says what was wrong with it, for standard error. It is empty if memory is refused.
+/// Returns a line that names a file and says what was wrong with it, for standard error. It is empty if memory runs out.
 pub fn reason_line(alloc: Global, name: &str, kind: ErrorKind) -> String {
     match reason_text(alloc, name, kind) {
         Ok(line) => line,

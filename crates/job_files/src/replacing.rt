@@ -22,10 +22,10 @@ pub enum ReplaceFault {
     },
     /// The system refused a call, or the file may not be replaced for another reason.
     System {
-        /// A line that names the file of the call and says why it failed, or empty if memory was refused for it.
+        /// A line that names the file of the call and says why it failed, or empty if memory ran out for it.
         reason: String,
     },
-    /// Memory was refused.
+    /// Memory ran out.
     NoMemory,
 }
 

@@ -342,14 +342,14 @@ err_job fault = Err fault
 
 -- ---- the answers of a reading that is exact both ways
 
--- for a text that spells a job, an exact reading answers that job, or that memory was refused
+-- for a text that spells a job, an exact reading answers that job, or that memory runs out
 pub only_spelled : (text : List ℕ) (result : Result Tree JobFault) (job : Tree) → MatchResult result (Spells text) (IsFair text) →
     Spells text job → AnswersUnlessMemory result (Ok job)
 only_spelled text (Ok found) job spelled spells = inl (ap ok_job (one_spelled text found job spelled spells))
 only_spelled text (Err fault) job (inl memory) spells = inr (ap err_job memory)
 only_spelled text (Err fault) job (inr refused) spells = absurd (spells.2 fault.kind fault.at refused.0)
 
--- for a text that is refused, an exact reading answers that refusal, or that memory was refused
+-- for a text that is refused, an exact reading answers that refusal, or that memory runs out
 pub exact_refusal : (text : List ℕ) (result : Result Tree JobFault) (k : JobKind) (at : ℕ) →
     MatchResult result (Spells text) (IsFair text) → IsRefused text k at → AnswersUnlessMemory result (Err (record { at = at; kind = k }))
 exact_refusal text (Ok found) k at spelled refused = absurd (spelled.2 k at refused.0)

@@ -33,6 +33,6 @@ name_of Reserved = codes "Reserved"
 name_of TooLarge = codes "TooLarge"
 name_of NoMemory = codes "NoMemory"
 
--- the answer if memory was refused
+-- the answer if memory runs out
 abbrev pub no_memory : JobFault
 no_memory = record { at = 0; kind = NoMemory }

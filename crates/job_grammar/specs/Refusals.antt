@@ -101,11 +101,11 @@ IsRefused text k at = Finds k text at × ((other : JobKind) (place : ℕ) → nu
 abbrev pub Spells : List ℕ → Tree → Type 0
 Spells text job = (tokens : List Token) × IsOf text tokens job × ((k : JobKind) (at : ℕ) → Finds k text at → ⊥)
 
--- memory was refused, or a refusal of the text
+-- out of memory, or a refusal of the text
 abbrev pub IsFair : List ℕ → JobFault → Type 0
 IsFair text fault = (fault ≡ no_memory) ⊎ IsRefused text fault.kind fault.at
 
--- this answer, or that memory was refused
+-- this answer, or that memory runs out
 abbrev pub AnswersUnlessMemory : {X : Type 0} → Result X JobFault → Result X JobFault → Type 0
 AnswersUnlessMemory result answer = (result ≡ answer) ⊎ (result ≡ Err no_memory)
 

@@ -24,7 +24,7 @@ pub struct Draft<'t> {
 impl<'t> Draft<'t> {
     /// Makes the draft of the job with these tokens. The caller must ensure that these are all the tokens of the
     /// text, that the text passed the checks up to the depth of blocks, and that the roles are those of the tokens.
-    /// The only error is that memory was refused.
+    /// The only error is that memory runs out.
     pub fn new(
         alloc: Global,
         text: &'t [u8],
@@ -52,7 +52,7 @@ impl<'t> Draft<'t> {
     }
 
     /// Checks that no name is given twice. Requires that the checks before this one passed. The error is the first
-    /// such name, or that memory was refused.
+    /// such name, or that memory runs out.
     pub fn check_given(&self, alloc: Global) -> Result<(), JobFault>
         requires { IsDraftTo 7 self.now.text.now self.now }
         ensures ok { OnOk result (IsDraftTo 8 self.now.text.now self.now) }

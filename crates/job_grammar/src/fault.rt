@@ -37,7 +37,7 @@ pub enum JobKind {
     /// The job has more than 1,000,000 step instances, or in format 1 more than 100,000. The copies of a `start .. over` and
     /// the passes of a `repeat` are counted. The place is 0.
     TooLarge,
-    /// Memory was refused. The place is 0.
+    /// Memory ran out. The place is 0.
     NoMemory,
 }
 

@@ -14,7 +14,7 @@ use job_tree::{Deadline, Name, Step, Text};
 use std::alloc::AllocError;
 
 /// Appends the head of a step, which is its tokens before its semicolon or its first block: its keyword, and what follows
-/// the keyword. The only error is that memory was refused.
+/// the keyword. The only error is that memory runs out.
 pub fn push_head(shapes: &mut Vec<Shape>, step: &Step) -> Result<(), AllocError>
     ensures { OnOk result (Appends (head_onto (step_of step.now)) shapes.old.items shapes.new.items) }
 {
@@ -92,7 +92,7 @@ fn push_start_head(shapes: &mut Vec<Shape>, name: Name, over: Option<u64>) -> Re
     Ok(())
 }
 
-/// Appends a keyword as a token. The only error is that memory was refused.
+/// Appends a keyword as a token. The only error is that memory runs out.
 pub fn push_keyword(shapes: &mut Vec<Shape>, keyword: Keyword) -> Result<(), AllocError>
     ensures { OnOk result (shapes.new.items ≡ shapes.old.items ++ shape.Word (spelling_of keyword) ∷ []) }
 {
@@ -112,7 +112,7 @@ fn push_with(shapes: &mut Vec<Shape>, keyword: Keyword, operand: Shape) -> Resul
     Ok(())
 }
 
-/// Appends a keyword and the name after it. The only error is that memory was refused.
+/// Appends a keyword and the name after it. The only error is that memory runs out.
 pub fn push_named(shapes: &mut Vec<Shape>, keyword: Keyword, name: Name) -> Result<(), AllocError>
     ensures { OnOk result (shapes.new.items ≡ shapes.old.items ++ shape.Word (spelling_of keyword) ∷ shape.Word name ∷ []) }
 {

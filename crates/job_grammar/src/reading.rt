@@ -30,15 +30,15 @@ pub fn first_line(format: Format) -> &'static [u8]
 }
 
 /// Returns the job that a text spells. The error is the refusal of the first check that finds a fault, at the
-/// earliest place, or that memory was refused. `JobKind` lists the kinds in the order of the checks.
+/// earliest place, or that memory runs out. `JobKind` lists the kinds in the order of the checks.
 pub fn read_job(alloc: Global, text: &[u8]) -> Result<Job, JobFault>
     // The text spells the job that is returned.
     ensures found { IfOk result (λ job. Spells text.now job) }
     // A refusal is the fault at that place, and there is no fault of an earlier kind.
     ensures refused { IfErr result (IsFair text.now) }
-    // If the text spells a job, that job is returned, unless memory is refused.
+    // If the text spells a job, that job is returned, unless memory runs out.
     ensures only { (job : Tree) → Spells text.now job → AnswersUnlessMemory result (Ok job) }
-    // If the condition of a refusal holds, that refusal is returned, unless memory is refused.
+    // If the condition of a refusal holds, that refusal is returned, unless memory runs out.
     ensures exact { (kind : JobKind) (at : ℕ) → IsRefused text.now kind at
         → AnswersUnlessMemory result (Err (record { at = at; kind = kind })) }
 {

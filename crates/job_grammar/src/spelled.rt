@@ -6,8 +6,8 @@ use crate::reading::{FIRST_LINE_LENGTH, format_of};
 use job_tokens::{Lexed, Token, lex};
 use std::alloc::{AllocError, Global};
 
-/// Returns the tokens of a text. The caller must ensure that the text spells the job. The only error is that memory was
-/// refused.
+/// Returns the tokens of a text. The caller must ensure that the text spells the job. The only error is that memory runs
+/// out.
 #[tactic(auto, unfolding(crate::specs::Refusals::may_have_comments))]
 pub fn spelled_tokens(alloc: Global, text: &[u8], job: &Job) -> Result<Vec<Token>, AllocError>
     requires { Spells text.now job.now }

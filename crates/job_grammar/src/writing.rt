@@ -16,7 +16,7 @@ use job_tree::{Body, Handler, Step};
 use std::alloc::{AllocError, Global};
 
 /// Returns the canonical text of a job. It spells the job, so `read_job` returns the same job for it, and no text
-/// that spells the job is shorter. The only error is that memory was refused.
+/// that spells the job is shorter. The only error is that memory runs out.
 pub fn write_job(alloc: Global, job: &Job) -> Result<Vec<u8>, AllocError>
     ensures canonical { IfOk result (λ text. text.items ≡ canon job.now) }
     ensures again { IfOk result (λ text. Spells text.items job.now) }

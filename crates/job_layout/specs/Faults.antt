@@ -9,7 +9,7 @@ use Rattle.job_layout.specs.declared.fault.FormatFault.{FormatFault}
 use Rattle.job_layout.specs.declared.fault.FormatFault.TheVariants.{Refused, TooLong, NoMemory}
 use Rattle.job_layout.specs.Layout.{comments_of, formatted_text}
 
--- a refusal of a text, or that memory was refused
+-- a refusal of a text, or that memory runs out
 abbrev pub fault_by : JobKind → JobFault → FormatFault
 fault_by kind.NoMemory fault = NoMemory
 fault_by _ fault = Refused fault
@@ -29,7 +29,7 @@ pub record IsFormatted (text bytes : List ℕ) : Type 0 where
 abbrev pub IsTooLong : List ℕ → Tree → ℕ → Type 0
 IsTooLong text job bytes = (bytes ≡ length (formatted_text text job)) × (most_bytes < length (formatted_text text job))
 
--- for a text: a refusal, a formatted text of its job that is too long, or that memory was refused
+-- for a text: a refusal, a formatted text of its job that is too long, or that memory runs out
 abbrev pub IsTextFault : List ℕ → FormatFault → Type 0
 IsTextFault text (Refused fault) = IsRefused text fault.kind fault.at
 IsTextFault text (TooLong bytes) = (job : Tree) × Spells text job × IsTooLong text job bytes

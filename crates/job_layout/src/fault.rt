@@ -12,7 +12,7 @@ pub enum FormatFault {
     Refused(JobFault),
     /// The formatted text would have this number of bytes, which is more than a job text may have.
     TooLong(usize),
-    /// Memory was refused.
+    /// Memory ran out.
     NoMemory,
 }
 

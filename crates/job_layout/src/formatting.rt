@@ -22,7 +22,7 @@ use std::alloc::{AllocError, Global};
 /// comments before each token.
 ///
 /// The error is `Refused` exactly if the text is refused, and `TooLong` exactly if the formatted text has more than 65,536
-/// bytes. In either case it may instead be `NoMemory`, if memory is refused.
+/// bytes. In either case it may instead be `NoMemory`, if memory runs out.
 #[tactic(auto, using(crate::proofs::Formatted::is_formatted, crate::proofs::Formatted::is_too_long))]
 pub fn format_text(alloc: Global, text: &[u8]) -> Result<Vec<u8>, FormatFault>
     ensures formatted { IfOk result (λ bytes. IsFormatted text.now bytes.items) }

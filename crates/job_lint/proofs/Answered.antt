@@ -8,7 +8,7 @@ use Rattle.job_grammar.specs.Refusals.{Spells, IsRefused, IsFair, AnswersUnlessM
 use Rattle.job_grammar.proofs.Passing.{one_refusal}
 use Rattle.job_lint.specs.Linted.{IsOkUnlessMemory}
 
--- For a text that spells a job, the result is `Ok`, or that memory was refused. What is found in a text shows that it
+-- For a text that spells a job, the result is `Ok`, or that memory runs out. What is found in a text shows that it
 -- spells a job.
 pub only_found : {X : Type 0} (text : List ℕ) (found : X → Type 0) (result : Result X JobFault) (job : Tree) →
     MatchResult result found (IsFair text) → Spells text job → IsOkUnlessMemory result
@@ -16,7 +16,7 @@ only_found text found (Ok x) job fits spells = inl refl
 only_found text found (Err fault) job (inl memory) spells = inr (ap (λ (f : JobFault). Err f) memory)
 only_found text found (Err fault) job (inr refused) spells = absurd (spells.2 fault.kind fault.at refused.0)
 
--- for a text that is refused, the result is that refusal, or that memory was refused
+-- for a text that is refused, the result is that refusal, or that memory runs out
 pub exact_fault : {X : Type 0} (text : List ℕ) (found : X → Type 0) (result : Result X JobFault) (kind : JobKind) (at : ℕ) →
     MatchResult result found (IsFair text) → ((x : X) → found x → (job : Tree) × Spells text job) → IsRefused text kind at →
     AnswersUnlessMemory result (Err (record { at = at; kind = kind }))

@@ -17,6 +17,6 @@ pub record AreWarnings (text : List ℕ) (found : List Warning) : Type 0 where
   pub tokens_are : HasTokens text tokens None
   pub warnings : found ≡ job_warnings (numbered_in (opening_places tokens)) job
 
--- an answer, or that memory was refused
+-- an answer, or that memory runs out
 abbrev pub IsOkUnlessMemory : {X : Type 0} → Result X JobFault → Type 0
 IsOkUnlessMemory result = IsOk result ⊎ (result ≡ Err no_memory)

@@ -14,15 +14,15 @@ use job_grammar::{Job, JobFault, read_job, spelled_tokens};
 use std::alloc::{AllocError, Global};
 
 /// Returns the probable mistakes in the job that a text spells, in the order of the keywords that they are about. If the text
-/// is refused, the error is the refusal, as `read_job` returns it. If memory is refused, the error has the kind `NoMemory`.
+/// is refused, the error is the refusal, as `read_job` returns it. If memory runs out, the error has the kind `NoMemory`.
 pub fn lints(alloc: Global, text: &[u8]) -> Result<Vec<Warning>, JobFault>
     // The warnings that are found are those of the job, each at its place.
     ensures found { IfOk result (λ warnings. AreWarnings text.now warnings.items) }
     // A refusal is the fault at that place, and there is no fault of an earlier kind.
     ensures refused { IfErr result (IsFair text.now) }
-    // If the text spells a job, its warnings are found, unless memory is refused.
+    // If the text spells a job, its warnings are found, unless memory runs out.
     ensures only { (job : Tree) → Spells text.now job → IsOkUnlessMemory result }
-    // If the condition of a refusal holds, that refusal is returned, unless memory is refused.
+    // If the condition of a refusal holds, that refusal is returned, unless memory runs out.
     ensures exact { (kind : JobKind) (at : ℕ) → IsRefused text.now kind at
         → AnswersUnlessMemory result (Err (record { at = at; kind = kind })) }
 {

@@ -5,7 +5,7 @@ use crate::warning::{Lint, Warning};
 use std::alloc::{AllocError, Global};
 
 /// Returns what a warning says to the user: one sentence of ASCII without a newline. The only error is that memory
-/// was refused.
+/// runs out.
 pub fn sentence(alloc: Global, warning: &Warning) -> Result<Vec<u8>, AllocError>
     ensures { IfOk result (λ text. text.items ≡ sentence_of warning.now) }
 {

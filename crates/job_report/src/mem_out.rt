@@ -22,7 +22,7 @@ impl MemOut {
 
     /// Returns a writer with space for `room` bytes, which takes at most `piece` bytes for each put. It fails at the
     /// put with the number `fail_at`, counted from 0, and at each put when no space is left. The caller must ensure
-    /// that `piece` is not 0. The only error is that memory was refused.
+    /// that `piece` is not 0. The only error is that memory runs out.
     pub fn new(
         alloc: Global,
         room: usize,

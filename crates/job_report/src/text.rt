@@ -9,7 +9,7 @@ use job_runner::{Record, Run};
 use std::alloc::{AllocError, Global};
 
 /// Returns the text of a run's report: a line for the job, and for each task a line and one for each of its
-/// entries. The only error is that memory was refused.
+/// entries. The only error is that memory runs out.
 pub fn report(alloc: Global, run: &Run<'_>) -> Result<Vec<u8>, AllocError>
     ensures { IfOk result (λ text. text.items ≡ report_text (name_of run.now) (rows_of run.now)) }
 {

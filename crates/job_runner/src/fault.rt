@@ -13,7 +13,7 @@ pub enum RunFault {
         /// The limit of the settings, in ticks.
         limit: u64,
     },
-    /// Memory was refused.
+    /// Memory ran out.
     #[error("no memory")]
     NoMemory,
 }

@@ -122,7 +122,7 @@ impl<'a> Runner<'a> {
         self.turns
     }
 
-    /// Returns the requests of the ready tasks, in the order of the batch. The only error is that memory was refused.
+    /// Returns the requests of the ready tasks, in the order of the batch. The only error is that memory runs out.
     pub fn requests(&self) -> Result<Vec<Request<'a>>, AllocError>
         ensures { IfOk result (λ requests. requests.items ≡ requests_of self.now.batch.current) }
     {
@@ -130,7 +130,7 @@ impl<'a> Runner<'a> {
     }
 
     /// Executes one turn of each ready task, in the order that the picker picks. The moment stays the same. The caller must
-    /// ensure that each answer is that of the request at the same place. The only error is that memory was refused.
+    /// ensure that each answer is that of the request at the same place. The only error is that memory runs out.
     pub fn commit<P: Pick>(
         self,
         answers: Vec<Answer<'a>>,
@@ -238,7 +238,7 @@ impl<'a> Runner<'a> {
     }
 
     /// Returns the records of a run that is over: those of the job's meaning, which are those of following any settled
-    /// table. The caller must ensure that the run is over (`Phase::Over`). The only error is that memory was refused.
+    /// table. The caller must ensure that the run is over (`Phase::Over`). The only error is that memory runs out.
     pub fn finish(self) -> Result<Run<'a>, AllocError>
         requires underway { IsUnderway self }
         requires over { phase_of self ≡ Over }

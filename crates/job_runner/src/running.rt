@@ -26,7 +26,7 @@ use std::thread::Threads;
 
 /// Runs a job over an input of at most `MAX_INPUT` bytes, in turns of its tasks, one moment after another. The result is that of
 /// the job's one-thread meaning, whatever the number of workers, the order of picks and the gate: its records, or `Limit` exactly
-/// if the meaning ends later than the limit. Instead of either it may return that memory was refused. The picker picks each turn.
+/// if the meaning ends later than the limit. Instead of either it may return that memory runs out. The picker picks each turn.
 /// The workers compute the answers to the requests of all tasks that are ready together, and call the gate before and after each.
 pub fn run<'a, R: Threads + Sync, P: Pick, G: Gate + Sync>(
     rt: &R,
@@ -61,7 +61,7 @@ pub fn run<'a, R: Threads + Sync, P: Pick, G: Gate + Sync>(
 
 /// Runs a job over an input to its end, however late that is: `forever` sleeps until tick two to the 40. So the result is that of
 /// the job's meaning in every case, with the tick from which each scope and nursery is cancelled. There are 1 to 64 workers. The
-/// only error is that memory was refused. Picker and gate are those of [`run`].
+/// only error is that memory runs out. Picker and gate are those of [`run`].
 pub fn run_to_end<'a, R: Threads + Sync, P: Pick, G: Gate + Sync>(
     rt: &R,
     alloc: Global,

@@ -24,7 +24,7 @@ impl Froms {
     }
 
     /// Sets the tick from which the scope or nursery with this label is cancelled, or the event set; `None` is never. Other labels keep their
-    /// ticks. Returns `AllocError` if memory is refused; every label then keeps its tick.
+    /// ticks. Returns `AllocError` if memory runs out; every label then keeps its tick.
     pub fn set(&mut self, label: Label, from: Option<u64>) -> Result<(), AllocError>
         ensures set { OnOk result ((other : tree.Label) →
             table_in self.new other ≡ (if same_label label other then from else table_in self.old other)) }

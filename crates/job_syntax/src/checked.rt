@@ -19,7 +19,7 @@ pub struct GrammarCheck {
 }
 
 /// Checks the tokens of a text of the given format against the grammar. The text ends at place `end`. The only
-/// error is that memory was refused.
+/// error is that memory runs out.
 pub fn check_grammar(
     alloc: Global,
     format: Format,

@@ -8,7 +8,7 @@ use digits::{hex_digit, push_number};
 use std::alloc::AllocError;
 
 /// Appends the canonical text of the tokens to `out`: one space between two words or numbers and no other blanks, digits
-/// without leading zeros, and one spelling for each byte of a string. The only error is that memory was refused; `out`
+/// without leading zeros, and one spelling for each byte of a string. The only error is that memory runs out; `out`
 /// may then hold a part of the text.
 pub fn push_canon(out: &mut Vec<u8>, shapes: &[Shape]) -> Result<(), AllocError>
     ensures { OnOk result (out.new.items ≡ out.old.items ++ canon_of shapes.now) }

@@ -18,7 +18,7 @@ pub struct Lexed {
 
 /// Reads the tokens of `bytes`, which are the last bytes of a text of `end` bytes, in a format. Places are counted in bytes
 /// from the start of that text. Blanks separate tokens, and so do the comments of a format that has them (`has_comments`).
-/// The caller must ensure that `bytes` has at most `end` bytes. The only error is that memory was refused; bytes that are no
+/// The caller must ensure that `bytes` has at most `end` bytes. The only error is that memory runs out; bytes that are no
 /// token are reported in `Lexed::fault`.
 pub fn lex(alloc: Global, format: Format, bytes: &[u8], end: usize) -> Result<Lexed, AllocError>
     requires { length bytes.now ≤ end }

@@ -11,7 +11,7 @@ use places::{column_of, line_of};
 use serde_json::{Value, json};
 use std::alloc::{AllocError, Global};
 
-/// Returns the refusal of a job text as one JSON document, with its line and column. It is an error if memory was refused, or if
+/// Returns the refusal of a job text as one JSON document, with its line and column. It is an error if memory runs out, or if
 /// the fault itself is `NoMemory`, which is not a refusal.
 pub fn refusal(alloc: Global, job_text: &[u8], fault: JobFault) -> Result<Vec<u8>, AllocError>
     ensures bytes { IfOk result (λ bytes. bytes.items ≡ document (refusal_json job_text.now fault)) }
@@ -47,7 +47,7 @@ fn kind_code(alloc: Global, number: u64) -> Result<String, AllocError>
     Ok(text)
 }
 
-/// Returns the limit in ticks by which a job does not end, as one JSON document. The only error is that memory was refused.
+/// Returns the limit in ticks by which a job does not end, as one JSON document. The only error is that memory runs out.
 pub fn past_limit(alloc: Global, limit: u64) -> Result<Vec<u8>, AllocError>
     ensures { IfOk result (λ bytes. bytes.items ≡ document (limit_json limit)) }
 {

@@ -10,7 +10,7 @@ use serde_json::Value;
 use std::alloc::{AllocError, Global};
 
 /// Appends the JSON text of a value. The caller must ensure that the value has no floating-point number. Returns `AllocError` if
-/// memory is refused; a front part of the text may be appended then.
+/// memory runs out; a front part of the text may be appended then.
 pub fn push_value(alloc: Global, out: &mut Vec<u8>, value: &Value) -> Result<(), AllocError>
     requires { has_float (view value.now) ≡ false }
     ensures { OnOk result (out.new.items ≡ out.old.items ++ compact_text (view value.now)) }
@@ -20,7 +20,7 @@ pub fn push_value(alloc: Global, out: &mut Vec<u8>, value: &Value) -> Result<(),
 }
 
 /// Appends the comma that stands before an item of an array, given its index: none before the first one. Returns `AllocError` if
-/// memory is refused; a front part of the text may be appended then.
+/// memory runs out; a front part of the text may be appended then.
 pub fn push_comma(out: &mut Vec<u8>, index: usize) -> Result<(), AllocError>
     ensures { OnOk result (out.new.items ≡ out.old.items ++ comma_if (nat_lt 0 index)) }
 {
@@ -31,7 +31,7 @@ pub fn push_comma(out: &mut Vec<u8>, index: usize) -> Result<(), AllocError>
 }
 
 /// Appends the opening brace of an object and its first member. The caller must ensure that the value has no floating-point number.
-/// Returns `AllocError` if memory is refused; a front part of the text may be appended then.
+/// Returns `AllocError` if memory runs out; a front part of the text may be appended then.
 pub fn push_first_member(
     alloc: Global,
     out: &mut Vec<u8>,
@@ -48,7 +48,7 @@ pub fn push_first_member(
 }
 
 /// Appends a further member of an object. The caller must ensure that the value has no floating-point number. Returns `AllocError`
-/// if memory is refused; a front part of the text may be appended then.
+/// if memory runs out; a front part of the text may be appended then.
 pub fn push_member(
     alloc: Global,
     out: &mut Vec<u8>,
@@ -64,7 +64,7 @@ pub fn push_member(
     push_value(alloc, out, value)
 }
 
-/// Appends the name of a member and the colon after it. Returns `AllocError` if memory is refused; a front part of the text may be
+/// Appends the name of a member and the colon after it. Returns `AllocError` if memory runs out; a front part of the text may be
 /// appended then.
 pub fn push_key(alloc: Global, out: &mut Vec<u8>, key: &str) -> Result<(), AllocError>
     ensures { OnOk result ((rest : List ℕ) → out.new.items ++ rest ≡ out.old.items ++ (quoted key.now ++ 58 ∷ rest)) }

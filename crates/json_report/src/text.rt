@@ -12,7 +12,7 @@ use serde_json::Value;
 use std::alloc::{AllocError, Global};
 
 /// Returns bytes as a JSON string, shown as a report shows a line: backslashes and bytes that are not printable ASCII are
-/// escaped. The only error is that memory was refused.
+/// escaped. The only error is that memory runs out.
 pub fn text_value(alloc: Global, bytes: &[u8]) -> Result<Value, AllocError>
     ensures { IfOk result (λ value. view value ≡ text_json bytes.now) }
 {
@@ -21,7 +21,7 @@ pub fn text_value(alloc: Global, bytes: &[u8]) -> Result<Value, AllocError>
     Ok(Value::String(text))
 }
 
-/// Returns a label as a JSON string, such as `p.1`. The only error is that memory was refused.
+/// Returns a label as a JSON string, such as `p.1`. The only error is that memory runs out.
 pub fn label_value(alloc: Global, label: &Label) -> Result<Value, AllocError>
     ensures { IfOk result (λ value. view value ≡ label_json label.now) }
 {
@@ -33,7 +33,7 @@ pub fn label_value(alloc: Global, label: &Label) -> Result<Value, AllocError>
 }
 
 /// Returns the JSON text of a value, and a newline. The caller must ensure that the value has no floating-point number. The only
-/// error is that memory was refused.
+/// error is that memory runs out.
 pub fn document(alloc: Global, value: &Value) -> Result<Vec<u8>, AllocError>
     requires { has_float (view value.now) ≡ false }
     ensures { IfOk result (λ text. text.items ≡ document (view value.now)) }

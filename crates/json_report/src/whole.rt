@@ -11,7 +11,7 @@ use std::alloc::{AllocError, Global};
 
 /// Returns the report of a run as one JSON document, in compact form and with a newline: the job's name, the tick at which its
 /// root ended, and an object for each task in the order of the report. The text is made piece by piece, so beside the document
-/// itself only the values of one entry are in memory. Returns `AllocError` if memory is refused.
+/// itself only the values of one entry are in memory. Returns `AllocError` if memory runs out.
 pub fn report_json(alloc: Global, run: &Run<'_>) -> Result<Vec<u8>, AllocError>
     ensures { IfOk result (λ text. text.items ≡ document (report_json (name_of run.now) (rows_of run.now))) }
 {

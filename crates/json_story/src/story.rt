@@ -30,7 +30,7 @@ use story_text::in_order;
 /// Returns the story of a job as one JSON document, in compact form and with a newline, given the clock of its moments, its events
 /// in the order of the walk and the table with the moment from which each scope and nursery is cancelled: of all tasks, or of
 /// what concerns `task`. With `until`, the tick of the limit, it is the story of a job that ends later, and includes what each
-/// task that has not ended is doing. The only error is that memory was refused.
+/// task that has not ended is doing. The only error is that memory runs out.
 pub fn story_json<'e>(
     alloc: Global,
     clock: Clock,

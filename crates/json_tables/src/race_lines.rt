@@ -19,7 +19,7 @@ use std::alloc::{AllocError, Global};
 
 /// Returns one JSON document with each line of the table of races that is shown, in their order and with all differences, and
 /// with how many hairs there are, with how many of them nothing was compared, and how many lines are races. The document is compact
-/// and ends with a newline. Returns `AllocError` if memory is refused.
+/// and ends with a newline. Returns `AllocError` if memory runs out.
 #[tactic(auto, using(crate::proofs::Integers::races_without_float))]
 pub fn races_json(alloc: Global, hairs: usize, lines: &[Line]) -> Result<Vec<u8>, AllocError>
     ensures { IfOk result (λ bytes. bytes.items ≡ document (races_json hairs (map line_held lines.now))) }

@@ -15,7 +15,7 @@ use serde_json::{Map, Value, json};
 use std::alloc::{AllocError, Global};
 
 /// Returns the outcome of a job that runs up to `limit`, which is the last tick at which it may end, as a JSON object. Returns
-/// `AllocError` if memory is refused.
+/// `AllocError` if memory runs out.
 pub fn result_value(
     alloc: Global,
     limit: u64,

@@ -17,7 +17,7 @@ use sweep_text::Value as Swept;
 
 /// Returns one JSON document with the outcome of a job as it is (`first`), its outcome for each value of a number in their order,
 /// including the ticks, and how many values are of each kind. The document is compact and ends with a newline. `limit` is the
-/// last tick at which the job may end. Returns `AllocError` if memory is refused.
+/// last tick at which the job may end. Returns `AllocError` if memory runs out.
 #[tactic(auto, using(crate::proofs::Integers::sweep_without_float))]
 pub fn sweep_json(
     alloc: Global,

@@ -14,7 +14,7 @@ use std::alloc::{AllocError, Global};
 
 /// Returns one JSON document with the warnings about a job text: how many there are, and each with its place in bytes, its line
 /// and column, its kind, the name that it is about, and a sentence. The document is compact and ends with a newline. Returns
-/// `AllocError` if memory is refused.
+/// `AllocError` if memory runs out.
 #[tactic(auto, using(crate::proofs::Integers::lints_without_float))]
 pub fn lints_json(
     alloc: Global,

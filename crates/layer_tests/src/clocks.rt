@@ -10,7 +10,7 @@ use autojump_clock::{Jump, MockClock, TaskId};
 use std::alloc::Global;
 use std::test::Fail;
 
-// Sets a timer. If memory is refused nothing changes, and it is set again.
+// Sets a timer. If memory runs out nothing changes, and it is set again.
 fn sleep_again(clock: &mut MockClock, task: TaskId, due: u64) -> Result<(), Fail>
     requires awake { due_of clock.old task ≡ None }
     ensures timers { OnOk result (Updates clock.old clock.new task (Some due)) }

@@ -12,7 +12,7 @@ type Row = (&'static [u8], u64, usize);
 // A text, and its canonical text.
 type Pair = (&'static [u8], &'static [u8]);
 
-// The number of a refusal and its place. It is an error if memory was refused.
+// The number of a refusal and its place. It is an error if memory runs out.
 fn number_and_place(fault: JobFault) -> Result<(u64, usize), JobFault> {
     match fault.kind {
         JobKind::NoMemory => Err(fault),
@@ -20,7 +20,7 @@ fn number_and_place(fault: JobFault) -> Result<(u64, usize), JobFault> {
     }
 }
 
-// The number and the place of a text's refusal, and two zeros for a job. It is an error if memory was refused.
+// The number and the place of a text's refusal, and two zeros for a job. It is an error if memory runs out.
 fn answer(alloc: Global, text: &[u8]) -> Result<(u64, usize), JobFault> {
     match read_job(alloc, text) {
         Ok(_) => Ok((0, 0)),

@@ -26,7 +26,7 @@ pub enum Kernel<'a> {
     Count,
 }
 
-/// Returns the kernel's answer on a part, or `AllocError` if memory is refused. `Count` does not allocate and cannot
+/// Returns the kernel's answer on a part, or `AllocError` if memory runs out. `Count` does not allocate and cannot
 /// fail.
 pub fn answer<'a>(
     alloc: Global,

@@ -20,13 +20,13 @@ pub enum Stop {
     /// The job file cannot be opened or read.
     #[error("cannot read the job file\n{reason}")]
     JobFile {
-        /// A line that names the file and says why, or empty if memory was refused for it.
+        /// A line that names the file and says why, or empty if memory ran out for it.
         reason: String,
     },
     /// The input file, or standard input, cannot be opened or read.
     #[error("cannot read the input file\n{reason}")]
     InputFile {
-        /// A line that names the file and says why, or empty if memory was refused for it.
+        /// A line that names the file and says why, or empty if memory ran out for it.
         reason: String,
     },
     /// The input has more bytes than it may have.
@@ -35,13 +35,13 @@ pub enum Stop {
     /// The job file cannot be replaced. It is as it was.
     #[error("cannot write the job file\n{reason}")]
     JobFileKept {
-        /// A line that names the file and says why, or empty if memory was refused for it.
+        /// A line that names the file and says why, or empty if memory ran out for it.
         reason: String,
     },
     /// Standard output did not take all bytes.
     #[error("cannot write\n")]
     Write,
-    /// Memory was refused.
+    /// Memory ran out.
     #[error("no memory\n")]
     NoMemory,
 }

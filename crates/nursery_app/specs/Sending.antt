@@ -8,7 +8,7 @@ use Rattle.nursery_app.specs.declared.verdict.ServeFault.TheVariants.{Send, NoMe
 abbrev pub IsSent : {V : Type 0} → (V → List ℕ → Type 0) → Option (List ℕ) → Option (List ℕ) → V → Type 0
 IsSent HasBytes before after verdict = (bytes : List ℕ) × HasBytes verdict bytes × Appends before after bytes
 
--- The writer failed after the first `sent` bytes of a verdict; or memory was refused, and nothing was sent.
+-- The writer failed after the first `sent` bytes of a verdict; or memory runs out, and nothing was sent.
 abbrev pub IsServeFault : {V : Type 0} → (V → List ℕ → Type 0) → Option (List ℕ) → Option (List ℕ) → ServeFault → Type 0
 IsServeFault {V} HasBytes before after (Send sent) =
     (verdict : V) × (bytes : List ℕ) × HasBytes verdict bytes × (sent < length bytes) × Appends before after (take sent bytes)

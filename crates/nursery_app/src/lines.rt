@@ -6,8 +6,8 @@ use digits::push_number;
 use job_grammar::{JobFault, JobKind};
 use std::alloc::{AllocError, Global};
 
-/// Returns the line for a refused job text, such as `refused J6 Syntax at 27`, with its newline. It is an error if memory was
-/// refused for the line, or if the fault itself is `NoMemory`, which is not a refusal.
+/// Returns the line for a refused job text, such as `refused J6 Syntax at 27`, with its newline. It is an error if memory runs
+/// out for the line, or if the fault itself is `NoMemory`, which is not a refusal.
 pub fn refusal(alloc: Global, fault: JobFault) -> Result<Vec<u8>, AllocError>
     ensures line { IfOk result (λ line. line.items ≡ refusal_line fault) }
     ensures kind { OnOk result (fault.kind ≢ kinds.NoMemory) }
@@ -26,7 +26,7 @@ pub fn refusal(alloc: Global, fault: JobFault) -> Result<Vec<u8>, AllocError>
 }
 
 /// Returns the line for a job that ends later than the limit, such as `limit 100`, with its newline. The only error is that
-/// memory was refused.
+/// memory runs out.
 pub fn past_limit(alloc: Global, limit: u64) -> Result<Vec<u8>, AllocError>
     ensures { IfOk result (λ line. line.items ≡ limit_line limit) }
 {

@@ -14,7 +14,7 @@ pub enum ReadFault {
     /// A read returned an error, of any kind.
     #[error("a read failed")]
     Device,
-    /// Memory was refused.
+    /// Memory ran out.
     #[error("no memory")]
     NoMemory,
 }

@@ -34,7 +34,7 @@ pub fn serve<R: Threads + Sync, P: Pick, G: Gate + Sync, W: Out>(
     ensures sent { IfOk result (IsSent (IsVerdict job_text.now input.now settings.limit) (W.contents out.old) (W.contents out.new)) }
     ensures well { OnOk result (W.failed out.new ≡ W.failed out.old) }
 
-    // A writer that failed took the front of those bytes; after memory was refused, nothing was sent.
+    // A writer that failed took the front of those bytes; after memory ran out, nothing was sent.
     ensures fault { IfErr result (IsServeFault (IsVerdict job_text.now input.now settings.limit) (W.contents out.old) (W.contents out.new)) }
     ensures counted { IfErr result (CountsFailure (W.failed out.old) (W.failed out.new)) }
 {

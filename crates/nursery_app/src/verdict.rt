@@ -65,7 +65,7 @@ pub enum ServeFault {
         /// How many bytes from the front were taken.
         sent: usize,
     },
-    /// Memory was refused, and nothing was sent.
+    /// Memory ran out, and nothing was sent.
     #[error("no memory")]
     NoMemory,
 }

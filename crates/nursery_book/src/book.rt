@@ -47,7 +47,7 @@ impl NurseryBook {
     }
 
     /// Opens a nursery with its cancel scope, the task that will wait for it, and its label, and returns its id. Its body
-    /// runs, and it has no child. Returns `AllocError` if memory is refused; every nursery then stays as it is.
+    /// runs, and it has no child. Returns `AllocError` if memory runs out; every nursery then stays as it is.
     pub fn open(
         &mut self,
         scope: ScopeId,
@@ -70,7 +70,7 @@ impl NurseryBook {
     }
 
     /// Starts a child and returns its place, which is the number of children started before it. The caller must ensure that
-    /// the nursery is open and its body runs. Returns `AllocError` if memory is refused; every nursery then stays as it is.
+    /// the nursery is open and its body runs. Returns `AllocError` if memory runs out; every nursery then stays as it is.
     pub fn start(&mut self, id: NurseryId) -> Result<Place, AllocError>
         requires { HasNursery self.old id (λ n. n.body ≡ None) }
         ensures place { IfOk result (λ place. HasNursery self.old id (λ n. place ≡ length n.children)) }
@@ -131,7 +131,7 @@ impl NurseryBook {
 
     /// Closes a nursery and returns the group of its members' exceptions, or `None` if no member ended with one. The nursery's
     /// cancel scope has not caught anything from the group yet. The caller must ensure that the nursery is open and settled.
-    /// Returns `AllocError` if memory is refused; every nursery then stays as it is.
+    /// Returns `AllocError` if memory runs out; every nursery then stays as it is.
     pub fn close(&mut self, id: NurseryId) -> Result<Option<Exc>, AllocError>
         requires { HasNursery self.old id (λ n. is_settled n ≡ true) }
         ensures raised { IfOk result (λ exc. HasNursery self.old id (λ n. option_map exc_of exc ≡ raised_by n)) }

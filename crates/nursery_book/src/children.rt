@@ -51,7 +51,7 @@ impl Children {
         Vec::with_capacity(alloc, self.ends.len() + 1)
     }
 
-    // Adds a running child and returns its place. If memory is refused, nothing changes.
+    // Adds a running child and returns its place. If memory runs out, nothing changes.
     pub(crate) fn start(&mut self) -> Result<Place, AllocError>
         ensures started { OnOk result (self.new ≡ self.old ++ None ∷ []) }
         ensures place { IfOk result (λ place. place ≡ length self.old) }

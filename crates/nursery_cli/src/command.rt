@@ -121,7 +121,7 @@ pub enum CommandFault {
         /// What is wrong, as a text for the user that ends with a newline.
         text: String,
     },
-    /// Memory was refused.
+    /// Memory ran out.
     #[error("no memory")]
     NoMemory,
 }

@@ -34,7 +34,7 @@ const ABOUT: &str =
 pub const VERSION: &str = "0.1.0";
 
 /// Returns the parser of the words after the program's name: each command with its description, its options and its help. The
-/// only error is that memory was refused.
+/// only error is that memory runs out.
 pub fn command_line<'a>(alloc: Global) -> Result<Command<'a>, AllocError> {
     let program = bare_program(alloc)?;
     let program = with_commands(alloc, program, runs())?;

@@ -31,7 +31,7 @@ const LONG_LABEL: &str =
     "error: no task has the label of `--task`: a label has at most 384 bytes\n";
 
 /// Reads the words after the program's name. No words are a feed on standard input. The error has a text for the user if the
-/// words do not ask for anything that the program does, or is that memory was refused. The text shows a control character of a
+/// words do not ask for anything that the program does, or is that memory runs out. The text shows a control character of a
 /// word escaped, as in a Rust string.
 pub fn read_command(alloc: Global, words: &[String]) -> Result<Command, CommandFault>
     ensures feed { words.now ≡ [] → result ≡ Ok Feed }
@@ -91,7 +91,7 @@ fn path_refusal(alloc: Global, path: &str) -> CommandFault {
 }
 
 /// Returns the text that `--help` prints after the name of a command or, if the name is empty, that of the program. The text is
-/// empty if no command has the name. The only error is that memory was refused.
+/// empty if no command has the name. The only error is that memory runs out.
 pub fn help_text(alloc: Global, name: &str) -> Result<String, AllocError> {
     let words = help_words(alloc, name)?;
     match read_command(alloc, words.as_slice()) {

@@ -82,7 +82,7 @@ struct Span {
 }
 
 // Returns the values of a text such as `1..60` or `1..60:5`: at least one and at most 100,000. The error refuses
-// any other text, or is that memory was refused.
+// any other text, or is that memory runs out.
 pub(crate) fn values_of(alloc: Global, text: &str) -> Result<Vec<u64>, CommandFault>
     ensures fit { IfOk result (λ values. AreValues values.items) }
     ensures spelled { Reads (λ values. values.items) (spelled_values text.now) result }

@@ -26,7 +26,7 @@ fn open_run<'a>(alloc: Global, job: &'a Job, input: &'a [u8]) -> Result<Runner<'
     Ok(runner)
 }
 
-// Returns the requests of a run. If memory is refused they are requested again.
+// Returns the requests of a run. If memory runs out they are requested again.
 fn requests_again<'a>(runner: &Runner<'a>) -> Result<Vec<Request<'a>>, AllocError> {
     if let Ok(requests) = runner.requests() {
         return Ok(requests);

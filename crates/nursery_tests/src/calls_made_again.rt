@@ -1,4 +1,4 @@
-//! Calls that change a value and allocate: if memory is refused the value is unchanged, and the same call, made again, returns
+//! Calls that change a value and allocate: if memory runs out the value is unchanged, and the same call, made again, returns
 //! what it would have returned. The other modules show it for `serve`, `check` and `upgrade`, those of `layer_tests` for
 //! `sleep_until`.
 //!
@@ -18,7 +18,7 @@ use nursery_book::{NurseryBook, NurseryId, Place};
 use std::alloc::{AllocError, Global};
 use std::test::Fail;
 
-// Opens an outermost scope with a deadline, again if memory is refused.
+// Opens an outermost scope with a deadline, again if memory runs out.
 fn open_outermost(tree: &mut ScopeTree, deadline: u64) -> Result<ScopeId, AllocError>
     requires { deadline < 2 ^ 63 }
 {
@@ -36,7 +36,7 @@ fn open_shielded(tree: &mut ScopeTree, parent: ScopeId) -> Option<ScopeId> {
     tree.open(Some(parent), true, None).ok()
 }
 
-// Opens a shielded scope in one that is open, again if memory is refused.
+// Opens a shielded scope in one that is open, again if memory runs out.
 fn open_shielded_again(tree: &mut ScopeTree, parent: ScopeId) -> Result<ScopeId, AllocError> {
     if let Some(id) = open_shielded(tree, parent) {
         return Ok(id);
@@ -114,7 +114,7 @@ fn scopes_are_opened_again(rt: HostRuntime) -> Result<(), Fail> {
     Ok(())
 }
 
-// Opens a nursery of that name, again if memory is refused.
+// Opens a nursery of that name, again if memory runs out.
 fn open_nursery(
     alloc: Global,
     book: &mut NurseryBook,
@@ -130,7 +130,7 @@ fn open_nursery(
     book.open(scope, waiter, Label::new(alloc, name))
 }
 
-// Starts a child in a nursery, again if memory is refused.
+// Starts a child in a nursery, again if memory runs out.
 fn start_again(book: &mut NurseryBook, id: NurseryId) -> Result<Place, AllocError>
     requires { HasNursery book.old id (λ n. n.body ≡ None) }
     ensures { OnOk result (Changes book.old book.new id with_start) }
@@ -141,7 +141,7 @@ fn start_again(book: &mut NurseryBook, id: NurseryId) -> Result<Place, AllocErro
     book.start(id)
 }
 
-// Closes a nursery of which all members ended, again if memory is refused.
+// Closes a nursery of which all members ended, again if memory runs out.
 fn close_again(book: &mut NurseryBook, id: NurseryId) -> Result<Option<Exc>, AllocError>
     requires { HasNursery book.old id (λ n. is_settled n ≡ true) }
 {
@@ -215,7 +215,7 @@ fn a_nursery_is_opened_and_closed_again(rt: HostRuntime) -> Result<(), Fail> {
     Ok(())
 }
 
-// Puts a value, again if memory is refused.
+// Puts a value, again if memory runs out.
 fn put_again(live: &mut Live<u64>, value: u64) -> Result<TaskId, AllocError> {
     if let Ok(id) = live.put(value) {
         return Ok(id);
@@ -233,7 +233,7 @@ fn values_are_put_again(rt: HostRuntime) -> Result<(), Fail> {
     Ok(())
 }
 
-// Adds a task that is to begin, again if memory is refused.
+// Adds a task that is to begin, again if memory runs out.
 fn add_again(batch: &mut ReadyBatch<'static>, key: usize) -> Result<(), AllocError>
     ensures { batch.new.current ≡ batch.old.current }
 {

@@ -30,7 +30,7 @@ fn chart_into<R: Abort + Threads + Sync + AllocGlobal, P: Pick>(
     Ok(verdict)
 }
 
-// Calls `chart`, again if memory is refused.
+// Calls `chart`, again if memory runs out.
 fn chart_again<R: Abort + Threads + Sync + AllocGlobal, P: Pick>(
     rt: &R,
     text: &[u8],

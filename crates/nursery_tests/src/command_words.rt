@@ -27,7 +27,7 @@ fn command_of(alloc: Global, line: &str) -> Result<Command, CommandFault> {
     read_command(alloc, words.as_slice())
 }
 
-// Returns the text that refuses a line; empty if it is a command. It is an error if memory was refused.
+// Returns the text that refuses a line; empty if it is a command. It is an error if memory runs out.
 fn refusal_of(alloc: Global, line: &str) -> Result<String, AllocError> {
     match command_of(alloc, line) {
         Ok(_command) => Ok(String::new(alloc)),

@@ -51,7 +51,7 @@ fn faults_into<R: Abort + Threads + Sync + AllocGlobal>(
     Ok(verdict)
 }
 
-// Calls `faults`, again if memory is refused.
+// Calls `faults`, again if memory runs out.
 fn faults_again<R: Abort + Threads + Sync + AllocGlobal>(
     rt: &R,
     text: &[u8],

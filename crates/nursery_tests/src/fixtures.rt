@@ -109,7 +109,7 @@ pub(crate) fn serve_into<R: Abort + Threads + Sync + AllocGlobal, P: Pick, G: Ga
     serve(rt, rt.alloc(), text, input, settings, picker, gate, out)
 }
 
-// Makes a call that writes to `out`. If memory is refused nothing was sent, and the call is made again. The call is one of a helper
+// Makes a call that writes to `out`. If memory runs out nothing was sent, and the call is made again. The call is one of a helper
 // that says nothing of its result, so that a proof carries no facts about it.
 macro_rules! call_again {
     ($rt:ident, $out:ident, $call:expr) => {
@@ -125,7 +125,7 @@ macro_rules! call_again {
 
 pub(crate) use call_again;
 
-// Serves a text, again if memory is refused.
+// Serves a text, again if memory runs out.
 pub(crate) fn serve_again<R: Abort + Threads + Sync + AllocGlobal, P: Pick>(
     rt: &R,
     text: &[u8],
@@ -181,7 +181,7 @@ fn request_into(
     }
 }
 
-// Requests a job text, again if memory is refused.
+// Requests a job text, again if memory runs out.
 pub(crate) fn request_again(
     rt: &(impl Abort + AllocGlobal),
     asked: Asked,

@@ -79,7 +79,7 @@ fn each_step_has_its_line_and_short_blocks_one(rt: HostRuntime) -> Result<(), Fa
     Ok(())
 }
 
-// Returns the result for a job text. If memory is refused it is computed again.
+// Returns the result for a job text. If memory runs out it is computed again.
 fn format_check(alloc: Global, text: &[u8]) -> Result<FormatCheck, Fail> {
     match check_format(alloc, text) {
         Ok(check) => Ok(check),
@@ -159,7 +159,7 @@ fn format_into<R: Abort + AllocGlobal>(
     Ok(verdict)
 }
 
-// Calls `format`, again if memory is refused.
+// Calls `format`, again if memory runs out.
 fn format_again<R: Abort + AllocGlobal>(
     rt: &R,
     text: &[u8],

@@ -218,7 +218,7 @@ fn push_line(alloc: Global, lines: &mut Vec<u8>, warning: &Warning) -> Result<()
     lines.extend_from_slice(b"\n")
 }
 
-// Returns the warnings of a text. If memory is refused they are requested again.
+// Returns the warnings of a text. If memory runs out they are requested again.
 fn warnings_of(alloc: Global, text: &[u8]) -> Result<Vec<Warning>, JobFault> {
     match lints(alloc, text) {
         Err(fault) if fault.kind == JobKind::NoMemory => lints(alloc, text),

@@ -28,7 +28,7 @@ fn races_into<R: Abort + Threads + Sync + AllocGlobal>(
     Ok(verdict)
 }
 
-// The same, again if memory is refused.
+// The same, again if memory runs out.
 fn races_again<R: Abort + Threads + Sync + AllocGlobal>(
     rt: &R,
     text: &[u8],

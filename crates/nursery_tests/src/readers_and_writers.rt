@@ -181,7 +181,7 @@ impl Read for Piecewise {
     }
 }
 
-// Returns how many bytes were read from a reader, which may have at most `most`. It is an error of its own if memory was refused.
+// Returns how many bytes were read from a reader, which may have at most `most`. It is an error of its own if memory runs out.
 fn length_of<R: Read>(
     alloc: Global,
     reader: &mut R,

@@ -184,7 +184,7 @@ fn a_text_that_nests_thousands_deep_is_refused(rt: HostRuntime) -> Result<(), Fa
     Ok(())
 }
 
-// Returns what `refusal_message` returns for a refused text. It is an error if memory was refused.
+// Returns what `refusal_message` returns for a refused text. It is an error if memory runs out.
 fn message_of(alloc: Global, text: &[u8]) -> Result<String, Fail> {
     let fault = read_job(alloc, text).err().ok_or("a refusal")?;
     if matches!(fault.kind, JobKind::NoMemory) {

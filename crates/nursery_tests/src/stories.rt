@@ -30,7 +30,7 @@ fn explain_into<R: Abort + Threads + Sync + AllocGlobal, P: Pick>(
     Ok(verdict)
 }
 
-// Calls `explain`, again if memory is refused.
+// Calls `explain`, again if memory runs out.
 fn explain_again<R: Abort + Threads + Sync + AllocGlobal, P: Pick>(
     rt: &R,
     text: &[u8],

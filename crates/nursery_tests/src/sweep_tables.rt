@@ -36,7 +36,7 @@ fn sweep_into<R: Abort + Threads + Sync + AllocGlobal>(
     Ok(verdict)
 }
 
-// Calls `sweep`, again if memory is refused.
+// Calls `sweep`, again if memory runs out.
 fn sweep_again<R: Abort + Threads + Sync + AllocGlobal>(
     rt: &R,
     text: &[u8],

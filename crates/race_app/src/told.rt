@@ -38,7 +38,7 @@ pub enum RaceAnswer {
 /// Returns how the outcome of the job that a text spells over an input changes if a single place of the text takes a hair more or
 /// less time: the text in finer ticks compared with the original text, then each hair of each place compared with the text in
 /// finer ticks, and the copies of one `start` with `over` or in a `repeat` that meet. If the text is refused, the error is the refusal, as `read_job`
-/// returns it. If memory was refused, the error has the kind `NoMemory`. The caller must ensure that the input has at most
+/// returns it. If memory runs out, the error has the kind `NoMemory`. The caller must ensure that the input has at most
 /// 16,777,216 bytes.
 ///
 /// The number of workers in `settings` is the number of threads that run the hairs. The gate is called before and after each

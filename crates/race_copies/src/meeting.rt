@@ -36,7 +36,7 @@ struct Met<'e> {
 /// at most a hair earlier or later that is neither a start nor a cancellation. In which rounds of their ticks the events are does
 /// not matter. If several meetings are in the same tick, the first in the order of the walk is returned. `walked` are the events
 /// of a story in the order of the walk, `clock` is how their time is counted, and `hair` is a number of ticks. The only error is
-/// that memory was refused.
+/// that memory runs out.
 pub fn meeting_of(
     alloc: Global,
     clock: Clock,

@@ -7,7 +7,7 @@ use sweep_text::push_sans;
 use task_table::Outcome;
 
 /// Appends how a task ended, without the ticks in exceptions: `done`, `cancelled`, or `raised` and the exception. The only error
-/// is that memory was refused.
+/// is that memory runs out.
 pub fn push_outcome(out: &mut Vec<u8>, outcome: &Outcome) -> Result<(), AllocError>
     ensures { OnOk result (out.new.items ≡ out.old.items ++ outcome_text (ending_in outcome.now)) }
 {

@@ -20,7 +20,7 @@ pub struct Ran<'r> {
 
 /// Returns the differences between the tasks of two runs, apart from ticks and from the exits of scopes with the name `scope`: as
 /// [`differences`] if both jobs ended by the limit. If one did not, only the roots are compared, and the outcome of its root is
-/// `stuck`; if neither did, there is no difference. The only error is that memory was refused.
+/// `stuck`; if neither did, there is no difference. The only error is that memory runs out.
 pub fn run_differences(
     alloc: Global,
     scope: Name,

@@ -33,7 +33,7 @@ pub enum Difference {
 
 /// Returns each task for which the records of two runs do not show the same, apart from ticks and from the exits of scopes with the
 /// name `scope`: those of the first run, in the order of its records, and then those that only the second has. The only error is
-/// that memory was refused.
+/// that memory runs out.
 pub fn differences(
     alloc: Global,
     scope: Name,

@@ -39,7 +39,7 @@ pub(crate) fn place_of(alloc: Global, line: &Line) -> Result<Vec<u8>, AllocError
 }
 
 /// Returns what is at the place of a line, as it is written in a job text, or nothing if the line is about the whole job. The
-/// only error is that memory was refused.
+/// only error is that memory runs out.
 pub fn step_of(alloc: Global, line: &Line) -> Result<Vec<u8>, AllocError>
     ensures { IfOk result (λ text. text.items ≡ step_text (line_held line.now)) }
 {

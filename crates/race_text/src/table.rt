@@ -10,7 +10,7 @@ use fault_text::{push_count, push_left, push_more, push_right};
 use std::alloc::{AllocError, Global};
 
 /// Returns the text of the table: each line that is shown, in their order, how many hairs there are, how many lines are races, and
-/// with how many hairs nothing was compared. The only error is that memory was refused.
+/// with how many hairs nothing was compared. The only error is that memory runs out.
 pub fn race_table(alloc: Global, hairs: usize, lines: &[Line]) -> Result<Vec<u8>, AllocError>
     ensures { IfOk result (λ text. text.items ≡ table_text hairs (map line_held lines.now)) }
 {
@@ -26,7 +26,7 @@ pub fn race_table(alloc: Global, hairs: usize, lines: &[Line]) -> Result<Vec<u8>
 }
 
 /// Returns the lines of the table as they are in the text of `race_table`, without the counts: each is a race, or says that nothing
-/// was compared, so that there may be one. The text is empty if there are none. The only error is that memory was refused.
+/// was compared, so that there may be one. The text is empty if there are none. The only error is that memory runs out.
 pub fn race_denied(alloc: Global, lines: &[Line]) -> Result<Vec<u8>, AllocError>
     ensures { IfOk result (λ text. text.items ≡ denied_text (map line_held lines.now)) }
 {

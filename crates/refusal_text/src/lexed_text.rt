@@ -17,7 +17,7 @@ pub(crate) struct LexedText {
 }
 
 impl LexedText {
-    // Lexes a text. The only error is that memory was refused.
+    // Lexes a text. The only error is that memory runs out.
     pub(crate) fn new(alloc: Global, text: &[u8]) -> Result<LexedText, AllocError>
         ensures tokens { IfOk result (λ lexed. HasTokens text.now lexed.tokens.items lexed.fault) }
         ensures format { IfOk result (λ lexed. lexed.format ≡ format_of text.now) }

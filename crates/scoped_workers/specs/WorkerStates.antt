@@ -30,13 +30,13 @@ pub record IsFresh (claims : Claims) (worker_state : WorkerState) : Type 0 where
   pub drawn : drawn_by worker_state.pass ≡ []
   pub answered : worker_state.answered.items ≡ []
 
--- the worker's ticket got `None`, and unless memory was refused for the worker, each number that it drew has its answer
+-- the worker's ticket got `None`, and unless memory ran out for the worker, each number that it drew has its answer
 pub record IsFinished (requests : List Request) (claims : Claims) (worker_state : WorkerState) : Type 0 where
   pub pass : IsPassOf claims worker_state.pass
   pub told : was_told worker_state.pass ≡ true
   pub answered : worker_state.refused ≡ false → AreDrawn requests (drawn_by worker_state.pass) worker_state.answered.items
 
--- the worker has answered one more request, or memory was refused for it
+-- the worker has answered one more request, or memory ran out for it
 pub record IsNoted (request : Request) (i : ℕ) (before after : WorkerState) : Type 0 where
   pub pass : after.pass ≡ before.pass
   pub kept : after.refused ≡ false → before.refused ≡ false

@@ -58,7 +58,7 @@ impl<'b, 'a> Bench<'b, 'a> {
         )
     }
 
-    /// Computes each request in turn. The slot of each request then holds its answer, or `NoMemory` if memory was refused for
+    /// Computes each request in turn. The slot of each request then holds its answer, or `NoMemory` if memory ran out for
     /// that request.
     pub fn fill(self, alloc: Global)
         ensures count { length self.exit.1.0.now ≡ length (requests_of self.entry) }

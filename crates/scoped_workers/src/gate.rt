@@ -4,7 +4,7 @@ pub trait Gate {
     /// Called before the request with number `i` in the batch is computed, by the worker that computes it.
     fn before(&self, i: usize);
 
-    /// Called after the request with number `i` in the batch was computed, or memory was refused for it, by the worker that
+    /// Called after the request with number `i` in the batch was computed, or memory ran out for it, by the worker that
     /// computed it.
     fn after(&self, i: usize);
 }

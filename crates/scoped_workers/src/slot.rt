@@ -14,6 +14,6 @@ pub enum Content<'a> {
     Empty,
     /// The answer to the slot's request.
     Done(Answer<'a>),
-    /// Memory was refused while the slot's request was computed.
+    /// Memory ran out while the slot's request was computed.
     NoMemory,
 }

@@ -14,7 +14,7 @@ pub(crate) struct Numbered<'a> {
     pub(crate) answer: Answer<'a>,
 }
 
-// The state of one worker: its ticket, its answers, and whether memory was refused for it.
+// The state of one worker: its ticket, its answers, and whether memory ran out for it.
 #[derive(Drop)]
 pub(crate) struct WorkerState<'a> {
     pub(crate) pass: Pass,
@@ -55,7 +55,7 @@ impl<'a> WorkerState<'a> {
         }
     }
 
-    // Computes a request, and stores its answer with its number, or that memory was refused.
+    // Computes a request, and stores its answer with its number, or that memory runs out.
     fn note(&mut self, alloc: Global, number: usize, request: &Request<'a>)
         ensures { IsNoted request.entry.now number self.old self.new }
     {

@@ -20,7 +20,7 @@ use std::thread::Threads;
 /// If a thread cannot be started, another one does its work. The caller must ensure that there are from 1 to 64 workers and
 /// at most `MAX_REQUESTS` requests.
 ///
-/// Returns `AllocError` if memory is refused for a request or for this call itself. All threads that were started are joined
+/// Returns `AllocError` if memory ran out for a request or for this call itself. All threads that were started are joined
 /// before it returns.
 pub fn work<'a, R: Threads + Sync, G: Gate + Sync>(
     rt: &R,
@@ -147,7 +147,7 @@ fn run_each<'a, R: Threads + Sync, G: Gate + Sync>(
     );
 }
 
-// The tickets and answers of all workers, and whether memory was refused for at least one of them.
+// The tickets and answers of all workers, and whether memory ran out for at least one of them.
 #[derive(Drop)]
 struct Gathered<'a> {
     passes: Vec<Pass>,
@@ -234,7 +234,7 @@ fn empty_row<'a>(alloc: Global, count: usize) -> Result<Vec<Slot<'a>>, AllocErro
     Ok(row)
 }
 
-// Returns the answers in a row of slots of which none is empty, or `AllocError` if memory was refused for a slot.
+// Returns the answers in a row of slots of which none is empty, or `AllocError` if memory ran out for a slot.
 fn answers<'a>(alloc: Global, row: Vec<Slot<'a>>) -> Result<Vec<Answer<'a>>, AllocError>
     requires { All IsFilled row.items }
     ensures { IfOk result (λ answers. map slot_of answers.items ≡ row.entry.items) }

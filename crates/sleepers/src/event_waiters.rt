@@ -34,7 +34,7 @@ impl EventWaiters {
 
     /// Adds a task that waits for an event. The caller must ensure that the task waits for none yet.
     ///
-    /// Returns `AllocError` if memory is refused. Each task then waits for what it did.
+    /// Returns `AllocError` if memory runs out. Each task then waits for what it did.
     pub fn add(&mut self, task: TaskId, event: ScopeId) -> Result<(), AllocError>
         requires { event_in self.old task ≡ None }
         ensures ok { OnOk result (WaitsFor self.old self.new task (Some event)) }

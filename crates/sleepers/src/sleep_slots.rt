@@ -47,7 +47,7 @@ impl SleepSlots {
         }
     }
 
-    // Adds a task that does not sleep yet, in a scope. If memory is refused, every task sleeps where it did.
+    // Adds a task that does not sleep yet, in a scope. If memory runs out, every task sleeps where it did.
     pub(crate) fn add(&mut self, task: usize, scope: usize) -> Result<(), AllocError>
         requires { scope_at self.old task ≡ None }
         ensures ok { OnOk result (Puts self.old self.new task (Some scope)) }

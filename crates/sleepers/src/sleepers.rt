@@ -46,7 +46,7 @@ impl Sleepers {
     /// holds from now on for every task that sleeps directly in the scope. The caller must ensure that the task does not sleep
     /// yet.
     ///
-    /// Returns `AllocError` if memory is refused. Each task then sleeps where it did, and each scope keeps its effective
+    /// Returns `AllocError` if memory runs out. Each task then sleeps where it did, and each scope keeps its effective
     /// deadline.
     pub fn add(
         &mut self,
@@ -82,7 +82,7 @@ impl Sleepers {
     }
 
     /// Sets the effective deadline of a scope; `None` is never. Nothing changes if no task sleeps directly in the scope.
-    /// Returns `AllocError` if memory is refused; nothing changes then.
+    /// Returns `AllocError` if memory runs out; nothing changes then.
     pub fn see(&mut self, scope: ScopeId, sight: Option<u64>) -> Result<(), AllocError>
         ensures scopes { SameScopes self.old self.new }
         ensures sights { OnOk result (Sees self.old self.new scope sight) }
@@ -118,7 +118,7 @@ impl Sleepers {
     }
 }
 
-// Sets the effective deadline of a scope; `None` is never. If memory is refused, nothing changes.
+// Sets the effective deadline of a scope; `None` is never. If memory runs out, nothing changes.
 fn put_sight(sights: &mut TickQueue, scope: usize, sight: Option<u64>) -> Result<(), AllocError>
     ensures ok { OnOk result (Puts sights.old sights.new scope sight) }
     ensures err { OnErr result (IsSame sights.old sights.new) }

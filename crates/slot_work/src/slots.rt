@@ -12,7 +12,7 @@ use std::thread::Threads;
 /// gate before and after it, with the index of the item. The caller must ensure that there is at least one worker and that the work's
 /// own requirement (`Work::may`) holds.
 ///
-/// Returns `AllocError` if memory is refused. If that happens at one item, the work on the other items is still done.
+/// Returns `AllocError` if memory runs out. If that happens at one item, the work on the other items is still done.
 pub fn answers_for<R: Threads + Sync, W: Work + Sync, G: Gate + Sync>(
     rt: &R,
     alloc: Global,
@@ -68,7 +68,7 @@ fn fill_all<R: Threads + Sync, W: Work + Sync, G: Gate + Sync>(
     );
 }
 
-// Returns the answer for an item, or `None` if memory was refused for it. Calls the gate before and after, with the item's index.
+// Returns the answer for an item, or `None` if memory ran out for it. Calls the gate before and after, with the item's index.
 fn answer_item<R: Threads + Sync, W: Work, G: Gate>(
     rt: &R,
     alloc: Global,

@@ -17,7 +17,7 @@ pub trait Work {
     // Whether an answer is correct for an item.
     ghost answers: { Self → Self.Item → Self.Answer → Type 0 };
 
-    /// Returns the answer for an item, or `AllocError` if memory is refused, which is the only error.
+    /// Returns the answer for an item, or `AllocError` if memory runs out, which is the only error.
     fn answer<R: Threads + Sync>(
         &self,
         rt: &R,

@@ -62,7 +62,7 @@ pub struct Meaning {
 
 /// Runs a job over an input to its end, and returns how its meaning ends, compared with the limit, and the moments from which its
 /// scopes and nurseries are cancelled and its events set. The picker, the number of workers and the gate change nothing. The caller
-/// must ensure that the input has at most 16,777,216 bytes (`MAX_INPUT`). Returns `AllocError` if memory is refused.
+/// must ensure that the input has at most 16,777,216 bytes (`MAX_INPUT`). Returns `AllocError` if memory runs out.
 #[tactic(auto, using(crate::proofs::Told::is_ending, crate::proofs::Tables::is_of_meaning))]
 pub fn meaning_of<R: Threads + Sync, P: Pick, G: Gate + Sync>(
     rt: &R,

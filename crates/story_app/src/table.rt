@@ -9,7 +9,7 @@ use job_story::Froms;
 use std::alloc::{AllocError, Global};
 
 /// Returns the table with the tick from which each scope and nursery of a run was cancelled, or each event of the job set. Returns
-/// `AllocError` if memory is refused.
+/// `AllocError` if memory runs out.
 #[tactic(auto, using(crate::proofs::Tables::from_never))]
 pub fn table_of(alloc: Global, run: Run<'_>) -> Result<Froms, AllocError>
     ensures { IfOk result (λ froms. (label : tree.Label) → table_in froms label ≡ set_in never (scope_froms_of run.entry) label) }

@@ -75,7 +75,7 @@ fn story_about(
 }
 
 /// Returns the events up to and including the tick `until`, or all of them if it is `None`, in the same order. Returns
-/// `AllocError` if memory is refused.
+/// `AllocError` if memory runs out.
 pub fn events_until<'e>(
     alloc: Global,
     clock: Clock,

@@ -44,7 +44,7 @@ impl<'e> Causes<'e> {
     /// in the moment before. It does so for what is set, too. First means first in the order given, so for the answers of a story the
     /// caller passes its events in order.
     ///
-    /// Each event takes constant time, and only scopes, nurseries and what is set take memory. Returns `AllocError` if memory is refused.
+    /// Each event takes constant time, and only scopes, nurseries and what is set take memory. Returns `AllocError` if memory runs out.
     pub fn of(
         alloc: Global,
         events: &[&'e Event],

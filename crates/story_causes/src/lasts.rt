@@ -26,7 +26,7 @@ pub struct LastEvents<'s, 'e> {
 }
 
 impl<'s, 'e> LastEvents<'s, 'e> {
-    /// Finds the last event of each task of these events, in one pass. Returns `AllocError` if memory is refused.
+    /// Finds the last event of each task of these events, in one pass. Returns `AllocError` if memory runs out.
     pub fn of(alloc: Global, events: &'s [&'e Event]) -> Result<LastEvents<'s, 'e>, AllocError>
         ensures { IfOk result (λ lasts. lasts.events.now ≡ events.entry.now) }
     {

@@ -26,7 +26,7 @@ pub struct Tasks<'s, 'e> {
 
 impl<'s, 'e> Tasks<'s, 'e> {
     /// Collects the tasks of these events, which are given in order (`sorted`) and in the order of the walk (`walked`), in one pass over
-    /// each. Returns `AllocError` if memory is refused.
+    /// each. Returns `AllocError` if memory runs out.
     pub fn of(
         alloc: Global,
         sorted: &'s [&'e Event],

@@ -8,7 +8,7 @@ use crate::tasks::Tasks;
 use job_story::Event;
 use std::alloc::{AllocError, Global};
 
-/// Returns the events that are events of one of these tasks, in the same order. Returns `AllocError` if memory is refused.
+/// Returns the events that are events of one of these tasks, in the same order. Returns `AllocError` if memory runs out.
 pub fn of_tasks<'e>(
     alloc: Global,
     events: &[&'e Event],

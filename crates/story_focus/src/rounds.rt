@@ -19,7 +19,7 @@ use story_causes::{Cause, Causes};
 
 /// Returns the tasks that concern a task of a story: the task itself, each task that caused one of its cancellations, each that
 /// caused one of theirs, and so on. The index must be one over these events, as `Causes::of` creates it. The events are read once
-/// for each step of the longest chain of causes, and once more. Returns `AllocError` if memory is refused.
+/// for each step of the longest chain of causes, and once more. Returns `AllocError` if memory runs out.
 pub fn concerned_tasks<'e>(
     alloc: Global,
     events: &[&'e Event],

@@ -38,7 +38,7 @@ impl<'e> Tasks<'e> {
         self.all.is_empty()
     }
 
-    // Adds one task. Returns `AllocError` if memory is refused.
+    // Adds one task. Returns `AllocError` if memory runs out.
     pub(crate) fn add(&mut self, task: &'e Label) -> Result<(), AllocError>
         ensures { OnOk result ((l : tree.Label) → holds self.new l ≡ (holds self.old l || same_label l task.entry.now)) }
     {
@@ -46,7 +46,7 @@ impl<'e> Tasks<'e> {
         Ok(())
     }
 
-    // Adds each task of another set. Returns `AllocError` if memory is refused.
+    // Adds each task of another set. Returns `AllocError` if memory runs out.
     pub(crate) fn add_all(&mut self, others: Tasks<'e>) -> Result<(), AllocError>
         ensures { OnOk result ((l : tree.Label) → holds self.new l ≡ (holds self.old l || holds others.entry l)) }
     {

@@ -23,7 +23,7 @@ use story_causes::Tasks;
 
 /// Returns the text of selected events of a story up to a limit. The events are given in order (`sorted`) and in the order of the
 /// walk (`walked`), and `known` has all events up to the limit. After the story come a line for the limit, and a line for each
-/// task of the selected events that has not ended, with what it is doing. Returns `AllocError` if memory is refused.
+/// task of the selected events that has not ended, with what it is doing. Returns `AllocError` if memory runs out.
 pub fn kept_text_to<'e>(
     alloc: Global,
     sorted: &[&'e Event],

@@ -15,7 +15,7 @@ use moments::Clock;
 use std::alloc::{AllocError, Global};
 
 /// Returns the text of selected events of a story, in order: a line for each tick in which one happens, and a line for each
-/// event. Causes are looked up among all events of the story, which `known` has. Returns `AllocError` if memory is refused.
+/// event. Causes are looked up among all events of the story, which `known` has. Returns `AllocError` if memory runs out.
 pub fn kept_text(
     alloc: Global,
     kept: &[&Event],

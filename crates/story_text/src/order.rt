@@ -6,7 +6,7 @@ use job_story::Event;
 use std::alloc::{AllocError, Global};
 
 /// Returns the events of a walk sorted by moment. Events of the same moment keep the order of the walk. Returns `AllocError` if
-/// memory is refused.
+/// memory runs out.
 pub fn in_order<'e>(alloc: Global, walked: &[&'e Event]) -> Result<Vec<&'e Event>, AllocError>
     ensures { IfOk result (λ sorted. map event_in sorted.items ≡ ordered (map event_in walked.now)) }
 {

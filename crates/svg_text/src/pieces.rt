@@ -7,7 +7,7 @@ use crate::names::{Attr, Tag};
 use itoa::Buffer;
 use std::alloc::AllocError;
 
-/// Begins an element. The caller appends its attributes next, and then calls `inside`. Returns `AllocError` if memory is refused; `out`
+/// Begins an element. The caller appends its attributes next, and then calls `inside`. Returns `AllocError` if memory runs out; `out`
 /// may then end in a part of what was to be appended.
 pub fn begin(out: &mut Vec<u8>, tag: Tag) -> Result<(), AllocError>
     ensures { OnOk result (out.new.items ≡ out.old.items ++ (codes "<" ++ tag_name tag)) }
@@ -16,7 +16,7 @@ pub fn begin(out: &mut Vec<u8>, tag: Tag) -> Result<(), AllocError>
     out.extend_from_slice(tag.name())
 }
 
-/// Appends an attribute of the element that was begun. The value is escaped. Returns `AllocError` if memory is refused.
+/// Appends an attribute of the element that was begun. The value is escaped. Returns `AllocError` if memory runs out.
 #[tactic(auto, unfolding(crate::specs::Content::attribute_text))]
 pub fn attribute(out: &mut Vec<u8>, name: Attr, value: &[u8]) -> Result<(), AllocError>
     ensures { OnOk result (out.new.items ≡ out.old.items ++ attribute_text (content.attribute name value.now)) }
@@ -28,7 +28,7 @@ pub fn attribute(out: &mut Vec<u8>, name: Attr, value: &[u8]) -> Result<(), Allo
     out.extend_from_slice(b"\"")
 }
 
-/// Appends an attribute whose value is a number, in decimal digits. Returns `AllocError` if memory is refused.
+/// Appends an attribute whose value is a number, in decimal digits. Returns `AllocError` if memory runs out.
 pub fn number(out: &mut Vec<u8>, name: Attr, n: u64) -> Result<(), AllocError>
     ensures { OnOk result (out.new.items ≡ out.old.items ++ attribute_text (content.attribute name (decimal n))) }
 {
@@ -37,7 +37,7 @@ pub fn number(out: &mut Vec<u8>, name: Attr, n: u64) -> Result<(), AllocError>
 }
 
 /// Ends the attributes of an element. The caller appends the content of the element next, and then calls `end`. Returns `AllocError`
-/// if memory is refused.
+/// if memory runs out.
 pub fn inside(out: &mut Vec<u8>) -> Result<(), AllocError>
     ensures { OnOk result (out.new.items ≡ out.old.items ++ codes ">") }
 {
@@ -45,7 +45,7 @@ pub fn inside(out: &mut Vec<u8>) -> Result<(), AllocError>
 }
 
 /// Appends text, escaped. A byte that is neither a printable character of ASCII nor a newline is written as a question mark. Returns
-/// `AllocError` if memory is refused.
+/// `AllocError` if memory runs out.
 #[tactic(auto, unfolding(crate::specs::Escaping::escaped_text))]
 pub fn text(out: &mut Vec<u8>, bytes: &[u8]) -> Result<(), AllocError>
     ensures { OnOk result (out.new.items ≡ out.old.items ++ escaped_text bytes.now) }
@@ -73,7 +73,7 @@ fn escape(out: &mut Vec<u8>, byte: u8) -> Result<(), AllocError>
     }
 }
 
-/// Ends an element, with its end tag. Returns `AllocError` if memory is refused.
+/// Ends an element, with its end tag. Returns `AllocError` if memory runs out.
 pub fn end(out: &mut Vec<u8>, tag: Tag) -> Result<(), AllocError>
     ensures { OnOk result (out.new.items ≡ out.old.items ++ end_tag tag) }
 {

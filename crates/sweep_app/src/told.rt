@@ -36,7 +36,7 @@ pub enum SweepAnswer {
 
 /// Returns the outcome of the job that a text spells over an input, with its own value and with each of these values of one of its
 /// numbers, in their order; or why the text does not have the number that is meant. A value that the text cannot have there counts
-/// as refused. If the text is refused, the error is the refusal, as `read_job` returns it. If memory was refused, the error has the
+/// as refused. If the text is refused, the error is the refusal, as `read_job` returns it. If memory runs out, the error has the
 /// kind `NoMemory`. The caller must ensure that the input has at most 16,777,216 bytes.
 ///
 /// The number of workers in `settings` is the number of threads that run the values. The gate is called before and after each

@@ -8,7 +8,7 @@ use exc_text::{push_label, push_whose};
 use std::alloc::AllocError;
 
 /// Appends an exception without the ticks at which it was raised, and a group with its parts in brackets. The only error is
-/// that memory was refused.
+/// that memory runs out.
 #[cycle(exc)]
 pub fn push_sans(out: &mut Vec<u8>, exc: &Exc) -> Result<(), AllocError>
     ensures { OnOk result (out.new.items ≡ out.old.items ++ sans_text (exc_of exc.now)) }

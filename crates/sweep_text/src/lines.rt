@@ -16,7 +16,7 @@ use std::alloc::{AllocError, Global};
 
 /// Returns the text of a sweep: the outcome of the job with its own value (`first`), the outcome for each group of neighbouring
 /// values with the same outcome apart from ticks, and how many values there are of each kind. `limit` is the last tick at which
-/// the job may end. The only error is that memory was refused.
+/// the job may end. The only error is that memory runs out.
 pub fn sweep_table(
     alloc: Global,
     limit: u64,

@@ -6,7 +6,7 @@ use crate::form::Form;
 use job_grammar::JobFault;
 use std::alloc::{AllocError, Global};
 
-// Returns the refusal of a job text. It is an error if memory was refused, or if the fault itself is `NoMemory`, which is not a
+// Returns the refusal of a job text. It is an error if memory runs out, or if the fault itself is `NoMemory`, which is not a
 // refusal.
 pub(crate) fn refusal_in(
     alloc: Global,

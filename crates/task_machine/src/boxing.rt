@@ -5,7 +5,7 @@ use exc_groups::Exc;
 use std::alloc::{AllocError, Global};
 
 /// Boxes an exception, if there is one, so that a field for an optional exception that is rarely present takes little space.
-/// The only error is that memory was refused; it does not occur for `None`. `unbox_exc` unboxes it.
+/// The only error is that memory runs out; it does not occur for `None`. `unbox_exc` unboxes it.
 pub fn box_exc(alloc: Global, exc: Option<Exc>) -> Result<Option<Box<Exc>>, AllocError>
     ensures { IfOk result (λ in_box. unboxed_exc in_box ≡ exc) }
 {

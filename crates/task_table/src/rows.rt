@@ -47,7 +47,7 @@ pub struct Ended<'a> {
 
 /// Returns the records of rows whose tasks have all ended, the root's first, and each followed by those of its
 /// descendants in the order of their starts; and their froms, in the same order. The caller must ensure that all have
-/// ended, and that no row is a child twice. The only error is that memory was refused.
+/// ended, and that no row is a child twice. The only error is that memory runs out.
 pub fn records_of<'a>(
     alloc: Global,
     rows: Vec<TaskRow<'a>>,

@@ -35,7 +35,7 @@ pub struct TaskTable<'a> {
 
 impl<'a> TaskTable<'a> {
     /// Returns a table of the root alone, which has the first row and was started in tick 0, and the id of the root. The
-    /// only error is that memory was refused.
+    /// only error is that memory runs out.
     pub fn of_root(alloc: Global, task: Task<'a>) -> Result<(TaskTable<'a>, TaskId), AllocError>
         ensures root { IfOk result (λ r. HasRoot r.0 task.entry r.1) }
         ensures agree { IfOk result (λ r. IsTaskTable r.0) }
@@ -48,7 +48,7 @@ impl<'a> TaskTable<'a> {
     }
 
     /// Adds a task that was started in that tick by the task of row `parent`, which must exist. It has the next row. Returns
-    /// its id. The only error is that memory was refused, after which the table can only be dropped.
+    /// its id. The only error is that memory runs out, after which the table can only be dropped.
     pub fn start(&mut self, parent: usize, task: Task<'a>, tick: u64) -> Result<TaskId, AllocError>
         requires agree { IsTaskTable self.old }
         requires parent { parent < task_count self.old }
@@ -63,7 +63,7 @@ impl<'a> TaskTable<'a> {
     }
 
     /// Executes a turn of the task with this id. The caller must ensure that it has not ended, that it may continue with
-    /// this wake, and that the tick of the world is at most 2 to the 62. The only error is that memory was refused, after
+    /// this wake, and that the tick of the world is at most 2 to the 62. The only error is that memory runs out, after
     /// which the table and the world can only be dropped.
     pub fn turn(
         &mut self,
@@ -88,7 +88,7 @@ impl<'a> TaskTable<'a> {
     }
 
     /// Records that the task with this id ended in that tick, with this exception or none. Its row keeps what remains of it.
-    /// The caller must ensure that it has not ended before. The only error is that memory was refused, and then nothing has
+    /// The caller must ensure that it has not ended before. The only error is that memory runs out, and then nothing has
     /// changed.
     pub fn end(&mut self, id: TaskId, tick: u64, exc: Option<Exc>) -> Result<(), AllocError>
         requires agree { IsTaskTable self.old }

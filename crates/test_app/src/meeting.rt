@@ -14,7 +14,7 @@ use std::thread::Threads;
 /// Returns whether an expectation of a job text over an input is met. Patterns are searched for in the lines of `report` and
 /// `story`, which are the outputs that `output_of` returns. Races and faults are those that `races` and `faults` compute with
 /// these settings, where a step that fails raises `Fault`. The caller must ensure that the input has at most 16,777,216 bytes
-/// (`MAX_INPUT`). Returns `AllocError` if memory is refused.
+/// (`MAX_INPUT`). Returns `AllocError` if memory runs out.
 pub fn meets<R: Threads + Sync>(
     rt: &R,
     alloc: Global,

@@ -9,7 +9,7 @@ use job_tokens::Token;
 use std::alloc::{AllocError, Global};
 
 /// Returns the names that a job text gives to its job, tasks, scopes, nurseries and events, in the order of the text. A text that
-/// is refused gives none. Returns `AllocError` if memory is refused.
+/// is refused gives none. Returns `AllocError` if memory runs out.
 pub fn given_names(alloc: Global, job_text: &[u8]) -> Result<Vec<Name>, AllocError>
     ensures { IfOk result (λ names. AreGiven job_text.now names.items) }
 {

@@ -39,7 +39,7 @@ impl TickQueue {
         }
     }
 
-    /// Sets the tick of a key. The caller must ensure that the key has no tick yet. Returns `AllocError` if memory is refused;
+    /// Sets the tick of a key. The caller must ensure that the key has no tick yet. Returns `AllocError` if memory runs out;
     /// every key then keeps its tick.
     pub fn add(&mut self, key: usize, tick: u64) -> Result<(), AllocError>
         requires { tick_in self.old key ≡ None }
@@ -49,7 +49,7 @@ impl TickQueue {
         self.set(key, tick)
     }
 
-    /// Sets the tick of a key, in place of the one that it has, if it has one. Returns `AllocError` if memory is refused; every
+    /// Sets the tick of a key, in place of the one that it has, if it has one. Returns `AllocError` if memory runs out; every
     /// key then keeps its tick.
     pub fn set(&mut self, key: usize, tick: u64) -> Result<(), AllocError>
         ensures ok { OnOk result (Puts self.old self.new key (Some tick)) }
@@ -86,7 +86,7 @@ impl TickQueue {
     }
 }
 
-// Extends the table so that the key has an entry in it. No key's tick changes. Returns `AllocError` if memory is refused.
+// Extends the table so that the key has an entry in it. No key's tick changes. Returns `AllocError` if memory runs out.
 fn grow_to(ticks: &mut Vec<Option<u64>>, key: usize) -> Result<(), AllocError>
     ensures room { OnOk result (key < length ticks.new.items) }
     ensures same { IsSame ticks.old.items ticks.new.items }
